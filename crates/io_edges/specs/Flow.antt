@@ -1,0 +1,14 @@
+-- What moves between a program and the outside, where the outside tells its content.
+use Rattle.std.specs.Prelude.{◌≡◌, ℕ, ◌≤◌, ◌<◌, List, [], ◌++◌, length, take, drop, Option, Some, None, IfSome, ◌↔◌}
+
+-- the first n of the bytes that were left stand at the front of the room, and are left no more
+pub record Moves (left left' : List ℕ) (room : List ℕ) (n : ℕ) : Type 0 where
+  pub there : n ≤ length left
+  pub given : take n room ≡ take n left
+  pub rest : left' ≡ drop n left
+
+-- what a source told before, and what it tells now
+abbrev pub Told : Option (List ℕ) → Option (List ℕ) → (List ℕ → List ℕ → Type 0) → Type 0
+Told None new P = Unit {0}
+Told (Some old) None P = ⊥
+Told (Some old) (Some new) P = P old new
