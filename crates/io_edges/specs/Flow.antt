@@ -1,5 +1,5 @@
 -- What moves between a program and the outside, where the outside tells its content.
-use Rattle.std.specs.Prelude.{◌≡◌, ℕ, ◌≤◌, ◌<◌, List, [], ◌++◌, length, take, drop, Option, Some, None, IfSome, ◌↔◌}
+use Rattle.std.specs.Prelude.{◌≡◌, ℕ, ◌≤◌, List, ◌++◌, length, take, drop, Option, Some, None}
 
 -- the first n of the bytes that were left stand at the front of the room, and are left no more
 pub record Moves (left left' : List ℕ) (room : List ℕ) (n : ℕ) : Type 0 where
@@ -7,7 +7,12 @@ pub record Moves (left left' : List ℕ) (room : List ℕ) (n : ℕ) : Type 0 wh
   pub given : take n room ≡ take n left
   pub rest : left' ≡ drop n left
 
--- what a source told before, and what it tells now
+-- what was written grew by the first bytes of the piece, or by none or all of them
+pub record GrowsByPrefix (written written' : List ℕ) (piece : List ℕ) : Type 0 where
+  pub kept : ℕ
+  pub grown : written' ≡ written ++ take kept piece
+
+-- P of what was told before and what is told now; what was told once stays told
 abbrev pub Told : Option (List ℕ) → Option (List ℕ) → (List ℕ → List ℕ → Type 0) → Type 0
 Told None new P = Unit {0}
 Told (Some old) None P = ⊥

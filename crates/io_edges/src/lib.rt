@@ -1,15 +1,53 @@
-//! The outside, as traits.
+//! The outside, as traits: where bytes come from ([`Source`]), where they go ([`Sink`]), and where
+//! files stand by name ([`Shelf`]). What reads and writes a stream is generic over them, so that its
+//! contract can speak of the bytes that moved.
+//!
+//! The contracts of the traits say two things. Where an implementation tells its content, they say
+//! which bytes a call moved and what an error leaves. At every implementation they count the calls
+//! that met an outside fault: a call fails by the outside only where the count rose in it, up to the
+//! last value of its type. Want of memory is an answer of its own, and is not counted.
+//!
+//! Each trait has implementations in memory, for tests and for work without an outside: `Memory..`
+//! ones, which fail at the calls that they are told to, and `Sure..` ones, which never do. They tell
+//! their content. [`ReadSource`], [`WriteSink`] and [`FileShelf`] stand over the readers, the writers
+//! and the files of std, and tell none: that a file or a socket gave or took these bytes is trusted.
+//!
+//! The definitions are in `specs/`: `Faults` has the count, `Flow` what moves at a call, `Store` what
+//! a shelf holds, `Plan` and `InMemory` what the implementations in memory do call by call, and
+//! `Adapters` what is seen of the ones over std.
 #![tactic(auto)]
 
-ghost use Rattle.std.specs.Prelude.{◌≡◌, ◌≤◌, ◌<◌, ℕ, List, [], ◌++◌, length, take, Option, IfOk, OnErr, ◌↔◌};
+ghost use Rattle.std.specs.Prelude.{◌≡◌, ◌≤◌, ◌<◌, ℕ, List, [], ◌++◌, length, take, Option, IfSome, IfOk, OnOk, OnErr, IsErrOf, ◌↔◌};
 ghost use Rattle.io_edges.specs.Faults.{Rose};
-ghost use Rattle.io_edges.specs.Flow.{Told, Moves};
+ghost use Rattle.io_edges.specs.Flow.{Told, Moves, GrowsByPrefix};
+ghost use Rattle.io_edges.specs.Store.{Store};
+ghost use Rattle.std.specs.Option.{option_map};
+ghost use Rattle.std.specs.FinMap as finite;
+
+mod fault_plan;
+mod file_shelf;
+mod memory_shelf;
+mod memory_sink;
+mod memory_source;
+mod read_source;
+mod sure_sink;
+mod sure_source;
+mod write_sink;
+
+pub use file_shelf::FileShelf;
+pub use memory_shelf::MemoryShelf;
+pub use memory_sink::MemorySink;
+pub use memory_source::MemorySource;
+pub use read_source::ReadSource;
+pub use sure_sink::SureSink;
+pub use sure_source::SureSource;
+pub use write_sink::WriteSink;
 
 /// The answer of a call that met an outside fault.
 #[derive(Clone, Copy, Debug, PartialEq, Eq)]
 pub struct Failed;
 
-/// Where bytes come from.
+/// Where bytes come from. A caller reads until a take gives none, or fails.
 pub trait Source {
     /// The bytes that were handed out, where the source tells them.
     ghost taken: { Self → Option (List ℕ) };
@@ -20,15 +58,76 @@ pub trait Source {
     /// How many calls met an outside fault, up to 2^64 - 1.
     ghost faults: { Self → ℕ };
 
-    /// Puts the next bytes at the front of the room, and answers how many they are. None for a room
-    /// that isn't empty is the end of the input.
+    /// Puts the next bytes at the front of the room, and answers how many they are. 0 for a room that
+    /// isn't empty is the end of the input. A take that fails moves nothing, and may be followed by
+    /// one that doesn't.
     fn take(&mut self, room: &mut [u8]) -> Result<usize, Failed>
         ensures within { IfOk result (λ n. n ≤ length room.new) }
-        ensures moved { IfOk result (λ n. Told (left self.old) (left self.new) (λ l l'. Moves l l' room.new n)) }
-        ensures taken { IfOk result (λ n. Told (taken self.old) (taken self.new) (λ t t'. t' ≡ t ++ take n room.new)) }
-        ensures ended { IfOk result (λ n. 0 < length room.old → Told (left self.old) (left self.new) (λ l _. (n ≡ 0) ↔ (l ≡ []))) }
+        ensures moved { IfOk result (λ n. Told (left self.old) (left self.new)
+            (λ l l'. Moves l l' room.new n)) }
+        ensures taken { IfOk result (λ n. Told (taken self.old) (taken self.new)
+            (λ t t'. t' ≡ t ++ take n room.new)) }
+        ensures ended { IfOk result (λ n. 0 < length room.old → Told (left self.old) (left self.new)
+            (λ l _. (n ≡ 0) ↔ (l ≡ []))) }
         ensures faults { faults self.old ≤ faults self.new }
         ensures failed { OnErr result (Rose (faults self.old) (faults self.new)) }
         ensures failed_left { OnErr result (Told (left self.old) (left self.new) (λ l l'. l' ≡ l)) }
-        ensures failed_taken { OnErr result (Told (taken self.old) (taken self.new) (λ t t'. t' ≡ t)) };
+        ensures failed_taken { OnErr result (Told (taken self.old) (taken self.new)
+            (λ t t'. t' ≡ t)) };
 }
+
+/// Why a sink refused a piece.
+#[derive(Clone, Copy, Debug, PartialEq, Eq)]
+pub enum SinkFault {
+    /// The outside failed.
+    Failed,
+    /// There was no memory to keep the bytes in.
+    Memory,
+}
+
+/// Where bytes go.
+pub trait Sink {
+    /// All that was written, where the sink tells it.
+    ghost written: { Self → Option (List ℕ) };
+
+    /// How many calls met an outside fault, up to 2^64 - 1.
+    ghost faults: { Self → ℕ };
+
+    /// Writes the whole piece. A refusal may have written the first bytes of it.
+    fn put(&mut self, bytes: &[u8]) -> Result<(), SinkFault>
+        ensures written { OnOk result (Told (written self.old) (written self.new)
+            (λ w w'. w' ≡ w ++ bytes.now)) }
+        ensures refused { OnErr result (Told (written self.old) (written self.new)
+            (λ w w'. GrowsByPrefix w w' bytes.now)) }
+        ensures faults { faults self.old ≤ faults self.new }
+        ensures failed { IsErrOf result SinkFault.Failed → Rose (faults self.old) (faults self.new) };
+}
+
+/// Why a shelf gave no answer.
+#[derive(Clone, Copy, Debug, PartialEq, Eq)]
+pub enum ShelfFault {
+    /// The outside failed.
+    Failed,
+    /// There was no memory for the file's bytes.
+    Memory,
+}
+
+/// Where files stand by name.
+pub trait Shelf {
+    /// The files, where the shelf tells them.
+    ghost files: { Self → Option Store };
+
+    /// How many calls met an outside fault, up to 2^64 - 1.
+    ghost faults: { Self → ℕ };
+
+    /// The bytes of the file of that name, or `None` where there is none. The shelf stays as it is.
+    fn fetch(&mut self, name: &str) -> Result<Option<Vec<u8>>, ShelfFault>
+        ensures found { IfOk result (λ found. IfSome (files self.old)
+            (λ files. option_map (λ v. v.items) found ≡ finite.get files name.now)) }
+        ensures kept { files self.new ≡ files self.old }
+        ensures faults { faults self.old ≤ faults self.new }
+        ensures failed { IsErrOf result ShelfFault.Failed → Rose (faults self.old) (faults self.new) };
+}
+
+#[cfg(test)]
+mod tests;

@@ -1,0 +1,4 @@
+pub mod Pieces
+pub mod Tapes
+pub mod Rows
+pub mod Stores

@@ -1,0 +1,22 @@
+-- A place in bytes, as a tape.
+use Rattle.std.proofs.Common.{◌≡◌, ℕ, ◌+◌, List, false, sym, refl}
+use Rattle.std.proofs.Math.Seq.{take-add}
+use Rattle.std.proofs.lemmas.List.{drop-drop}
+use Rattle.io_edges.specs.Plan.{Plan, is_due, after_call}
+use Rattle.io_edges.specs.InMemory.{PlannedSource, tape_at, advanced, next_count, after_take}
+
+-- n bytes further on in the bytes
+pub advanced-tape_at : (at n : ℕ) (bytes : List ℕ) → advanced n (tape_at at bytes) ≡ tape_at (at + n) bytes
+advanced-tape_at at n bytes = rw (drop-drop n at bytes, take-add at n bytes) refl
+
+-- a source at a place in its bytes
+abbrev pub source_at : ℕ → List ℕ → ℕ → Plan → PlannedSource
+source_at at bytes most plan = record { tape = tape_at at bytes; most = most; plan = plan }
+
+-- after a take that doesn't fail
+pub after_good_take : (at n most room : ℕ) (bytes : List ℕ) (plan plan' : Plan) → is_due plan ≡ false → n ≡ next_count (source_at at bytes most plan) room → plan' ≡ after_call plan → source_at (at + n) bytes most plan' ≡ after_take (source_at at bytes most plan) room
+after_good_take at n most room bytes plan plan' good count counted = rw (counted, good, ← count, advanced-tape_at at n bytes) refl
+
+-- after a take that always gives what the room holds
+pub after_sure_take : (at n m : ℕ) (bytes : List ℕ) → n ≡ m → tape_at (at + n) bytes ≡ advanced m (tape_at at bytes)
+after_sure_take at n m bytes count = rw (← count) (sym (advanced-tape_at at n bytes))

@@ -1,0 +1,52 @@
+-- What a source and a sink in memory do, call by call.
+use Rattle.std.specs.Prelude.{ℕ, List, [], ◌++◌, length, take, drop, min, if◌then◌else◌}
+use Rattle.io_edges.specs.Plan.{Plan, new_plan, is_due, after_call}
+
+-- bytes that are handed out from the front
+pub record Tape : Type 0 where
+  pub taken : List ℕ
+  pub left : List ℕ
+
+-- nothing is handed out yet
+abbrev pub new_tape : List ℕ → Tape
+new_tape bytes = record { taken = []; left = bytes }
+
+-- the bytes before a place are handed out
+abbrev pub tape_at : ℕ → List ℕ → Tape
+tape_at at bytes = record { taken = take at bytes; left = drop at bytes }
+
+-- after n more bytes are handed out
+abbrev pub advanced : ℕ → Tape → Tape
+advanced n tape = record { taken = tape.taken ++ take n tape.left; left = drop n tape.left }
+
+-- a source that fails by plan, and gives at most so many bytes a call
+pub record PlannedSource : Type 0 where
+  pub tape : Tape
+  pub most : ℕ
+  pub plan : Plan
+
+-- before the first take
+abbrev pub new_source : List ℕ → ℕ → List ℕ → PlannedSource
+new_source bytes most failing = record { tape = new_tape bytes; most = most; plan = new_plan failing }
+
+-- how many bytes the next take puts into a room of that length, if it doesn't fail
+abbrev pub next_count : PlannedSource → ℕ → ℕ
+next_count source room = min (min source.most room) (length source.tape.left)
+
+-- after the next take, into a room of that length
+abbrev pub after_take : PlannedSource → ℕ → PlannedSource
+after_take source room = record {
+  tape = if is_due source.plan then source.tape else advanced (next_count source room) source.tape;
+  most = source.most;
+  plan = after_call source.plan;
+}
+
+-- a sink that fails by plan, and at a failing call keeps so many bytes of the piece
+pub record PlannedSink : Type 0 where
+  pub written : List ℕ
+  pub kept : ℕ
+  pub plan : Plan
+
+-- before the first put
+abbrev pub new_sink : List ℕ → ℕ → PlannedSink
+new_sink failing kept = record { written = []; kept = kept; plan = new_plan failing }

@@ -1,0 +1,102 @@
+ghost use Rattle.std.specs.Prelude.{◌≡◌, ◌≢◌, ◌≤◌, ◌^◌, length, None, OnOk, IfOk, IfErr, IfSome, IsErrOf};
+ghost use Rattle.std.specs.IoError.{error_kind};
+ghost use Rattle.std.specs.Io.KnownBytes.{Consumes, IsAtEnd};
+ghost use Rattle.io_edges.specs.Faults.{one_more};
+ghost use Rattle.io_edges.specs.Adapters.{shelf_faults};
+
+use crate::{Shelf, ShelfFault};
+use std::alloc::Global;
+use std::io::{ErrorKind, Read};
+use std::rt::Files;
+use std::{fs, io};
+
+/// The bytes that a file on a shelf may have.
+const MOST: usize = 1 << 30;
+
+/// A shelf over the system's files, by their paths. A file that isn't there is `None`. Every other
+/// error counts as a fault, one of a call that was interrupted too, and so does a file of more than
+/// 2^30 bytes.
+#[derive(Drop)]
+pub struct FileShelf<R> {
+    rt: R,
+    faults: u64,
+}
+
+impl<R: Files + AllocGlobal> FileShelf<R> {
+    /// A shelf of the files that `rt` opens.
+    pub fn new(rt: R) -> FileShelf<R>
+        ensures { shelf_faults result ≡ 0 }
+    {
+        FileShelf { rt, faults: 0 }
+    }
+}
+
+impl<R: Files + AllocGlobal> Shelf for FileShelf<R> {
+    ghost files = { λ _. None };
+
+    ghost faults = { λ s. shelf_faults s };
+
+    fn fetch(&mut self, name: &str) -> Result<Option<Vec<u8>>, ShelfFault>
+        ensures most { IfOk result (λ found. IfSome found (λ bytes. length bytes.items ≤ 2 ^ 30)) }
+        ensures faults { shelf_faults self.old ≤ shelf_faults self.new }
+        ensures good { OnOk result (shelf_faults self.new ≡ shelf_faults self.old) }
+        ensures failed { IsErrOf result ShelfFault.Failed
+            → shelf_faults self.new ≡ one_more (shelf_faults self.old) }
+        ensures memory { IsErrOf result ShelfFault.Memory
+            → shelf_faults self.new ≡ shelf_faults self.old }
+    {
+        match found_file(&self.rt, name) {
+            Err(ShelfFault::Failed) => {
+                self.faults = self.faults.saturating_add(1);
+                Err(ShelfFault::Failed)
+            }
+            answer => answer,
+        }
+    }
+}
+
+fn found_file<R: Files + AllocGlobal>(rt: &R, name: &str) -> Result<Option<Vec<u8>>, ShelfFault>
+    ensures most { IfOk result (λ found. IfSome found (λ bytes. length bytes.items ≤ 2 ^ 30)) }
+{
+    match unless_missing(fs::open(rt, name))? {
+        Some(mut file) => Ok(Some(whole_file(rt.alloc(), &mut file)?)),
+        None => Ok(None),
+    }
+}
+
+fn unless_missing<F>(opened: io::Result<F>) -> Result<Option<F>, ShelfFault>
+    ensures open { IfOk opened (λ file. result ≡ Ok (Some file)) }
+    ensures missing { IfErr opened (λ e. error_kind e ≡ ErrorKind.NotFound → result ≡ Ok None) }
+    ensures broken { IfErr opened
+        (λ e. error_kind e ≢ ErrorKind.NotFound → result ≡ Err ShelfFault.Failed) }
+{
+    match opened {
+        Ok(file) => Ok(Some(file)),
+        Err(e) if e.kind() == ErrorKind::NotFound => Ok(None),
+        Err(_) => Err(ShelfFault::Failed),
+    }
+}
+
+// Reads to the end, and at most `MOST` bytes. std's `read_to_end` doesn't tell an error of the
+// reader from want of memory.
+fn whole_file<F: Read>(alloc: Global, file: &mut F) -> Result<Vec<u8>, ShelfFault>
+    ensures most { IfOk result (λ bytes. length bytes.items ≤ 2 ^ 30) }
+    ensures read { IfOk result
+        (λ bytes. Consumes (F.remaining file.old) (F.remaining file.new) bytes.items) }
+    ensures end { OnOk result (IsAtEnd (F.remaining file.new)) }
+{
+    let mut bytes = Vec::new(alloc);
+    let mut room = [0u8; 8192];
+    loop {
+        match file.read(&mut room) {
+            Ok(0) => return Ok(bytes),
+            Ok(n) if n > MOST - bytes.len() => return Err(ShelfFault::Failed),
+            Ok(n) => {
+                if bytes.extend_from_slice(&room[..n]).is_err() {
+                    return Err(ShelfFault::Memory);
+                }
+            }
+            Err(_) => return Err(ShelfFault::Failed),
+        }
+    }
+}

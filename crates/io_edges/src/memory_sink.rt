@@ -1,0 +1,77 @@
+ghost use Rattle.std.specs.Prelude.{◌≡◌, ◌<◌, ◌^◌, ◌++◌, take, true, false, Some, OnOk, IsErrOf};
+ghost use Rattle.io_edges.specs.Plan.{is_due, after_call};
+ghost use Rattle.io_edges.specs.InMemory.{new_sink};
+
+use crate::fault_plan::FaultPlan;
+use crate::{Sink, SinkFault};
+use std::alloc::Global;
+use std::marker::Model;
+
+/// A sink that keeps what is written to it, and fails where it is told to.
+#[derive(Debug, Drop)]
+pub struct MemorySink {
+    bytes: Vec<u8>,
+    kept: usize,
+    plan: FaultPlan,
+}
+
+impl Model for MemorySink {
+    ghost use Rattle.io_edges.specs.InMemory.{PlannedSink};
+
+    ghost Value = { PlannedSink };
+
+    ghost view = { λ s. record { written = s.bytes.items; kept = s.kept; plan = s.plan } };
+}
+
+impl MemorySink {
+    /// The puts whose numbers, from 0, are in `failing` fail. Each of them writes the first `kept`
+    /// bytes of its piece, or all where it is shorter. A put that wants memory writes nothing.
+    pub fn new(alloc: Global, failing: Vec<u64>, kept: usize) -> MemorySink
+        ensures { result ≡ new_sink failing.items kept }
+    {
+        MemorySink {
+            bytes: Vec::new(alloc),
+            kept,
+            plan: FaultPlan::new(failing),
+        }
+    }
+
+    /// All that was written.
+    pub fn bytes(&self) -> &[u8]
+        ensures { result.now ≡ self.now.written }
+    {
+        &self.bytes
+    }
+}
+
+impl Sink for MemorySink {
+    ghost written = { λ s. Some s.written };
+
+    ghost faults = { λ s. s.plan.faults };
+
+    fn put(&mut self, bytes: &[u8]) -> Result<(), SinkFault>
+        ensures ok { OnOk result (is_due self.old.plan ≡ false) }
+        ensures written { OnOk result (self.new.written ≡ self.old.written ++ bytes.now) }
+        ensures failed { IsErrOf result SinkFault.Failed → is_due self.old.plan ≡ true }
+        ensures front { IsErrOf result SinkFault.Failed
+            → self.new.written ≡ self.old.written ++ take self.old.kept bytes.now }
+        ensures memory { IsErrOf result SinkFault.Memory → self.new.written ≡ self.old.written }
+        ensures counted { self.new.plan ≡ after_call self.old.plan }
+        ensures kept { self.new.kept ≡ self.old.kept }
+        ensures faults { self.old.plan.faults < 2 ^ 64 }
+    {
+        let is_due = self.plan.fails();
+        let most = if is_due {
+            self.kept.min(bytes.len())
+        } else {
+            bytes.len()
+        };
+        if self.bytes.extend_from_slice(&bytes[..most]).is_err() {
+            return Err(SinkFault::Memory);
+        }
+        if is_due {
+            return Err(SinkFault::Failed);
+        }
+        Ok(())
+    }
+}

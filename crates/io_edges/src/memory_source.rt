@@ -1,0 +1,85 @@
+ghost use Rattle.std.specs.Prelude.{◌≡◌, ◌≤◌, ◌<◌, ◌^◌, ◌++◌, ℕ, length, take, drop, Some, min, IsErr, IsTrue, IfOk, OnErr, ◌↔◌};
+ghost use Rattle.io_edges.specs.Plan.{is_due};
+ghost use Rattle.io_edges.specs.InMemory.{new_source, next_count, after_take};
+
+use crate::fault_plan::FaultPlan;
+use crate::{Failed, Source};
+use std::marker::Model;
+
+/// A source over bytes in memory, which gives short pieces and fails where it is told to. A failing
+/// take gives no bytes.
+#[derive(Debug, Drop)]
+pub struct MemorySource {
+    bytes: Vec<u8>,
+    at: usize,
+    most: usize,
+    plan: FaultPlan,
+}
+
+impl Model for MemorySource {
+    ghost use Rattle.std.specs.Prelude.{◌≤◌, vec_len};
+    ghost use Rattle.io_edges.specs.InMemory.{PlannedSource, tape_at};
+
+    ghost Value = { PlannedSource };
+
+    ghost view = { λ s. record { tape = tape_at s.at s.bytes.items; most = s.most; plan = s.plan } };
+
+    ghost invariant = { λ s. (s.at ≤ vec_len s.bytes) × (1 ≤ s.most) };
+}
+
+impl MemorySource {
+    /// Gives at most `most` bytes a take. The takes whose numbers, from 0, are in `failing` fail.
+    pub fn new(bytes: Vec<u8>, most: usize, failing: Vec<u64>) -> MemorySource
+        requires { 1 ≤ most }
+        ensures { result ≡ new_source bytes.items most failing.items }
+    {
+        MemorySource {
+            bytes,
+            at: 0,
+            most,
+            plan: FaultPlan::new(failing),
+        }
+    }
+
+    /// The bytes that are left.
+    pub fn rest(&self) -> &[u8]
+        ensures { result.now ≡ self.now.tape.left }
+    {
+        &self.bytes[self.at..]
+    }
+}
+
+impl Source for MemorySource {
+    ghost taken = { λ s. Some s.tape.taken };
+
+    ghost left = { λ s. Some s.tape.left };
+
+    ghost faults = { λ s. s.plan.faults };
+
+    fn take(&mut self, room: &mut [u8]) -> Result<usize, Failed>
+        ensures failing { IsErr result ↔ IsTrue (is_due self.old.plan) }
+        ensures count { IfOk result (λ n. n ≡ next_count self.old (length room.old)) }
+        ensures given { IfOk result (λ n. room.new ≡ take n self.old.tape.left ++ drop n room.old) }
+        ensures kept { OnErr result (room.new ≡ room.old) }
+        ensures after { self.new ≡ after_take self.old (length room.old) }
+        ensures some { 1 ≤ self.old.most }
+        ensures faults { self.old.plan.faults < 2 ^ 64 }
+    {
+        if self.plan.fails() {
+            return Err(Failed);
+        }
+        let n = copy_front(&self.bytes[self.at..], self.most, room);
+        self.at += n;
+        Ok(n)
+    }
+}
+
+// Copies the first bytes, at most `most` of them, to the front of the room.
+pub(crate) fn copy_front(bytes: &[u8], most: usize, room: &mut [u8]) -> usize
+    ensures count { result ≡ min (min most (length room.old)) (length bytes.now) }
+    ensures given { room.new ≡ take result bytes.now ++ drop result room.old }
+{
+    let n = most.min(room.len()).min(bytes.len());
+    room[..n].copy_from_slice(&bytes[..n]);
+    n
+}

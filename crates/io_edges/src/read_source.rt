@@ -1,0 +1,51 @@
+ghost use Rattle.std.specs.Prelude.{◌≡◌, ◌≤◌, None, OnOk, OnErr};
+ghost use Rattle.std.specs.Io.{ReadsAtMost};
+ghost use Rattle.std.specs.Io.KnownBytes.{ReadConsumes};
+ghost use Rattle.io_edges.specs.Faults.{one_more};
+ghost use Rattle.io_edges.specs.Adapters.{reader_of, read_faults};
+
+use crate::{Failed, Source};
+use std::io::Read;
+
+/// A source over a reader. Each take is one read, and each read that fails counts as a fault, one
+/// that was interrupted too.
+#[derive(Debug, Drop)]
+pub struct ReadSource<R> {
+    reader: R,
+    faults: u64,
+}
+
+impl<R: Read> ReadSource<R> {
+    /// A source of what the reader gives from here on.
+    pub fn new(reader: R) -> ReadSource<R>
+        ensures reader { reader_of result ≡ reader }
+        ensures faults { read_faults result ≡ 0 }
+    {
+        ReadSource { reader, faults: 0 }
+    }
+}
+
+impl<R: Read> Source for ReadSource<R> {
+    ghost taken = { λ _. None };
+
+    ghost left = { λ _. None };
+
+    ghost faults = { λ s. read_faults s };
+
+    fn take(&mut self, room: &mut [u8]) -> Result<usize, Failed>
+        ensures within { ReadsAtMost result room.new }
+        ensures read { ReadConsumes
+            (R.remaining (reader_of self.old)) (R.remaining (reader_of self.new)) result room.new }
+        ensures good { OnOk result (read_faults self.new ≡ read_faults self.old) }
+        ensures failed { OnErr result (read_faults self.new ≡ one_more (read_faults self.old)) }
+        ensures faults { read_faults self.old ≤ read_faults self.new }
+    {
+        match self.reader.read(room) {
+            Ok(n) => Ok(n),
+            Err(_) => {
+                self.faults = self.faults.saturating_add(1);
+                Err(Failed)
+            }
+        }
+    }
+}

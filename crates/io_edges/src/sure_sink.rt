@@ -1,0 +1,55 @@
+ghost use Rattle.std.specs.Prelude.{◌≡◌, [], ◌++◌, Some, OnOk, IsOkUnless, OnErr};
+
+use crate::{Sink, SinkFault};
+use std::alloc::Global;
+use std::marker::Model;
+
+/// A sink that keeps what is written to it. A put that wants memory writes nothing, and nothing else
+/// makes one fail.
+#[derive(Debug, Drop)]
+pub struct SureSink {
+    bytes: Vec<u8>,
+}
+
+impl Model for SureSink {
+    ghost use Rattle.std.specs.Prelude.{ℕ, List};
+
+    ghost Value = { List ℕ };
+
+    ghost view = { λ s. s.bytes.items };
+}
+
+impl SureSink {
+    /// A sink that holds nothing yet.
+    pub fn new(alloc: Global) -> SureSink
+        ensures { result ≡ [] }
+    {
+        SureSink {
+            bytes: Vec::new(alloc),
+        }
+    }
+
+    /// All that was written.
+    pub fn bytes(&self) -> &[u8]
+        ensures { result.now ≡ self.now }
+    {
+        &self.bytes
+    }
+}
+
+impl Sink for SureSink {
+    ghost written = { λ s. Some s };
+
+    ghost faults = { λ _. 0 };
+
+    fn put(&mut self, bytes: &[u8]) -> Result<(), SinkFault>
+        ensures written { OnOk result (self.new ≡ self.old ++ bytes.now) }
+        ensures memory { IsOkUnless result SinkFault.Memory }
+        ensures unchanged { OnErr result (self.new ≡ self.old) }
+    {
+        match self.bytes.extend_from_slice(bytes) {
+            Ok(()) => Ok(()),
+            Err(_) => Err(SinkFault::Memory),
+        }
+    }
+}
