@@ -1,0 +1,4 @@
+pub mod Heights
+pub mod OnLiterals
+pub mod Rows
+pub mod Walks

@@ -1,0 +1,50 @@
+-- Which items a document can hold.
+use Rattle.std.specs.Prelude.{ℕ, List, ◌^◌, ◌-◌, pos, negsuc, Bool, true, false, ◌&&◌, nat_lt, length}
+use Rattle.std.specs.List.{list_all}
+use Rattle.std.specs.Str.{is_utf8}
+use Rattle.nbfx_values.specs.declared.content.ArrayItem.{ArrayItem}
+use Rattle.nbfx_values.specs.declared.content.ArrayKind.{ArrayKind}
+use Rattle.nbfx_values.specs.declared.content.ArrayKind.TheVariants.{Bool as Bools, Int16, Int32, Int64, Float as Floats, Double as Doubles, Decimal as Decimals, DateTime as DateTimes, TimeSpan as TimeSpans, Uuid as Uuids}
+use Rattle.nbfx_values.specs.declared.content.AttrItem.{AttrItem}
+use Rattle.nbfx_values.specs.declared.content.AttrItem.TheVariants.{Xmlns as DeclaresOn, Attr as AttrOn}
+use Rattle.nbfx_values.specs.declared.content.Item.{Item}
+use Rattle.nbfx_values.specs.declared.content.Item.TheVariants.{Start, Xmlns, Attr, Text, Comment, Array, Close}
+use Rattle.nbfx_values.specs.declared.scalars.Scalar.{Scalar}
+use Rattle.nbfx_values.specs.declared.scalars.Scalar.TheVariants.{Number, Truth, Float, Double, Decimal, DateTime, TimeSpan, Uuid}
+use Rattle.nbfx_values.specs.Scalars.{is_between, is_valid_scalar, is_valid_value}
+
+-- whether a value is of an array's kind, and in its range
+abbrev pub fits_kind : ArrayKind → Scalar → Bool
+fits_kind Bools (Truth truth) = true
+fits_kind Int16 (Number n) = is_between (negsuc (2 ^ 15 - 1)) (pos (2 ^ 15 - 1)) n
+fits_kind Int32 (Number n) = is_between (negsuc (2 ^ 31 - 1)) (pos (2 ^ 31 - 1)) n
+fits_kind Int64 (Number n) = is_between (negsuc (2 ^ 63 - 1)) (pos (2 ^ 63 - 1)) n
+fits_kind Floats (Float bits) = is_valid_scalar (Float bits)
+fits_kind Doubles (Double bits) = is_valid_scalar (Double bits)
+fits_kind Decimals (Decimal d) = is_valid_scalar (Decimal d)
+fits_kind DateTimes (DateTime pattern) = is_valid_scalar (DateTime pattern)
+fits_kind TimeSpans (TimeSpan span) = is_valid_scalar (TimeSpan span)
+fits_kind Uuids (Uuid bytes) = is_valid_scalar (Uuid bytes)
+fits_kind _ _ = false
+
+-- whether two texts are UTF-8
+abbrev pub are_texts : List ℕ → List ℕ → Bool
+are_texts first second = is_utf8 first && is_utf8 second
+
+abbrev pub is_valid_attribute : AttrItem → Bool
+is_valid_attribute (DeclaresOn prefix uri) = are_texts prefix uri
+is_valid_attribute (AttrOn prefix local value) = are_texts prefix local && is_valid_value value
+
+-- whether there is a value, and each is of the kind
+abbrev pub is_valid_array : ArrayItem → Bool
+is_valid_array a =
+    are_texts a.prefix a.local && (list_all is_valid_attribute a.attrs && (nat_lt 0 (length a.values) && list_all (fits_kind a.kind) a.values))
+
+abbrev pub is_valid_item : Item → Bool
+is_valid_item (Start prefix local) = are_texts prefix local
+is_valid_item (Xmlns prefix uri) = are_texts prefix uri
+is_valid_item (Attr prefix local value) = are_texts prefix local && is_valid_value value
+is_valid_item (Text value) = is_valid_value value
+is_valid_item (Comment bytes) = is_utf8 bytes
+is_valid_item (Array a) = is_valid_array a
+is_valid_item Close = true

@@ -1,0 +1,10 @@
+pub mod Characters
+pub mod Documents
+pub mod Items
+pub mod Limits
+pub mod Measures
+pub mod QuotasOf
+pub mod Refusals
+pub mod Scalars
+pub mod Session
+pub mod Standings

@@ -1,0 +1,42 @@
+-- Which values a record of MC-NBFX can hold. Numbers have no greatest here, and a text is any list, so what
+-- the types of a program keep anyway is said too.
+use Rattle.std.specs.Prelude.{◌^◌, ◌-◌, ℤ, pos, negsuc, Bool, true, not, ◌&&◌, nat_le, nat_lt, int_lt, ◌==◌, length, List, ℕ}
+use Rattle.std.specs.List.{list_all}
+use Rattle.std.specs.Str.{is_utf8}
+use Rattle.nbfx_values.specs.declared.scalars.Scalar.{Scalar}
+use Rattle.nbfx_values.specs.declared.scalars.Scalar.TheVariants.{Number, Truth, Float, Double, Decimal, DateTime, TimeSpan, Text, Bytes, UniqueId, Uuid, QName}
+use Rattle.nbfx_values.specs.declared.scalars.Value.{Value}
+use Rattle.nbfx_values.specs.declared.scalars.Value.TheVariants.{One, List as ListOf}
+
+-- whether a number is from the first to the last
+abbrev pub is_between : ℤ → ℤ → ℤ → Bool
+is_between first last n = not (int_lt n first) && not (int_lt last n)
+
+-- whether a number has a record: those with a sign reach down to -2^63, that without a sign up to 2^64 - 1
+abbrev pub is_number : ℤ → Bool
+is_number = is_between (negsuc (2 ^ 63 - 1)) (pos (2 ^ 64 - 1))
+
+-- whether all are bytes, and whether they are an identifier
+abbrev pub are_bytes : List ℕ → Bool
+are_bytes = list_all (λ byte. nat_le byte 255)
+
+abbrev pub is_identifier : List ℕ → Bool
+is_identifier bytes = length bytes == 16 && are_bytes bytes
+
+abbrev pub is_valid_scalar : Scalar → Bool
+is_valid_scalar (Number n) = is_number n
+is_valid_scalar (Truth truth) = true
+is_valid_scalar (Float bits) = nat_le bits (2 ^ 32 - 1)
+is_valid_scalar (Double bits) = nat_le bits (2 ^ 64 - 1)
+is_valid_scalar (Decimal d) = nat_le d.scale 28 && nat_lt d.magnitude (2 ^ 96)
+is_valid_scalar (DateTime pattern) = nat_le pattern (2 ^ 64 - 1)
+is_valid_scalar (TimeSpan span) = is_between (negsuc (2 ^ 63 - 1)) (pos (2 ^ 63 - 1)) span
+is_valid_scalar (Text bytes) = is_utf8 bytes
+is_valid_scalar (Bytes bytes) = are_bytes bytes
+is_valid_scalar (UniqueId bytes) = is_identifier bytes
+is_valid_scalar (Uuid bytes) = is_identifier bytes
+is_valid_scalar (QName letter name) = nat_le letter 25 && is_utf8 name
+
+abbrev pub is_valid_value : Value → Bool
+is_valid_value (One s) = is_valid_scalar s
+is_valid_value (ListOf ss) = list_all is_valid_scalar ss

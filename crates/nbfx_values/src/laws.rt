@@ -1,0 +1,42 @@
+//! Laws over the definitions alone. Each is the contract of a function that does nothing.
+ghost use Rattle.std.specs.Prelude.{◌≡◌, ◌++◌, ◌↔◌, [], IsSome, List, ℕ};
+ghost use Rattle.nbfx_values.specs.declared.content.Item.{Item};
+ghost use Rattle.nbfx_values.specs.Documents.{Children, IsDocument, IsFront, IsRefusedAt, height, walk};
+ghost use Rattle.nbfx_values.specs.Measures.{depth_of};
+ghost use Rattle.nbfx_values.specs.Refusals.{reason_number};
+ghost use Rattle.nbfx_values.specs.Standings.{at_begin, at_end, stands};
+
+use crate::refusals::Reason;
+
+/// Two reasons with one number are one reason.
+pub fn one_number_one_reason(first: &Reason, second: &Reason)
+    requires { reason_number first.now ≡ reason_number second.now }
+    ensures { first.now ≡ second.now }
+{}
+
+/// The depth of a document is the height of the elements that stand in one another.
+pub fn depth_is_height()
+    ensures { (children : Children) → depth_of (walk children) ≡ height children }
+{}
+
+/// A list is a document exactly where its items, each allowed behind those before it, lead from
+/// before the root to behind it.
+pub fn a_document_leads_to_its_end()
+    ensures { (items : List Item) → IsDocument items ↔ (stands at_begin items ≡ at_end) }
+{}
+
+/// A list is a front of a document exactly where each of its items is allowed behind those before
+/// it.
+pub fn a_front_leads_on()
+    ensures { (items : List Item) → IsFront items ↔ IsSome (stands at_begin items) }
+{}
+
+/// No document goes on as another one.
+pub fn no_document_goes_on()
+    ensures { (items more : List Item) → IsDocument items → IsDocument (items ++ more) → more ≡ [] }
+{}
+
+/// A list is refused at one place only.
+pub fn one_place_of_refusal()
+    ensures { (items : List Item) (at other : ℕ) → IsRefusedAt items at → IsRefusedAt items other → at ≡ other }
+{}

@@ -1,0 +1,82 @@
+ghost use Rattle.nbfx_values.specs.Limits.{Good};
+
+/// What a reader or writer of sessions admits. Sizes are in bytes.
+#[derive(Clone, Copy, Debug, PartialEq, Eq)]
+pub struct Quotas {
+    /// Bytes of one envelope's payload.
+    pub payload: u32,
+    /// Elements open at one moment, an array's element included.
+    pub depth: u32,
+    /// Cost of the session strings of one direction.
+    pub dictionary: u32,
+    /// Content of one document.
+    pub content: u32,
+    /// Bytes of a Via or of a Fault's text.
+    pub via: u32,
+    /// Bytes read in one session.
+    pub session: u64,
+    pub ghost good: { Good payload depth dictionary content via session },
+}
+
+impl Quotas {
+    ghost use Rattle.std.specs.Prelude.{◌^◌, ◌↔◌, ◌≡◌, IfSome, IsSome};
+    ghost use Rattle.nbfx_values.specs.Limits.{Good};
+    ghost use Rattle.nbfx_values.specs.QuotasOf.{Holds};
+
+    /// The quotas of a stack that nobody has set otherwise.
+    pub fn usual() -> Quotas
+        ensures { Holds result 65536 32 2048 262144 2048 (2 ^ 48) }
+    {
+        Quotas {
+            payload: 65_536,
+            depth: 32,
+            dictionary: 2_048,
+            content: 262_144,
+            via: 2_048,
+            session: 1 << 48,
+        }
+    }
+
+    /// The quotas with these values, where they are Good.
+    pub fn of(
+        payload: u32,
+        depth: u32,
+        dictionary: u32,
+        content: u32,
+        via: u32,
+        session: u64,
+    ) -> Option<Quotas>
+        ensures good { IsSome result ↔ Good payload depth dictionary content via session }
+        ensures values { IfSome result (λ q. Holds q payload depth dictionary content via session) }
+    {
+        let good = (4_096..=1_048_576).contains(&payload)
+            && (4..=128).contains(&depth)
+            && dictionary <= payload
+            && payload <= content
+            && content <= 16_777_216
+            && (16..=2_048).contains(&via)
+            && 1 <= session
+            && session <= 1 << 48;
+        if good {
+            Some(Quotas {
+                payload,
+                depth,
+                dictionary,
+                content,
+                via,
+                session,
+            })
+        } else {
+            None
+        }
+    }
+}
+
+/// What a reading end holds at one moment.
+#[derive(Clone, Copy, Debug, PartialEq, Eq)]
+pub struct Kept {
+    /// Bytes of input held and not yet turned into items.
+    pub raw: u64,
+    /// Content of the unfinished document.
+    pub content: u64,
+}

@@ -1,0 +1,73 @@
+ghost use Rattle.std.specs.Prelude.{◌≡◌, [], ◌∷◌, ◌++◌, OnErr, OnOk, length, slice_get};
+ghost use Rattle.std.specs.Option.{option_copied};
+
+use crate::copies::{Copied, Memory};
+use std::alloc::Global;
+use std::marker::Model;
+
+/// A list that grows at its end, which contracts see as the list of its values.
+#[derive(Debug, Drop)]
+pub struct Sequence<T> {
+    items: Vec<T>,
+}
+
+impl<T> Model for Sequence<T> {
+    ghost use Rattle.std.specs.Prelude.{List};
+
+    ghost Value = { List T };
+
+    ghost view = { λ s. s.items.items };
+}
+
+impl<T> Sequence<T> {
+    /// The list without values.
+    pub fn new(alloc: Global) -> Self
+        ensures { result ≡ [] }
+    {
+        Sequence {
+            items: Vec::new(alloc),
+        }
+    }
+
+    /// How many values the list has.
+    pub fn len(&self) -> usize
+        ensures { result ≡ length self.now }
+    {
+        self.items.len()
+    }
+
+    /// The value at a place, counted from 0.
+    pub fn get(&self, at: usize) -> Option<&T>
+        ensures { option_copied result ≡ slice_get self.now at }
+    {
+        self.items.get(at)
+    }
+
+    /// The values in order.
+    pub fn as_slice(&self) -> &[T]
+        ensures { result.now ≡ self.now }
+    {
+        self.items.as_slice()
+    }
+}
+
+impl<T: Drop> Sequence<T> {
+    /// Puts one more value at the end. Want of memory drops it and leaves the list.
+    pub fn push(&mut self, one: T) -> Result<(), Memory>
+        ensures pushed { OnOk result (self.new ≡ self.old ++ one ∷ []) }
+        ensures unchanged { OnErr result (self.new ≡ self.old) }
+    {
+        self.items.push(one)?;
+        Ok(())
+    }
+}
+
+impl<T: Copied + Drop> Copied for Sequence<T> {
+    fn copy(&self) -> Result<Sequence<T>, Memory> {
+        let mut copied = Sequence::new(*self.items.allocator());
+        for one in self.items.as_slice() {
+            copied.push(one.copy()?)?;
+        }
+        Ok(copied)
+    }
+}

@@ -1,0 +1,101 @@
+ghost use Rattle.std.specs.Prelude.{◌≡◌, IfOk, string_bytes};
+ghost use Rattle.std.specs.Str.{is_utf8};
+
+use crate::copies::{Copied, Memory};
+use std::alloc::Global;
+use std::marker::Model;
+
+/// A text, which contracts see as the list of its UTF-8 bytes.
+#[derive(Debug, Drop)]
+pub struct Txt {
+    text: String,
+}
+
+impl Model for Txt {
+    ghost use Rattle.std.specs.Prelude.{ℕ, List, string_bytes};
+
+    ghost Value = { List ℕ };
+
+    ghost view = { λ t. string_bytes t.text };
+}
+
+impl Txt {
+    /// The text with these characters.
+    pub fn of(alloc: Global, text: &str) -> Result<Txt, Memory>
+        ensures same { IfOk result (λ t. t ≡ text.now) }
+    {
+        Ok(Txt {
+            text: String::from_str(alloc, text)?,
+        })
+    }
+
+    // The text that a string holds.
+    pub(crate) fn from_string(text: String) -> Txt
+        ensures { result ≡ string_bytes text }
+    {
+        Txt { text }
+    }
+
+    // Whether the bytes are UTF-8, as those of every text are.
+    pub(crate) fn check(&self) -> bool
+        ensures { result ≡ is_utf8 self.now }
+    {
+        let _text = self.text.as_str();
+        true
+    }
+
+    /// The characters.
+    pub fn as_str(&self) -> &str
+        ensures { result.now ≡ self.now }
+    {
+        self.text.as_str()
+    }
+}
+
+impl Copied for Txt {
+    fn copy(&self) -> Result<Txt, Memory> {
+        Ok(Txt {
+            text: self.text.clone()?,
+        })
+    }
+}
+
+/// A list of bytes, which contracts see as that list.
+#[derive(Debug, Drop)]
+pub struct Blob {
+    bytes: Vec<u8>,
+}
+
+impl Model for Blob {
+    ghost use Rattle.std.specs.Prelude.{ℕ, List};
+
+    ghost Value = { List ℕ };
+
+    ghost view = { λ b. b.bytes.items };
+}
+
+impl Blob {
+    /// The list of these bytes.
+    pub fn of(alloc: Global, bytes: &[u8]) -> Result<Blob, Memory>
+        ensures same { IfOk result (λ b. b ≡ bytes.now) }
+    {
+        Ok(Blob {
+            bytes: Vec::from_slice(alloc, bytes)?,
+        })
+    }
+
+    /// The bytes.
+    pub fn as_slice(&self) -> &[u8]
+        ensures { result.now ≡ self.now }
+    {
+        self.bytes.as_slice()
+    }
+}
+
+impl Copied for Blob {
+    fn copy(&self) -> Result<Blob, Memory> {
+        Ok(Blob {
+            bytes: self.bytes.clone()?,
+        })
+    }
+}

@@ -1,0 +1,18 @@
+use crate::content::Items;
+use crate::document::{Doc, Docs};
+use crate::limits::Quotas;
+
+fn moves<T: Send>() {}
+
+fn is_shared<T: Sync>() {}
+
+// Which types may move between threads, and which may be shared. A type that may not fails here,
+// and not at the first thread that takes it.
+fn move_and_share() {
+    moves::<Doc>();
+    moves::<Docs>();
+    moves::<Items>();
+    moves::<Quotas>();
+    is_shared::<Docs>();
+    is_shared::<Quotas>();
+}
