@@ -1,0 +1,5 @@
+use Rattle.static_dictionary.proofs.FileFacts.{ReadSoFar}
+use Rattle.static_dictionary.proofs.table.StaticTable.read.Given as goal
+
+abbrev pub invariant-loop-number : goal.invariant-loop-number
+invariant-loop-number l = ReadSoFar l.fn.bytes l.number l.reader l.by_id l.by_text

@@ -1,0 +1,14 @@
+-- A table's two maps, as the entries that a contract sees.
+use Rattle.std.specs.Prelude.{◌≡◌, ℕ, List, map, string_bytes, String}
+use Rattle.std.specs.BTreeMap.{BTreeMap, get_by_text}
+use Rattle.static_dictionary.specs.Entries.{Entry, IsStaticMap, least_id}
+
+module _ {A : Type 0} where
+  -- the entries of a map from identifiers to texts
+  abbrev pub entries_in : BTreeMap ℕ (String A) → List Entry
+  entries_in by_id = map (λ entry. (entry.0, string_bytes entry.1)) by_id.entries
+
+  -- the first map is that of a static table, and the second has the least identifier of each text
+  pub record AreMapsOfTable (by_id : BTreeMap ℕ (String A)) (by_text : BTreeMap (String A) ℕ) : Type 0 where
+    pub rises : IsStaticMap (entries_in by_id)
+    pub least : (text : List ℕ) → get_by_text by_text text ≡ least_id (entries_in by_id) text

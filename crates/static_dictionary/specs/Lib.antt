@@ -1,0 +1,5 @@
+pub mod Entries
+pub mod Rows
+pub mod Faults
+pub mod Given
+pub mod Inside

@@ -1,0 +1,27 @@
+// Why a file gives no table.
+
+/// What is wrong with a row.
+#[derive(Clone, Copy, Debug, PartialEq, Eq)]
+pub enum TableKind {
+    /// The first row isn't the fields `id` and `string`, or there is none.
+    Header,
+    /// There are not two fields.
+    Fields,
+    /// A field isn't UTF-8.
+    NotUtf8,
+    /// The identifier isn't 0 or decimal digits without a leading zero, of value at most 2^31 - 1.
+    NotANumber,
+    /// The identifier is odd.
+    Odd,
+    /// An earlier row has the identifier.
+    Repeated,
+}
+
+/// Why there is no table.
+#[derive(Clone, Copy, Debug, PartialEq, Eq)]
+pub enum TableFault {
+    /// The first row that fails, counted from 0, and what is wrong with it.
+    Bad { row: u64, kind: TableKind },
+    /// Memory ran out.
+    Memory,
+}

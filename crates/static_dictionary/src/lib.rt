@@ -1,0 +1,22 @@
+//! The static string table (MC-NBFS): the texts that both ends know from the start, each under an even
+//! identifier. It is handed in as a CSV file of two fields, whose first row is `id` and `string`.
+//!
+//! A contract sees a `StaticTable` as a finite map, the list of its entries in rising order of their
+//! identifiers. `StaticTable::read` gives the map of the file's rows, or names the first row that fails
+//! and says why. `specs/Entries.antt` has the text of an identifier and the least identifier of a text,
+//! and `specs/Rows.antt` what the rows of a file say, where the rows are the records that the crate
+//! `csv` finds in it.
+#![tactic(auto)]
+
+mod entry;
+mod fault;
+mod rows;
+mod table;
+
+pub use fault::{TableFault, TableKind};
+pub use table::StaticTable;
+
+#[cfg(test)]
+mod published;
+#[cfg(test)]
+mod tests;

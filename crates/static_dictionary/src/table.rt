@@ -1,0 +1,140 @@
+// The table of the static strings.
+ghost use Rattle.std.specs.Prelude.{◌≡◌, ◌≢◌, Some, None, ℕ, drop, option_map, OnOk, OnSome, IfErr, IfNone, IfOk, IfSome};
+ghost use Rattle.csv.specs.Records.{fields_of};
+ghost use Rattle.static_dictionary.specs.Entries.{IsLeastName, IsStaticId, IsStaticMap, least_id, least_with, text_at, with_entry};
+ghost use Rattle.static_dictionary.specs.Faults.{AddsEntryOf, Tells};
+ghost use Rattle.static_dictionary.specs.Inside.{AreMapsOfTable, entries_in};
+ghost use Rattle.static_dictionary.specs.Rows.{entries_of, entry_of, fault_of, fault_or, rows_of, table_of};
+
+use crate::entry::entry_of;
+use crate::fault::{TableFault, TableKind};
+use crate::rows::{first_of, next_row, take_header};
+use csv::ByteRecord;
+use std::alloc::{AllocError, Global};
+use std::collections::BTreeMap;
+use std::marker::Model;
+
+/// The static strings.
+#[derive(Drop)]
+pub struct StaticTable {
+    by_id: BTreeMap<u32, String>,
+    by_text: BTreeMap<String, u32>,
+}
+
+impl Model for StaticTable {
+    ghost use Rattle.std.specs.Prelude.{List};
+    ghost use Rattle.static_dictionary.specs.Entries.{Entry};
+    ghost use Rattle.static_dictionary.specs.Inside.{AreMapsOfTable, entries_in};
+
+    ghost Value = { List Entry };
+
+    ghost view = { λ t. entries_in t.by_id };
+
+    ghost invariant = { λ t. AreMapsOfTable t.by_id t.by_text };
+}
+
+impl StaticTable {
+    /// Reads the table of a CSV file. `Bad` names the first row that fails.
+    pub fn read(alloc: Global, bytes: &[u8]) -> Result<StaticTable, TableFault>
+        ensures table { IfOk result (λ table. table ≡ table_of (rows_of bytes.now)) }
+        ensures map { IfOk result IsStaticMap }
+        ensures texts { IfOk result (λ table. (id : ℕ) → text_at table id ≡ text_at (entries_of (drop 1 (rows_of bytes.now))) id) }
+        ensures sound { OnOk result (fault_of (rows_of bytes.now) ≡ None) }
+        ensures bad { IfErr result (Tells (fault_of (rows_of bytes.now))) }
+    {
+        let mut reader = first_of(alloc, bytes);
+        let mut row = ByteRecord::new(alloc);
+        take_header(&mut reader, &mut row)?;
+        let mut by_id = BTreeMap::new(alloc);
+        let mut by_text = BTreeMap::new(alloc);
+        for number in 1..u64::MAX {
+            if !next_row(&mut reader, &mut row)? {
+                return Ok(StaticTable { by_id, by_text });
+            }
+            add_row(alloc, &mut by_id, &mut by_text, number, &row)?;
+        }
+
+        // No memory holds a file of so many rows.
+        Err(TableFault::Memory)
+    }
+
+    /// The text of an identifier.
+    pub fn text(&self, id: u32) -> Option<&str>
+        ensures text { option_map (λ text. text.now) result ≡ text_at self.now id }
+        ensures static_id { OnSome result (IsStaticId id) }
+        ensures map { IsStaticMap self.now }
+    {
+        let text = self.by_id.get(&id)?;
+        Some(text.as_str())
+    }
+
+    /// The least identifier of a text.
+    pub fn id(&self, text: &str) -> Option<u32>
+        ensures least { result ≡ least_id self.now text.now }
+        ensures found { IfSome result (IsLeastName self.now text.now) }
+        ensures none { IfNone result ((id : ℕ) → text_at self.now id ≢ Some text.now) }
+        ensures static_id { IfSome result (λ id. IsStaticId id) }
+        ensures map { IsStaticMap self.now }
+    {
+        self.by_text.get(text).copied()
+    }
+}
+
+// The less of an identifier and another, where there is another.
+fn least_with(id: u32, other: Option<u32>) -> u32
+    ensures { result ≡ least_with id other }
+{
+    match other {
+        Some(other) => id.min(other),
+        None => id,
+    }
+}
+
+// Puts one more entry into the two maps.
+fn put_entry(
+    alloc: Global,
+    by_id: &mut BTreeMap<u32, String>,
+    by_text: &mut BTreeMap<String, u32>,
+    id: u32,
+    text: &str,
+) -> Result<(), AllocError>
+    requires maps { AreMapsOfTable by_id.old by_text.old }
+    requires static_id { IsStaticId id }
+    requires fresh { text_at (entries_in by_id.old) id ≡ None }
+    ensures maps { OnOk result (AreMapsOfTable by_id.new by_text.new) }
+    ensures entries { OnOk result (entries_in by_id.new ≡ with_entry (entries_in by_id.old) (id, text.now)) }
+{
+    let least = least_with(id, by_text.get(text).copied());
+    by_text.insert(String::from_str(alloc, text)?, least)?;
+    by_id.insert(id, String::from_str(alloc, text)?)?;
+    Ok(())
+}
+
+// Adds the entry of a row behind the first to the two maps.
+fn add_row(
+    alloc: Global,
+    by_id: &mut BTreeMap<u32, String>,
+    by_text: &mut BTreeMap<String, u32>,
+    number: u64,
+    row: &ByteRecord,
+) -> Result<(), TableFault>
+    requires { AreMapsOfTable by_id.old by_text.old }
+    ensures maps { OnOk result (AreMapsOfTable by_id.new by_text.new) }
+    ensures added { OnOk result (AddsEntryOf (fields_of row.now) (entries_in by_id.old) (entries_in by_id.new)) }
+    ensures bad { IfErr result (Tells (fault_or (λ _ _. None) number (entries_in by_id.old) (entry_of (fields_of row.now)))) }
+{
+    let (id, text) = match entry_of(row) {
+        Ok(entry) => entry,
+        Err(kind) => return Err(TableFault::Bad { row: number, kind }),
+    };
+    if by_id.contains_key(&id) {
+        return Err(TableFault::Bad {
+            row: number,
+            kind: TableKind::Repeated,
+        });
+    }
+    match put_entry(alloc, by_id, by_text, id, text) {
+        Ok(()) => Ok(()),
+        Err(_) => Err(TableFault::Memory),
+    }
+}
