@@ -1,0 +1,4 @@
+pub mod Laws
+pub mod StringFacts
+pub mod TableFacts
+mod Rows

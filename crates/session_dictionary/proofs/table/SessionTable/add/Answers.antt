@@ -1,0 +1,17 @@
+use Rattle.std.proofs.Common.{arith, map, string_bytes}
+use Rattle.std.proofs.lemmas.List.{length-map}
+use Rattle.session_dictionary.proofs.StringFacts.{length_le_used}
+use Rattle.session_dictionary.proofs.TableFacts.{texts_few}
+use Rattle.session_dictionary.proofs.table.SessionTable.add.Goals as goal
+
+pub overflow_cast-id : goal.overflow_cast-id
+overflow_cast-id c = omega (arith, texts_few c.self.inside c.self.invariant)
+
+pub overflow_mul-id : goal.overflow_mul-id
+overflow_mul-id c = omega (arith, texts_few c.self.inside c.self.invariant)
+
+pub overflow_add-id : goal.overflow_add-id
+overflow_add-id c = omega (arith, texts_few c.self.inside c.self.invariant)
+
+pub returns-in-Ok-clause-small : goal.returns-in-Ok-clause-small
+returns-in-Ok-clause-small c = omega (arith, length_le_used (map string_bytes c.self.inside.texts.items), length-map c.self.inside.texts.items string_bytes)

@@ -1,0 +1,31 @@
+use Rattle.std.proofs.Common.{length, map, string_bytes, ◌+◌, ◌*◌, sym, ap, arith}
+use Rattle.session_dictionary.proofs.Laws.{least_id-is_lowest, least_id-named, least_id-none}
+use Rattle.session_dictionary.proofs.TableFacts.{texts_few}
+use Rattle.session_dictionary.proofs.table.SessionTable.id.Goals as goal
+
+pub overflow_cast-result : goal.overflow_cast-result
+overflow_cast-result c = omega (arith, texts_few c.self.inside c.self.invariant, c.in_ok-place.ensures.within, ap length c.deref.ensures.value)
+
+pub overflow_mul-result : goal.overflow_mul-result
+overflow_mul-result c = omega (arith, texts_few c.self.inside c.self.invariant, c.in_ok-place.ensures.within, ap length c.deref.ensures.value)
+
+pub overflow_add-result : goal.overflow_add-result
+overflow_add-result c = omega (arith, texts_few c.self.inside c.self.invariant, c.in_ok-place.ensures.within, ap length c.deref.ensures.value)
+
+pub returns-clause-small : goal.returns-clause-small
+returns-clause-small c = omega (arith, texts_few c.self.inside c.self.invariant, c.in_ok-place.ensures.within, ap length c.deref.ensures.value)
+
+pub returns-clause-found : goal.returns-clause-found
+returns-clause-found c =
+    let strings = map string_bytes c.self.inside.texts.items in
+    let least = sym (rw c.deref.ensures.value at c.in_ok-place.ensures.least) in
+    rw (← c.self.view_is) (record {
+      names = least_id-named strings c.args.text.now (2 * c.in_ok-place.place + 1) least;
+      lowest = λ other. least_id-is_lowest strings c.args.text.now (2 * c.in_ok-place.place + 1) other least;
+    })
+
+pub returns-in_err-place-clause-none : goal.returns-in_err-place-clause-none
+returns-in_err-place-clause-none c =
+    let strings = map string_bytes c.self.inside.texts.items in
+    let none = sym (rw c.deref.ensures.value at c.in_err-place.ensures.least) in
+    rw (c.from_residual.ensures, ← c.self.view_is) (λ other. least_id-none strings c.args.text.now other none)

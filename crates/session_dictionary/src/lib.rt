@@ -1,0 +1,14 @@
+//! The session string table of one direction (MC-NBFSE): the strings that the payloads of that
+//! direction brought along, in the order in which they came. String i has the identifier 2i + 1, and
+//! the strings' cost together stays within a limit.
+//!
+//! A contract sees a `SessionTable` as the list of its strings and its limit. `specs/Strings.antt` has
+//! the cost of strings, the string that an identifier names and the least identifier of a text.
+#![tactic(auto)]
+
+mod table;
+
+pub use table::{AddFault, Mark, SessionTable};
+
+#[cfg(test)]
+mod tests;

@@ -1,0 +1,200 @@
+// The table of one direction's strings.
+ghost use Rattle.std.specs.Prelude.{◌≡◌, ◌≢◌, ℕ, ◌+◌, ◌*◌, ◌^◌, ◌<◌, ◌≤◌, ◌↔◌, [], ◌∷◌, ◌++◌, length, map, take, drop, option_map, string_bytes, Some, IfOk, IfNone, IfSome, IsErrOf, IsTrue, OnOk, OnErr};
+ghost use Rattle.std.specs.List.{flat_map};
+ghost use Rattle.multibyte_ints.specs.Text.{string_bytes_of};
+ghost use Rattle.session_dictionary.specs.Strings.{IsLeastName, cost, least_id, text_at, used};
+ghost use Rattle.session_dictionary.specs.Marks.{IsMarkOf};
+
+use multibyte_ints::{Memory, put_string};
+use std::alloc::{AllocError, Global};
+use std::marker::Model;
+
+/// Why a string was not added.
+#[derive(Clone, Copy, Debug, PartialEq, Eq)]
+pub enum AddFault {
+    /// The string would take the table's cost above its limit.
+    Full,
+    /// Memory ran out.
+    Memory,
+}
+
+/// A place in a table to go back to: how many strings there were, and what they cost.
+#[derive(Clone, Copy, Debug, PartialEq, Eq)]
+pub struct Mark {
+    pub count: u32,
+    pub used: u32,
+}
+
+/// The strings of one direction of a session. String i has the identifier 2i + 1.
+#[derive(Drop)]
+pub struct SessionTable {
+    alloc: Global,
+    texts: Vec<String>,
+    used: u32,
+    limit: u32,
+}
+
+impl Model for SessionTable {
+    ghost use Rattle.session_dictionary.specs.Strings.{Table};
+
+    ghost Value = { Table };
+
+    ghost use Rattle.session_dictionary.specs.Inside.{table_of, IsTable};
+
+    ghost view = { table_of };
+
+    ghost invariant = { IsTable };
+}
+
+impl SessionTable {
+    /// A table without strings, whose cost stays within `limit` bytes.
+    pub fn new(alloc: Global, limit: u32) -> Self
+        requires { limit ≤ 2 ^ 30 }
+        ensures { result ≡ record { strings = []; limit = limit } }
+    {
+        SessionTable {
+            alloc,
+            texts: Vec::new(alloc),
+            used: 0,
+            limit,
+        }
+    }
+
+    /// The string that an identifier names.
+    pub fn text(&self, id: u32) -> Option<&str>
+        ensures { option_map (λ s. s.now) result ≡ text_at self.now.strings id }
+    {
+        if id % 2 == 0 {
+            return None;
+        }
+        let text = self.texts.get(id as usize / 2)?;
+        Some(text.as_str())
+    }
+
+    /// The least identifier of a text.
+    pub fn id(&self, text: &str) -> Option<u32>
+        ensures least { result ≡ least_id self.now.strings text.now }
+        ensures found { IfSome result (IsLeastName self.now.strings text.now) }
+        ensures none { IfNone result ((id : ℕ) → text_at self.now.strings id ≢ Some text.now) }
+        ensures small { IfSome result (λ id. id < 2 ^ 31) }
+    {
+        let place = place_of(&self.texts, text)?;
+        Some(2 * place as u32 + 1)
+    }
+
+    /// What the strings cost together, in bytes.
+    pub fn used(&self) -> u32
+        ensures cost { result ≡ used self.now.strings }
+        ensures within { result ≤ self.now.limit }
+        ensures limited { self.now.limit ≤ 2 ^ 30 }
+    {
+        self.used
+    }
+
+    /// How many strings there are.
+    pub fn len(&self) -> u32
+        ensures count { result ≡ length self.now.strings }
+        ensures within { result ≤ used self.now.strings }
+    {
+        self.texts.len() as u32
+    }
+
+    /// Whether there are no strings.
+    pub fn is_empty(&self) -> bool
+        ensures { IsTrue result ↔ (self.now.strings ≡ []) }
+    {
+        self.texts.is_empty()
+    }
+
+    /// Appends a string and answers its identifier. A refusal leaves the table as it was: `Full` is
+    /// that the string would take the cost above the limit.
+    pub fn add(&mut self, text: &str) -> Result<u32, AddFault>
+        ensures id { IfOk result (λ id. id ≡ 2 * length self.old.strings + 1) }
+        ensures small { IfOk result (λ id. id < 2 ^ 31) }
+        ensures added { OnOk result (self.new ≡ record self.old { strings = self.old.strings ++ text.now ∷ [] }) }
+        ensures within { OnOk result (used self.new.strings ≤ self.new.limit) }
+        ensures full { IsErrOf result AddFault.Full ↔ (self.old.limit < used self.old.strings + cost text.now) }
+        ensures err { OnErr result (self.new ≡ self.old) }
+    {
+        let cost = text.len().max(1);
+        if cost > (self.limit - self.used) as usize {
+            return Err(AddFault::Full);
+        }
+        let id = 2 * self.texts.len() as u32 + 1;
+        match push_text(self.alloc, &mut self.texts, text) {
+            Ok(()) => {
+                self.used += cost as u32;
+                Ok(id)
+            }
+            Err(_) => Err(AddFault::Memory),
+        }
+    }
+
+    /// The place that the table has come to.
+    pub fn mark(&self) -> Mark
+        ensures { result ≡ record { count = length self.now.strings; used = used self.now.strings } }
+    {
+        Mark {
+            count: self.len(),
+            used: self.used,
+        }
+    }
+
+    /// Cuts the table back to the strings before a mark of its own.
+    pub fn back_to(&mut self, mark: Mark)
+        requires { IsMarkOf mark self.old.strings }
+        ensures { self.new ≡ record self.old { strings = take mark.count self.old.strings } }
+    {
+        self.texts.truncate(mark.count as usize);
+        self.used = mark.used;
+    }
+
+    /// Appends the strings behind a mark of its own to `out`, each as a String: its length as an
+    /// integer, and its bytes. A refusal leaves `out` as it was.
+    pub fn put_strings(&self, mark: Mark, out: &mut Vec<u8>) -> Result<(), Memory>
+        requires { IsMarkOf mark self.now.strings }
+        ensures written { OnOk result (out.new.items ≡ out.old.items ++ flat_map string_bytes_of (drop mark.count self.now.strings)) }
+        ensures unchanged { OnErr result (out.new.items ≡ out.old.items) }
+    {
+        put_texts(&self.texts[mark.count as usize..], out)
+    }
+}
+
+// Appends texts as Strings.
+fn put_texts(texts: &[String], out: &mut Vec<u8>) -> Result<(), Memory>
+    requires { used (map string_bytes texts.now) ≤ 2 ^ 30 }
+    ensures written { OnOk result (out.new.items ≡ out.old.items ++ flat_map string_bytes_of (map string_bytes texts.now)) }
+    ensures unchanged { OnErr result (out.new.items ≡ out.old.items) }
+{
+    let start = out.len();
+    for text in texts {
+        if put_string(text.as_str(), out).is_err() {
+            out.truncate(start);
+            return Err(Memory);
+        }
+    }
+    Ok(())
+}
+
+// Copies a text to the end of the texts.
+fn push_text(alloc: Global, texts: &mut Vec<String>, text: &str) -> Result<(), AllocError>
+    ensures ok { OnOk result (map string_bytes texts.new.items ≡ map string_bytes texts.old.items ++ text.now ∷ []) }
+    ensures err { OnErr result (texts.new.items ≡ texts.old.items) }
+{
+    let copy = String::from_str(alloc, text)?;
+    texts.push(copy)?;
+    Ok(())
+}
+
+// The first place that holds the text.
+fn place_of(texts: &[String], text: &str) -> Option<usize>
+    ensures least { option_map (λ place. 2 * place + 1) result ≡ least_id (map string_bytes texts.now) text.now }
+    ensures within { IfSome result (λ place. place < length texts.now) }
+{
+    for (place, held) in texts.iter().enumerate() {
+        if held.as_str() == text {
+            return Some(place);
+        }
+    }
+    None
+}

@@ -1,0 +1,51 @@
+// The table, with ample memory.
+use crate::{AddFault, Mark, SessionTable};
+use std::test::Fail;
+
+#[test]
+fn repeated_strings(rt: HostRuntime) -> Result<(), Fail> {
+    let mut table = SessionTable::new(rt.alloc(), 2048);
+    assert!(rt; table.is_empty());
+    assert_eq!(rt; table.add("a"), Ok(1));
+    assert_eq!(rt; table.add("a"), Ok(3));
+    assert_eq!(rt; table.id("a"), Some(1));
+    assert_eq!(rt; table.text(3), Some("a"));
+    assert_eq!(rt; table.text(2), None);
+    assert_eq!(rt; table.len(), 2);
+    assert_eq!(rt; table.mark(), Mark { count: 2, used: 2 });
+    table.back_to(Mark { count: 1, used: 1 });
+    assert_eq!(rt; table.id("a"), Some(1));
+    table.back_to(Mark { count: 0, used: 0 });
+    assert_eq!(rt; table.id("a"), None);
+    Ok(())
+}
+
+#[test]
+fn full_table(rt: HostRuntime) -> Result<(), Fail> {
+    let mut table = SessionTable::new(rt.alloc(), 3);
+    assert_eq!(rt; table.add("ab"), Ok(1));
+    assert_eq!(rt; table.add("cd"), Err(AddFault::Full));
+    assert_eq!(rt; table.add(""), Ok(3));
+    assert_eq!(rt; table.used(), 3);
+    assert_eq!(rt; table.add(""), Err(AddFault::Full));
+    assert_eq!(rt; table.text(3), Some(""));
+    assert_eq!(rt; table.text(5), None);
+    Ok(())
+}
+
+#[test]
+fn strings_behind_a_mark(rt: HostRuntime) -> Result<(), Fail> {
+    let mut table = SessionTable::new(rt.alloc(), 2048);
+    assert_eq!(rt; table.add("s"), Ok(1));
+    let mark = table.mark();
+    assert_eq!(rt; table.add("urn:echo"), Ok(3));
+    assert_eq!(rt; table.add("net.tcp://h/e"), Ok(5));
+    assert_eq!(rt; table.add("x"), Ok(7));
+    let mut out = [0x19].to_vec(rt.alloc())?;
+    table.put_strings(mark, &mut out)?;
+    assert_eq!(rt;
+        out.as_slice(),
+        b"\x19\x08urn:echo\x0Dnet.tcp://h/e\x01x".as_slice()
+    );
+    Ok(())
+}
