@@ -1,0 +1,162 @@
+-- The cause of each fault: what holds of bytes that are wrong by it.
+use Rattle.std.proofs.Common.{◌≡◌, ℕ, ◌+◌, ◌≤◌, ◌<◌, List, [], ◌∷◌, ◌++◌, length, take, drop, true, refl, sym, ap, ◌∙◌, inl, inr, arith}
+use Rattle.std.specs.Prelude.{nat_lt, ◌==◌, ◌||◌, ⊤}
+use Rattle.std.proofs.lemmas.Bool.{cond_both}
+use Rattle.std.proofs.lemmas.Bool.Decides.{nat_tests}
+use Rattle.std.proofs.lemmas.List.{length-take-le, take-append-drop, length-drop}
+use Rattle.multibyte_ints.specs.Front.{Front, begun, whole, wrong}
+use Rattle.multibyte_ints.specs.Integer.{int_at}
+use Rattle.multibyte_ints.specs.Text.{string_at, StringFault, bad_int, too_long, bad_utf8}
+use Rattle.multibyte_ints.specs.Laws.{FifthIsAbove}
+use Rattle.multibyte_ints.proofs.IntegerLaws.{spells_from_whole, passes_from}
+use Rattle.multibyte_ints.proofs.TextCauses.{bad_int_cause, too_long_cause, bad_text_cause}
+use Rattle.nmf_records.specs.declared.frame.Frame.{Frame}
+use Rattle.nmf_records.specs.declared.frame.Frame.TheVariants as frames
+use Rattle.nmf_records.specs.declared.frame.Expect.{Expect}
+use Rattle.nmf_records.specs.declared.frame.Expect.TheVariants.{Types, Chunk}
+use Rattle.nmf_records.specs.declared.frame.FrameFault.{FrameFault}
+use Rattle.nmf_records.specs.declared.frame.FrameFault.TheVariants as faults
+use Rattle.nmf_records.specs.Records.{Read}
+use Rattle.nmf_records.specs.Reading.{behind, bare, fault_of, size_at, text_at, version_at, byte_at, typed_at, allows, frame_at}
+use Rattle.nmf_records.specs.Laws.{BeginsUnknown, BeginsUnexpected, has_integer, IntegerComes, HasLongText, HasBadText}
+use Rattle.nmf_records.proofs.Typed.{type_known}
+use Rattle.nmf_records.proofs.Types.{by_type}
+
+-- of a fault and the number of bytes that show it
+abbrev OfWrong : (FrameFault → ℕ → Type 0) → Front Read FrameFault → Type 0
+OfWrong P begun = Unit {0}
+OfWrong P (whole read n) = Unit {0}
+OfWrong P (wrong fault n) = P fault n
+
+-- the bytes have the fault's cause
+abbrev pub HasCause : ℕ → Expect → List ℕ → FrameFault → ℕ → Type 0
+HasCause limit expect bytes faults.UnknownRecord n = (n ≡ 1) × BeginsUnknown expect bytes
+HasCause limit expect bytes (faults.Unexpected t) n = (n ≡ 1) × BeginsUnexpected expect bytes t
+HasCause limit expect bytes faults.BadInt n = (k : ℕ) × IntegerComes expect bytes k × (n ≡ k + 5) × FifthIsAbove (drop k bytes)
+HasCause limit expect bytes faults.TextTooLong n = HasLongText limit expect bytes n
+HasCause limit expect bytes faults.TextNotUtf8 n = HasBadText limit expect bytes n
+
+-- an integer is wrong by its fifth byte
+int_cause : (b : List ℕ) (k : ℕ) → int_at b ≡ wrong tt k → (k ≡ 5) × FifthIsAbove b
+int_cause b k e = let p = passes_from b tt k e in (p.1, (p.0.within, p.0.continued, p.0.above))
+
+-- behind a type byte that may come
+module _ (limit types kind : ℕ) (bytes : List ℕ) (may : allows types kind ≡ true) where
+  -- what is read behind the type byte is no fault, or one with its cause
+  abbrev Of : Front Read FrameFault → Type 0
+  Of = OfWrong (HasCause limit (Types types) (kind ∷ bytes))
+
+  -- a wrong integer behind the type byte
+  int_causes : (k : ℕ) → has_integer kind ≡ true → int_at bytes ≡ wrong tt k → HasCause limit (Types types) (kind ∷ bytes) faults.BadInt (1 + k)
+  int_causes k has e = let c = int_cause bytes k e in (1, (refl, may, has), ap (λ j. 1 + j) c.0, c.1)
+
+  -- a text whose length is above the limit
+  long_text : (k : ℕ) → ((kind == 2) || (kind == 8)) ≡ true → string_at limit bytes ≡ wrong too_long k → HasLongText limit (Types types) (kind ∷ bytes) (1 + k)
+  long_text k text e =
+      let c = too_long_cause limit bytes k e in
+      let s = spells_from_whole bytes c.0 k c.1 in
+      record {
+        begins = rw (may, text) refl;
+        kind = kind;
+        size = c.0;
+        spelling = take k bytes;
+        rest = drop k bytes;
+        joined = ap (λ b. kind ∷ b) (sym (take-append-drop k bytes));
+        spelled = s.1;
+        above = c.2;
+        place = ap (λ j. 1 + j) (sym (length-take-le k bytes s.0));
+      }
+
+  -- a text that isn't UTF-8
+  bad_text : (k : ℕ) → ((kind == 2) || (kind == 8)) ≡ true → string_at limit bytes ≡ wrong bad_utf8 k → HasBadText limit (Types types) (kind ∷ bytes) (1 + k)
+  bad_text k text e =
+      let c = bad_text_cause limit bytes k e in
+      let s = spells_from_whole bytes c.n c.j c.int in
+      let len : length (take c.n (drop c.j bytes)) ≡ c.n = length-take-le c.n (drop c.j bytes) (omega (arith, length-drop c.j bytes, c.within, c.size)) in
+      record {
+        begins = rw (may, text) refl;
+        kind = kind;
+        spelling = take c.j bytes;
+        text = take c.n (drop c.j bytes);
+        rest = drop c.n (drop c.j bytes);
+        joined = ap (λ b. kind ∷ b) (sym (ap (λ b. take c.j bytes ++ b) (take-append-drop c.n (drop c.j bytes)) ∙ take-append-drop c.j bytes));
+        spelled = rw len s.1;
+        within = omega (arith, len, c.low);
+        bad = c.bad;
+        place = omega (arith, len, c.size, length-take-le c.j bytes s.0);
+      }
+
+  -- a text is wrong by its integer, its length or its bytes
+  text_causes : (frame : Frame) → ((kind == 2) || (kind == 8)) ≡ true → has_integer kind ≡ true → Of (text_at limit frame bytes)
+  text_causes frame text has = by_string (string_at limit bytes) refl
+    where
+      by_string : (y : Front (List ℕ) StringFault) → string_at limit bytes ≡ y → Of (behind 1 (λ text. record { frame = frame; text = text }) fault_of y)
+      by_string begun h = tt
+      by_string (whole s k) h = tt
+      by_string (wrong bad_int k) h = int_causes k has (bad_int_cause limit bytes k h)
+      by_string (wrong too_long k) h = long_text k text h
+      by_string (wrong bad_utf8 k) h = bad_text k text h
+
+  -- an envelope's size is wrong by its integer
+  size_causes : has_integer kind ≡ true → Of (size_at 1 frames.SizedEnvelope bytes)
+  size_causes has = by_int (int_at bytes) refl
+    where
+      by_int : (y : Front ℕ ⊤) → int_at bytes ≡ y → Of (behind 1 (λ size. bare (frames.SizedEnvelope size)) (λ _. faults.BadInt) y)
+      by_int begun h = tt
+      by_int (whole n k) h = tt
+      by_int (wrong r k) h = int_causes k has h
+
+-- no Version record is wrong
+version_causes : (P : FrameFault → ℕ → Type 0) (bytes : List ℕ) → OfWrong P (version_at bytes)
+version_causes P [] = tt
+version_causes P (major ∷ []) = tt
+version_causes P (major ∷ minor ∷ rest) = tt
+
+-- nor a record of one byte
+byte_causes : (P : FrameFault → ℕ → Type 0) (frame : ℕ → Frame) (bytes : List ℕ) → OfWrong P (byte_at frame bytes)
+byte_causes P frame [] = tt
+byte_causes P frame (x ∷ rest) = tt
+
+-- behind a type byte that may come
+typed_causes : (limit types kind : ℕ) (bytes : List ℕ) (may : allows types kind ≡ true) → kind ≤ 12 → Of limit types kind bytes may (typed_at limit kind bytes)
+typed_causes limit types kind bytes may le =
+    let P : FrameFault → ℕ → Type 0 = HasCause limit (Types types) (kind ∷ bytes) in
+    by_type limit kind bytes (Of limit types kind bytes may) le record {
+      version = λ e. version_causes P bytes;
+      mode = λ e. byte_causes P frames.Mode bytes;
+      via = λ e. text_causes limit types kind bytes may frames.Via (rw e refl) (rw e refl);
+      encoding = λ e. byte_causes P frames.KnownEncoding bytes;
+      unsized_envelope = λ e. tt;
+      sized_envelope = λ e. size_causes limit types kind bytes may (rw e refl);
+      end = λ e. tt;
+      fault = λ e. text_causes limit types kind bytes may frames.Fault (rw e refl) (rw e refl);
+      preamble_ack = λ e. tt;
+      preamble_end = λ e. tt;
+      other = λ e. (refl, (refl, le, inr e));
+    }
+
+-- a type byte above the known ones
+above_known : (kind : ℕ) → nat_lt 12 kind ≡ true → 12 < kind
+above_known kind e = grind (arith, nat_tests)
+
+-- a front is no fault, or one with its cause
+front_causes : (limit : ℕ) (expect : Expect) (bytes : List ℕ) → OfWrong (HasCause limit expect bytes) (frame_at limit expect bytes)
+front_causes limit (Types types) [] = tt
+front_causes limit (Types types) (kind ∷ bytes) =
+    let P : Front Read FrameFault → Type 0 = OfWrong (HasCause limit (Types types) (kind ∷ bytes)) in
+    cond_both (nat_lt 12 kind) _ _ P (λ above. (refl, above_known kind above))
+    (λ known. cond_both (allows types kind) _ _ P (λ may. typed_causes limit types kind bytes may (type_known kind known)) (λ not_due. (refl, (refl, type_known kind known, inl not_due))))
+front_causes limit Chunk bytes = by_int (int_at bytes) refl
+  where
+    by_int : (y : Front ℕ ⊤) → int_at bytes ≡ y → OfWrong (HasCause limit Chunk bytes) (behind 0 (λ size. bare (frames.Chunk size)) (λ _. faults.BadInt) y)
+    by_int begun h = tt
+    by_int (whole n k) h = tt
+    by_int (wrong r k) h = let c = int_cause bytes k h in (0, refl, ap (λ j. 0 + j) c.0, c.1)
+
+-- what holds of a fault holds of this one
+OfWrong_at : (P : FrameFault → ℕ → Type 0) (y : Front Read FrameFault) (fault : FrameFault) (n : ℕ) → y ≡ wrong fault n → OfWrong P y → P fault n
+OfWrong_at P y fault n e h = rw e at h
+
+-- bytes that are wrong by a fault have its cause
+pub fault_cause : (limit : ℕ) (expect : Expect) (bytes : List ℕ) (fault : FrameFault) (n : ℕ) → frame_at limit expect bytes ≡ wrong fault n → HasCause limit expect bytes fault n
+fault_cause limit expect bytes fault n e = OfWrong_at (HasCause limit expect bytes) (frame_at limit expect bytes) fault n e (front_causes limit expect bytes)

@@ -1,0 +1,171 @@
+-- Bytes that have the cause of a fault are wrong by it.
+use Rattle.std.proofs.Common.{◌≡◌, ℕ, ◌+◌, ◌≤◌, List, [], ◌∷◌, ◌++◌, length, take, drop, Bool, true, false, refl, sym, ap, ◌∙◌, subst, ◌⊎◌, inl, inr, arith, length-append}
+use Rattle.std.specs.Prelude.{nat_lt, ◌==◌, ◌&&◌, ◌||◌}
+use Rattle.std.proofs.lemmas.Bool.{eqb-true, cases_Bool}
+use Rattle.std.proofs.lemmas.Bool.Decides.{nat_tests}
+use Rattle.std.proofs.Math.Seq.{take-append_seam, drop-append_seam}
+use Rattle.multibyte_ints.specs.Front.{whole, wrong}
+use Rattle.multibyte_ints.specs.Integer.{int_at, Spells}
+use Rattle.multibyte_ints.specs.Text.{string_at, too_long, bad_utf8}
+use Rattle.multibyte_ints.specs.Laws.{FifthIsAbove}
+use Rattle.multibyte_ints.proofs.IntegerFacts.{wrong_is}
+use Rattle.multibyte_ints.proofs.IntegerLaws.{whole_from_spells}
+use Rattle.multibyte_ints.proofs.TextCauses.{bad_int_comes, too_long_comes, bad_text_comes}
+use Rattle.nmf_records.specs.declared.frame.Frame.{Frame}
+use Rattle.nmf_records.specs.declared.frame.Frame.TheVariants as frames
+use Rattle.nmf_records.specs.declared.frame.Expect.{Expect}
+use Rattle.nmf_records.specs.declared.frame.Expect.TheVariants.{Types, Chunk}
+use Rattle.nmf_records.specs.declared.frame.FrameFault.{FrameFault}
+use Rattle.nmf_records.specs.declared.frame.FrameFault.TheVariants as faults
+use Rattle.nmf_records.specs.Reading.{behind, fault_of, text_at, typed_at, allows, record_at, frame_at}
+use Rattle.nmf_records.specs.Steps.{begins_text}
+use Rattle.nmf_records.specs.Laws.{BeginsUnknown, BeginsUnexpected, has_no_frame, has_integer, IntegerComes, HasLongText, HasBadText}
+use Rattle.nmf_records.proofs.Fronts.{with_text}
+use Rattle.nmf_records.proofs.Typed.{allowed_reads}
+use Rattle.nmf_records.proofs.Causes.{HasCause}
+
+-- Of a test that is one of several, which one it is
+one_of_two : (x y : Bool) → (x || y) ≡ true → (x ≡ true) ⊎ (y ≡ true)
+one_of_two true y e = inl refl
+one_of_two false y e = inr e
+
+-- of two tests that hold, that each does
+both : (x y : Bool) → (x && y) ≡ true → (x ≡ true) × (y ≡ true)
+both true y e = (refl, e)
+both false y e = cc
+
+-- a type byte above 12 is unknown
+unknown_comes : (limit : ℕ) (expect : Expect) (bytes : List ℕ) → BeginsUnknown expect bytes → frame_at limit expect bytes ≡ wrong faults.UnknownRecord 1
+unknown_comes limit (Types types) [] h = absurd h
+unknown_comes limit (Types types) (kind ∷ rest) h = let above : nat_lt 12 kind ≡ true = grind (arith, nat_tests) in rw above refl
+unknown_comes limit Chunk bytes h = absurd h
+
+-- the record of a type without a frame
+no_frame_at : (limit kind : ℕ) (rest : List ℕ) → has_no_frame kind ≡ true → typed_at limit kind rest ≡ wrong (faults.Unexpected kind) 1
+no_frame_at limit kind rest e =
+    elim (one_of_two (kind == 4) ((kind == 9) || (kind == 10)) e) [
+      | inl is ↦ rw (eqb-true kind 4 is) refl
+      | inr more ↦ elim (one_of_two (kind == 9) (kind == 10) more) [
+        | inl is ↦ rw (eqb-true kind 9 is) refl
+        | inr is ↦ rw (eqb-true kind 10 is) refl
+      ]
+    ]
+
+-- a known type whose bit is not set
+not_due_at : (limit types kind : ℕ) (rest : List ℕ) → kind ≤ 12 → allows types kind ≡ false → record_at limit types (kind ∷ rest) ≡ wrong (faults.Unexpected kind) 1
+not_due_at limit types kind rest le e = let known : nat_lt 12 kind ≡ false = grind (arith, nat_tests) in rw (known, e) refl
+
+-- a known type that may not come is unexpected
+unexpected_comes : (limit : ℕ) (expect : Expect) (bytes : List ℕ) (t : ℕ) → BeginsUnexpected expect bytes t → frame_at limit expect bytes ≡ wrong (faults.Unexpected t) 1
+unexpected_comes limit (Types types) [] t h = absurd h
+unexpected_comes limit (Types types) (kind ∷ rest) t h =
+    rw h.0 (elim (cases_Bool (allows types t)) [
+      | inl may ↦ elim h.2 [
+        | inl not_due ↦ cc
+        | inr none ↦ allowed_reads limit types t rest h.1 may ∙ no_frame_at limit t rest none
+      ]
+      | inr not_due ↦ not_due_at limit types t rest h.1 not_due
+    ])
+unexpected_comes limit Chunk bytes t h = absurd h
+
+-- an integer with a fifth byte above 7 is wrong
+int_comes : (b : List ℕ) → FifthIsAbove b → int_at b ≡ wrong tt 5
+int_comes b h = wrong_is b (record { within = h.0; continued = h.1; above = h.2 })
+
+-- and so is a record that has one
+int_behind_type : (limit types kind : ℕ) (rest : List ℕ) → kind ≤ 12 → allows types kind ≡ true → has_integer kind ≡ true → int_at rest ≡ wrong tt 5
+    → record_at limit types (kind ∷ rest) ≡ wrong faults.BadInt 6
+int_behind_type limit types kind rest le may has e =
+    allowed_reads limit types kind rest le may
+    ∙ elim (one_of_two (kind == 2) ((kind == 6) || (kind == 8)) has) [
+      | inl is ↦ rw (eqb-true kind 2 is, bad_int_comes limit rest 5 e) refl
+      | inr more ↦ elim (one_of_two (kind == 6) (kind == 8) more) [
+        | inl is ↦ rw (eqb-true kind 6 is, e) refl
+        | inr is ↦ rw (eqb-true kind 8 is, bad_int_comes limit rest 5 e) refl
+      ]
+    ]
+
+-- a type that has an integer is known
+has_integer_known : (kind : ℕ) → has_integer kind ≡ true → kind ≤ 12
+has_integer_known kind has =
+    elim (one_of_two (kind == 2) ((kind == 6) || (kind == 8)) has) [
+      | inl is ↦ omega (arith, eqb-true kind 2 is)
+      | inr more ↦ elim (one_of_two (kind == 6) (kind == 8) more) [
+        | inl is ↦ omega (arith, eqb-true kind 6 is)
+        | inr is ↦ omega (arith, eqb-true kind 8 is)
+      ]
+    ]
+
+-- a record or a chunk's size with such an integer is wrong at its fifth byte
+bad_int_comes_at : (limit : ℕ) (expect : Expect) (bytes : List ℕ) (k : ℕ) → IntegerComes expect bytes k → FifthIsAbove (drop k bytes)
+    → frame_at limit expect bytes ≡ wrong faults.BadInt (k + 5)
+bad_int_comes_at limit Chunk bytes k at h =
+    let h' : FifthIsAbove bytes = rw at at h in
+    rw (at, int_comes bytes h') refl
+bad_int_comes_at limit (Types types) [] k at h = absurd at
+bad_int_comes_at limit (Types types) (kind ∷ rest) k at h =
+    let h' : FifthIsAbove rest = rw at.0 at h in
+    rw at.0 (int_behind_type limit types kind rest (has_integer_known kind at.2) at.1 at.2 (int_comes rest h'))
+
+-- a text that may come is read as one
+text_comes : (limit : ℕ) (expect : Expect) (kind : ℕ) (rest : List ℕ) → begins_text expect (kind ∷ rest) ≡ true
+    → (frame : Frame) × (frame_at limit expect (kind ∷ rest) ≡ text_at limit frame rest)
+text_comes limit (Types types) kind rest begins =
+    let parts = both (allows types kind) ((kind == 2) || (kind == 8)) begins in
+    elim (one_of_two (kind == 2) (kind == 8) parts.1) [
+      | inl is ↦
+          let e : kind ≡ 2 = eqb-true kind 2 is in
+          let may : allows types 2 ≡ true = subst (λ k. allows types k ≡ true) e parts.0 in
+          (frames.Via, rw e (allowed_reads limit types 2 rest (omega arith) may))
+      | inr is ↦
+          let e : kind ≡ 8 = eqb-true kind 8 is in
+          let may : allows types 8 ≡ true = subst (λ k. allows types k ≡ true) e parts.0 in
+          (frames.Fault, rw e (allowed_reads limit types 8 rest (omega arith) may))
+    ]
+text_comes limit Chunk kind rest begins = cc
+
+-- the integer of a spelling, whatever follows it
+int_of : (n : ℕ) (spelling rest : List ℕ) → Spells n spelling → int_at (spelling ++ rest) ≡ whole n (length spelling)
+int_of n spelling rest h =
+    let alone : take (length spelling) (spelling ++ rest) ≡ spelling = take-append_seam spelling rest in
+    let len : length (spelling ++ rest) ≡ length spelling + length rest = simp length-append (omega arith) in
+    whole_from_spells (spelling ++ rest) n (length spelling) (omega (arith, len)) (rw alone h)
+
+-- a length above the limit is wrong where it is whole
+long_text_comes : (limit : ℕ) (expect : Expect) (bytes : List ℕ) (n : ℕ) → HasLongText limit expect bytes n → frame_at limit expect bytes ≡ wrong faults.TextTooLong n
+long_text_comes limit expect bytes n h =
+    let begins : begins_text expect (h.kind ∷ (h.spelling ++ h.rest)) ≡ true = ap (begins_text expect) (sym h.joined) ∙ h.begins in
+    let text = text_comes limit expect h.kind (h.spelling ++ h.rest) begins in
+    let long : string_at limit (h.spelling ++ h.rest) ≡ wrong too_long (length h.spelling)
+    = too_long_comes limit (h.spelling ++ h.rest) (length h.spelling) h.size (int_of h.size h.spelling h.rest h.spelled) h.above in
+    rw (h.joined, h.place) (text.1 ∙ ap (behind 1 (with_text text.0) fault_of) long)
+
+-- a text that isn't UTF-8 is wrong at its last byte
+bad_text_comes_at : (limit : ℕ) (expect : Expect) (bytes : List ℕ) (n : ℕ) → HasBadText limit expect bytes n → frame_at limit expect bytes ≡ wrong faults.TextNotUtf8 n
+bad_text_comes_at limit expect bytes n h =
+    let rest : List ℕ = h.spelling ++ (h.text ++ h.rest) in
+    let begins : begins_text expect (h.kind ∷ rest) ≡ true = ap (begins_text expect) (sym h.joined) ∙ h.begins in
+    let text = text_comes limit expect h.kind rest begins in
+    let same : take (length h.text) (drop (length h.spelling) rest) ≡ h.text
+    = ap (take (length h.text)) (drop-append_seam h.spelling (h.text ++ h.rest)) ∙ take-append_seam h.text h.rest in
+    let len : length rest ≡ length h.spelling + (length h.text + length h.rest) = simp length-append (omega arith) in
+    let bad : string_at limit rest ≡ wrong bad_utf8 (length h.spelling + length h.text)
+    = bad_text_comes limit rest (length h.spelling + length h.text) (record {
+      n = length h.text;
+      j = length h.spelling;
+      int = int_of (length h.text) h.spelling (h.text ++ h.rest) h.spelled;
+      low = h.within;
+      size = refl;
+      within = omega (arith, len);
+      bad = rw same h.bad;
+    }) in
+    let place : n ≡ 1 + (length h.spelling + length h.text) = omega (arith, h.place) in
+    rw (h.joined, place) (text.1 ∙ ap (behind 1 (with_text text.0) fault_of) bad)
+
+-- bytes that have the cause of a fault are wrong by it
+pub fault_comes : (limit : ℕ) (expect : Expect) (bytes : List ℕ) (fault : FrameFault) (n : ℕ) → HasCause limit expect bytes fault n → frame_at limit expect bytes ≡ wrong fault n
+fault_comes limit expect bytes faults.UnknownRecord n h = rw h.0 (unknown_comes limit expect bytes h.1)
+fault_comes limit expect bytes (faults.Unexpected t) n h = rw h.0 (unexpected_comes limit expect bytes t h.1)
+fault_comes limit expect bytes faults.BadInt n h = rw h.2 (bad_int_comes_at limit expect bytes h.0 h.1 h.3)
+fault_comes limit expect bytes faults.TextTooLong n h = long_text_comes limit expect bytes n h
+fault_comes limit expect bytes faults.TextNotUtf8 n h = bad_text_comes_at limit expect bytes n h

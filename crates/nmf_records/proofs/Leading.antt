@@ -1,0 +1,124 @@
+-- What a byte of a type, a field or a size led to.
+use Rattle.std.proofs.Common.{◌≡◌, ℕ, suc, ◌+◌, ◌≤◌, inl, inr, List, [], ◌∷◌, ◌++◌, length, drop, refl, sym, ap, ◌∙◌, subst, arith, length-append}
+use Rattle.multibyte_ints.specs.Front.{begun, wrong}
+use Rattle.multibyte_ints.specs.Integer.{int_at}
+use Rattle.multibyte_ints.specs.Reader.{StandsFor as IntStandsFor}
+use Rattle.multibyte_ints.proofs.IntegerLaws.{int_reads_front}
+use Rattle.nmf_records.specs.declared.frame.Frame.{Frame}
+use Rattle.nmf_records.specs.declared.frame.Frame.TheVariants as frames
+use Rattle.nmf_records.specs.declared.frame.Expect.{Expect}
+use Rattle.nmf_records.specs.declared.frame.FrameFault.TheVariants as faults
+use Rattle.nmf_records.specs.declared.stage.Field.{Field}
+use Rattle.nmf_records.specs.declared.stage.Field.TheVariants as fields
+use Rattle.nmf_records.specs.declared.stage.SizeRecord.{SizeRecord}
+use Rattle.nmf_records.specs.declared.stage.SizeRecord.TheVariants as sizes
+use Rattle.nmf_records.specs.declared.stage.Stage.{Stage}
+use Rattle.nmf_records.specs.declared.stage.Stage.TheVariants as stages
+use Rattle.nmf_records.specs.declared.stage.Progress.{Progress}
+use Rattle.nmf_records.specs.declared.stage.Progress.TheVariants.{Going, Done, Wrong}
+use Rattle.nmf_records.specs.declared.reader.FrameReader.{FrameReader}
+use Rattle.nmf_records.specs.Reading.{behind, bare, size_at, frame_at}
+use Rattle.nmf_records.specs.Steps.{HasShape, HasNoText, Meets, GoesTo, size_bytes, sized}
+use Rattle.nmf_records.specs.Reader.{HoldsText}
+use Rattle.nmf_records.specs.Advancing.{Leads, BeginsAnew, ReadsBytes, SizeAnswers}
+use Rattle.nmf_records.proofs.Fronts.{behind_begun}
+use Rattle.nmf_records.proofs.Peeling.{extent}
+use Rattle.nmf_records.proofs.Frames.{peels_behind, no_int}
+use Rattle.nmf_records.proofs.Typed.{begun_reads}
+
+-- a reader of texts that begins anew has no byte of one
+holds_text : (mid : FrameReader) (stage : Stage) (p : List ℕ) → HasNoText stage p → BeginsAnew mid (Going stage) → HoldsText stage mid.text p
+holds_text mid stages.Type p none anew = tt
+holds_text mid (stages.Field field) p none anew = tt
+holds_text mid (stages.Text text) p none anew = rw none anew
+holds_text mid (stages.Size size) p none anew = tt
+holds_text mid (stages.Failed fault) p none anew = tt
+
+-- a fixed byte leads where it goes
+pub fixed_leads : (limit : ℕ) (expect : Expect) (p : List ℕ) (mid : FrameReader) (progress : Progress) → Meets (frame_at limit expect p) (length p) progress
+    → GoesTo expect p progress → IntStandsFor mid.size [] → BeginsAnew mid progress → Leads limit expect p mid progress
+fixed_leads limit expect p mid (Going stage) meets goes int anew =
+    (meets, goes.0, rw goes.1 int, holds_text mid stage p goes.2 anew)
+fixed_leads limit expect p mid (Done frame) meets goes int anew = (meets.0, meets.1, int)
+fixed_leads limit expect p mid (Wrong fault) meets goes int anew = meets
+
+-- a text doesn't begin with a second byte
+pub not_anew : (expect : Expect) (p : List ℕ) (mid : FrameReader) (progress : Progress) → 2 ≤ length p → GoesTo expect p progress → BeginsAnew mid progress
+not_anew expect p mid (Going stages.Type) two goes = tt
+not_anew expect p mid (Going (stages.Field field)) two goes = tt
+not_anew expect p mid (Going (stages.Text text)) two goes =
+    let len : length p ≡ 1 = ap length goes.0 ∙ ap (λ q. suc (length q)) goes.2 in absurd (omega arith)
+not_anew expect p mid (Going (stages.Size size)) two goes = tt
+not_anew expect p mid (Going (stages.Failed fault)) two goes = tt
+not_anew expect p mid (Done frame) two goes = tt
+not_anew expect p mid (Wrong fault) two goes = tt
+
+-- a size that has begun is an integer that has
+begun_size : (n : ℕ) (frame : ℕ → Frame) (b : List ℕ) → size_at n frame b ≡ begun → int_at b ≡ begun
+begun_size n frame b h = behind_begun n (λ size. bare (frame size)) (λ _. faults.BadInt) (int_at b) h
+
+-- an integer is wrong at its fifth byte
+wrong_at_fifth : (q : List ℕ) (byte : ℕ) → int_at q ≡ begun → int_at (q ++ byte ∷ []) ≡ wrong tt 5 → 5 ≡ length (q ++ byte ∷ [])
+wrong_at_fifth q byte h e =
+    let len : length (q ++ byte ∷ []) ≡ suc (length q) = simp length-append (omega arith) in
+    elim ((peels_behind int_at int_reads_front no_int).byte q byte h) [
+      | inl b ↦ cc
+      | inr n ↦ omega (arith, sym (ap extent e) ∙ n, len)
+    ]
+
+-- what a size behind n bytes led to
+module _ (limit n : ℕ) (expect : Expect) (size : SizeRecord) (q : List ℕ) (byte : ℕ) (p : List ℕ) where
+  -- where its bytes with one more lead
+  pub size_leads : (mid : FrameReader) (progress : Progress) → frame_at limit expect p ≡ size_at n (sized size) (q ++ byte ∷ []) → length p ≡ n + length (q ++ byte ∷ [])
+      → HasShape expect (stages.Size size) p → size_bytes (stages.Size size) p ≡ q ++ byte ∷ [] → int_at q ≡ begun
+      → SizeAnswers size (q ++ byte ∷ []) mid.size progress → Leads limit expect p mid progress
+  size_leads mid (Going stage) reads len shape bytes so_far answers =
+      rw answers.0 (reads ∙ ap (behind n (λ m. bare (sized size m)) (λ _. faults.BadInt)) answers.1, shape, rw bytes answers.2, tt)
+  size_leads mid (Done frame) reads len shape bytes so_far answers =
+      ([], reads ∙ ap (behind n (λ m. bare (sized size m)) (λ _. faults.BadInt)) answers.2 ∙ rw (answers.1, len) refl, answers.3)
+  size_leads mid (Wrong fault) reads len shape bytes so_far answers =
+      let fifth = wrong_at_fifth q byte so_far answers.1 in
+      reads ∙ ap (behind n (λ m. bare (sized size m)) (λ _. faults.BadInt)) answers.1 ∙ rw (answers.0, len, ← fifth) refl
+
+-- a fixed field has a byte before it
+pub field_some : (expect : Expect) (field : Field) (p : List ℕ) → HasShape expect (stages.Field field) p → 1 ≤ length p
+field_some expect fields.Major p shape = omega (arith, ap length shape)
+field_some expect (fields.Minor major) p shape = omega (arith, ap length shape)
+field_some expect fields.Mode p shape = omega (arith, ap length shape)
+field_some expect fields.Encoding p shape = omega (arith, ap length shape)
+
+-- a stage of single bytes that is no field and no size
+pub only_type : (stage : Stage) → ReadsBytes stage → ((field : Field) → stage ≡ stages.Field field → ⊥) → ((size : SizeRecord) → stage ≡ stages.Size size → ⊥) → stage ≡ stages.Type
+only_type stages.Type reads not_field not_size = refl
+only_type (stages.Field field) reads not_field not_size = absurd (not_field field refl)
+only_type (stages.Text text) reads not_field not_size = absurd reads
+only_type (stages.Size size) reads not_field not_size = absurd (not_size size refl)
+only_type (stages.Failed fault) reads not_field not_size = absurd reads
+
+-- one more byte
+one_more : (p : List ℕ) (byte : ℕ) → length (p ++ byte ∷ []) ≡ length p + 1
+one_more p byte = simp length-append
+
+-- a byte of a fixed field
+pub field_leads : (limit : ℕ) (expect : Expect) (field : Field) (p : List ℕ) (byte : ℕ) (mid : FrameReader) (progress : Progress)
+    → HasShape expect (stages.Field field) p → Meets (frame_at limit expect (p ++ byte ∷ [])) (length p + 1) progress → GoesTo expect (p ++ byte ∷ []) progress → IntStandsFor mid.size []
+    → Leads limit expect (p ++ byte ∷ []) mid progress
+field_leads limit expect field p byte mid progress shape meets goes int =
+    let len = one_more p byte in
+    let some = field_some expect field p shape in
+    fixed_leads limit expect (p ++ byte ∷ []) mid progress (subst (λ n. Meets (frame_at limit expect (p ++ byte ∷ [])) n progress) (sym len) meets) goes int (not_anew expect (p ++ byte ∷ []) mid progress (omega (arith, len, some)) goes)
+
+-- a byte of a size that has begun
+pub size_byte_leads : (limit : ℕ) (expect : Expect) (size : SizeRecord) (p : List ℕ) (byte : ℕ) (mid : FrameReader) (progress : Progress)
+    → frame_at limit expect p ≡ begun → HasShape expect (stages.Size size) p
+    → SizeAnswers size (size_bytes (stages.Size size) p ++ byte ∷ []) mid.size progress → Leads limit expect (p ++ byte ∷ []) mid progress
+size_byte_leads limit expect sizes.SizedEnvelope p byte mid progress so_far shape answers =
+    let q : List ℕ = drop 1 p in
+    let so_far' : frame_at limit expect (6 ∷ q) ≡ begun = ap (frame_at limit expect) (sym shape) ∙ so_far in
+    let more : p ++ byte ∷ [] ≡ 6 ∷ (q ++ byte ∷ []) = ap (λ x. x ++ byte ∷ []) shape in
+    let reads : frame_at limit expect (6 ∷ (q ++ byte ∷ [])) ≡ size_at 1 frames.SizedEnvelope (q ++ byte ∷ []) = begun_reads limit expect 6 q (q ++ byte ∷ []) (omega arith) so_far' in
+    let so_far_size : size_at 1 frames.SizedEnvelope q ≡ begun = sym (begun_reads limit expect 6 q q (omega arith) so_far') ∙ so_far' in
+    rw more (size_leads limit 1 expect sizes.SizedEnvelope q byte (6 ∷ (q ++ byte ∷ [])) mid progress reads (omega arith) refl refl (begun_size 1 frames.SizedEnvelope q so_far_size) answers)
+size_byte_leads limit expect sizes.Chunk p byte mid progress so_far shape answers =
+    let so_far' : size_at 0 frames.Chunk p ≡ begun = ap (λ e. frame_at limit e p) (sym shape) ∙ so_far in
+    size_leads limit 0 expect sizes.Chunk p byte (p ++ byte ∷ []) mid progress (rw shape refl) (omega arith) shape refl (begun_size 0 frames.Chunk p so_far') answers

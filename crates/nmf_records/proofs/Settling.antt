@@ -1,0 +1,69 @@
+-- Where a reader stands once it has gone on to where some bytes led.
+use Rattle.std.proofs.Common.{◌≡◌, ℕ, ◌+◌, ◌-◌, ◌^◌, ◌≤◌, min, List, ◌++◌, length, take, refl, ap, ◌∙◌, arith, length-append}
+use Rattle.std.proofs.lemmas.List.{length-take-le}
+use Rattle.multibyte_ints.specs.TextReader.{limit_of as text_limit_of}
+use Rattle.nmf_records.specs.declared.frame.Expect.{Expect}
+use Rattle.nmf_records.specs.declared.stage.Progress.{Progress}
+use Rattle.nmf_records.specs.declared.stage.Progress.TheVariants.{Going, Done, Wrong}
+use Rattle.nmf_records.specs.declared.reader.FrameReader.{FrameReader}
+use Rattle.nmf_records.specs.Reading.{frame_at}
+use Rattle.nmf_records.specs.Reader.{StandsFor, limit_of, pending_of, failure_of}
+use Rattle.nmf_records.specs.Advancing.{Leads, Steps, Keeps, stage_after, pending_after}
+use Rattle.nmf_records.proofs.Peeling.{extent}
+use Rattle.nmf_records.proofs.Frames.{frame_peels}
+use Rattle.nmf_records.proofs.Short.{begun_short, decided_short}
+
+-- what settle leaves
+pub record IsSettled (mid new : FrameReader) (n : ℕ) (progress : Progress) : Type 0 where
+  pub stage : new.stage ≡ stage_after progress
+  pub pending : new.pending ≡ pending_after (min (mid.pending + n) (2 ^ 32 - 1)) progress
+  pub size : new.size ≡ mid.size
+  pub text : new.text ≡ mid.text
+
+-- the limit stays
+pub settled_limit : (mid new : FrameReader) (n : ℕ) (progress : Progress) → IsSettled mid new n progress → limit_of new ≡ limit_of mid
+unfolding limit_of
+settled_limit mid new n progress s = ap text_limit_of s.text
+
+-- n bytes more
+taken_len : (p bytes : List ℕ) (n : ℕ) → n ≤ length bytes → length (p ++ take n bytes) ≡ length p + n
+taken_len p bytes n within = simp length-append (omega (arith, length-take-le n bytes within))
+
+-- a reader stands for the bytes that led there
+pub settled_steps : (limit : ℕ) (expect : Expect) (p bytes : List ℕ) (n : ℕ) (mid new : FrameReader) (progress : Progress)
+    → n ≤ length bytes → limit_of new ≡ limit → mid.pending ≡ length p → Leads limit expect (p ++ take n bytes) mid progress → IsSettled mid new n progress
+    → Steps limit expect (p ++ take n bytes) new progress
+unfolding StandsFor pending_of
+settled_steps limit expect p bytes n mid new (Going stage) within lim counted leads settled =
+    let len = taken_len p bytes n within in
+    let short = begun_short limit expect (p ++ take n bytes) leads.0 in
+    record {
+      begun = ap (λ l. frame_at l expect (p ++ take n bytes)) lim ∙ leads.0;
+      shape = rw settled.stage leads.1;
+      size = rw (settled.stage, settled.size) leads.2;
+      text = rw (settled.stage, settled.text) leads.3;
+      counted = omega (arith, settled.pending, len, short, counted);
+    }
+settled_steps limit expect p bytes n mid new (Done frame) within lim counted leads settled = (
+  leads.0,
+  leads.1,
+  λ next. record {
+    begun = (frame_peels (limit_of new) next).nothing;
+    shape = rw settled.stage refl;
+    size = rw (settled.stage, settled.size) leads.2;
+    text = rw settled.stage tt;
+    counted = settled.pending;
+  },
+)
+settled_steps limit expect p bytes n mid new (Wrong fault) within lim counted leads settled =
+    let len = taken_len p bytes n within in
+    let short = decided_short limit expect (p ++ take n bytes) in
+    let size = ap extent leads in
+    (leads, omega (arith, settled.pending, len, short, counted, size))
+
+-- and keeps a fault
+pub settled_keeps : (mid new : FrameReader) (n : ℕ) (progress : Progress) → IsSettled mid new n progress → Keeps new progress
+unfolding failure_of
+settled_keeps mid new n (Going stage) s = tt
+settled_keeps mid new n (Done frame) s = tt
+settled_keeps mid new n (Wrong fault) s = rw s.stage refl

@@ -1,0 +1,123 @@
+-- A record that has begun is short, and so is what decides one.
+use Rattle.std.proofs.Common.{◌≡◌, ℕ, zero, suc, ◌+◌, ◌-◌, ◌^◌, ◌≤◌, ◌<◌, min, Bool, true, false, nat_lt, List, [], ◌∷◌, length, take, sym, ap, ◌∙◌, arith}
+use Rattle.std.specs.Prelude.{◌==◌, if◌then◌else◌}
+use Rattle.std.proofs.lemmas.List.{length-take-le}
+use Rattle.multibyte_ints.specs.Front.{Front, begun, ReadsFront}
+use Rattle.multibyte_ints.specs.Integer.{int_at}
+use Rattle.multibyte_ints.specs.Text.{string_at}
+use Rattle.multibyte_ints.proofs.IntegerLaws.{begun_from, ended_from, spells_from_whole}
+use Rattle.multibyte_ints.proofs.TextFacts.{int_begun, int_wrong, above, waiting, text, no_text, string_cases}
+use Rattle.nmf_records.specs.declared.frame.Frame.{Frame}
+use Rattle.nmf_records.specs.declared.frame.Frame.TheVariants as frames
+use Rattle.nmf_records.specs.declared.frame.Expect.{Expect}
+use Rattle.nmf_records.specs.declared.frame.Expect.TheVariants.{Types, Chunk}
+use Rattle.nmf_records.specs.declared.frame.FrameFault.{FrameFault}
+use Rattle.nmf_records.specs.declared.frame.FrameFault.TheVariants as faults
+use Rattle.nmf_records.specs.Records.{Read}
+use Rattle.nmf_records.specs.Reading.{bare, fault_of, size_at, text_at, version_at, byte_at, lone, typed_at, allows, record_at, frame_at}
+use Rattle.nmf_records.proofs.Peeling.{extent}
+use Rattle.nmf_records.proofs.Fronts.{nothing_yet, a_whole, a_wrong, said_of, behind_begun, with_text, wrong_byte}
+use Rattle.nmf_records.proofs.Frames.{frames_front}
+
+-- the most bytes that a text within the limit can have: an integer is below 2^31
+abbrev pub longest : ℕ → ℕ
+longest limit = min limit (2 ^ 31 - 1)
+
+-- what has begun behind n bytes has, with them, at most five bytes beside those of a text
+abbrev IsShort : {A R : Type 0} → ℕ → ℕ → (List ℕ → Front A R) → Type 0
+IsShort limit n f = (b : List ℕ) → f b ≡ begun → n + length b ≤ longest limit + 5
+
+-- a string that has begun is short
+string_short : (limit : ℕ) → IsShort limit 1 (string_at limit)
+string_short limit b e =
+    elim (string_cases limit b) [
+      | int_begun i s ↦ let w = (begun_from b i).short in omega arith
+      | int_wrong k i s ↦ cc
+      | above n j i up s ↦ cc
+      | waiting n j i low few s ↦
+          let w = ended_from b n j i in
+          let small : n < 2 ^ 31 = (spells_from_whole b n j i).1.in_31_bits in
+          let place : w.place ≤ 4 = w.ends.at_most_five in
+          omega (arith, w.size)
+      | text n j i low within utf8 s ↦ cc
+      | no_text n j i low within utf8 s ↦ cc
+    ]
+
+-- a size is
+size_short : (limit n : ℕ) → n ≤ 1 → (frame : ℕ → Frame) → IsShort limit n (size_at n frame)
+size_short limit n le frame b e =
+    let w = (begun_from b (behind_begun n (λ size. bare (frame size)) (λ _. faults.BadInt) (int_at b) e)).short in
+    omega arith
+
+-- a text is
+text_short : (limit : ℕ) (frame : Frame) → IsShort limit 1 (text_at limit frame)
+text_short limit frame b e = string_short limit b (behind_begun 1 (with_text frame) fault_of (string_at limit b) e)
+
+-- a Version record is
+version_short : (limit : ℕ) → IsShort limit 1 version_at
+version_short limit [] e = omega arith
+version_short limit (major ∷ []) e = omega arith
+version_short limit (major ∷ minor ∷ rest) e = cc
+
+-- a record of one byte is
+byte_short : (limit : ℕ) (frame : ℕ → Frame) → IsShort limit 1 (byte_at frame)
+byte_short limit frame [] e = omega arith
+byte_short limit frame (x ∷ rest) e = cc
+
+-- what one byte alone decides has not begun
+lone_short : (limit : ℕ) (frame : Frame) → IsShort limit 1 (λ (b : List ℕ). lone frame)
+lone_short limit frame b e = cc
+
+-- nor has what is wrong by it
+wrong_short : (limit : ℕ) (fault : FrameFault) → IsShort limit 1 (λ (b : List ℕ). wrong_byte fault)
+wrong_short limit fault b e = cc
+
+-- of two readings the one that a test takes
+choice_short : (limit : ℕ) (test : Bool) (f g : List ℕ → Front Read FrameFault) → IsShort limit 1 f → IsShort limit 1 g → IsShort limit 1 (λ b. if test then f b else g b)
+choice_short limit true f g p q = p
+choice_short limit false f g p q = q
+
+-- what follows a type byte is short
+typed_short : (limit kind : ℕ) → IsShort limit 1 (typed_at limit kind)
+typed_short limit kind =
+    choice_short limit (kind == 0) _ _ (version_short limit) (
+    choice_short limit (kind == 1) _ _ (byte_short limit frames.Mode) (
+    choice_short limit (kind == 2) _ _ (text_short limit frames.Via) (
+    choice_short limit (kind == 3) _ _ (byte_short limit frames.KnownEncoding) (
+    choice_short limit (kind == 5) _ _ (lone_short limit frames.UnsizedEnvelope) (
+    choice_short limit (kind == 6) _ _ (size_short limit 1 (omega arith) frames.SizedEnvelope) (
+    choice_short limit (kind == 7) _ _ (lone_short limit frames.End) (
+    choice_short limit (kind == 8) _ _ (text_short limit frames.Fault) (
+    choice_short limit (kind == 11) _ _ (lone_short limit frames.PreambleAck) (
+    choice_short limit (kind == 12) _ _ (lone_short limit frames.PreambleEnd) (wrong_short limit (faults.Unexpected kind)))))))))))
+
+-- whether or not it may come
+behind_type : (limit types kind : ℕ) → IsShort limit 1 (λ b. record_at limit types (kind ∷ b))
+behind_type limit types kind =
+    choice_short limit (nat_lt 12 kind) _ _ (wrong_short limit faults.UnknownRecord) (
+    choice_short limit (allows types kind) _ _ (typed_short limit kind) (wrong_short limit (faults.Unexpected kind)))
+
+-- a record that has begun has at most five bytes beside those of a text
+pub begun_short : (limit : ℕ) (expect : Expect) → IsShort limit 0 (frame_at limit expect)
+begun_short limit (Types types) [] e = omega arith
+begun_short limit (Types types) (kind ∷ b) e = omega (arith, behind_type limit types kind b e)
+begun_short limit Chunk b e = size_short limit 0 (omega arith) frames.Chunk b e
+
+-- so what decides one is at most six
+pub decided_short : (limit : ℕ) (expect : Expect) (b : List ℕ) → extent (frame_at limit expect b) ≤ longest limit + 6
+decided_short limit expect b =
+    elim (said_of (frame_at limit expect b)) [
+      | nothing_yet e ↦ omega (arith, ap extent e)
+      | a_whole a k e ↦ omega (arith, ap extent e, before k (front.whole_within b a k e) (front.whole_first b a k (k - 1) e))
+      | a_wrong r k e ↦ omega (arith, ap extent e, before k (front.wrong_within b r k e) (front.wrong_first b r k (k - 1) e))
+    ]
+  where
+    front : ReadsFront (frame_at limit expect)
+    front = frames_front limit expect
+
+    before : (k : ℕ) → k ≤ length b → (k - 1 < k → frame_at limit expect (take (k - 1) b) ≡ begun) → k ≤ longest limit + 6
+    before zero le h = omega arith
+    before (suc j) le h =
+        let at : take (suc j - 1) b ≡ take j b = ap (λ n. take n b) (omega arith) in
+        let short = begun_short limit expect (take j b) (ap (frame_at limit expect) (sym at) ∙ h (omega arith)) in
+        omega (arith, length-take-le j b (omega arith))

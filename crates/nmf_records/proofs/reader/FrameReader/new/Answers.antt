@@ -1,0 +1,27 @@
+use Rattle.std.proofs.Common.{[], refl, sym, ap}
+use Rattle.multibyte_ints.specs.TextReader.{text_of}
+use Rattle.nmf_records.specs.Reader.{StandsFor, ShowsText, limit_of}
+use Rattle.nmf_records.proofs.Frames.{frame_peels, no_string}
+use Rattle.nmf_records.proofs.reader.FrameReader.new.Goals as goal
+
+pub returns-clause-stands : goal.returns-clause-stands
+unfolding StandsFor
+returns-clause-stands c = λ expect. record {
+  begun = (frame_peels _ expect).nothing;
+  shape = refl;
+  size = c.new.ensures;
+  text = tt;
+  counted = refl;
+}
+
+pub returns-clause-text : goal.returns-clause-text
+unfolding ShowsText
+returns-clause-text c = record {
+  string = [];
+  stands = c.in_ok-new.ensures.stands;
+  text_is = ap text_of (sym (no_string _));
+}
+
+pub returns-clause-limit : goal.returns-clause-limit
+unfolding limit_of
+returns-clause-limit c = c.in_ok-new.ensures.limit

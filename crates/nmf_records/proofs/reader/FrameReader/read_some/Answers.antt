@@ -1,0 +1,41 @@
+use Rattle.std.proofs.Common.{◌≡◌, ℕ, List, [], ◌∷◌, ◌++◌, take, drop, sym, ap, ◌∙◌}
+use Rattle.multibyte_ints.specs.Front.{begun}
+use Rattle.multibyte_ints.specs.Reader.{StandsFor as IntStandsFor}
+use Rattle.multibyte_ints.specs.TextReader.{StringStandsFor}
+use Rattle.nmf_records.specs.declared.stage.Stage.TheVariants as stages
+use Rattle.nmf_records.specs.declared.reader.FrameReader.{FrameReader}
+use Rattle.nmf_records.specs.Reading.{frame_at}
+use Rattle.nmf_records.specs.Steps.{HasShape, kind_of_text}
+use Rattle.nmf_records.specs.Reader.{StandsFor, limit_of}
+use Rattle.nmf_records.proofs.Showing.{text_leads, text_shows, text_begun}
+use Rattle.nmf_records.proofs.reader.FrameReader.read_some.Goals as goal
+
+pub returns-in-Text-clause-leads : goal.returns-in-Text-clause-leads
+unfolding StandsFor
+returns-in-Text-clause-leads c = λ p stands.
+    let r = c.args.self.now in
+    let shape : HasShape c.args.expect (stages.Text c.in-Text.text) p = rw c.in-Text.is at stands.shape in
+    let int : IntStandsFor r.size [] = rw c.in-Text.is at stands.size in
+    let text : StringStandsFor r.text (drop 1 p) = rw c.in-Text.is at stands.text in
+    let size : c.read_text.new.self.size ≡ r.size = ap (λ (r : FrameReader). r.size) c.read_text.ensures.others in
+    text_leads (limit_of r) c.args.expect c.in-Text.text p (take c.read_text.result.0 c.args.bytes.now) c.read_text.new.self c.read_text.result.1
+    stands.begun shape (rw size int) (c.read_text.ensures.answers (drop 1 p) text (text_begun (limit_of r) c.args.expect c.in-Text.text p stands.begun shape))
+
+pub returns-in-Text-clause-text : goal.returns-in-Text-clause-text
+unfolding StandsFor
+returns-in-Text-clause-text c = λ p s stands h.
+    let r = c.args.self.now in
+    let shape : HasShape c.args.expect (stages.Text c.in-Text.text) p = rw c.in-Text.is at stands.shape in
+    let text : StringStandsFor r.text (drop 1 p) = rw c.in-Text.is at stands.text in
+    let taken : List ℕ = take c.read_text.result.0 c.args.bytes.now in
+    let more : p ++ taken ≡ kind_of_text c.in-Text.text ∷ (drop 1 p ++ taken) = ap (λ (x : List ℕ). x ++ taken) shape in
+    let h' : frame_at (limit_of r) c.args.expect (kind_of_text c.in-Text.text ∷ drop 1 p) ≡ begun = ap (frame_at (limit_of r) c.args.expect) (sym shape) ∙ stands.begun in
+    rw more (text_shows (limit_of r) c.read_text.new.self s c.args.expect c.in-Text.text (drop 1 p) (drop 1 p ++ taken) c.read_text.ensures.limit h' (c.read_text.ensures.stands (drop 1 p) text))
+
+pub returns-in-Failed-clause-leads : goal.returns-in-Failed-clause-leads
+unfolding StandsFor
+returns-in-Failed-clause-leads c = λ p stands. let none : ⊥ = rw c.in-Failed.is at stands.shape in absurd none
+
+pub returns-in-Failed-clause-text : goal.returns-in-Failed-clause-text
+unfolding StandsFor
+returns-in-Failed-clause-text c = λ p s stands h. let none : ⊥ = rw c.in-Failed.is at stands.shape in absurd none

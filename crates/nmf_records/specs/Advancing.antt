@@ -1,0 +1,78 @@
+-- What the parts of a reading say: where a byte, a size or a text led, and where the reader stands then.
+use Rattle.std.specs.Prelude.{◌≡◌, ℕ, ◌<◌, List, [], length, Some}
+use Rattle.multibyte_ints.specs.Front.{begun, whole, wrong}
+use Rattle.multibyte_ints.specs.declared.integer.IntReader.{IntReader}
+use Rattle.multibyte_ints.specs.declared.text.StringReader.{StringReader}
+use Rattle.multibyte_ints.specs.Integer.{int_at}
+use Rattle.multibyte_ints.specs.Text.{StringFault, string_at}
+use Rattle.multibyte_ints.specs.Reader.{StandsFor as IntStandsFor}
+use Rattle.multibyte_ints.specs.TextReader.{StringStandsFor}
+use Rattle.nmf_records.specs.declared.frame.Expect.{Expect}
+use Rattle.nmf_records.specs.declared.frame.FrameFault.TheVariants as faults
+use Rattle.nmf_records.specs.declared.stage.TextRecord.{TextRecord}
+use Rattle.nmf_records.specs.declared.stage.SizeRecord.{SizeRecord}
+use Rattle.nmf_records.specs.declared.stage.Stage.{Stage}
+use Rattle.nmf_records.specs.declared.stage.Stage.TheVariants as stages
+use Rattle.nmf_records.specs.declared.stage.Progress.{Progress}
+use Rattle.nmf_records.specs.declared.stage.Progress.TheVariants as progress
+use Rattle.nmf_records.specs.declared.reader.FrameReader.{FrameReader}
+use Rattle.nmf_records.specs.Reading.{fault_of, frame_at}
+use Rattle.nmf_records.specs.Steps.{HasShape, sized, texted, size_bytes}
+use Rattle.nmf_records.specs.Reader.{StandsFor, HoldsText, pending_of, failure_of}
+
+-- at this stage a reader takes one byte
+abbrev pub ReadsBytes : Stage → Type 0
+ReadsBytes (stages.Text _) = ⊥
+ReadsBytes (stages.Failed _) = ⊥
+ReadsBytes _ = Unit {0}
+
+-- where a text begins, the reader of texts begins anew
+abbrev pub BeginsAnew : FrameReader → Progress → Type 0
+BeginsAnew mid (progress.Going (stages.Text text)) = StringStandsFor mid.text []
+BeginsAnew mid _ = Unit {0}
+
+-- what a size's bytes so far led to
+abbrev pub SizeAnswers : SizeRecord → List ℕ → IntReader → Progress → Type 0
+SizeAnswers size q int (progress.Going stage) = (stage ≡ stages.Size size) × (int_at q ≡ begun) × IntStandsFor int q
+SizeAnswers size q int (progress.Done frame) = (n : ℕ) × (frame ≡ sized size n) × (int_at q ≡ whole n (length q)) × IntStandsFor int []
+SizeAnswers size q int (progress.Wrong fault) = (fault ≡ faults.BadInt) × (int_at q ≡ wrong tt 5)
+
+-- what the bytes of a string so far led to
+abbrev pub TextAnswers : ℕ → TextRecord → List ℕ → StringReader → Progress → Type 0
+TextAnswers limit text q reader (progress.Going stage) = (stage ≡ stages.Text text) × (string_at limit q ≡ begun) × StringStandsFor reader q
+TextAnswers limit text q reader (progress.Done frame) = (frame ≡ texted text) × (s : List ℕ) × (string_at limit q ≡ whole s (length q))
+TextAnswers limit text q reader (progress.Wrong fault) = (r : StringFault) × (fault ≡ fault_of r) × (string_at limit q ≡ wrong r (length q))
+
+-- what the bytes p of a record led to, the readers of sizes and texts having gone on
+abbrev pub Leads : ℕ → Expect → List ℕ → FrameReader → Progress → Type 0
+Leads limit expect p mid (progress.Going stage) =
+    (frame_at limit expect p ≡ begun) × HasShape expect stage p × IntStandsFor mid.size (size_bytes stage p) × HoldsText stage mid.text p
+Leads limit expect p mid (progress.Done frame) = (text : List ℕ) × (frame_at limit expect p ≡ whole (record { frame = frame; text = text }) (length p)) × IntStandsFor mid.size []
+Leads limit expect p mid (progress.Wrong fault) = frame_at limit expect p ≡ wrong fault (length p)
+
+-- what they led to
+abbrev pub Steps : ℕ → Expect → List ℕ → FrameReader → Progress → Type 0
+Steps limit expect p new (progress.Going stage) = StandsFor new expect p
+Steps limit expect p new (progress.Done frame) = (text : List ℕ) × (frame_at limit expect p ≡ whole (record { frame = frame; text = text }) (length p)) × ((next : Expect) → StandsFor new next [])
+Steps limit expect p new (progress.Wrong fault) = (frame_at limit expect p ≡ wrong fault (length p)) × (pending_of new ≡ length p)
+
+-- a reader goes on only with a byte or more
+abbrev pub Moves : ℕ → Progress → Type 0
+Moves n (progress.Going stage) = 0 < n
+Moves n _ = Unit {0}
+
+-- a fault is kept
+abbrev pub Keeps : FrameReader → Progress → Type 0
+Keeps new (progress.Wrong fault) = failure_of new ≡ Some fault
+Keeps new _ = Unit {0}
+
+-- the stage behind what some bytes led to
+abbrev pub stage_after : Progress → Stage
+stage_after (progress.Going stage) = stage
+stage_after (progress.Done frame) = stages.Type
+stage_after (progress.Wrong fault) = stages.Failed fault
+
+-- how many bytes there are then of a record that is not whole, or that a fault needed
+abbrev pub pending_after : ℕ → Progress → ℕ
+pending_after pending (progress.Done frame) = 0
+pending_after pending _ = pending

@@ -1,0 +1,6 @@
+pub mod Records
+pub mod Reading
+pub mod Steps
+pub mod Reader
+pub mod Advancing
+pub mod Laws

@@ -1,0 +1,87 @@
+-- What a reader of records stands for, and what it answers. It keeps of the bytes that it used no more than a text.
+use Rattle.std.specs.Prelude.{◌≡◌, ℕ, ◌+◌, List, [], ◌++◌, length, drop, if◌then◌else◌, Option, Some, None, Result, Ok, Err}
+use Rattle.multibyte_ints.specs.Front.{Front, begun, whole, wrong}
+use Rattle.multibyte_ints.specs.declared.text.StringReader.{StringReader}
+use Rattle.multibyte_ints.specs.Text.{string_at}
+use Rattle.multibyte_ints.specs.Reader.{StandsFor as IntStandsFor}
+use Rattle.multibyte_ints.specs.TextReader.{StringStandsFor, text_of, limit_of as text_limit_of, held_of as text_held_of}
+use Rattle.nmf_records.specs.declared.frame.Expect.{Expect}
+use Rattle.nmf_records.specs.declared.frame.FrameStep.{FrameStep}
+use Rattle.nmf_records.specs.declared.frame.FrameStep.TheVariants.{More, Done}
+use Rattle.nmf_records.specs.declared.frame.FrameFault.{FrameFault}
+use Rattle.nmf_records.specs.declared.stage.Stage.{Stage}
+use Rattle.nmf_records.specs.declared.stage.Stage.TheVariants as stages
+use Rattle.nmf_records.specs.declared.reader.FrameReader.{FrameReader}
+use Rattle.nmf_records.specs.Records.{Read}
+use Rattle.nmf_records.specs.Reading.{frame_at}
+use Rattle.nmf_records.specs.Steps.{HasShape, size_bytes, begins_text}
+
+-- the greatest length of a text that the reader takes
+unfoldable pub limit_of : FrameReader → ℕ
+limit_of reader = text_limit_of reader.text
+
+-- how many bytes of text the reader holds
+unfoldable pub held_of : FrameReader → ℕ
+held_of reader = text_held_of reader.text
+
+-- how many bytes it has of a record that isn't whole, or that a fault needed
+unfoldable pub pending_of : FrameReader → ℕ
+pending_of reader = reader.pending
+
+-- the fault of a failed stage
+abbrev pub fault_at : Stage → Option FrameFault
+fault_at (stages.Failed fault) = Some fault
+fault_at _ = None
+
+-- the fault that it answers from now on
+unfoldable pub failure_of : FrameReader → Option FrameFault
+failure_of reader = fault_at reader.stage
+
+-- the reader of texts has the bytes of one that has begun
+abbrev pub HoldsText : Stage → StringReader → List ℕ → Type 0
+HoldsText (stages.Text _) text p = StringStandsFor text (drop 1 p)
+HoldsText _ text p = Unit {0}
+
+-- a record has begun, of which it has these bytes
+pub record Holds (reader : FrameReader) (expect : Expect) (p : List ℕ) : Type 0 where
+  pub begun : frame_at (limit_of reader) expect p ≡ begun
+  pub shape : HasShape expect reader.stage p
+  pub size : IntStandsFor reader.size (size_bytes reader.stage p)
+  pub text : HoldsText reader.stage reader.text p
+  pub counted : reader.pending ≡ length p
+
+-- the bytes since the last whole record, where this may come
+unfoldable pub StandsFor : FrameReader → Expect → List ℕ → Type 0
+StandsFor reader expect p = Holds reader expect p
+
+-- the text is the one that the reader shows
+pub record Shows (reader : FrameReader) (s : List ℕ) : Type 0 where
+  pub string : List ℕ
+  pub stands : StringStandsFor reader.text string
+  pub text_is : s ≡ text_of (string_at (limit_of reader) string)
+
+-- the text that the reader shows
+unfoldable pub ShowsText : FrameReader → List ℕ → Type 0
+ShowsText reader s = Shows reader s
+
+-- the text of a whole record
+abbrev pub text_read : Front Read FrameFault → List ℕ
+text_read begun = []
+text_read (whole read n) = read.text
+text_read (wrong fault n) = []
+
+-- the text that is shown behind these bytes, of which this was read, where s was shown before
+abbrev pub text_after : List ℕ → Expect → List ℕ → Front Read FrameFault → List ℕ
+text_after s expect p reading = if begins_text expect p then text_read reading else s
+
+-- what a piece behind p is answered with
+abbrev pub FrameAnswers : ℕ → Expect → List ℕ → List ℕ → FrameReader → Result (ℕ × FrameStep) FrameFault → Type 0
+FrameAnswers limit expect p piece new (Ok (n, More)) = (n ≡ length piece) × (frame_at limit expect (p ++ piece) ≡ begun)
+FrameAnswers limit expect p piece new (Ok (n, Done frame)) = (text : List ℕ) × (frame_at limit expect (p ++ piece) ≡ whole (record { frame = frame; text = text }) (length p + n))
+FrameAnswers limit expect p piece new (Err fault) = frame_at limit expect (p ++ piece) ≡ wrong fault (pending_of new)
+
+-- what the reader stands for then, the bytes having been q
+abbrev pub AfterPiece : FrameReader → Expect → List ℕ → Result (ℕ × FrameStep) FrameFault → Type 0
+AfterPiece new expect q (Ok (n, More)) = StandsFor new expect q
+AfterPiece new expect q (Ok (n, Done frame)) = (next : Expect) → StandsFor new next []
+AfterPiece new expect q (Err fault) = Unit {0}

@@ -1,0 +1,38 @@
+//! What holds of records by their definitions alone. Each function does nothing: its contract is a
+//! law, which a caller has where it calls the function.
+
+ghost use Rattle.std.specs.Prelude.{ℕ};
+ghost use Rattle.multibyte_ints.specs.Front.{ReadsFront};
+ghost use Rattle.nmf_records.specs.declared.frame.Expect.{Expect};
+ghost use Rattle.nmf_records.specs.Reading.{frame_at};
+ghost use Rattle.nmf_records.specs.Laws.{RecordsAreRead, NoRecordGoesOn, BegunIsShort, WholeIsShort, WrongIsShort, UnknownByType, UnexpectedByType, BadByInteger, BadByLength, BadByText};
+
+/// A record is known by its own bytes: it is wrong or whole at the byte that shows it, whatever
+/// follows, and has only begun before that.
+pub fn record_fronts()
+    ensures { (limit : ℕ) (expect : Expect) → ReadsFront (frame_at limit expect) }
+{}
+
+/// The records that are read are those that the bytes are, and no record begins a longer one.
+pub fn records()
+    ensures read { RecordsAreRead }
+    ensures none_goes_on { NoRecordGoesOn }
+{}
+
+/// A record has at most six bytes beside those of its text, and what is wrong shows within as many.
+pub fn record_lengths()
+    ensures begun { BegunIsShort }
+    ensures whole { WholeIsShort }
+    ensures wrong { WrongIsShort }
+{}
+
+/// Bytes are no record that may come for five causes, one for each fault: a type byte above 0x0C, a
+/// known type byte that may not come, an integer whose fifth byte is above 0x07, a text's length
+/// above the limit, and a text that isn't UTF-8.
+pub fn faults()
+    ensures unknown_record { UnknownByType }
+    ensures unexpected { UnexpectedByType }
+    ensures bad_int { BadByInteger }
+    ensures text_too_long { BadByLength }
+    ensures text_not_utf8 { BadByText }
+{}

@@ -1,0 +1,25 @@
+//! The records of .NET Message Framing (MC-NMF), which cut a connection's bytes into a preamble and
+//! messages.
+//!
+//! The one idea is the record at the front of some bytes: whole with so many of them, wrong from so
+//! many on, or only begun. What a record's bytes are is `IsRecord` of `specs/Records.antt`, one row for
+//! each record. What stands at the front of any bytes, where some types may come, is `frame_at` of
+//! `specs/Reading.antt`. `laws` has that the two are one, and the cause of each fault.
+//!
+//! A reader takes the bytes in any pieces and keeps none but a text's. `FrameReader::feed` is proved
+//! to answer what stands at the front of all bytes since the last record: the record at the byte that
+//! makes it whole, or the fault at the first byte that shows it. What a reader stands for is in
+//! `specs/Reader.antt`. The text of a Via or a Fault stays in the reader, whose room is made with it:
+//! no other call takes memory.
+#![tactic(auto)]
+
+mod frame;
+pub mod laws;
+mod reader;
+mod stage;
+
+pub use frame::{Expect, Frame, FrameFault, FrameStep};
+pub use reader::FrameReader;
+
+#[cfg(test)]
+mod tests;

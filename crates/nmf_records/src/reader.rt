@@ -1,0 +1,226 @@
+//! One record after the other, in any pieces.
+
+ghost use Rattle.std.specs.Prelude.{◌≡◌, ℕ, ◌+◌, ◌-◌, ◌^◌, min, ◌≤◌, ◌<◌, List, [], ◌∷◌, ◌++◌, length, take, IfOk, IfErr, Some, false};
+ghost use Rattle.multibyte_ints.specs.Reader.{StandsFor as IntStandsFor};
+ghost use Rattle.nmf_records.specs.declared.frame.Expect.{Expect as Expected};
+ghost use Rattle.nmf_records.specs.Reading.{frame_at};
+ghost use Rattle.nmf_records.specs.Steps.{is_text_start};
+ghost use Rattle.nmf_records.specs.Reader.{StandsFor, ShowsText, FrameAnswers, AfterPiece, limit_of, held_of, pending_of, failure_of, text_after};
+ghost use Rattle.nmf_records.specs.Advancing.{SizeAnswers, TextAnswers, Leads, ReadsBytes, BeginsAnew, Steps, Moves, Keeps, stage_after, pending_after};
+ghost use Rattle.multibyte_ints.specs.Front.{begun};
+ghost use Rattle.multibyte_ints.specs.Text.{string_at};
+ghost use Rattle.multibyte_ints.specs.TextReader.{StringStandsFor};
+
+use crate::frame::{Expect, Frame, FrameFault, FrameStep};
+use crate::stage::{self, Progress, SizeRecord, Stage, TextRecord};
+use multibyte_ints::{IntReader, IntStep, Memory, StringReader, StringStep};
+use std::alloc::Global;
+
+/// Reads records, one after the other, in whatever pieces their bytes come.
+#[derive(Debug, Drop)]
+pub struct FrameReader {
+    stage: Stage,
+    size: IntReader,
+    text: StringReader,
+    /// How many bytes there are of the record that isn't whole, or that a fault needed.
+    pending: u32,
+}
+
+impl FrameReader {
+    /// A reader before the first byte, which takes texts of at most `limit` bytes. All its room is
+    /// made here.
+    pub fn new(alloc: Global, limit: u32) -> Result<FrameReader, Memory>
+        ensures stands { IfOk result (λ reader. (expect : Expected) → StandsFor reader expect []) }
+        ensures text { IfOk result (λ reader. ShowsText reader []) }
+        ensures limit { IfOk result (λ reader. limit_of reader ≡ limit) }
+    {
+        Ok(FrameReader {
+            stage: Stage::Type,
+            size: IntReader::new(),
+            text: StringReader::new(alloc, limit as usize)?,
+            pending: 0,
+        })
+    }
+
+    /// Reads on with a piece, up to the byte that makes a record whole, and answers how many bytes it
+    /// used and whether the record is. `expect` says what may come, and is to be the same for all
+    /// pieces of one record. A fault is answered at the first byte that shows it, and from then on.
+    pub fn feed(&mut self, piece: &[u8], expect: Expect) -> Result<(usize, FrameStep), FrameFault>
+        ensures within { IfOk result (λ answer. answer.0 ≤ length piece.now) }
+        ensures answers { (p : List ℕ) → StandsFor self.old expect p → FrameAnswers (limit_of self.old) expect p piece.now self.new result }
+        ensures stands { (p : List ℕ) → StandsFor self.old expect p → AfterPiece self.new expect (p ++ piece.now) result }
+        ensures text { (p s : List ℕ) → StandsFor self.old expect p → ShowsText self.old s
+            → ShowsText self.new (text_after s expect (p ++ piece.now) (frame_at (limit_of self.old) expect (p ++ piece.now))) }
+        ensures limit { limit_of self.new ≡ limit_of self.old }
+        ensures failed { IfErr result (λ fault. failure_of self.new ≡ Some fault) }
+        ensures repeated { (fault : FrameFault) → failure_of self.old ≡ Some fault → result ≡ Err fault }
+        ensures unchanged { (fault : FrameFault) → failure_of self.old ≡ Some fault → self.new ≡ self.old }
+    {
+        if let Stage::Failed(fault) = self.stage {
+            return Err(fault);
+        }
+        let mut used = 0;
+        while used < piece.len() {
+            let (n, progress) = self.advance(&piece[used..], expect);
+            used += n;
+            match progress {
+                Progress::Going(_) => {}
+                Progress::Done(frame) => return Ok((used, FrameStep::Done(frame))),
+                Progress::Wrong(fault) => return Err(fault),
+            }
+        }
+        Ok((used, FrameStep::More))
+    }
+
+    /// The text of the last Via or Fault, and the empty one before it or while one is read.
+    pub fn text(&self) -> &str
+        ensures { (s : List ℕ) → ShowsText self.now s → result.now ≡ s }
+    {
+        self.text.text()
+    }
+
+    /// How many bytes there are of the record that isn't whole, or that a fault needed.
+    pub fn pending(&self) -> u32
+        ensures counted { result ≡ pending_of self.now }
+        ensures stands { (expect : Expected) (p : List ℕ) → StandsFor self.now expect p → result ≡ length p }
+        ensures within { (expect : Expected) (p : List ℕ) → StandsFor self.now expect p → result ≤ limit_of self.now + 5 }
+    {
+        self.pending
+    }
+
+    /// How many bytes of text it holds.
+    pub fn held(&self) -> usize
+        ensures counted { result ≡ held_of self.now }
+        ensures within { result ≤ limit_of self.now }
+    {
+        self.text.held()
+    }
+
+    // Reads some of the bytes, and goes on to where they led.
+    fn advance(&mut self, bytes: &[u8], expect: Expect) -> (usize, Progress)
+        requires { 0 < length bytes.now }
+        ensures within { result.0 ≤ length bytes.now }
+        ensures moves { Moves result.0 result.1 }
+        ensures steps { (p : List ℕ) → StandsFor self.old expect p → Steps (limit_of self.old) expect (p ++ take result.0 bytes.now) self.new result.1 }
+        ensures text { (p s : List ℕ) → StandsFor self.old expect p → ShowsText self.old s
+            → ShowsText self.new (text_after s expect (p ++ take result.0 bytes.now) (frame_at (limit_of self.old) expect (p ++ take result.0 bytes.now))) }
+        ensures limit { limit_of self.new ≡ limit_of self.old }
+        ensures kept { Keeps self.new result.1 }
+    {
+        let (n, progress) = self.read_some(bytes, expect);
+        self.settle(n, progress);
+        (n, progress)
+    }
+
+    // Reads those of the bytes that belong to a text, or one byte elsewhere.
+    fn read_some(&mut self, bytes: &[u8], expect: Expect) -> (usize, Progress)
+        requires { 0 < length bytes.now }
+        ensures within { result.0 ≤ length bytes.now }
+        ensures moves { Moves result.0 result.1 }
+        ensures leads { (p : List ℕ) → StandsFor self.old expect p → Leads (limit_of self.old) expect (p ++ take result.0 bytes.now) self.new result.1 }
+        ensures text { (p s : List ℕ) → StandsFor self.old expect p → ShowsText self.old s
+            → ShowsText self.new (text_after s expect (p ++ take result.0 bytes.now) (frame_at (limit_of self.old) expect (p ++ take result.0 bytes.now))) }
+        ensures limit { limit_of self.new ≡ limit_of self.old }
+        ensures pending { self.new.pending ≡ self.old.pending }
+    {
+        match self.stage {
+            Stage::Text(text) => self.read_text(text, bytes),
+            Stage::Failed(fault) => (0, Progress::Wrong(fault)),
+            _ => (1, self.read_byte(bytes[0], expect)),
+        }
+    }
+
+    // Goes on to where n bytes led.
+    fn settle(&mut self, n: usize, progress: Progress)
+        ensures stage { self.new.stage ≡ stage_after progress }
+        ensures pending { self.new.pending ≡ pending_after (min (self.old.pending + n) (2 ^ 32 - 1)) progress }
+        ensures size { self.new.size ≡ self.old.size }
+        ensures text { self.new.text ≡ self.old.text }
+    {
+        let n = u32::try_from(n).unwrap_or(u32::MAX);
+        let pending = self.pending.saturating_add(n);
+        (self.stage, self.pending) = match progress {
+            Progress::Going(stage) => (stage, pending),
+            Progress::Done(_) => (Stage::Type, 0),
+            Progress::Wrong(fault) => (Stage::Failed(fault), pending),
+        };
+    }
+
+    // Reads a byte that belongs to no text.
+    fn read_byte(&mut self, byte: u8, expect: Expect) -> Progress
+        ensures leads { (p : List ℕ) → StandsFor self.old expect p → ReadsBytes self.old.stage → Leads (limit_of self.old) expect (p ++ byte ∷ []) self.new result }
+        ensures text { (p s : List ℕ) → StandsFor self.old expect p → ReadsBytes self.old.stage → ShowsText self.old s
+            → ShowsText self.new (text_after s expect (p ++ byte ∷ []) (frame_at (limit_of self.old) expect (p ++ byte ∷ []))) }
+        ensures limit { limit_of self.new ≡ limit_of self.old }
+        ensures others { self.new ≡ record self.old { size = self.new.size; text = self.new.text } }
+    {
+        match self.stage {
+            Stage::Field(field) => stage::after_field(field, byte),
+            Stage::Size(size) => self.read_size_byte(size, byte),
+            _ => self.read_first_byte(byte, expect),
+        }
+    }
+
+    // Reads the first byte of a record or of a chunk's size.
+    fn read_first_byte(&mut self, byte: u8, expect: Expect) -> Progress
+        ensures leads { StandsFor self.old expect [] → self.old.stage ≡ Stage.Type → Leads (limit_of self.old) expect (byte ∷ []) self.new result }
+        ensures text { (s : List ℕ) → ShowsText self.old s → ShowsText self.new (text_after s expect (byte ∷ []) (frame_at (limit_of self.old) expect (byte ∷ []))) }
+        ensures limit { limit_of self.new ≡ limit_of self.old }
+        ensures others { self.new ≡ record self.old { size = self.new.size; text = self.new.text } }
+    {
+        match expect {
+            Expect::Chunk => self.read_size_byte(SizeRecord::Chunk, byte),
+            Expect::Types(types) => {
+                let progress = stage::after_type(types, byte);
+                self.begin_text(progress);
+                progress
+            }
+        }
+    }
+
+    // Begins a text anew, where one begins.
+    #[tactic(auto, unfolding(crate::specs::Reader::limit_of))]
+    fn begin_text(&mut self, progress: Progress)
+        ensures anew { BeginsAnew self.new progress }
+        ensures unchanged { is_text_start progress ≡ false → self.new ≡ self.old }
+        ensures limit { limit_of self.new ≡ limit_of self.old }
+        ensures others { self.new ≡ record self.old { text = self.new.text } }
+    {
+        if let Progress::Going(Stage::Text(_)) = progress {
+            self.text.restart();
+        }
+    }
+
+    // Reads a byte of a size.
+    fn read_size_byte(&mut self, size: SizeRecord, byte: u8) -> Progress
+        ensures answers { (q : List ℕ) → IntStandsFor self.old.size q → SizeAnswers size (q ++ byte ∷ []) self.new.size result }
+        ensures others { self.new ≡ record self.old { size = self.new.size } }
+    {
+        match self.size.feed(byte) {
+            IntStep::More => Progress::Going(Stage::Size(size)),
+            IntStep::Done(n) => Progress::Done(size.frame(n)),
+            IntStep::Bad => Progress::Wrong(FrameFault::BadInt),
+        }
+    }
+
+    // Reads the bytes that belong to a text.
+    fn read_text(&mut self, text: TextRecord, bytes: &[u8]) -> (usize, Progress)
+        ensures within { result.0 ≤ length bytes.now }
+        ensures moves { 0 < length bytes.now → Moves result.0 result.1 }
+        ensures answers { (q : List ℕ) → StringStandsFor self.old.text q → string_at (limit_of self.old) q ≡ begun
+            → TextAnswers (limit_of self.old) text (q ++ take result.0 bytes.now) self.new.text result.1 }
+        ensures stands { (q : List ℕ) → StringStandsFor self.old.text q → StringStandsFor self.new.text (q ++ take result.0 bytes.now) }
+        ensures limit { limit_of self.new ≡ limit_of self.old }
+        ensures others { self.new ≡ record self.old { text = self.new.text } }
+    {
+        let (n, step) = self.text.feed(bytes);
+        let progress = match step {
+            StringStep::More => Progress::Going(Stage::Text(text)),
+            StringStep::Done => Progress::Done(text.frame()),
+            StringStep::BadInt => Progress::Wrong(FrameFault::BadInt),
+            StringStep::TooLong => Progress::Wrong(FrameFault::TextTooLong),
+            StringStep::BadUtf8 => Progress::Wrong(FrameFault::TextNotUtf8),
+        };
+        (n, progress)
+    }
+}

@@ -1,0 +1,139 @@
+//! The stages of a reader, and what a byte of a type or of a fixed field leads to.
+
+ghost use Rattle.std.specs.Prelude.{◌≡◌, ℕ, List, [], ◌∷◌, ◌++◌, ◌+◌, ◌≤◌, length, ◌==◌, ◌||◌};
+ghost use Rattle.multibyte_ints.specs.Front.{begun};
+ghost use Rattle.nmf_records.specs.declared.frame.Expect.{Expect};
+ghost use Rattle.nmf_records.specs.declared.frame.Expect.TheVariants.{Types};
+ghost use Rattle.nmf_records.specs.Reading.{frame_at, record_at, typed_at, allows};
+ghost use Rattle.nmf_records.specs.Steps.{Meets, GoesTo, HasShape, sized, texted, begins_text, is_text_start};
+
+use crate::frame::{Frame, FrameFault};
+
+/// A record with a text.
+#[derive(Clone, Copy, Debug, PartialEq, Eq)]
+pub enum TextRecord {
+    Via,
+    Fault,
+}
+
+impl TextRecord {
+    /// The whole record.
+    pub fn frame(self) -> Frame
+        ensures { result ≡ texted self }
+    {
+        match self {
+            TextRecord::Via => Frame::Via,
+            TextRecord::Fault => Frame::Fault,
+        }
+    }
+}
+
+/// What ends with a size.
+#[derive(Clone, Copy, Debug, PartialEq, Eq)]
+pub enum SizeRecord {
+    SizedEnvelope,
+    Chunk,
+}
+
+impl SizeRecord {
+    /// The whole record, or the chunk's size.
+    pub fn frame(self, size: u32) -> Frame
+        ensures { result ≡ sized self size }
+    {
+        match self {
+            SizeRecord::SizedEnvelope => Frame::SizedEnvelope(size),
+            SizeRecord::Chunk => Frame::Chunk(size),
+        }
+    }
+}
+
+/// A byte of a record whose length its type tells.
+#[derive(Clone, Copy, Debug, PartialEq, Eq)]
+pub enum Field {
+    Major,
+    Minor { major: u8 },
+    Mode,
+    Encoding,
+}
+
+/// What the next byte belongs to.
+#[derive(Clone, Copy, Debug, PartialEq, Eq)]
+pub enum Stage {
+    /// A record that hasn't begun, or a chunk's size that hasn't.
+    Type,
+    Field(Field),
+    /// A text, or its length.
+    Text(TextRecord),
+    Size(SizeRecord),
+    /// Nothing: this fault is answered.
+    Failed(FrameFault),
+}
+
+/// What some bytes led to.
+#[derive(Clone, Copy, Debug, PartialEq, Eq)]
+pub enum Progress {
+    /// A record that isn't whole.
+    Going(Stage),
+    /// A whole record.
+    Done(Frame),
+    /// No record that may come.
+    Wrong(FrameFault),
+}
+
+/// What the type byte of a record that may come leads to.
+fn after_known_type(kind: u8) -> Progress
+    ensures reads { (limit : ℕ) → Meets (typed_at limit kind []) 1 result }
+    ensures goes { (types : ℕ) → GoesTo (Types types) (kind ∷ []) result }
+    ensures text { is_text_start result ≡ ((kind == 2) || (kind == 8)) }
+{
+    match kind {
+        0 => Progress::Going(Stage::Field(Field::Major)),
+        1 => Progress::Going(Stage::Field(Field::Mode)),
+        2 => Progress::Going(Stage::Text(TextRecord::Via)),
+        3 => Progress::Going(Stage::Field(Field::Encoding)),
+        5 => Progress::Done(Frame::UnsizedEnvelope),
+        6 => Progress::Going(Stage::Size(SizeRecord::SizedEnvelope)),
+        7 => Progress::Done(Frame::End),
+        8 => Progress::Going(Stage::Text(TextRecord::Fault)),
+        11 => Progress::Done(Frame::PreambleAck),
+        12 => Progress::Done(Frame::PreambleEnd),
+        _ => Progress::Wrong(FrameFault::Unexpected(kind)),
+    }
+}
+
+/// Whether a record of this type may come.
+fn may_come(types: u16, kind: u8) -> bool
+    requires { kind ≤ 12 }
+    ensures { result ≡ allows types kind }
+{
+    types >> kind & 1 == 1
+}
+
+/// What a type byte leads to, where a record whose type has its bit set may come.
+pub fn after_type(types: u16, kind: u8) -> Progress
+    ensures reads { (limit : ℕ) → Meets (record_at limit types (kind ∷ [])) 1 result }
+    ensures goes { GoesTo (Types types) (kind ∷ []) result }
+    ensures text { is_text_start result ≡ begins_text (Types types) (kind ∷ []) }
+{
+    if kind > 12 {
+        return Progress::Wrong(FrameFault::UnknownRecord);
+    }
+    if !may_come(types, kind) {
+        return Progress::Wrong(FrameFault::Unexpected(kind));
+    }
+    after_known_type(kind)
+}
+
+/// What a byte of a fixed field leads to.
+pub fn after_field(field: Field, byte: u8) -> Progress
+    ensures reads { (limit : ℕ) (expect : Expect) (p : List ℕ) → HasShape expect (Stage.Field field) p → frame_at limit expect p ≡ begun
+        → Meets (frame_at limit expect (p ++ byte ∷ [])) (length p + 1) result }
+    ensures goes { (expect : Expect) (p : List ℕ) → HasShape expect (Stage.Field field) p → GoesTo expect (p ++ byte ∷ []) result }
+{
+    match field {
+        Field::Major => Progress::Going(Stage::Field(Field::Minor { major: byte })),
+        Field::Minor { major } => Progress::Done(Frame::Version { major, minor: byte }),
+        Field::Mode => Progress::Done(Frame::Mode(byte)),
+        Field::Encoding => Progress::Done(Frame::KnownEncoding(byte)),
+    }
+}
