@@ -1,0 +1,177 @@
+-- What a check that reads a stream piece by piece knows between two pieces, and where it ends.
+use Rattle.std.proofs.Common.{◌≡◌, ℕ, ◌-◌, ◌^◌, ◌≤◌, ◌<◌, inl, inr, List, [], ◌++◌, length, take, drop, Option, Some, None, Result, Ok, Err, IfOk, IfErr, OnOk, OnErr, ◌↔◌, refl, sym, ap, ◌∙◌, subst, arith, append_assoc, length-append}
+use Rattle.std.proofs.lemmas.List.{append-nil, take-append-le, take-append-drop, take_all}
+use Rattle.multibyte_ints.specs.Front.{begun}
+use Rattle.io_edges.specs.Faults.{Rose}
+use Rattle.io_edges.specs.Flow.{Told, Moves, GrowsByPrefix}
+use Rattle.io_edges.specs.declared.SinkFault.{SinkFault}
+use Rattle.io_edges.specs.declared.SinkFault.TheVariants as faults
+use Rattle.nbfx_values.specs.QuotasOf.{Holds}
+use Rattle.nbfx_values.specs.declared.limits.Quotas.{Quotas}
+use Rattle.nbfx_values.specs.declared.refusals.Offence.{Offence}
+use Rattle.dump_replay.specs.declared.receiver.Receiver.{Receiver}
+use Rattle.dump_replay.specs.declared.check.Reading.{Reading}
+use Rattle.dump_replay.specs.declared.check.Ending.{Ending}
+use Rattle.dump_replay.specs.declared.check.Ending.TheVariants as endings
+use Rattle.dump_replay.specs.Stream.{Settings, limits_of, unit_at, standing}
+use Rattle.dump_replay.specs.Judging.{refusal_at, offence}
+use Rattle.dump_replay.specs.Report.{report}
+use Rattle.dump_replay.specs.Receiving.{StandsFor, settings_of, taken_of}
+use Rattle.dump_replay.specs.Running.{usual, IsPending}
+use Rattle.dump_replay.specs.Checking.{set_to, stopped_by, HasRead, Judges, Reports, Breaks}
+use Rattle.dump_replay.proofs.Standing.{standing_nothing}
+use Rattle.dump_replay.proofs.Events.{nothing_not_over, unrefused}
+use Rattle.dump_replay.proofs.Pending.{pending_open}
+
+-- what is known to be told is told afterwards
+pub told_known : (P : List ℕ → List ℕ → Type 0) (old new : Option (List ℕ)) (l : List ℕ) → old ≡ Some l → Told old new P → (l' : List ℕ) × (new ≡ Some l') × P l l'
+told_known P None new l e t = cc
+told_known P (Some old) None l e t = absurd t
+told_known P (Some old) (Some new) l e t = let same : old ≡ l = cc in (new, refl, subst (λ o. P o new) same t)
+
+-- what is told afterwards wherever it was told before
+pub known_told : (P : List ℕ → List ℕ → Type 0) (old new : Option (List ℕ)) → ((l : List ℕ) → old ≡ Some l → (l' : List ℕ) × (new ≡ Some l') × P l l') → Told old new P
+known_told P None new known = tt
+known_told P (Some old) new known = let k = known old refl in rw k.1 k.2
+
+-- a count that rose later rose
+pub rose_later : (a b c : ℕ) → a ≤ b → Rose b c → Rose a c
+rose_later a b c le (inl lt) = inl (omega arith)
+rose_later a b c le (inr e) = inr e
+
+-- what a full room holds after new bytes of its length were put in it
+pub room_is : (items new : List ℕ) (len : ℕ) → len ≡ length items → length new ≡ length items → take len (new ++ drop (length new) items) ≡ new
+room_is items new len e h = take-append-le len new (drop (length new) items) (omega arith) ∙ take_all len new (omega arith)
+
+-- the quotas where none is said are the usual limits
+pub usual_is : (q : Quotas) → Holds q 65536 32 2048 262144 2048 (2 ^ 48) → ◌≡◌ {A = Settings} (record { limits = limits_of q }) usual
+unfolding usual
+usual_is q h = rw (h.payload_is, h.depth_is, h.dictionary_is, h.content_is, h.via_is, h.session_is) refl
+
+-- the usual session quota is some bytes
+usual_some : 0 < usual.limits.session
+unfolding usual
+usual_some = omega arith
+
+-- no bytes are refused, and none end the session
+nothing_pending : (r : Receiver) → StandsFor r [] → settings_of r ≡ usual → IsPending usual []
+unfolding StandsFor
+nothing_pending r stands e =
+    let fresh = subst (λ x. unit_at x (standing x []).situation.stage (standing x []).begun ≡ begun) e stands.is_begun in
+    let none : refusal_at usual [] ≡ None = unrefused usual [] (standing usual []).situation (standing usual []).from (standing usual []).begun refl fresh usual_some in
+    record {
+      unrefused = λ n. rw (take_all {A = ℕ} n [] (omega arith)) none;
+      going_on = λ n. rw (take_all {A = ℕ} n [] (omega arith)) (nothing_not_over usual);
+    }
+
+-- a check begins with no bytes
+pub nothing_read : (r : Receiver) → StandsFor r [] → settings_of r ≡ usual → HasRead (record { receiver = r; messages = 0 }) [] × IsPending usual []
+nothing_read r stands e =
+    let pending = nothing_pending r stands e in (
+      record {
+        stands = stands;
+        on = pending_open (settings_of r) [] (subst (λ x. IsPending x []) (sym e) pending);
+        counted = sym (ap (λ s. s.situation.messages) (standing_nothing (settings_of r)));
+      },
+      pending,
+    )
+
+-- the receiver has used what was read
+used_read : (r : Receiver) (p : List ℕ) → StandsFor r p → (taken_of r ≡ length p) × (length p ≤ (settings_of r).limits.session)
+unfolding StandsFor taken_of
+used_read r p stands = (stands.taken, stands.within)
+
+-- each piece leaves less of the session quota
+pub less_left : (c c' : Reading) (p y : List ℕ) → HasRead c p → HasRead c' (p ++ y) → set_to c' ≡ usual → 0 < length y
+    → usual.limits.session - taken_of c'.receiver < usual.limits.session - taken_of c.receiver
+less_left c c' p y read read' e some =
+    let before = used_read c.receiver p read.stands in
+    let after = used_read c'.receiver (p ++ y) read'.stands in
+    let within = rw e at after.1 in
+    omega (arith, before.0, after.0, within, length-append p y)
+
+-- the piece that is read is what was put in the room
+pub piece_is : (items new room : List ℕ) (len n : ℕ) → len ≡ length items → length new ≡ length items → room ≡ take len (new ++ drop (length new) items) → take n new ≡ take n room
+piece_is items new room len n e h r = ap (take n) (sym (r ∙ room_is items new len e h))
+
+module _ (left before after : Option (List ℕ)) (p : List ℕ)
+    (split : (stream : List ℕ) → left ≡ Some stream → (rest : List ℕ) × (before ≡ Some rest) × (stream ≡ p ++ rest)) where
+  -- what is left behind a piece more
+  pub left_moves : (room y : List ℕ) (n : ℕ) → Told before after (λ l l'. Moves l l' room n) → take n room ≡ y
+      → (stream : List ℕ) → left ≡ Some stream → (rest : List ℕ) × (after ≡ Some rest) × (stream ≡ p ++ y ++ rest)
+  left_moves room y n told piece stream e =
+      let h = split stream e in
+      let k = told_known (λ l l'. Moves l l' room n) before after h.0 h.1 told in (
+        k.0,
+        k.1,
+        h.2
+            ∙ ap (λ l. p ++ l) (sym (take-append-drop n h.0) ∙ ap (λ l. l ++ drop n h.0) (sym k.2.given ∙ piece) ∙ ap (λ l. y ++ l) (sym k.2.rest))
+            ∙ sym (append_assoc p y k.0),
+      )
+
+  -- where no bytes come all of them were read
+  pub left_none : (n : ℕ) → Told before after (λ l l'. (n ≡ 0) ↔ (l ≡ [])) → n ≡ 0 → (stream : List ℕ) → left ≡ Some stream → stream ≡ p
+  left_none n told none stream e =
+      let h = split stream e in
+      let k = told_known (λ l l'. (n ≡ 0) ↔ (l ≡ [])) before after h.0 h.1 told in
+      h.2 ∙ ap (λ l. p ++ l) (k.2.0 none) ∙ append-nil p
+
+-- what was handed out with a piece more
+pub taken_grows : (taken before after : Option (List ℕ)) (p room y : List ℕ) (n : ℕ) → ((t : List ℕ) → taken ≡ Some t → before ≡ Some (t ++ p)) → Told before after (λ t t'. t' ≡ t ++ take n room)
+    → take n room ≡ y → (t : List ℕ) → taken ≡ Some t → after ≡ Some (t ++ (p ++ y))
+taken_grows taken before after p room y n so_far told piece t e =
+    let k = told_known (λ t t'. t' ≡ t ++ take n room) before after (t ++ p) (so_far t e) told in
+    k.1 ∙ ap Some (k.2 ∙ ap (λ l. (t ++ p) ++ l) piece ∙ append_assoc t p y)
+
+module _ (x : Settings) where
+  -- a fault of the output judges nothing
+  pub stopped_judges : (stream : List ℕ) (fault : SinkFault) → Judges x stream (stopped_by fault)
+  stopped_judges stream faults.Failed = tt
+  stopped_judges stream faults.Memory = tt
+
+  -- the first bytes of the report are written then
+  pub stopped_reports : (stream w w' : List ℕ) (fault : SinkFault) → GrowsByPrefix w w' (report x stream) → Reports x stream w w' (stopped_by fault)
+  stopped_reports stream w w' faults.Failed grows = grows
+  stopped_reports stream w w' faults.Memory grows = grows
+
+  -- reading has not failed then
+  pub stopped_breaks : (t t' : List ℕ) (w w' : Option (List ℕ)) (fault : SinkFault) → Breaks x t t' w w' (stopped_by fault)
+  stopped_breaks t t' w w' faults.Failed = tt
+  stopped_breaks t t' w w' faults.Memory = tt
+
+  module _ (r : Ending) where
+    -- the end of the input judges the stream
+    pub ended_judges : (stream : List ℕ) (v : Result (Option Offence) SinkFault) → IfOk v (λ o. r ≡ endings.Judged o) → IfErr v (λ f. r ≡ stopped_by f) → IfOk v (λ o. offence x stream ≡ o) → Judges x stream r
+    ended_judges stream (Ok o) judged stopped says = rw judged says
+    ended_judges stream (Err fault) judged stopped says = rw stopped (stopped_judges stream fault)
+
+    -- its report is written then, or the first bytes of it
+    pub ended_reports : (stream w w' : List ℕ) (v : Result (Option Offence) SinkFault) → IfOk v (λ o. r ≡ endings.Judged o) → IfErr v (λ f. r ≡ stopped_by f)
+        → OnOk v (w' ≡ w ++ report x stream) → OnErr v (GrowsByPrefix w w' (report x stream)) → Reports x stream w w' r
+    ended_reports stream w w' (Ok o) judged stopped all some = rw judged all
+    ended_reports stream w w' (Err fault) judged stopped all some = rw stopped (stopped_reports stream w w' fault some)
+
+    -- reading has not failed then
+    pub ended_breaks : (t t' : List ℕ) (w w' : Option (List ℕ)) (v : Result (Option Offence) SinkFault) → IfOk v (λ o. r ≡ endings.Judged o) → IfErr v (λ f. r ≡ stopped_by f) → Breaks x t t' w w' r
+    ended_breaks t t' w w' (Ok o) judged stopped = rw judged tt
+    ended_breaks t t' w w' (Err fault) judged stopped = rw stopped (stopped_breaks t t' w w' fault)
+
+-- a fault of the output is none of the input
+pub stopped_not_read : (fault : SinkFault) → stopped_by fault ≡ endings.ReadFault → ⊥
+stopped_not_read faults.Failed e = cc
+stopped_not_read faults.Memory e = cc
+
+-- only a fault of the outside is one of writing
+pub stopped_write : (fault : SinkFault) → stopped_by fault ≡ endings.WriteFault → fault ≡ faults.Failed
+stopped_write faults.Failed e = refl
+stopped_write faults.Memory e = cc
+
+-- the end of the input is no fault of reading
+pub ended_not_read : (r : Ending) (v : Result (Option Offence) SinkFault) → IfOk v (λ o. r ≡ endings.Judged o) → IfErr v (λ f. r ≡ stopped_by f) → r ≡ endings.ReadFault → ⊥
+ended_not_read r (Ok o) judged stopped e = cc
+ended_not_read r (Err fault) judged stopped e = stopped_not_read fault (sym stopped ∙ e)
+
+-- there too only a fault of the outside is one of writing
+pub ended_write : (r : Ending) (v : Result (Option Offence) SinkFault) → IfOk v (λ o. r ≡ endings.Judged o) → IfErr v (λ f. r ≡ stopped_by f) → r ≡ endings.WriteFault → v ≡ Err faults.Failed
+ended_write r (Ok o) judged stopped e = cc
+ended_write r (Err fault) judged stopped e = ap Err (stopped_write fault (sym stopped ∙ e))

@@ -1,0 +1,29 @@
+mod Rows
+mod Refusals
+pub mod Units
+pub mod Coming
+pub mod After
+pub mod Standing
+pub mod Payloads
+pub mod Events
+pub mod Answers
+pub mod Meaning
+pub mod Carried
+pub mod Reports
+pub mod Vias
+pub mod FromSession
+pub mod ToSession
+pub mod Closed
+pub mod Steps
+pub mod ReceiverFacts
+pub mod PayloadSteps
+pub mod Pending
+pub mod CheckSteps
+pub mod Contents
+pub mod Reasons
+pub mod Said
+pub mod RecordSteps
+pub mod FeedSteps
+pub mod Writing
+pub mod ReadSteps
+pub mod RunSteps

@@ -1,0 +1,191 @@
+-- A worked stream for each refusal, computed by the definitions: its place, and the byte that shows it.
+use Rattle.std.proofs.Common.{◌≡◌, ◌^◌, ℕ, List, [], ◌∷◌, ◌++◌, refl}
+use Rattle.std.specs.Prelude.{codes}
+use Rattle.std.specs.Str.{is_utf8, chars}
+use Rattle.std.specs.Fmt.{digits}
+use lib.Utf8.{encode}
+use Rattle.multibyte_ints.specs.Integer.{int_at, int_ending_at, value_of}
+use Rattle.multibyte_ints.specs.Text.{string_at, text_behind, text_at, text_ending_at}
+use Rattle.dump_replay.specs.Stream.{Settings, unit_at, after, peeled, standing}
+use Rattle.dump_replay.specs.Judging.{refusal_at, completed_at, is_over_at, ending_at}
+use Rattle.dump_replay.specs.Report.{quoted, offence_line, line_at, report_from, report}
+
+abbrev set_to : ℕ → ℕ → ℕ → Settings
+set_to payload via session = record { limits = record { payload = payload; depth = 32; dictionary = 2048; content = 262144; via = via; session = session } }
+
+abbrev usual : Settings
+usual = set_to 65536 2048 (2 ^ 48)
+
+-- with this session quota
+abbrev of_session : ℕ → Settings
+of_session session = set_to 65536 2048 session
+
+-- a payload of at most three bytes
+abbrev of_three : Settings
+of_three = set_to 3 2048 (2 ^ 48)
+
+-- a Via of at most 16 bytes
+abbrev of_short_via : Settings
+of_short_via = set_to 65536 16 (2 ^ 48)
+
+abbrev version : List ℕ
+version = 0 ∷ 1 ∷ 0 ∷ []
+
+abbrev with_mode : List ℕ
+with_mode = version ++ 1 ∷ 2 ∷ []
+
+abbrev with_via : List ℕ
+with_via = with_mode ++ 2 ∷ 13 ∷ codes "net.tcp://h/e"
+
+abbrev with_encoding : List ℕ
+with_encoding = with_via ++ 3 ∷ 8 ∷ []
+
+abbrev preamble : List ℕ
+preamble = with_encoding ++ 12 ∷ []
+
+-- the report of a stream
+abbrev Reports : Settings → List ℕ → List ℕ → Type 0
+Reports x b lines = report x b ≡ lines
+
+-- behind a preamble, past its line
+abbrev ReportsBehind : Settings → List ℕ → List ℕ → Type 0
+ReportsBehind x b lines = report x (preamble ++ b) ≡ codes "open duplex 8 \"net.tcp://h/e\"\n" ++ lines
+
+-- a type byte above 0C, at each stage
+unknown_types :
+    Reports usual (13 ∷ []) (codes "offence frame 0 0 Unbuilt\n")
+    × Reports usual (version ++ 13 ∷ []) (codes "offence frame 3 0 Unbuilt\n")
+    × Reports usual (with_mode ++ 255 ∷ []) (codes "offence frame 5 0 Unbuilt\n")
+    × Reports usual (with_via ++ 13 ∷ []) (codes "offence frame 20 0 Unbuilt\n")
+    × Reports usual (with_encoding ++ 128 ∷ []) (codes "offence frame 22 0 Unbuilt\n")
+    × ReportsBehind usual (13 ∷ []) (codes "offence frame 23 0 Unbuilt\n")
+unfolding is_utf8 chars encode digits int_at int_ending_at value_of string_at text_behind text_at text_ending_at unit_at after peeled standing refusal_at completed_at is_over_at ending_at quoted offence_line line_at report_from report
+unknown_types = (refl, refl, refl, refl, refl, refl)
+
+-- a known type that may not come, at each stage
+types_out_of_order :
+    Reports usual (7 ∷ []) (codes "offence frame 0 0 Unbuilt\n")
+    × Reports usual (1 ∷ 2 ∷ []) (codes "offence frame 0 0 Unbuilt\n")
+    × Reports usual (version ++ 0 ∷ 1 ∷ 0 ∷ []) (codes "offence frame 3 0 Unbuilt\n")
+    × Reports usual (with_mode ++ 1 ∷ 2 ∷ []) (codes "offence frame 5 0 Unbuilt\n")
+    × Reports usual (with_via ++ 2 ∷ 0 ∷ []) (codes "offence frame 20 0 Unbuilt\n")
+    × Reports usual (with_encoding ++ 6 ∷ 0 ∷ []) (codes "offence frame 22 0 Unbuilt\n")
+    × ReportsBehind usual (12 ∷ []) (codes "offence frame 23 0 Unbuilt\n")
+    × ReportsBehind usual (5 ∷ []) (codes "offence frame 23 0 Unbuilt\n")
+    × ReportsBehind usual (11 ∷ []) (codes "offence frame 23 0 Unbuilt\n")
+unfolding is_utf8 chars encode digits int_at int_ending_at value_of string_at text_behind text_at text_ending_at unit_at after peeled standing refusal_at completed_at is_over_at ending_at quoted offence_line line_at report_from report
+types_out_of_order = (refl, refl, refl, refl, refl, refl, refl, refl, refl)
+
+-- an encoding that is spelled out, an upgrade, and its answer
+types_without_a_record :
+    Reports usual (with_via ++ 4 ∷ []) (codes "offence frame 20 0 Unbuilt\n")
+    × Reports usual (with_encoding ++ 9 ∷ []) (codes "offence frame 22 0 Unbuilt\n")
+    × Reports usual (with_encoding ++ 10 ∷ []) (codes "offence frame 22 0 Unbuilt\n")
+unfolding is_utf8 chars encode digits int_at int_ending_at value_of string_at text_behind text_at text_ending_at unit_at after peeled standing refusal_at completed_at is_over_at ending_at quoted offence_line line_at report_from report
+types_without_a_record = (refl, refl, refl)
+
+-- a version other than 1.0, at the byte that makes it whole
+other_versions :
+    Reports usual (0 ∷ 1 ∷ []) (codes "offence frame 0 24 Truncated\n")
+    × Reports usual (0 ∷ 1 ∷ 1 ∷ []) (codes "offence frame 0 0 Unbuilt\n")
+    × Reports usual (0 ∷ 2 ∷ []) (codes "offence frame 0 24 Truncated\n")
+    × Reports usual (0 ∷ 2 ∷ 0 ∷ []) (codes "offence frame 0 0 Unbuilt\n")
+unfolding is_utf8 chars encode digits int_at int_ending_at value_of string_at text_behind text_at text_ending_at unit_at after peeled standing refusal_at completed_at is_over_at ending_at quoted offence_line line_at report_from report
+other_versions = (refl, refl, refl, refl)
+
+-- a mode other than duplex
+other_modes :
+    Reports usual (version ++ 1 ∷ []) (codes "offence frame 3 24 Truncated\n")
+    × Reports usual (version ++ 1 ∷ 1 ∷ []) (codes "offence frame 3 0 Unbuilt\n")
+    × Reports usual (version ++ 1 ∷ 3 ∷ []) (codes "offence frame 3 0 Unbuilt\n")
+    × Reports usual (version ++ 1 ∷ 0 ∷ []) (codes "offence frame 3 0 Unbuilt\n")
+unfolding is_utf8 chars encode digits int_at int_ending_at value_of string_at text_behind text_at text_ending_at unit_at after peeled standing refusal_at completed_at is_over_at ending_at quoted offence_line line_at report_from report
+other_modes = (refl, refl, refl, refl)
+
+-- an encoding other than 7 and 8
+other_encodings :
+    Reports usual (with_via ++ 3 ∷ []) (codes "offence frame 20 24 Truncated\n")
+    × Reports usual (with_via ++ 3 ∷ 6 ∷ []) (codes "offence frame 20 0 Unbuilt\n")
+    × Reports usual (with_via ++ 3 ∷ 9 ∷ []) (codes "offence frame 20 0 Unbuilt\n")
+unfolding is_utf8 chars encode digits int_at int_ending_at value_of string_at text_behind text_at text_ending_at unit_at after peeled standing refusal_at completed_at is_over_at ending_at quoted offence_line line_at report_from report
+other_encodings = (refl, refl, refl)
+
+-- a Via above its quota, at its length
+long_vias :
+    Reports of_short_via (with_mode ++ 2 ∷ 17 ∷ []) (codes "offence frame 5 0 Unbuilt\n")
+    × Reports of_short_via (with_mode ++ 2 ∷ 144 ∷ 0 ∷ []) (codes "offence frame 5 24 Truncated\n")
+    × Reports of_short_via (with_mode ++ 2 ∷ 145 ∷ []) (codes "offence frame 5 24 Truncated\n")
+    × Reports of_short_via (with_mode ++ 2 ∷ 145 ∷ 0 ∷ []) (codes "offence frame 5 0 Unbuilt\n")
+unfolding is_utf8 chars encode digits int_at int_ending_at value_of string_at text_behind text_at text_ending_at unit_at after peeled standing refusal_at completed_at is_over_at ending_at quoted offence_line line_at report_from report
+long_vias = (refl, refl, refl, refl)
+
+-- a Via that is not UTF-8, at its last byte
+vias_not_utf8 :
+    Reports usual (with_mode ++ 2 ∷ 2 ∷ 255 ∷ []) (codes "offence frame 5 24 Truncated\n")
+    × Reports usual (with_mode ++ 2 ∷ 2 ∷ 255 ∷ 97 ∷ []) (codes "offence frame 5 0 Unbuilt\n")
+    × Reports usual (with_mode ++ 2 ∷ 2 ∷ 195 ∷ 40 ∷ []) (codes "offence frame 5 0 Unbuilt\n")
+    × Reports usual (with_mode ++ 2 ∷ 1 ∷ 195 ∷ []) (codes "offence frame 5 0 Unbuilt\n")
+    × Reports usual (with_mode ++ 2 ∷ 2 ∷ 195 ∷ 169 ∷ []) (codes "offence frame 9 24 Truncated\n")
+unfolding is_utf8 chars encode digits int_at int_ending_at value_of string_at text_behind text_at text_ending_at unit_at after peeled standing refusal_at completed_at is_over_at ending_at quoted offence_line line_at report_from report
+vias_not_utf8 = (refl, refl, refl, refl, refl)
+
+-- an integer whose fifth byte is above 07
+bad_integers :
+    Reports usual (with_mode ++ 2 ∷ 255 ∷ 255 ∷ 255 ∷ 255 ∷ []) (codes "offence frame 5 24 Truncated\n")
+    × Reports usual (with_mode ++ 2 ∷ 255 ∷ 255 ∷ 255 ∷ 255 ∷ 8 ∷ []) (codes "offence frame 5 0 Unbuilt\n")
+    × Reports usual (with_mode ++ 2 ∷ 128 ∷ 128 ∷ 128 ∷ 128 ∷ 8 ∷ []) (codes "offence frame 5 0 Unbuilt\n")
+    × ReportsBehind usual (6 ∷ 255 ∷ 255 ∷ 255 ∷ 255 ∷ []) (codes "offence frame 23 24 Truncated\n")
+    × ReportsBehind usual (6 ∷ 255 ∷ 255 ∷ 255 ∷ 255 ∷ 8 ∷ []) (codes "offence frame 23 0 Unbuilt\n")
+    × ReportsBehind usual (6 ∷ 128 ∷ 128 ∷ 128 ∷ 128 ∷ 128 ∷ []) (codes "offence frame 23 0 Unbuilt\n")
+    × ReportsBehind usual (6 ∷ 255 ∷ 255 ∷ 255 ∷ 255 ∷ 7 ∷ []) (codes "offence frame 23 11 MessageTooLarge\n")
+unfolding is_utf8 chars encode digits int_at int_ending_at value_of string_at text_behind text_at text_ending_at unit_at after peeled standing refusal_at completed_at is_over_at ending_at quoted offence_line line_at report_from report
+bad_integers = (refl, refl, refl, refl, refl, refl, refl)
+
+-- an envelope above the payload quota, at its size
+too_large :
+    ReportsBehind of_three (6 ∷ 4 ∷ []) (codes "offence frame 23 11 MessageTooLarge\n")
+    × ReportsBehind of_three (6 ∷ 132 ∷ []) (codes "offence frame 23 24 Truncated\n")
+    × ReportsBehind of_three (6 ∷ 132 ∷ 0 ∷ []) (codes "offence frame 23 11 MessageTooLarge\n")
+    × ReportsBehind of_three (6 ∷ 3 ∷ 170 ∷ 187 ∷ 204 ∷ 6 ∷ 4 ∷ []) (codes "message 0 payload 3\noffence frame 28 11 MessageTooLarge\n")
+unfolding is_utf8 chars encode digits int_at int_ending_at value_of string_at text_behind text_at text_ending_at unit_at after peeled standing refusal_at completed_at is_over_at ending_at quoted offence_line line_at report_from report
+too_large = (refl, refl, refl, refl)
+
+-- the input ends: within a record, at its first byte; else at its length
+truncated :
+    Reports usual version (codes "offence frame 3 24 Truncated\n")
+    × Reports usual (with_mode ++ 2 ∷ []) (codes "offence frame 5 24 Truncated\n")
+    × Reports usual (with_mode ++ 2 ∷ 13 ∷ 110 ∷ 101 ∷ 116 ∷ []) (codes "offence frame 5 24 Truncated\n")
+    × Reports usual with_via (codes "offence frame 20 24 Truncated\n")
+    × Reports usual with_encoding (codes "offence frame 22 24 Truncated\n")
+    × ReportsBehind usual [] (codes "offence frame 23 24 Truncated\n")
+    × ReportsBehind usual (6 ∷ []) (codes "offence frame 23 24 Truncated\n")
+    × ReportsBehind usual (6 ∷ 129 ∷ []) (codes "offence frame 23 24 Truncated\n")
+    × ReportsBehind usual (6 ∷ 3 ∷ []) (codes "offence frame 23 24 Truncated\n")
+    × ReportsBehind usual (6 ∷ 3 ∷ 170 ∷ 187 ∷ []) (codes "offence frame 23 24 Truncated\n")
+    × ReportsBehind usual (6 ∷ 1 ∷ 170 ∷ []) (codes "message 0 payload 1\noffence frame 26 24 Truncated\n")
+    × ReportsBehind usual (6 ∷ 1 ∷ 170 ∷ 6 ∷ 2 ∷ 187 ∷ []) (codes "message 0 payload 1\noffence frame 26 24 Truncated\n")
+    × ReportsBehind usual (6 ∷ 0 ∷ []) (codes "message 0 payload 0\noffence frame 25 24 Truncated\n")
+unfolding is_utf8 chars encode digits int_at int_ending_at value_of string_at text_behind text_at text_ending_at unit_at after peeled standing refusal_at completed_at is_over_at ending_at quoted offence_line line_at report_from report
+truncated = (refl, refl, refl, refl, refl, refl, refl, refl, refl, refl, refl, refl, refl)
+
+-- the session quota is read before the end: places as above
+too_long :
+    Reports (of_session 0) [] (codes "offence frame 0 25 SessionTooLong\n")
+    × Reports (of_session 2) version (codes "offence frame 0 25 SessionTooLong\n")
+    × Reports (of_session 10) with_encoding (codes "offence frame 5 25 SessionTooLong\n")
+    × Reports (of_session 22) preamble (codes "offence frame 22 25 SessionTooLong\n")
+    × ReportsBehind (of_session 26) (6 ∷ 3 ∷ 170 ∷ []) (codes "offence frame 23 25 SessionTooLong\n")
+    × ReportsBehind (of_session 26) (6 ∷ 3 ∷ 170 ∷ 187 ∷ 204 ∷ 7 ∷ []) (codes "offence frame 23 25 SessionTooLong\n")
+    × ReportsBehind (of_session 28) (6 ∷ 3 ∷ 170 ∷ 187 ∷ 204 ∷ 7 ∷ []) (codes "message 0 payload 3\noffence frame 28 25 SessionTooLong\n")
+unfolding is_utf8 chars encode digits int_at int_ending_at value_of string_at text_behind text_at text_ending_at unit_at after peeled standing refusal_at completed_at is_over_at ending_at quoted offence_line line_at report_from report
+too_long = (refl, refl, refl, refl, refl, refl, refl)
+
+-- a refusal of a unit goes before that of a length, and an event before both
+unit_first :
+    Reports (of_session 1) (13 ∷ []) (codes "offence frame 0 0 Unbuilt\n")
+    × Reports (of_session 4) (version ++ 13 ∷ []) (codes "offence frame 3 0 Unbuilt\n")
+    × ReportsBehind (of_session 23) [] (codes "offence frame 23 25 SessionTooLong\n")
+    × ReportsBehind (of_session 24) (7 ∷ []) (codes "ended 24\n")
+    × ReportsBehind (of_session 24) (7 ∷ 13 ∷ []) (codes "ended 24\n")
+unfolding is_utf8 chars encode digits int_at int_ending_at value_of string_at text_behind text_at text_ending_at unit_at after peeled standing refusal_at completed_at is_over_at ending_at quoted offence_line line_at report_from report
+unit_first = (refl, refl, refl, refl, refl)

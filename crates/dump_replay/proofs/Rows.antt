@@ -1,0 +1,52 @@
+-- The worked streams, computed by the definitions.
+use Rattle.std.proofs.Common.{◌≡◌, ◌^◌, ℕ, List, [], ◌∷◌, ◌++◌, refl}
+use Rattle.std.specs.Prelude.{codes}
+use Rattle.std.specs.Str.{is_utf8, chars}
+use Rattle.std.specs.Fmt.{digits}
+use lib.Utf8.{encode}
+use Rattle.multibyte_ints.specs.Integer.{int_at, int_ending_at, value_of}
+use Rattle.multibyte_ints.specs.Text.{string_at, text_behind, text_at, text_ending_at}
+use Rattle.dump_replay.specs.Stream.{Settings, unit_at, after, peeled, standing}
+use Rattle.dump_replay.specs.Judging.{refusal_at, completed_at, is_over_at, ending_at}
+use Rattle.dump_replay.specs.Report.{quoted, offence_line, line_at, report_from, report}
+
+abbrev usual_with : ℕ → Settings
+usual_with session = record { limits = record { payload = 65536; depth = 32; dictionary = 2048; content = 262144; via = 2048; session = session } }
+
+abbrev usual : Settings
+usual = usual_with (2 ^ 48)
+
+abbrev preamble : List ℕ
+preamble = 0 ∷ 1 ∷ 0 ∷ 1 ∷ 2 ∷ 2 ∷ 13 ∷ codes "net.tcp://h/e" ++ 3 ∷ 8 ∷ 12 ∷ []
+
+preamble_and_end : report usual (preamble ++ 7 ∷ []) ≡ codes "open duplex 8 \"net.tcp://h/e\"\nended 24\n"
+unfolding is_utf8 chars encode digits int_at int_ending_at value_of string_at text_behind text_at text_ending_at unit_at after peeled standing refusal_at completed_at is_over_at ending_at quoted offence_line line_at report_from report
+preamble_and_end = refl
+
+nothing : report usual [] ≡ codes "offence frame 0 24 Truncated\n"
+unfolding is_utf8 chars encode digits int_at int_ending_at value_of string_at text_behind text_at text_ending_at unit_at after peeled standing refusal_at completed_at is_over_at ending_at quoted offence_line line_at report_from report
+nothing = refl
+
+an_envelope : report usual (preamble ++ 6 ∷ 3 ∷ 170 ∷ 187 ∷ 204 ∷ 7 ∷ []) ≡ codes "open duplex 8 \"net.tcp://h/e\"\nmessage 0 payload 3\nended 29\n"
+unfolding is_utf8 chars encode digits int_at int_ending_at value_of string_at text_behind text_at text_ending_at unit_at after peeled standing refusal_at completed_at is_over_at ending_at quoted offence_line line_at report_from report
+an_envelope = refl
+
+an_envelope_too_large : report usual (preamble ++ 6 ∷ 129 ∷ 128 ∷ 4 ∷ []) ≡ codes "open duplex 8 \"net.tcp://h/e\"\noffence frame 23 11 MessageTooLarge\n"
+unfolding is_utf8 chars encode digits int_at int_ending_at value_of string_at text_behind text_at text_ending_at unit_at after peeled standing refusal_at completed_at is_over_at ending_at quoted offence_line line_at report_from report
+an_envelope_too_large = refl
+
+simplex : report usual (0 ∷ 1 ∷ 0 ∷ 1 ∷ 3 ∷ []) ≡ codes "offence frame 3 0 Unbuilt\n"
+unfolding is_utf8 chars encode digits int_at int_ending_at value_of string_at text_behind text_at text_ending_at unit_at after peeled standing refusal_at completed_at is_over_at ending_at quoted offence_line line_at report_from report
+simplex = refl
+
+session_of_23 : report (usual_with 23) (preamble ++ 7 ∷ []) ≡ codes "open duplex 8 \"net.tcp://h/e\"\noffence frame 23 25 SessionTooLong\n"
+unfolding is_utf8 chars encode digits int_at int_ending_at value_of string_at text_behind text_at text_ending_at unit_at after peeled standing refusal_at completed_at is_over_at ending_at quoted offence_line line_at report_from report
+session_of_23 = refl
+
+session_of_24 : report (usual_with 24) (preamble ++ 7 ∷ []) ≡ codes "open duplex 8 \"net.tcp://h/e\"\nended 24\n"
+unfolding is_utf8 chars encode digits int_at int_ending_at value_of string_at text_behind text_at text_ending_at unit_at after peeled standing refusal_at completed_at is_over_at ending_at quoted offence_line line_at report_from report
+session_of_24 = refl
+
+two_envelopes : report usual (preamble ++ 6 ∷ 2 ∷ 7 ∷ 7 ∷ 6 ∷ 129 ∷ 0 ∷ 6 ∷ 7 ∷ []) ≡ codes "open duplex 8 \"net.tcp://h/e\"\nmessage 0 payload 2\nmessage 1 payload 1\nended 32\n"
+unfolding is_utf8 chars encode digits int_at int_ending_at value_of string_at text_behind text_at text_ending_at unit_at after peeled standing refusal_at completed_at is_over_at ending_at quoted offence_line line_at report_from report
+two_envelopes = refl

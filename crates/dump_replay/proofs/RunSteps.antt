@@ -1,0 +1,104 @@
+-- What a status tells of how a check ended.
+use Rattle.std.proofs.Common.{◌≡◌, ℕ, ◌⊎◌, inl, inr, List, [], ◌∷◌, ◌++◌, length, map, Option, Some, None, Result, Ok, Err, String, Global, OnOk, OnErr, slice_index_or, refl, sym, ap, ◌∙◌, arith}
+use Rattle.std.specs.Prelude.{⊤, codes}
+use Rattle.std.specs.String.{string_bytes}
+use Rattle.std.proofs.lemmas.Bool.{cases_Bool}
+use Rattle.std.proofs.lemmas.List.{take_all}
+use Rattle.io_edges.specs.Flow.{Told, GrowsByPrefix}
+use Rattle.io_edges.specs.declared.SinkFault.{SinkFault}
+use Rattle.nbfx_values.specs.declared.refusals.Offence.{Offence}
+use Rattle.dump_replay.specs.declared.check.Ending.{Ending}
+use Rattle.dump_replay.specs.declared.check.Ending.TheVariants as endings
+use Rattle.dump_replay.specs.Stream.{Settings}
+use Rattle.dump_replay.specs.Sessions.{IsClosed}
+use Rattle.dump_replay.specs.Report.{report, event_lines}
+use Rattle.dump_replay.specs.Running.{IsPending, IsCheck, status_of, is_session_too_long}
+use Rattle.dump_replay.specs.Checking.{Judges, Reports, status_at}
+use Rattle.dump_replay.proofs.Closed.{none_is_closed}
+
+-- a refusal has one of two statuses
+refused_status : (o : Offence) (n : ℕ) → status_of (Some o) ≡ n → (n ≡ 10) ⊎ (n ≡ 1)
+refused_status o n e =
+    elim (cases_Bool (is_session_too_long o.reason)) [
+      | inl t ↦ let e' = rw t at e in inl (sym e')
+      | inr f ↦ let e' = rw f at e in inr (sym e')
+    ]
+
+-- a judgement has one of three
+judged_status : (o : Option Offence) (n : ℕ) → status_of o ≡ n → (n ≡ 0) ⊎ ((n ≡ 10) ⊎ (n ≡ 1))
+judged_status None n e = inl (sym e)
+judged_status (Some o) n e = inr (refused_status o n e)
+
+-- no judgement has another
+other_status : (o : Option Offence) (n : ℕ) → status_of o ≡ n → (n ≡ 0 → ⊥) → (n ≡ 10 → ⊥) → (n ≡ 1 → ⊥) → ⊥
+other_status o n e zero ten one =
+    elim (judged_status o n e) [
+      | inl h ↦ zero h
+      | inr (inl h) ↦ ten h
+      | inr (inr h) ↦ one h
+    ]
+
+-- another status than a judgement's
+no_judgement : (n : ℕ) → (n ≡ 0 → ⊥) → (n ≡ 1 → ⊥) → (n ≡ 10 → ⊥) → (n ≡ 0) ⊎ (n ≡ 1) ⊎ (n ≡ 10) → ⊥
+no_judgement n zero one ten (inl h) = zero h
+no_judgement n zero one ten (inr (inl h)) = one h
+no_judgement n zero one ten (inr (inr h)) = ten h
+
+module _ (x : Settings) (stream : List ℕ) where
+  -- status 0
+  pub status_ended : (e : Ending) → status_at e ≡ 0 → Judges x stream e → IsClosed x stream
+  status_ended (endings.Judged None) s h = (none_is_closed x stream).0 h
+  status_ended (endings.Judged (Some o)) s h =
+      elim (refused_status o 0 s) [
+        | inl t ↦ absurd (omega (arith, t))
+        | inr t ↦ absurd (omega (arith, t))
+      ]
+  status_ended endings.ReadFault s h = cc
+  status_ended endings.WriteFault s h = cc
+  status_ended endings.Memory s h = cc
+
+  module _ (w w' : List ℕ) where
+    -- a judgement's status
+    pub status_reported : (e : Ending) → (status_at e ≡ 0) ⊎ (status_at e ≡ 1) ⊎ (status_at e ≡ 10) → Reports x stream w w' e → w' ≡ w ++ report x stream
+    status_reported (endings.Judged o) s h = h
+    status_reported endings.ReadFault s h = absurd (no_judgement 3 (λ e. cc) (λ e. cc) (λ e. cc) s)
+    status_reported endings.WriteFault s h = absurd (no_judgement 4 (λ e. cc) (λ e. cc) (λ e. cc) s)
+    status_reported endings.Memory s h = absurd (no_judgement 5 (λ e. cc) (λ e. cc) (λ e. cc) s)
+
+    -- status 3
+    pub status_broken : (e : Ending) → status_at e ≡ 3 → Reports x stream w w' e → (b : List ℕ) × (rest : List ℕ) × (stream ≡ b ++ rest) × IsPending x b × (w' ≡ w ++ event_lines x b)
+    status_broken (endings.Judged o) s h = absurd (other_status o 3 s (λ e. cc) (λ e. cc) (λ e. cc))
+    status_broken endings.ReadFault s h = h
+    status_broken endings.WriteFault s h = cc
+    status_broken endings.Memory s h = cc
+
+    -- statuses 4 and 5
+    pub status_cut : (e : Ending) → (status_at e ≡ 4) ⊎ (status_at e ≡ 5) → Reports x stream w w' e → GrowsByPrefix w w' (report x stream)
+    status_cut (endings.Judged o) (inl s) h = absurd (other_status o 4 s (λ e. cc) (λ e. cc) (λ e. cc))
+    status_cut (endings.Judged o) (inr s) h = absurd (other_status o 5 s (λ e. cc) (λ e. cc) (λ e. cc))
+    status_cut endings.ReadFault (inl s) h = cc
+    status_cut endings.ReadFault (inr s) h = cc
+    status_cut endings.WriteFault s h = h
+    status_cut endings.Memory s h = h
+
+-- what a put leaves, whether it is refused or not
+pub put_either : (answer : Result ⊤ SinkFault) (old new : Option (List ℕ)) (b : List ℕ) → OnOk answer (Told old new (λ w w'. w' ≡ w ++ b)) → OnErr answer (Told old new (λ w w'. GrowsByPrefix w w' b))
+    → Told old new (λ w w'. GrowsByPrefix w w' b)
+put_either (Ok u) None new b h k = tt
+put_either (Ok u) (Some w) None b h k = absurd h
+put_either (Ok u) (Some w) (Some w') b h k = record { kept = length b; grown = h ∙ ap (λ l. w ++ l) (sym (take_all (length b) b (omega arith))) }
+put_either (Err fault) old new b h k = k
+
+-- two words, the second of which is the command
+pub check_words : (words : List (String Global)) (other : String Global) → length words ≡ 2 → string_bytes (slice_index_or words 1 other) ≡ codes "check" → IsCheck (map string_bytes words)
+check_words [] other two e = cc
+check_words (a ∷ []) other two e = cc
+check_words (a ∷ b ∷ []) other two e = e
+check_words (a ∷ b ∷ d ∷ rest) other two e = cc
+
+-- a session's status, where no read and no write failed
+pub status_closed : (x : Settings) (stream : List ℕ) (e : Ending) → IsClosed x stream → Judges x stream e → (e ≡ endings.ReadFault → ⊥) → (e ≡ endings.WriteFault → ⊥) → (status_at e ≡ 0) ⊎ (status_at e ≡ 5)
+status_closed x stream (endings.Judged o) closed h read written = inl (ap status_of (sym h ∙ (none_is_closed x stream).1 closed))
+status_closed x stream endings.ReadFault closed h read written = absurd (read refl)
+status_closed x stream endings.WriteFault closed h read written = absurd (written refl)
+status_closed x stream endings.Memory closed h read written = inr refl

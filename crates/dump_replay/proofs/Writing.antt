@@ -1,0 +1,53 @@
+-- What is written of a stream, piece by piece.
+use Rattle.std.proofs.Common.{◌≡◌, ℕ, ◌+◌, inl, inr, List, ◌++◌, length, take, Option, Some, None, Result, Ok, Err, refl, sym, ap, ◌∙◌, arith, append_assoc}
+use Rattle.std.proofs.Math.Seq.{take-append-add}
+use Rattle.std.proofs.lemmas.Bool.{cases_lt}
+use Rattle.std.proofs.lemmas.List.{append-nil, take_all, take-append-le}
+use Rattle.std.specs.Prelude.{⊤}
+use Rattle.io_edges.specs.Flow.{Told, GrowsByPrefix}
+use Rattle.nbfx_values.specs.declared.refusals.Offence.{Offence}
+use Rattle.nbfx_values.specs.declared.refusals.Reason.TheVariants.{Truncated}
+use Rattle.dump_replay.specs.Stream.{Settings, standing}
+use Rattle.dump_replay.specs.Judging.{open_offence, ending_at, offence}
+use Rattle.dump_replay.specs.Report.{offence_line, report, event_lines}
+use Rattle.dump_replay.specs.Receiving.{said_at_end}
+use Rattle.dump_replay.specs.Running.{IsPending}
+use Rattle.dump_replay.proofs.Pending.{pending_ends}
+
+-- what was told before, and what it became
+pub told_some : (P : List ℕ → List ℕ → Type 0) (old new : Option (List ℕ)) (w : List ℕ) → old ≡ Some w → Told old new P → (w' : List ℕ) × (new ≡ Some w') × P w w'
+told_some P None new w e h = cc
+told_some P (Some v) None w e h = absurd h
+told_some P (Some v) (Some v') w e h = let same : v ≡ w = cc in (v', refl, rw same at h)
+
+-- a first part of what is to come behind a is one of a and what is to come
+pub grown_behind : (w w' a b : List ℕ) → GrowsByPrefix (w ++ a) w' b → GrowsByPrefix w w' (a ++ b)
+grown_behind w w' a b h = record { kept = length a + h.kept; grown = h.grown ∙ append_assoc w a (take h.kept b) ∙ ap (λ l. w ++ l) (sym (take-append-add a b h.kept)) }
+
+-- and of a longer whole
+pub grown_within : (w w' b c : List ℕ) → GrowsByPrefix w w' b → GrowsByPrefix w w' (b ++ c)
+grown_within w w' b c h =
+    elim (cases_lt (length b) h.kept) [
+      | inl lt ↦
+          let all : take h.kept b ≡ b = take_all h.kept b (omega arith) in
+          let front : take (length b) (b ++ c) ≡ b = take-append-le (length b) b c (omega arith) ∙ take_all (length b) b (omega arith) in
+          record { kept = length b; grown = h.grown ∙ ap (λ l. w ++ l) (all ∙ sym front) }
+      | inr ge ↦ record { kept = h.kept; grown = h.grown ∙ ap (λ l. w ++ l) (sym (take-append-le h.kept b c ge)) }
+    ]
+
+-- nothing of it is written
+pub grown_none : (w b : List ℕ) → GrowsByPrefix w w b
+grown_none w b = record { kept = 0; grown = sym (append-nil w) }
+
+module _ (x : Settings) (p : List ℕ) (pending : IsPending x p) where
+  -- a session that isn't over doesn't end with the input
+  pub end_refused : (u : ⊤) → ◌≡◌ {A = Result ⊤ Offence} (Ok u) (said_at_end (ending_at x p)) → ⊥
+  end_refused u e = let ends = (pending_ends x p pending).2 in let e' : ◌≡◌ {A = Result ⊤ Offence} (Ok u) (said_at_end (Some _)) = rw ends at e in cc
+
+  -- what the end of the input is answered with is the stream's offence, and the last line of its report
+  pub end_says : (o : Offence) → ◌≡◌ {A = Result ⊤ Offence} (Err o) (said_at_end (ending_at x p)) → (offence x p ≡ Some o) × (report x p ≡ event_lines x p ++ offence_line o)
+  end_says o e =
+      let ends = pending_ends x p pending in
+      let e' = rw ends.2 at e in
+      let same : open_offence (standing x p) Truncated ≡ o = cc in
+      (rw same at ends.1, rw same at ends.0)

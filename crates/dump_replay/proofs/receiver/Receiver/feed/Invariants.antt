@@ -1,0 +1,16 @@
+use Rattle.std.proofs.Common.{◌≡◌, ℕ, ◌+◌, ◌-◌, ◌≤◌, List, false}
+use Rattle.dump_replay.specs.Judging.{is_over_at}
+use Rattle.dump_replay.specs.Receiving.{StandsFor, settings_of}
+use Rattle.dump_replay.proofs.FeedSteps.{Along}
+use Rattle.dump_replay.proofs.receiver.Receiver.feed.Given as goal
+
+abbrev pub invariant-loop-used : goal.invariant-loop-used
+invariant-loop-used l = record {
+  within : l.used ≤ l.room;
+  quotas : l.self.quotas ≡ l.initial.self.quotas;
+  taken : l.self.taken ≡ l.initial.self.taken + l.used;
+  along : (p : List ℕ) → StandsFor l.initial.self p → is_over_at (settings_of l.initial.self) p ≡ false → Along l.self (settings_of l.initial.self) p l.piece l.used;
+}
+
+abbrev pub decreases-loop-used : goal.decreases-loop-used
+decreases-loop-used l = l.room - l.used

@@ -1,0 +1,15 @@
+use Rattle.std.proofs.Common.{refl}
+use Rattle.dump_replay.specs.Receiving.{StandsFor, taken_of}
+use Rattle.dump_replay.proofs.receiver.Receiver.taken.Goals as goal
+
+pub returns-clause-counted : goal.returns-clause-counted
+unfolding taken_of
+returns-clause-counted c = refl
+
+pub returns-clause-stands : goal.returns-clause-stands
+unfolding StandsFor
+returns-clause-stands c = λ p h. h.taken
+
+pub returns-clause-within : goal.returns-clause-within
+unfolding StandsFor
+returns-clause-within c = λ p h. h.within

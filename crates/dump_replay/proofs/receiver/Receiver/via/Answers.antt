@@ -1,0 +1,10 @@
+use Rattle.dump_replay.specs.Receiving.{StandsFor, ShowsVia}
+use Rattle.dump_replay.proofs.receiver.Receiver.via.Goals as goal
+
+pub returns-clause-shown : goal.returns-clause-shown
+unfolding ShowsVia
+returns-clause-shown c = λ via h. c.text.ensures via h
+
+pub returns-clause-stands : goal.returns-clause-stands
+unfolding StandsFor
+returns-clause-stands c = λ p h. c.text.ensures _ h.text

@@ -1,0 +1,9 @@
+pub mod Stream
+pub mod Judging
+pub mod Going
+pub mod Sessions
+pub mod Report
+pub mod Receiving
+pub mod Running
+pub mod Checking
+pub mod Laws

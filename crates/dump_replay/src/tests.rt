@@ -1,0 +1,283 @@
+use super::*;
+use crate::receiver::{Receiver, Step};
+use crate::run::{Ran, run};
+use io_edges::{MemorySink, MemorySource};
+use nbfx_values::{Kind, Mode, Offence, Place, Quotas, Reason};
+use std::alloc::{AllocError, Global};
+use std::test::Fail;
+
+const SESSION: &[u8] = b"\x00\x01\x00\x01\x02\x02\x0Dnet.tcp://h/e\x03\x08\x0C\x07";
+
+const ONE_ENVELOPE: &[u8] =
+    b"\x00\x01\x00\x01\x02\x02\x0Dnet.tcp://h/e\x03\x08\x0C\x06\x03\xAA\xBB\xCC\x07";
+
+// What the fakes give and take: at most so many bytes a take, the takes and the puts that fail, and
+// how many bytes of its piece a failing put keeps.
+#[derive(Clone, Copy)]
+struct Outside {
+    most: usize,
+    takes: &'static [u64],
+    puts: &'static [u64],
+    kept: usize,
+}
+
+const SURE: Outside = Outside {
+    most: 65_536,
+    takes: &[],
+    puts: &[],
+    kept: 0,
+};
+
+fn listed(alloc: Global, words: &[&str]) -> Result<Vec<String>, AllocError> {
+    let mut list = Vec::new(alloc);
+    for word in words {
+        list.push(String::from_str(alloc, word)?)?;
+    }
+    Ok(list)
+}
+
+// Runs the program on fakes.
+fn ran(
+    alloc: Global,
+    words: &[&str],
+    bytes: &[u8],
+    outside: Outside,
+    notes: &mut MemorySink,
+) -> Result<Ran<MemorySource, MemorySink>, AllocError> {
+    let words = listed(alloc, words)?;
+    let bytes = bytes.to_vec(alloc)?;
+    let takes = outside.takes.to_vec(alloc)?;
+    let puts = outside.puts.to_vec(alloc)?;
+    let input = MemorySource::new(bytes, outside.most.max(1), takes);
+    let output = MemorySink::new(alloc, puts, outside.kept);
+    Ok(run(alloc, &words, input, output, notes))
+}
+
+fn sure_sink(alloc: Global) -> MemorySink {
+    MemorySink::new(alloc, Vec::new(alloc), 0)
+}
+
+#[test]
+fn streams_are_reported_in_any_pieces(rt: HostRuntime) -> Result<(), Fail> {
+    let table: [(&[u8], u8, &str); 8] = [
+        (SESSION, 0, "open duplex 8 \"net.tcp://h/e\"\nended 24\n"),
+        (b"", 1, "offence frame 0 24 Truncated\n"),
+        (
+            ONE_ENVELOPE,
+            0,
+            "open duplex 8 \"net.tcp://h/e\"\nmessage 0 payload 3\nended 29\n",
+        ),
+        (
+            b"\x00\x01\x00\x01\x02\x02\x0Dnet.tcp://h/e\x03\x08\x0C\x06\x81\x80\x04",
+            1,
+            "open duplex 8 \"net.tcp://h/e\"\noffence frame 23 11 MessageTooLarge\n",
+        ),
+        (b"\x00\x01\x00\x01\x03", 1, "offence frame 3 0 Unbuilt\n"),
+        (
+            b"\x00\x01\x00\x01\x02\x02\x0Dnet.tcp://h/e\x03\x08\x0C\x06\x03\xAA\xBB\xCC\x06\x02\x07\x07\x07",
+            0,
+            "open duplex 8 \"net.tcp://h/e\"\nmessage 0 payload 3\nmessage 1 payload 2\nended 33\n",
+        ),
+        (
+            b"\x00\x01\x00\x01\x02\x02\x0Dnet.tcp://h/e\x03\x08\x0C",
+            1,
+            "open duplex 8 \"net.tcp://h/e\"\noffence frame 23 24 Truncated\n",
+        ),
+        (
+            b"\x00\x01\x00\x01\x02\x02\x05a\"\\\xC3\xA9\x03\x07\x0C\x07",
+            0,
+            "open duplex 7 \"a\\22\\5c\\c3\\a9\"\nended 16\n",
+        ),
+    ];
+    for (bytes, status, want) in table {
+        for most in [65_536, 1] {
+            let mut notes = sure_sink(rt.alloc());
+            let outside = Outside { most, ..SURE };
+            let ran = ran(rt.alloc(), &["nettcp", "check"], bytes, outside, &mut notes)?;
+            assert_eq!(rt; ran.output.bytes(), want.as_bytes());
+            assert_eq!(rt; ran.status, status, "{want}");
+            assert_eq!(rt; notes.bytes().len(), 0, "{want}");
+        }
+    }
+    Ok(())
+}
+
+#[test]
+fn a_take_that_fails_leaves_the_lines_before(rt: HostRuntime) -> Result<(), Fail> {
+    let open = "open duplex 8 \"net.tcp://h/e\"\n";
+    let both = "open duplex 8 \"net.tcp://h/e\"\nmessage 0 payload 3\n";
+    let all = "open duplex 8 \"net.tcp://h/e\"\nmessage 0 payload 3\nended 29\n";
+    // First; in the envelope; behind it; where the input would end; behind the session's end.
+    let table: [(usize, &'static [u64], u8, &str, &str); 5] = [
+        (65_536, &[0], 3, "", "read fault\n"),
+        (26, &[1], 3, open, "read fault\n"),
+        (28, &[1], 3, both, "read fault\n"),
+        (1, &[28], 3, both, "read fault\n"),
+        (65_536, &[1], 0, all, ""),
+    ];
+    for (most, takes, status, want, note) in table {
+        let mut notes = sure_sink(rt.alloc());
+        let outside = Outside {
+            most,
+            takes,
+            ..SURE
+        };
+        let ran = ran(
+            rt.alloc(),
+            &["nettcp", "check"],
+            ONE_ENVELOPE,
+            outside,
+            &mut notes,
+        )?;
+        assert_eq!(rt; ran.status, status, "{want}");
+        assert_eq!(rt; ran.output.bytes(), want.as_bytes());
+        assert_eq!(rt; notes.bytes(), note.as_bytes());
+    }
+    Ok(())
+}
+
+#[test]
+fn a_put_that_fails_ends_the_run(rt: HostRuntime) -> Result<(), Fail> {
+    let open = "open duplex 8 \"net.tcp://h/e\"\n";
+    let all = "open duplex 8 \"net.tcp://h/e\"\nended 24\n";
+    let message = "open duplex 8 \"net.tcp://h/e\"\nmessage 0";
+    let table: [(&[u8], &'static [u64], usize, &str); 7] = [
+        (SESSION, &[0], 0, ""),
+        (SESSION, &[0], 4, "open"),
+        (SESSION, &[1], 0, open),
+        (SESSION, &[0], 99, open),
+        (SESSION, &[1], 99, all),
+        (ONE_ENVELOPE, &[1], 9, message),
+        (b"", &[0], 7, "offence"),
+    ];
+    for (stream, puts, kept, want) in table {
+        let mut notes = sure_sink(rt.alloc());
+        let outside = Outside { puts, kept, ..SURE };
+        let ran = ran(
+            rt.alloc(),
+            &["nettcp", "check"],
+            stream,
+            outside,
+            &mut notes,
+        )?;
+        assert_eq!(rt; ran.status, 4, "{want}");
+        assert_eq!(rt; ran.output.bytes(), want.as_bytes());
+        assert_eq!(rt; notes.bytes(), b"write fault\n".as_slice());
+    }
+    Ok(())
+}
+
+#[test]
+fn other_words_take_nothing(rt: HostRuntime) -> Result<(), Fail> {
+    let table: [&[&str]; 6] = [
+        &[],
+        &["nettcp"],
+        &["nettcp", "dump"],
+        &["nettcp", "Check"],
+        &["nettcp", "check", "--depth"],
+        &["nettcp", "check", "check"],
+    ];
+    for words in table {
+        let mut notes = sure_sink(rt.alloc());
+        let ran = ran(rt.alloc(), words, SESSION, SURE, &mut notes)?;
+        assert_eq!(rt; ran.status, 2);
+        assert_eq!(rt; ran.input.rest(), SESSION);
+        assert_eq!(rt; ran.output.bytes().len(), 0);
+        assert_eq!(rt; notes.bytes(), b"words not understood\n".as_slice());
+    }
+    Ok(())
+}
+
+#[test]
+fn a_note_that_fails_changes_no_status(rt: HostRuntime) -> Result<(), Fail> {
+    let table: [(&str, &'static [u64], &'static [u64], u8, &str); 3] = [
+        ("dump", &[], &[], 2, "words"),
+        ("check", &[0], &[], 3, "read "),
+        ("check", &[], &[0], 4, "write"),
+    ];
+    for (command, takes, puts, status, want) in table {
+        let failing = [0].to_vec(rt.alloc())?;
+        let mut notes = MemorySink::new(rt.alloc(), failing, 5);
+        let outside = Outside {
+            takes,
+            puts,
+            ..SURE
+        };
+        let ran = ran(
+            rt.alloc(),
+            &["nettcp", command],
+            SESSION,
+            outside,
+            &mut notes,
+        )?;
+        assert_eq!(rt; ran.status, status);
+        assert_eq!(rt; notes.bytes(), want.as_bytes());
+    }
+    Ok(())
+}
+
+// Feeds the bytes in pieces of so many, and answers the last event, or the refusal.
+fn last_step(receiver: &mut Receiver, bytes: &[u8], size: usize) -> Result<Step, Offence> {
+    let mut last = Step::More;
+    let mut rest = bytes;
+    for _ in 0..bytes.len() {
+        if rest.is_empty() {
+            break;
+        }
+        let piece = rest.get(..size).unwrap_or(rest);
+        let (used, step) = receiver.feed(piece)?;
+        rest = rest.get(used..).unwrap_or_default();
+        if step != Step::More {
+            last = step;
+        }
+    }
+    Ok(last)
+}
+
+#[test]
+fn a_session_ends_within_its_quota(rt: HostRuntime) -> Result<(), Fail> {
+    let opened = Step::Opened {
+        mode: Mode::Duplex,
+        kind: Kind::Session,
+    };
+    let too_long = Offence {
+        place: Place::Frame(23),
+        reason: Reason::SessionTooLong,
+    };
+    let cases = [
+        (23, Err(too_long), Err(too_long)),
+        (24, Ok(Step::Ended), Ok(())),
+    ];
+    for (session, want, at_end) in cases {
+        for size in [24, 1] {
+            let quotas = Quotas::of(65_536, 32, 2_048, 262_144, 2_048, session);
+            let quotas = quotas.ok_or("good quotas")?;
+            let mut receiver = Receiver::new(rt.alloc(), quotas).map_err(|_| "no memory")?;
+            assert_eq!(rt; last_step(&mut receiver, &SESSION[..23], size), Ok(opened));
+            assert_eq!(rt; receiver.via(), "net.tcp://h/e");
+            assert_eq!(rt; last_step(&mut receiver, b"\x07", size), want);
+            assert_eq!(rt; last_step(&mut receiver, b"\x07", size), want);
+            assert_eq!(rt; receiver.end_of_input(), at_end);
+            assert_eq!(rt; receiver.taken(), session);
+            assert_eq!(rt; receiver.kept().content, 0);
+        }
+    }
+    Ok(())
+}
+
+#[test]
+fn an_event_comes_before_the_session_quota(rt: HostRuntime) -> Result<(), Fail> {
+    let quotas = Quotas::of(65_536, 32, 2_048, 262_144, 2_048, 23).ok_or("good quotas")?;
+    let mut receiver = Receiver::new(rt.alloc(), quotas).map_err(|_| "no memory")?;
+    let opened = Step::Opened {
+        mode: Mode::Duplex,
+        kind: Kind::Session,
+    };
+    let too_long = Offence {
+        place: Place::Frame(23),
+        reason: Reason::SessionTooLong,
+    };
+    assert_eq!(rt; receiver.feed(SESSION), Ok((23, opened)));
+    assert_eq!(rt; receiver.feed(b""), Err(too_long));
+    Ok(())
+}
