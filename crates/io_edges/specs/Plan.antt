@@ -17,10 +17,14 @@ new_plan failing = record { failing = failing; calls = 0; faults = 0 }
 abbrev pub is_due : Plan → Bool
 is_due plan = list_any (λ number. number == plan.calls) plan.failing
 
--- after the next call
-abbrev pub after_call : Plan → Plan
-after_call plan = record {
+-- after a call that failed or didn't
+abbrev pub counted : Bool → Plan → Plan
+counted failed plan = record {
   failing = plan.failing;
   calls = one_more plan.calls;
-  faults = if is_due plan then one_more plan.faults else plan.faults;
+  faults = if failed then one_more plan.faults else plan.faults;
 }
+
+-- after the next call, which fails where it is due
+abbrev pub after_call : Plan → Plan
+after_call plan = counted (is_due plan) plan

@@ -22,7 +22,7 @@ impl Model for FaultPlan {
 }
 
 impl FaultPlan {
-    ghost use Rattle.io_edges.specs.Plan.{new_plan, is_due, after_call};
+    ghost use Rattle.io_edges.specs.Plan.{new_plan, is_due, counted, after_call};
 
     pub(crate) fn new(failing: Vec<u64>) -> FaultPlan
         ensures { result ≡ new_plan failing.items }
@@ -34,17 +34,32 @@ impl FaultPlan {
         }
     }
 
-    // Counts a call, and says whether it fails.
+    // Whether the next call fails.
+    pub(crate) fn is_due(&self) -> bool
+        ensures answer { result ≡ is_due self.now }
+        ensures faults { self.now.faults < 2 ^ 64 }
+    {
+        self.failing.contains(&self.calls)
+    }
+
+    // Counts a call that failed or didn't.
+    pub(crate) fn count(&mut self, failed: bool)
+        ensures { self.new ≡ counted failed self.old }
+    {
+        self.calls = self.calls.saturating_add(1);
+        if failed {
+            self.faults = self.faults.saturating_add(1);
+        }
+    }
+
+    // Counts the next call, and says whether it fails.
     pub(crate) fn fails(&mut self) -> bool
         ensures answer { result ≡ is_due self.old }
         ensures counted { self.new ≡ after_call self.old }
         ensures faults { self.old.faults < 2 ^ 64 }
     {
-        let is_due = self.failing.contains(&self.calls);
-        self.calls = self.calls.saturating_add(1);
-        if is_due {
-            self.faults = self.faults.saturating_add(1);
-        }
+        let is_due = self.is_due();
+        self.count(is_due);
         is_due
     }
 }

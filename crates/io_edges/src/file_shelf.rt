@@ -1,4 +1,4 @@
-ghost use Rattle.std.specs.Prelude.{◌≡◌, ◌≢◌, ◌≤◌, ◌^◌, length, None, OnOk, IfOk, IfErr, IfSome, IsErrOf};
+ghost use Rattle.std.specs.Prelude.{◌≡◌, ◌≢◌, ◌≤◌, ◌<◌, ◌^◌, ◌++◌, length, None, IsSome, OnOk, OnErr, IfOk, IfErr, IfSome, IsErrOf, IsOkUnless};
 ghost use Rattle.std.specs.IoError.{error_kind};
 ghost use Rattle.std.specs.Io.KnownBytes.{Consumes, IsAtEnd};
 ghost use Rattle.io_edges.specs.Faults.{one_more};
@@ -45,33 +45,29 @@ impl<R: Files + AllocGlobal> Shelf for FileShelf<R> {
         ensures memory { IsErrOf result ShelfFault.Memory
             → shelf_faults self.new ≡ shelf_faults self.old }
     {
-        match found_file(&self.rt, name) {
-            Err(ShelfFault::Failed) => {
-                self.faults = self.faults.saturating_add(1);
-                Err(ShelfFault::Failed)
-            }
-            answer => answer,
+        let found = found_file(self.rt.alloc(), fs::open(&self.rt, name));
+        if let Err(ShelfFault::Failed) = found {
+            self.faults = self.faults.saturating_add(1);
         }
+        found
     }
 }
 
-fn found_file<R: Files + AllocGlobal>(rt: &R, name: &str) -> Result<Option<Vec<u8>>, ShelfFault>
-    ensures most { IfOk result (λ found. IfSome found (λ bytes. length bytes.items ≤ 2 ^ 30)) }
-{
-    match unless_missing(fs::open(rt, name))? {
-        Some(mut file) => Ok(Some(whole_file(rt.alloc(), &mut file)?)),
-        None => Ok(None),
-    }
-}
-
-fn unless_missing<F>(opened: io::Result<F>) -> Result<Option<F>, ShelfFault>
-    ensures open { IfOk opened (λ file. result ≡ Ok (Some file)) }
+// The bytes of a file that was to be opened, `None` where there is none.
+fn found_file<F: Read + Drop>(
+    alloc: Global,
+    opened: io::Result<F>,
+) -> Result<Option<Vec<u8>>, ShelfFault>
     ensures missing { IfErr opened (λ e. error_kind e ≡ ErrorKind.NotFound → result ≡ Ok None) }
     ensures broken { IfErr opened
         (λ e. error_kind e ≢ ErrorKind.NotFound → result ≡ Err ShelfFault.Failed) }
+    ensures found { OnOk opened (IfOk result IsSome) }
+    ensures whole { IfOk opened (λ file. IfOk result (λ found. IfSome found
+        (λ bytes. IfSome (F.remaining file) (λ left. bytes.items ≡ left)))) }
+    ensures most { IfOk result (λ found. IfSome found (λ bytes. length bytes.items ≤ 2 ^ 30)) }
 {
     match opened {
-        Ok(file) => Ok(Some(file)),
+        Ok(mut file) => Ok(Some(whole_file(alloc, &mut file)?)),
         Err(e) if e.kind() == ErrorKind::NotFound => Ok(None),
         Err(_) => Err(ShelfFault::Failed),
     }
@@ -88,15 +84,32 @@ fn whole_file<F: Read>(alloc: Global, file: &mut F) -> Result<Vec<u8>, ShelfFaul
     let mut bytes = Vec::new(alloc);
     let mut room = [0u8; 8192];
     loop {
-        match file.read(&mut room) {
-            Ok(0) => return Ok(bytes),
-            Ok(n) if n > MOST - bytes.len() => return Err(ShelfFault::Failed),
-            Ok(n) => {
-                if bytes.extend_from_slice(&room[..n]).is_err() {
-                    return Err(ShelfFault::Memory);
-                }
-            }
-            Err(_) => return Err(ShelfFault::Failed),
+        let n = fitting(file.read(&mut room), MOST - bytes.len())?;
+        if n == 0 {
+            return Ok(bytes);
         }
+        append(&mut bytes, &room[..n])?;
+    }
+}
+
+// How many bytes a read gave, where so many more are admitted.
+fn fitting(read: io::Result<usize>, most: usize) -> Result<usize, ShelfFault>
+    ensures fits { IfOk read (λ n. n ≤ most → result ≡ Ok n) }
+    ensures too_long { IfOk read (λ n. most < n → result ≡ Err ShelfFault.Failed) }
+    ensures broken { OnErr read (result ≡ Err ShelfFault.Failed) }
+{
+    match read {
+        Ok(n) if n <= most => Ok(n),
+        _ => Err(ShelfFault::Failed),
+    }
+}
+
+fn append(bytes: &mut Vec<u8>, more: &[u8]) -> Result<(), ShelfFault>
+    ensures appended { OnOk result (bytes.new.items ≡ bytes.old.items ++ more.now) }
+    ensures memory { IsOkUnless result ShelfFault.Memory }
+{
+    match bytes.extend_from_slice(more) {
+        Ok(()) => Ok(()),
+        Err(_) => Err(ShelfFault::Memory),
     }
 }

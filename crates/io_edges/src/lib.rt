@@ -4,12 +4,13 @@
 //!
 //! The contracts of the traits say two things. Where an implementation tells its content, they say
 //! which bytes a call moved and what an error leaves. At every implementation they count the calls
-//! that met an outside fault: a call fails by the outside only where the count rose in it, up to the
-//! last value of its type. Want of memory is an answer of its own, and is not counted.
+//! that met an outside fault: the count rises, up to the last value of its type, in a call that fails
+//! by the outside, and in no other. Want of memory is an answer of its own, which is no fault.
 //!
 //! Each trait has implementations in memory, for tests and for work without an outside: `Memory..`
-//! ones, which fail at the calls that they are told to, and `Sure..` ones, which never do. They tell
-//! their content. [`ReadSource`], [`WriteSink`] and [`FileShelf`] stand over the readers, the writers
+//! ones, which meet a fault at the calls that they are told to, and for sources and sinks `Sure..`
+//! ones, which never meet one. Those sinks and the shelf may want memory at any call. All tell their
+//! content. [`ReadSource`], [`WriteSink`] and [`FileShelf`] stand over the readers, the writers
 //! and the files of std, and tell none: that a file or a socket gave or took these bytes is trusted.
 //!
 //! The definitions are in `specs/`: `Faults` has the count, `Flow` what moves at a call, `Store` what
@@ -17,7 +18,7 @@
 //! `Adapters` what is seen of the ones over std.
 #![tactic(auto)]
 
-ghost use Rattle.std.specs.Prelude.{◌≡◌, ◌≤◌, ◌<◌, ℕ, List, [], ◌++◌, length, take, Option, IfSome, IfOk, OnOk, OnErr, IsErrOf, ◌↔◌};
+ghost use Rattle.std.specs.Prelude.{◌≡◌, ◌≤◌, ◌<◌, ℕ, List, [], ◌++◌, length, take, Bool, true, Option, IfSome, IfOk, OnOk, OnErr, IsErrOf, ◌↔◌};
 ghost use Rattle.io_edges.specs.Faults.{Rose};
 ghost use Rattle.io_edges.specs.Flow.{Told, Moves, GrowsByPrefix};
 ghost use Rattle.io_edges.specs.Store.{Store};
@@ -69,8 +70,9 @@ pub trait Source {
             (λ t t'. t' ≡ t ++ take n room.new)) }
         ensures ended { IfOk result (λ n. 0 < length room.old → Told (left self.old) (left self.new)
             (λ l _. (n ≡ 0) ↔ (l ≡ []))) }
-        ensures faults { faults self.old ≤ faults self.new }
+        ensures good { OnOk result (faults self.new ≡ faults self.old) }
         ensures failed { OnErr result (Rose (faults self.old) (faults self.new)) }
+        ensures faults { faults self.old ≤ faults self.new }
         ensures failed_left { OnErr result (Told (left self.old) (left self.new) (λ l l'. l' ≡ l)) }
         ensures failed_taken { OnErr result (Told (taken self.old) (taken self.new)
             (λ t t'. t' ≡ t)) };
@@ -93,14 +95,20 @@ pub trait Sink {
     /// How many calls met an outside fault, up to 2^64 - 1.
     ghost faults: { Self → ℕ };
 
+    /// Whether the next put may want memory.
+    ghost may_want: { Self → Bool };
+
     /// Writes the whole piece. A refusal may have written the first bytes of it.
     fn put(&mut self, bytes: &[u8]) -> Result<(), SinkFault>
         ensures written { OnOk result (Told (written self.old) (written self.new)
             (λ w w'. w' ≡ w ++ bytes.now)) }
         ensures refused { OnErr result (Told (written self.old) (written self.new)
             (λ w w'. GrowsByPrefix w w' bytes.now)) }
-        ensures faults { faults self.old ≤ faults self.new }
-        ensures failed { IsErrOf result SinkFault.Failed → Rose (faults self.old) (faults self.new) };
+        ensures good { OnOk result (faults self.new ≡ faults self.old) }
+        ensures failed { IsErrOf result SinkFault.Failed → Rose (faults self.old) (faults self.new) }
+        ensures memory { IsErrOf result SinkFault.Memory → faults self.new ≡ faults self.old }
+        ensures wanted { IsErrOf result SinkFault.Memory → may_want self.old ≡ true }
+        ensures faults { faults self.old ≤ faults self.new };
 }
 
 /// Why a shelf gave no answer.
@@ -125,8 +133,10 @@ pub trait Shelf {
         ensures found { IfOk result (λ found. IfSome (files self.old)
             (λ files. option_map (λ v. v.items) found ≡ finite.get files name.now)) }
         ensures kept { files self.new ≡ files self.old }
-        ensures faults { faults self.old ≤ faults self.new }
-        ensures failed { IsErrOf result ShelfFault.Failed → Rose (faults self.old) (faults self.new) };
+        ensures good { OnOk result (faults self.new ≡ faults self.old) }
+        ensures failed { IsErrOf result ShelfFault.Failed → Rose (faults self.old) (faults self.new) }
+        ensures memory { IsErrOf result ShelfFault.Memory → faults self.new ≡ faults self.old }
+        ensures faults { faults self.old ≤ faults self.new };
 }
 
 #[cfg(test)]

@@ -49,6 +49,7 @@ impl Shelf for MemoryShelf {
         ensures found { IfOk result (λ found.
             option_map (λ v. v.items) found ≡ finite.get self.old.files name.now) }
         ensures failed { IsErrOf result ShelfFault.Failed → is_due self.old.plan ≡ true }
+        ensures memory { IsErrOf result ShelfFault.Memory → is_due self.old.plan ≡ false }
         ensures kept { self.new.files ≡ self.old.files }
         ensures counted { self.new.plan ≡ after_call self.old.plan }
         ensures faults { self.old.plan.faults < 2 ^ 64 }

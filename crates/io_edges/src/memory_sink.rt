@@ -1,5 +1,5 @@
 ghost use Rattle.std.specs.Prelude.{◌≡◌, ◌<◌, ◌^◌, ◌++◌, take, true, false, Some, OnOk, IsErrOf};
-ghost use Rattle.io_edges.specs.Plan.{is_due, after_call};
+ghost use Rattle.io_edges.specs.Plan.{is_due, counted, after_call};
 ghost use Rattle.io_edges.specs.InMemory.{new_sink};
 
 use crate::fault_plan::FaultPlan;
@@ -49,6 +49,8 @@ impl Sink for MemorySink {
 
     ghost faults = { λ s. s.plan.faults };
 
+    ghost may_want = { λ _. true };
+
     fn put(&mut self, bytes: &[u8]) -> Result<(), SinkFault>
         ensures ok { OnOk result (is_due self.old.plan ≡ false) }
         ensures written { OnOk result (self.new.written ≡ self.old.written ++ bytes.now) }
@@ -56,19 +58,22 @@ impl Sink for MemorySink {
         ensures front { IsErrOf result SinkFault.Failed
             → self.new.written ≡ self.old.written ++ take self.old.kept bytes.now }
         ensures memory { IsErrOf result SinkFault.Memory → self.new.written ≡ self.old.written }
-        ensures counted { self.new.plan ≡ after_call self.old.plan }
+        ensures counted { (IsErrOf result SinkFault.Memory → ⊥) → self.new.plan ≡ after_call self.old.plan }
+        ensures passed { IsErrOf result SinkFault.Memory → self.new.plan ≡ counted false self.old.plan }
         ensures kept { self.new.kept ≡ self.old.kept }
         ensures faults { self.old.plan.faults < 2 ^ 64 }
     {
-        let is_due = self.plan.fails();
+        let is_due = self.plan.is_due();
         let most = if is_due {
             self.kept.min(bytes.len())
         } else {
             bytes.len()
         };
         if self.bytes.extend_from_slice(&bytes[..most]).is_err() {
+            self.plan.count(false);
             return Err(SinkFault::Memory);
         }
+        self.plan.count(is_due);
         if is_due {
             return Err(SinkFault::Failed);
         }

@@ -1,4 +1,4 @@
-ghost use Rattle.std.specs.Prelude.{◌≡◌, [], ◌++◌, Some, OnOk, IsOkUnless, OnErr};
+ghost use Rattle.std.specs.Prelude.{◌≡◌, [], ◌++◌, true, Some, OnOk, IsOkUnless, OnErr};
 
 use crate::{Sink, SinkFault};
 use std::alloc::Global;
@@ -41,6 +41,8 @@ impl Sink for SureSink {
     ghost written = { λ s. Some s };
 
     ghost faults = { λ _. 0 };
+
+    ghost may_want = { λ _. true };
 
     fn put(&mut self, bytes: &[u8]) -> Result<(), SinkFault>
         ensures written { OnOk result (self.new ≡ self.old ++ bytes.now) }

@@ -1,4 +1,4 @@
-ghost use Rattle.std.specs.Prelude.{◌≡◌, ◌++◌, take, Some, IfSome, IfOk, IsErrOf};
+ghost use Rattle.std.specs.Prelude.{◌≡◌, ◌++◌, take, true, Some, IfSome, IfOk, IsErrOf};
 ghost use Rattle.io_edges.specs.Faults.{Rose};
 
 use super::*;
@@ -25,6 +25,8 @@ fn pass_on<I: Source, N: Sink>(
         (λ written. N.written output.new ≡ Some (written ++ take n left)))) }
     ensures source { IsErrOf result Lost.Source → Rose (I.faults input.old) (I.faults input.new) }
     ensures sink { IsErrOf result Lost.Sink → Rose (N.faults output.old) (N.faults output.new) }
+    ensures memory { IsErrOf result Lost.Memory → (I.faults input.new ≡ I.faults input.old)
+        × (N.faults output.new ≡ N.faults output.old) × (N.may_want output.old ≡ true) }
 {
     let n = match input.take(room) {
         Ok(n) => n,

@@ -1,4 +1,4 @@
-ghost use Rattle.std.specs.Prelude.{◌≡◌, ◌≤◌, None, OnOk, OnErr, IsOkUnless};
+ghost use Rattle.std.specs.Prelude.{◌≡◌, ◌≤◌, false, None, OnOk, OnErr, IsOkUnless};
 ghost use Rattle.std.specs.Io.KnownBytes.{Appends};
 ghost use Rattle.io_edges.specs.Faults.{one_more};
 ghost use Rattle.io_edges.specs.Adapters.{writer_of, write_faults, AppendsPrefix};
@@ -28,6 +28,8 @@ impl<W: Write> Sink for WriteSink<W> {
     ghost written = { λ _. None };
 
     ghost faults = { λ s. write_faults s };
+
+    ghost may_want = { λ _. false };
 
     fn put(&mut self, bytes: &[u8]) -> Result<(), SinkFault>
         ensures written { OnOk result (Appends

@@ -1,4 +1,4 @@
-use Rattle.std.proofs.Common.{arith, rules}
+use Rattle.std.proofs.Common.{arith, refl, rules}
 use Rattle.std.proofs.lemmas.Grind.{common_steps}
 use Rattle.io_edges.proofs.Pieces.{refused_front}
 use Rattle.io_edges.proofs.memory_sink.MemorySinkSink.TheImpl.Goals as goal
@@ -7,6 +7,9 @@ pub put-tells : goal.put-tells
 put-tells c = record {
   written = search rules;
   refused = refused_front _ _ _ c.args.self.now.kept c.result c.ensures.front c.ensures.memory;
-  faults = grind (arith, common_steps);
+  good = grind (arith, common_steps);
   failed = grind (arith, common_steps);
+  memory = grind (arith, common_steps);
+  wanted = λ _. refl;
+  faults = grind (arith, common_steps);
 }
