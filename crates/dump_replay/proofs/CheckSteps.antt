@@ -1,7 +1,6 @@
 -- What a check that reads a stream piece by piece knows between two pieces, and where it ends.
-use Rattle.std.proofs.Common.{◌≡◌, ℕ, ◌-◌, ◌^◌, ◌≤◌, ◌<◌, inl, inr, List, [], ◌++◌, length, take, drop, Option, Some, None, Result, Ok, Err, IfOk, IfErr, OnOk, OnErr, ◌↔◌, refl, sym, ap, ◌∙◌, subst, arith, append_assoc, length-append}
-use Rattle.std.proofs.lemmas.List.{append-nil, take-append-le, take-append-drop, take_all}
-use Rattle.multibyte_ints.specs.Front.{begun}
+use Rattle.std.proofs.Common.{◌≡◌, ℕ, ◌-◌, ◌^◌, ◌≤◌, ◌<◌, List, [], ◌++◌, length, take, drop, Option, Some, None, Result, Ok, Err, IfOk, IfErr, OnOk, OnErr, ◌↔◌, refl, sym, ap, ◌∙◌, subst, arith, append_assoc, length-append}
+use Rattle.std.proofs.lemmas.List.{append-nil, length-take-le, take-append-le, take-append-drop, take_all}
 use Rattle.io_edges.specs.Faults.{Rose}
 use Rattle.io_edges.specs.Flow.{Told, Moves, GrowsByPrefix}
 use Rattle.io_edges.specs.declared.SinkFault.{SinkFault}
@@ -13,14 +12,14 @@ use Rattle.dump_replay.specs.declared.receiver.Receiver.{Receiver}
 use Rattle.dump_replay.specs.declared.check.Reading.{Reading}
 use Rattle.dump_replay.specs.declared.check.Ending.{Ending}
 use Rattle.dump_replay.specs.declared.check.Ending.TheVariants as endings
-use Rattle.dump_replay.specs.Stream.{Settings, limits_of, unit_at, standing}
+use Rattle.dump_replay.specs.Stream.{Settings, limits_of, unit_at, peeled, standing}
 use Rattle.dump_replay.specs.Judging.{refusal_at, offence}
 use Rattle.dump_replay.specs.Report.{report}
 use Rattle.dump_replay.specs.Receiving.{StandsFor, settings_of, taken_of}
 use Rattle.dump_replay.specs.Running.{usual, IsPending}
-use Rattle.dump_replay.specs.Checking.{set_to, stopped_by, HasRead, Judges, Reports, Breaks}
+use Rattle.dump_replay.specs.Checking.{set_to, stopped_by, HasRead, Judges, Reports, Breaks, Reaches}
 use Rattle.dump_replay.proofs.Standing.{standing_nothing}
-use Rattle.dump_replay.proofs.Events.{nothing_not_over, unrefused}
+use Rattle.dump_replay.proofs.Events.{nothing_not_over}
 use Rattle.dump_replay.proofs.Pending.{pending_open}
 
 -- what is known to be told is told afterwards
@@ -34,10 +33,9 @@ pub known_told : (P : List ℕ → List ℕ → Type 0) (old new : Option (List 
 known_told P None new known = tt
 known_told P (Some old) new known = let k = known old refl in rw k.1 k.2
 
--- a count that rose later rose
-pub rose_later : (a b c : ℕ) → a ≤ b → Rose b c → Rose a c
-rose_later a b c le (inl lt) = inl (omega arith)
-rose_later a b c le (inr e) = inr e
+-- a count that stood still and then rose
+pub rose_later : (a b c : ℕ) → b ≡ a → Rose b c → Rose a c
+rose_later a b c still rose = rw still at rose
 
 -- what a full room holds after new bytes of its length were put in it
 pub room_is : (items new : List ℕ) (len : ℕ) → len ≡ length items → length new ≡ length items → take len (new ++ drop (length new) items) ≡ new
@@ -48,26 +46,18 @@ pub usual_is : (q : Quotas) → Holds q 65536 32 2048 262144 2048 (2 ^ 48) → �
 unfolding usual
 usual_is q h = rw (h.payload_is, h.depth_is, h.dictionary_is, h.content_is, h.via_is, h.session_is) refl
 
--- the usual session quota is some bytes
-usual_some : 0 < usual.limits.session
-unfolding usual
-usual_some = omega arith
-
 -- no bytes are refused, and none end the session
-nothing_pending : (r : Receiver) → StandsFor r [] → settings_of r ≡ usual → IsPending usual []
-unfolding StandsFor
-nothing_pending r stands e =
-    let fresh = subst (λ x. unit_at x (standing x []).situation.stage (standing x []).begun ≡ begun) e stands.is_begun in
-    let none : refusal_at usual [] ≡ None = unrefused usual [] (standing usual []).situation (standing usual []).from (standing usual []).begun refl fresh usual_some in
-    record {
-      unrefused = λ n. rw (take_all {A = ℕ} n [] (omega arith)) none;
-      going_on = λ n. rw (take_all {A = ℕ} n [] (omega arith)) (nothing_not_over usual);
-    }
+pub usual_nothing : IsPending usual []
+unfolding usual refusal_at unit_at standing peeled
+usual_nothing = record {
+  unrefused = λ n. rw (take_all {A = ℕ} n [] (omega arith)) refl;
+  going_on = λ n. rw (take_all {A = ℕ} n [] (omega arith)) (nothing_not_over usual);
+}
 
 -- a check begins with no bytes
 pub nothing_read : (r : Receiver) → StandsFor r [] → settings_of r ≡ usual → HasRead (record { receiver = r; messages = 0 }) [] × IsPending usual []
 nothing_read r stands e =
-    let pending = nothing_pending r stands e in (
+    let pending = usual_nothing in (
       record {
         stands = stands;
         on = pending_open (settings_of r) [] (subst (λ x. IsPending x []) (sym e) pending);
@@ -115,6 +105,23 @@ module _ (left before after : Option (List ℕ)) (p : List ℕ)
       let h = split stream e in
       let k = told_known (λ l l'. (n ≡ 0) ↔ (l ≡ [])) before after h.0 h.1 told in
       h.2 ∙ ap (λ l. p ++ l) (k.2.0 none) ∙ append-nil p
+
+-- what was read and a piece behind it
+pub grown_reaches : (taken after : Option (List ℕ)) (p y : List ℕ) → IsPending usual p → length y ≤ 65536 → ((t : List ℕ) → taken ≡ Some t → after ≡ Some (t ++ (p ++ y))) → Told taken after (Reaches usual)
+grown_reaches taken after p y pending short grown =
+    known_told (Reaches usual) taken after (λ t e. (t ++ (p ++ y), grown t e, record { before = p; piece = y; grown = sym (append_assoc t p y); pending = pending; short = short }))
+
+-- what was read alone
+pub read_reaches : (taken after : Option (List ℕ)) (p : List ℕ) → IsPending usual p → ((t : List ℕ) → taken ≡ Some t → after ≡ Some (t ++ p)) → Told taken after (Reaches usual)
+read_reaches taken after p pending grown = grown_reaches taken after p [] pending (omega arith) (λ t e. grown t e ∙ ap (λ l. Some (t ++ l)) (sym (append-nil p)))
+
+-- nothing was read
+pub none_reaches : (taken : Option (List ℕ)) → Told taken taken (Reaches usual)
+none_reaches taken = read_reaches taken taken [] usual_nothing (λ t e. e ∙ ap Some (sym (append-nil t)))
+
+-- the first bytes of a room of the usual length
+pub short_piece : (items new : List ℕ) (n : ℕ) → length items ≡ 65536 → length new ≡ length items → n ≤ length new → length (take n new) ≤ 65536
+short_piece items new n room full within = let l = length-take-le n new within in omega (arith, l, room, full, within)
 
 -- what was handed out with a piece more
 pub taken_grows : (taken before after : Option (List ℕ)) (p room y : List ℕ) (n : ℕ) → ((t : List ℕ) → taken ≡ Some t → before ≡ Some (t ++ p)) → Told before after (λ t t'. t' ≡ t ++ take n room)
@@ -166,6 +173,11 @@ pub stopped_write : (fault : SinkFault) → stopped_by fault ≡ endings.WriteFa
 stopped_write faults.Failed e = refl
 stopped_write faults.Memory e = cc
 
+-- what holds where a fault of the output isn't one of writing
+pub stopped_still : (fault : SinkFault) (P : Type 0) → (fault ≡ faults.Memory → P) → (stopped_by fault ≡ endings.WriteFault → ⊥) → P
+stopped_still faults.Failed P memory well = absurd (well refl)
+stopped_still faults.Memory P memory well = memory refl
+
 -- the end of the input is no fault of reading
 pub ended_not_read : (r : Ending) (v : Result (Option Offence) SinkFault) → IfOk v (λ o. r ≡ endings.Judged o) → IfErr v (λ f. r ≡ stopped_by f) → r ≡ endings.ReadFault → ⊥
 ended_not_read r (Ok o) judged stopped e = cc
@@ -175,3 +187,8 @@ ended_not_read r (Err fault) judged stopped e = stopped_not_read fault (sym stop
 pub ended_write : (r : Ending) (v : Result (Option Offence) SinkFault) → IfOk v (λ o. r ≡ endings.Judged o) → IfErr v (λ f. r ≡ stopped_by f) → r ≡ endings.WriteFault → v ≡ Err faults.Failed
 ended_write r (Ok o) judged stopped e = cc
 ended_write r (Err fault) judged stopped e = ap Err (stopped_write fault (sym stopped ∙ e))
+
+-- what holds there where none is one of writing
+pub ended_still : (r : Ending) (v : Result (Option Offence) SinkFault) (P : Type 0) → IfErr v (λ f. r ≡ stopped_by f) → OnOk v P → (v ≡ Err faults.Memory → P) → (r ≡ endings.WriteFault → ⊥) → P
+ended_still r (Ok o) P stopped good memory well = good
+ended_still r (Err fault) P stopped good memory well = stopped_still fault P (λ e. memory (ap Err e)) (λ e. well (stopped ∙ e))

@@ -7,6 +7,7 @@ pub mod Standing
 pub mod Payloads
 pub mod Events
 pub mod Answers
+pub mod Lines
 pub mod Meaning
 pub mod Carried
 pub mod Reports

@@ -43,12 +43,12 @@ module _ (x : Settings) where
   event_lines_from_is p (b ∷ y) = refl
 
   -- no event has no line
-  no_line : (q : List ℕ) → completed_at x q ≡ None → line_at x q ≡ []
+  pub no_line : (q : List ℕ) → completed_at x q ≡ None → line_at x q ≡ []
   unfolding line_at completed_at
   no_line q e = rw e refl
 
   -- an event has its line
-  a_line : (q : List ℕ) (step : Step) → completed_at x q ≡ Some step → line_at x q ≡ event_line (standing x q).situation (length q) step
+  pub a_line : (q : List ℕ) (step : Step) → completed_at x q ≡ Some step → line_at x q ≡ event_line (standing x q).situation (length q) step
   unfolding line_at completed_at
   a_line q step e = rw e refl
 
@@ -83,17 +83,17 @@ module _ (x : Settings) where
   lines_add q b y step r o e = event_lines_from_is (q ++ b ∷ []) y ∙ rw (a_line (q ++ b ∷ []) step e) refl
 
   -- a refusal is the last line
-  closed_by : (q y : List ℕ) (o : Offence) → refusal_at x q ≡ Some o → after_report x q y ≡ offence_line o
+  pub closed_by : (q y : List ℕ) (o : Offence) → refusal_at x q ≡ Some o → after_report x q y ≡ offence_line o
   closed_by q [] o e = rw e refl
   closed_by q (b ∷ y) o e = rw e refl
 
   -- a session that is over has no more lines
-  closed_over : (q y : List ℕ) → refusal_at x q ≡ None → is_over_at x q ≡ true → after_report x q y ≡ []
+  pub closed_over : (q y : List ℕ) → refusal_at x q ≡ None → is_over_at x q ≡ true → after_report x q y ≡ []
   closed_over q [] r o = rw (r, o) refl
   closed_over q (b ∷ y) r o = rw (r, o) refl
 
   -- a refusal is the offence
-  offence_by : (q y : List ℕ) (o : Offence) → refusal_at x q ≡ Some o → offence_from x q y ≡ Some o
+  pub offence_by : (q y : List ℕ) (o : Offence) → refusal_at x q ≡ Some o → offence_from x q y ≡ Some o
   unfolding offence_from
   offence_by q [] o e = rw e refl
   offence_by q (b ∷ y) o e = rw e refl

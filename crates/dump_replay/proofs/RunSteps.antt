@@ -1,5 +1,5 @@
 -- What a status tells of how a check ended.
-use Rattle.std.proofs.Common.{◌≡◌, ℕ, ◌⊎◌, inl, inr, List, [], ◌∷◌, ◌++◌, length, map, Option, Some, None, Result, Ok, Err, String, Global, OnOk, OnErr, slice_index_or, refl, sym, ap, ◌∙◌, arith}
+use Rattle.std.proofs.Common.{◌≡◌, ℕ, ◌⊎◌, inl, inr, List, [], ◌∷◌, ◌++◌, length, map, false, Option, Some, None, Result, Ok, Err, String, Global, OnOk, OnErr, slice_index_or, refl, sym, ap, ◌∙◌, arith}
 use Rattle.std.specs.Prelude.{⊤, codes}
 use Rattle.std.specs.String.{string_bytes}
 use Rattle.std.proofs.lemmas.Bool.{cases_Bool}
@@ -10,6 +10,7 @@ use Rattle.nbfx_values.specs.declared.refusals.Offence.{Offence}
 use Rattle.dump_replay.specs.declared.check.Ending.{Ending}
 use Rattle.dump_replay.specs.declared.check.Ending.TheVariants as endings
 use Rattle.dump_replay.specs.Stream.{Settings}
+use Rattle.dump_replay.specs.Judging.{offence}
 use Rattle.dump_replay.specs.Sessions.{IsClosed}
 use Rattle.dump_replay.specs.Report.{report, event_lines}
 use Rattle.dump_replay.specs.Running.{IsPending, IsCheck, status_of, is_session_too_long}
@@ -56,6 +57,18 @@ module _ (x : Settings) (stream : List ℕ) where
   status_ended endings.ReadFault s h = cc
   status_ended endings.WriteFault s h = cc
   status_ended endings.Memory s h = cc
+
+  -- status 1
+  pub status_offended : (e : Ending) → status_at e ≡ 1 → Judges x stream e → (o : Offence) × (offence x stream ≡ Some o) × (is_session_too_long o.reason ≡ false)
+  status_offended (endings.Judged None) s h = cc
+  status_offended (endings.Judged (Some o)) s h =
+      elim (cases_Bool (is_session_too_long o.reason)) [
+        | inl t ↦ let ten : 10 ≡ 1 = rw t at s in absurd (omega (arith, ten))
+        | inr f ↦ (o, h, f)
+      ]
+  status_offended endings.ReadFault s h = cc
+  status_offended endings.WriteFault s h = cc
+  status_offended endings.Memory s h = cc
 
   module _ (w w' : List ℕ) where
     -- a judgement's status

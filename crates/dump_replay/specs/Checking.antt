@@ -1,5 +1,5 @@
 -- What a check of a stream has read and written.
-use Rattle.std.specs.Prelude.{◌≡◌, ℕ, List, ◌++◌, Option, Result, Ok, Err}
+use Rattle.std.specs.Prelude.{◌≡◌, ℕ, ◌≤◌, List, ◌++◌, length, Option, Result, Ok, Err}
 use Rattle.io_edges.specs.Flow.{Told, GrowsByPrefix}
 use Rattle.io_edges.specs.declared.SinkFault.{SinkFault}
 use Rattle.io_edges.specs.declared.SinkFault.TheVariants as faults
@@ -57,6 +57,14 @@ Reports x stream w w' _ = GrowsByPrefix w w' (report x stream)
 abbrev pub Breaks : Settings → List ℕ → List ℕ → Option (List ℕ) → Option (List ℕ) → Ending → Type 0
 Breaks x t t' w w' endings.ReadFault = (b : List ℕ) × (t' ≡ t ++ b) × IsPending x b × Told w w' (λ v v'. v' ≡ v ++ event_lines x b)
 Breaks x t t' w w' _ = Unit {0}
+
+-- what was taken grew by bytes of which no prefix is refused or ends the session, and by at most one piece behind them
+pub record Reaches (x : Settings) (t t' : List ℕ) : Type 0 where
+  pub before : List ℕ
+  pub piece : List ℕ
+  pub grown : t' ≡ t ++ before ++ piece
+  pub pending : IsPending x before
+  pub short : length piece ≤ 65536
 
 -- the status of an ending
 abbrev pub status_at : Ending → ℕ

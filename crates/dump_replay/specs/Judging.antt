@@ -78,6 +78,30 @@ offence_from x p (b ∷ y) = option_or (refusal_at x p) (offence_from x (p ++ b 
 unfoldable pub offence : Settings → List ℕ → Option Offence
 offence x b = offence_from x [] b
 
+-- an event, and the prefix of the stream that completes it
+pub record Event : Type 0 where
+  pub prefix : List ℕ
+  pub step : Step
+
+abbrev pub event_of : List ℕ → Option Step → List Event
+event_of p None = []
+event_of p (Some step) = record { prefix = p; step = step } ∷ []
+
+-- none where a refusal or the session's end came first
+abbrev pub unless_last : Option Offence → Bool → List Event → List Event
+unless_last (Some o) over more = []
+unless_last None true more = []
+unless_last None false more = more
+
+-- the events of p and of those of p with y behind it, up to what refuses the stream or ends the session
+unfoldable pub events_from : Settings → List ℕ → List ℕ → List Event
+events_from x p [] = event_of p (completed_at x p)
+events_from x p (b ∷ y) = event_of p (completed_at x p) ++ unless_last (refusal_at x p) (is_over_at x p) (events_from x (p ++ b ∷ []) y)
+
+-- the events of a stream
+unfoldable pub events : Settings → List ℕ → List Event
+events x b = events_from x [] b
+
 -- what a piece brings
 pub data Answer : Type 0 where
   -- nothing is decided, and all of it is used

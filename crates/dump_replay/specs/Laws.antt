@@ -1,13 +1,21 @@
 -- What holds of streams by their definitions alone.
 use Rattle.std.specs.Prelude.{◌≡◌, ℕ, List, [], ◌++◌, length, None, ◌↔◌}
+use Rattle.std.specs.List.{flat_map}
 use Rattle.multibyte_ints.specs.Front.{whole}
-use Rattle.dump_replay.specs.Stream.{Settings, Stage, StreamUnit, unit_at}
-use Rattle.dump_replay.specs.Judging.{offence}
+use Rattle.dump_replay.specs.Stream.{Settings, Stage, StreamUnit, unit_at, standing}
+use Rattle.dump_replay.specs.Judging.{offence, events}
+use Rattle.dump_replay.specs.Report.{event_line, offence_line_of, report}
 use Rattle.dump_replay.specs.Sessions.{IsClosed}
 
 -- a stream has no offence exactly where a session stands at its front
 abbrev pub ClosedOrRefused : Type 0
 ClosedOrRefused = (x : Settings) (stream : List ℕ) → (offence x stream ≡ None) ↔ IsClosed x stream
+
+-- the lines of a stream's events, and then that of its offence, are its report
+abbrev pub ReportsEvents : Type 0
+ReportsEvents =
+    (x : Settings) (stream : List ℕ)
+    → report x stream ≡ flat_map (λ event. event_line (standing x event.prefix).situation (length event.prefix) event.step) (events x stream) ++ offence_line_of (offence x stream)
 
 -- where a unit may come, none begins a longer one
 abbrev pub NoUnitGoesOn : Type 0

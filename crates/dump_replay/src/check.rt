@@ -9,7 +9,7 @@ ghost use Rattle.dump_replay.specs.Judging.{offence};
 ghost use Rattle.dump_replay.specs.Report.{event_line, event_lines, report};
 ghost use Rattle.dump_replay.specs.Receiving.{StandsFor};
 ghost use Rattle.dump_replay.specs.Running.{counted, usual, IsPending};
-ghost use Rattle.dump_replay.specs.Checking.{stopped_by, Judges, Reports, Breaks};
+ghost use Rattle.dump_replay.specs.Checking.{stopped_by, Judges, Reports, Breaks, Reaches};
 
 use crate::output::put_line;
 use crate::receiver::{Receiver, Step};
@@ -88,8 +88,10 @@ impl Reading {
             → self.old.messages + counted (Some step) ≡ (standing (set_to self.old) q).situation.messages
             → self.new.messages ≡ (standing (set_to self.old) q).situation.messages }
         ensures receiver { self.new.receiver ≡ self.old.receiver }
-        ensures faults { O.faults output.old ≤ O.faults output.new }
+        ensures good { OnOk result (O.faults output.new ≡ O.faults output.old) }
         ensures failed { IsErrOf result SinkFault.Failed → Rose (O.faults output.old) (O.faults output.new) }
+        ensures memory { IsErrOf result SinkFault.Memory → O.faults output.new ≡ O.faults output.old }
+        ensures faults { O.faults output.old ≤ O.faults output.new }
     {
         let line = self.line(alloc, step);
         if let Step::Envelope { .. } = step {
@@ -110,8 +112,10 @@ impl Reading {
         ensures writes { (p w : List ℕ) → HasRead self.old p → O.written output.old ≡ Some (w ++ event_lines (set_to self.old) p)
             → (w' : List ℕ) × (O.written output.new ≡ Some w') × WritesOf (set_to self.old) p piece.now w w' result }
         ensures settings { set_to self.new ≡ set_to self.old }
-        ensures faults { O.faults output.old ≤ O.faults output.new }
+        ensures good { OnOk result (O.faults output.new ≡ O.faults output.old) }
         ensures failed { IsErrOf result SinkFault.Failed → Rose (O.faults output.old) (O.faults output.new) }
+        ensures memory { IsErrOf result SinkFault.Memory → O.faults output.new ≡ O.faults output.old }
+        ensures faults { O.faults output.old ≤ O.faults output.new }
     {
         let mut used = 0;
         loop {
@@ -142,8 +146,10 @@ impl Reading {
         ensures writes { (p w : List ℕ) → HasRead self.old p → IsPending (set_to self.old) p → O.written output.old ≡ Some (w ++ event_lines (set_to self.old) p)
             → (w' : List ℕ) × (O.written output.new ≡ Some w') × OnOk result (w' ≡ w ++ report (set_to self.old) p)
             × OnErr result (GrowsByPrefix w w' (report (set_to self.old) p)) }
-        ensures faults { O.faults output.old ≤ O.faults output.new }
+        ensures good { OnOk result (O.faults output.new ≡ O.faults output.old) }
         ensures failed { IsErrOf result SinkFault.Failed → Rose (O.faults output.old) (O.faults output.new) }
+        ensures memory { IsErrOf result SinkFault.Memory → O.faults output.new ≡ O.faults output.old }
+        ensures faults { O.faults output.old ≤ O.faults output.new }
     {
         match self.receiver.end_of_input() {
             Ok(()) => Ok(None),
@@ -162,10 +168,16 @@ pub fn check<I: Source, O: Sink>(alloc: Global, input: &mut I, output: &mut O) -
         → (w' : List ℕ) × (O.written output.new ≡ Some w') × Reports usual stream w w' result }
     ensures breaks { (t : List ℕ) → I.taken input.old ≡ Some t
         → (t' : List ℕ) × (I.taken input.new ≡ Some t') × Breaks usual t t' (O.written output.old) (O.written output.new) result }
+    // No piece is taken behind the one that decides.
+    ensures reaches { Told (I.taken input.old) (I.taken input.new) (Reaches usual) }
+
+    // The counts of outside faults.
+    ensures read_failed { result ≡ Ending.ReadFault → Rose (I.faults input.old) (I.faults input.new) }
+    ensures read_well { (result ≡ Ending.ReadFault → ⊥) → I.faults input.new ≡ I.faults input.old }
+    ensures write_failed { result ≡ Ending.WriteFault → Rose (O.faults output.old) (O.faults output.new) }
+    ensures written_well { (result ≡ Ending.WriteFault → ⊥) → O.faults output.new ≡ O.faults output.old }
     ensures input_faults { I.faults input.old ≤ I.faults input.new }
     ensures output_faults { O.faults output.old ≤ O.faults output.new }
-    ensures read_failed { result ≡ Ending.ReadFault → Rose (I.faults input.old) (I.faults input.new) }
-    ensures write_failed { result ≡ Ending.WriteFault → Rose (O.faults output.old) (O.faults output.new) }
 {
     let Ok(receiver) = Receiver::new(alloc, Quotas::usual()) else {
         return Ending::Memory;

@@ -1,12 +1,18 @@
 //! What holds of an initiator's streams by their definitions alone. Each function does nothing: its
 //! contract is a law, which a caller has where it calls the function.
 
-ghost use Rattle.dump_replay.specs.Laws.{ClosedOrRefused, NoUnitGoesOn};
+ghost use Rattle.dump_replay.specs.Laws.{ClosedOrRefused, ReportsEvents, NoUnitGoesOn};
 
 /// A stream either is closed, which is that a session stands at its front, or has an offence, which
 /// is one: what refuses it is a function of its bytes.
 pub fn closed_or_refused()
     ensures { ClosedOrRefused }
+{}
+
+/// A stream's report is a line for each of its events, in their order, and then the line of its
+/// offence where it has one.
+pub fn reports()
+    ensures { ReportsEvents }
 {}
 
 /// No unit, which is a record or a byte of a payload, begins a longer one that may come in its place.

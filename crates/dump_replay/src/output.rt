@@ -14,8 +14,10 @@ pub fn put_line<O: Sink>(output: &mut O, line: Result<String, AllocError>) -> Re
         → OnOk result (Told (O.written output.old) (O.written output.new) (λ w w'. w' ≡ w ++ text)) }
     ensures refused { (text : List ℕ) → IfOk line (λ made. string_bytes made ≡ text)
         → OnErr result (Told (O.written output.old) (O.written output.new) (λ w w'. GrowsByPrefix w w' text)) }
-    ensures faults { O.faults output.old ≤ O.faults output.new }
+    ensures good { OnOk result (O.faults output.new ≡ O.faults output.old) }
     ensures failed { IsErrOf result SinkFault.Failed → Rose (O.faults output.old) (O.faults output.new) }
+    ensures memory { IsErrOf result SinkFault.Memory → O.faults output.new ≡ O.faults output.old }
+    ensures faults { O.faults output.old ≤ O.faults output.new }
 {
     match line {
         Ok(text) => output.put(text.as_bytes()),

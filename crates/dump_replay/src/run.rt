@@ -9,7 +9,7 @@ ghost use Rattle.dump_replay.specs.Judging.{offence};
 ghost use Rattle.dump_replay.specs.Sessions.{IsClosed};
 ghost use Rattle.dump_replay.specs.Report.{report, event_lines};
 ghost use Rattle.dump_replay.specs.Running.{usual, IsPending, IsCheck, IsStatus, status_of, note_of, is_session_too_long};
-ghost use Rattle.dump_replay.specs.Checking.{status_at};
+ghost use Rattle.dump_replay.specs.Checking.{status_at, Reaches};
 
 use crate::check::{self, Ending};
 use io_edges::{Sink, Source};
@@ -67,10 +67,16 @@ pub fn run<I: Source, O: Sink + Send, N: Sink>(
         × Told (O.written output) (O.written result.output) (λ w w'. w' ≡ w ++ event_lines usual b) }
     ensures cut { (result.status ≡ 4) ⊎ (result.status ≡ 5) → (stream w : List ℕ) → I.left input ≡ Some stream → O.written output ≡ Some w
         → (w' : List ℕ) × (O.written result.output ≡ Some w') × GrowsByPrefix w w' (report usual stream) }
+    // No piece is taken behind the one that decides.
+    ensures reaches { Told (I.taken input) (I.taken result.input) (Reaches usual) }
     ensures noted { Told (N.written notes.old) (N.written notes.new) (λ w w'. GrowsByPrefix w w' (note_of result.status)) }
+    ensures noted_whole { N.may_want notes.old ≡ false → (Rose (N.faults notes.old) (N.faults notes.new) → ⊥)
+        → Told (N.written notes.old) (N.written notes.new) (λ w w'. w' ≡ w ++ note_of result.status) }
     ensures unnoted { note_of result.status ≡ [] → notes.new ≡ notes.old }
 
     // The counts of outside faults.
+    ensures read_well { (result.status ≡ 3 → ⊥) → I.faults result.input ≡ I.faults input }
+    ensures written_well { (result.status ≡ 4 → ⊥) → O.faults result.output ≡ O.faults output }
     ensures input_faults { I.faults input ≤ I.faults result.input }
     ensures output_faults { O.faults output ≤ O.faults result.output }
     ensures notes_faults { N.faults notes.old ≤ N.faults notes.new }
@@ -137,6 +143,8 @@ fn note_text(status: u8) -> &'static str
 
 fn note<N: Sink>(status: u8, notes: &mut N)
     ensures noted { Told (N.written notes.old) (N.written notes.new) (λ w w'. GrowsByPrefix w w' (note_of status)) }
+    ensures whole { N.may_want notes.old ≡ false → (Rose (N.faults notes.old) (N.faults notes.new) → ⊥)
+        → Told (N.written notes.old) (N.written notes.new) (λ w w'. w' ≡ w ++ note_of status) }
     ensures none { note_of status ≡ [] → notes.new ≡ notes.old }
     ensures faults { N.faults notes.old ≤ N.faults notes.new }
 {

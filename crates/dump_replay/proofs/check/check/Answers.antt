@@ -5,7 +5,7 @@ use Rattle.dump_replay.specs.Judging.{offence}
 use Rattle.dump_replay.specs.Report.{event_lines, report}
 use Rattle.dump_replay.specs.Running.{usual, IsPending}
 use Rattle.dump_replay.proofs.Pending.{nothing_lines}
-use Rattle.dump_replay.proofs.CheckSteps.{told_known, known_told, rose_later, room_is, usual_is, nothing_read, less_left, piece_is, left_moves, left_none, taken_grows, stopped_judges, stopped_reports, stopped_breaks, ended_judges, ended_reports, ended_breaks, stopped_not_read, stopped_write, ended_not_read, ended_write}
+use Rattle.dump_replay.proofs.CheckSteps.{told_known, known_told, rose_later, room_is, usual_is, nothing_read, less_left, piece_is, none_reaches, read_reaches, grown_reaches, short_piece, left_moves, left_none, taken_grows, stopped_judges, stopped_reports, stopped_breaks, ended_judges, ended_reports, ended_breaks, stopped_not_read, stopped_write, ended_not_read, ended_write, stopped_still, ended_still}
 use Rattle.dump_replay.proofs.check.check.Goals as goal
 
 -- before the first piece nothing is read
@@ -16,12 +16,25 @@ loop-n-init g c =
     record {
       room = omega (arith, c.in-Ok-vec.ensures.len);
       settings = settings;
-      input_faults = omega arith;
-      output_faults = omega arith;
+      input_faults = refl;
+      output_faults = refl;
       reads = ([], none.0, none.1, λ stream e. (stream, e, refl), λ t e. e ∙ ap Some (sym (append-nil t)), λ w e. e ∙ ap Some (sym (append-nil w) ∙ ap (λ l. w ++ l) (sym (nothing_lines usual))));
     }
 
+-- there was no memory to begin with
+pub returns-in_default-clause-reaches : goal.returns-in_default-clause-reaches
+returns-in_default-clause-reaches g c = none_reaches (g.I.Source.taken c.args.input.now)
+
+pub returns-in_default-vec-clause-reaches : goal.returns-in_default-vec-clause-reaches
+returns-in_default-vec-clause-reaches g c = none_reaches (g.I.Source.taken c.args.input.now)
+
 -- reading failed
+pub returns-in_default-take-clause-reaches : goal.returns-in_default-take-clause-reaches
+returns-in_default-take-clause-reaches g c =
+    let r = c.loop-n.invariant.reads in
+    read_reaches (g.I.Source.taken c.args.input.now) (g.I.Source.taken c.take.new.self) r.0 r.2
+    (λ t taken. let k = told_known (λ t t'. t' ≡ t) (g.I.Source.taken c.loop-n.input) (g.I.Source.taken c.take.new.self) (t ++ r.0) (r.4 t taken) c.in_default-take.ensures.failed_taken in k.1 ∙ ap Some k.2)
+
 pub returns-in_default-take-clause-reports : goal.returns-in_default-take-clause-reports
 returns-in_default-take-clause-reports g c = λ stream w left written.
     let r = c.loop-n.invariant.reads in
@@ -40,6 +53,19 @@ returns-in_default-take-clause-read_failed g c = λ e.
     rose_later (g.I.Source.faults c.args.input.now) (g.I.Source.faults c.loop-n.input) (g.I.Source.faults c.take.new.self) c.loop-n.invariant.input_faults c.in_default-take.ensures.failed
 
 -- the input is over
+pub returns-then-n-eq0-clause-reaches : goal.returns-then-n-eq0-clause-reaches
+returns-then-n-eq0-clause-reaches g c =
+    let inv = c.loop-n.invariant in
+    let r = inv.reads in
+    let y : List ℕ = take c.in-Ok-take.n c.take.new.room in
+    let full : length c.take.new.room ≡ length c.loop-n.room.items = c.take.auto.room ∙ ap length c.deref_mut.ensures.value in
+    grown_reaches (g.I.Source.taken c.args.input.now) (g.I.Source.taken c.take.new.self) r.0 y r.2 (short_piece c.loop-n.room.items c.take.new.room c.in-Ok-take.n inv.room full c.in-Ok-take.ensures.within)
+    (taken_grows (g.I.Source.taken c.args.input.now) (g.I.Source.taken c.loop-n.input) (g.I.Source.taken c.take.new.self) r.0 c.take.new.room y c.in-Ok-take.n r.4 c.in-Ok-take.ensures.taken refl)
+
+pub returns-then-n-eq0-clause-written_well : goal.returns-then-n-eq0-clause-written_well
+returns-then-n-eq0-clause-written_well g c = λ well.
+    ended_still c.ended.result c.end.result (g.O.Sink.faults c.end.new.output ≡ g.O.Sink.faults c.loop-n.output) c.ended.ensures.stopped c.end.ensures.good c.end.ensures.memory well ∙ c.loop-n.invariant.output_faults
+
 pub returns-then-n-eq0-clause-judges : goal.returns-then-n-eq0-clause-judges
 returns-then-n-eq0-clause-judges g c = λ stream left.
     let inv = c.loop-n.invariant in
@@ -100,8 +126,8 @@ loop-n-preserved g c =
     record {
       room = rw (room_is c.loop-n.room.items c.take.new.room c.loop-n.room.len c.loop-n.room.ok.0 full) (omega (arith, full, inv.room));
       settings = c.in-Ok-Going.ensures.settings ∙ inv.settings;
-      input_faults = omega (arith, inv.input_faults, c.in-Ok-take.ensures.faults);
-      output_faults = omega (arith, inv.output_faults, c.in-Ok-Going.ensures.faults);
+      input_faults = c.in-Ok-take.ensures.good ∙ inv.input_faults;
+      output_faults = c.in-Ok-Going.ensures.good ∙ inv.output_faults;
       reads = (
         r.0 ++ y,
         says.0,
@@ -116,6 +142,15 @@ loop-n-preserved g c =
     }
 
 -- a piece that decides the session
+pub returns-in-Ok-Judged-clause-reaches : goal.returns-in-Ok-Judged-clause-reaches
+returns-in-Ok-Judged-clause-reaches g c =
+    let inv = c.loop-n.invariant in
+    let r = inv.reads in
+    let y : List ℕ = take c.in-Ok-take.n c.take.new.room in
+    let full : length c.take.new.room ≡ length c.loop-n.room.items = c.take.auto.room ∙ ap length c.deref_mut.ensures.value in
+    grown_reaches (g.I.Source.taken c.args.input.now) (g.I.Source.taken c.take.new.self) r.0 y r.2 (short_piece c.loop-n.room.items c.take.new.room c.in-Ok-take.n inv.room full c.in-Ok-take.ensures.within)
+    (taken_grows (g.I.Source.taken c.args.input.now) (g.I.Source.taken c.loop-n.input) (g.I.Source.taken c.take.new.self) r.0 c.take.new.room y c.in-Ok-take.n r.4 c.in-Ok-take.ensures.taken refl)
+
 pub returns-in-Ok-Judged-clause-judges : goal.returns-in-Ok-Judged-clause-judges
 returns-in-Ok-Judged-clause-judges g c = λ stream left.
     let inv = c.loop-n.invariant in
@@ -146,6 +181,19 @@ returns-in-Ok-Judged-clause-breaks g c = λ t taken.
     (t ++ (r.0 ++ take c.in-Ok-take.n c.take.new.room), k, tt)
 
 -- writing failed, or there was no memory
+pub returns-in-Err-clause-reaches : goal.returns-in-Err-clause-reaches
+returns-in-Err-clause-reaches g c =
+    let inv = c.loop-n.invariant in
+    let r = inv.reads in
+    let y : List ℕ = take c.in-Ok-take.n c.take.new.room in
+    let full : length c.take.new.room ≡ length c.loop-n.room.items = c.take.auto.room ∙ ap length c.deref_mut.ensures.value in
+    grown_reaches (g.I.Source.taken c.args.input.now) (g.I.Source.taken c.take.new.self) r.0 y r.2 (short_piece c.loop-n.room.items c.take.new.room c.in-Ok-take.n inv.room full c.in-Ok-take.ensures.within)
+    (taken_grows (g.I.Source.taken c.args.input.now) (g.I.Source.taken c.loop-n.input) (g.I.Source.taken c.take.new.self) r.0 c.take.new.room y c.in-Ok-take.n r.4 c.in-Ok-take.ensures.taken refl)
+
+pub returns-in-Err-clause-written_well : goal.returns-in-Err-clause-written_well
+returns-in-Err-clause-written_well g c = λ well.
+    stopped_still c.in-Err.fault (g.O.Sink.faults c.read.new.output ≡ g.O.Sink.faults c.loop-n.output) (λ e. c.in-Err.ensures.memory (ap Err e)) (λ e. well (c.stopped.ensures ∙ e)) ∙ c.loop-n.invariant.output_faults
+
 pub returns-in-Err-clause-judges : goal.returns-in-Err-clause-judges
 returns-in-Err-clause-judges g c = λ stream left. rw c.stopped.ensures (stopped_judges usual stream c.in-Err.fault)
 

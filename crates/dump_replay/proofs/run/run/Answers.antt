@@ -1,10 +1,17 @@
 use Rattle.std.proofs.Common.{Some, ap, sym, ◌∙◌}
 use Rattle.dump_replay.specs.Running.{usual}
-use Rattle.dump_replay.proofs.RunSteps.{status_closed, status_ended, status_reported, status_broken, status_cut}
+use Rattle.dump_replay.proofs.CheckSteps.{none_reaches}
+use Rattle.dump_replay.proofs.RunSteps.{status_closed, status_ended, status_offended, status_reported, status_broken, status_cut}
 use Rattle.dump_replay.proofs.run.run.Goals as goal
 
 pub returns-clause-ended : goal.returns-clause-ended
 returns-clause-ended g c = λ zero stream e. status_ended usual stream c.check.result (sym c.status-status.ensures ∙ zero) (c.check.ensures.judges stream e)
+
+pub returns-clause-offended : goal.returns-clause-offended
+returns-clause-offended g c = λ one stream e. status_offended usual stream c.check.result (sym c.status-status.ensures ∙ one) (c.check.ensures.judges stream e)
+
+pub returns-then-not-is_check-clause-reaches : goal.returns-then-not-is_check-clause-reaches
+returns-then-not-is_check-clause-reaches g c = none_reaches (g.I.Source.taken c.args.input)
 
 pub returns-clause-reported : goal.returns-clause-reported
 returns-clause-reported g c = λ s stream w e o.

@@ -204,7 +204,7 @@ loop-answer-preserved g c =
           let len = rest_length piece used in
           omega (arith, within.1, len, inv.within);
       settings = settings;
-      faults = omega (arith, inv.faults, c.in_ok-put_event-in_default.ensures.faults);
+      faults = c.in_ok-put_event-in_default.ensures.good ∙ inv.faults;
       reads = λ p read.
           let q : List ℕ = p ++ take used piece in
           let y : List ℕ = rest_of piece used in

@@ -7,7 +7,7 @@ abbrev pub invariant-loop-answer : goal.invariant-loop-answer
 invariant-loop-answer g l = record {
   within : l.used ≤ length l.piece;
   settings : set_to l.self ≡ set_to l.initial.self;
-  faults : g.O.Sink.faults l.initial.output ≤ g.O.Sink.faults l.output;
+  faults : g.O.Sink.faults l.output ≡ g.O.Sink.faults l.initial.output;
   reads : (p : List ℕ) → HasRead l.initial.self p → HasRead l.self (p ++ take l.used l.piece);
   writes : (p w : List ℕ) → HasRead l.initial.self p → g.O.Sink.written l.initial.output ≡ Some (w ++ event_lines (set_to l.initial.self) p)
       → g.O.Sink.written l.output ≡ Some (w ++ event_lines (set_to l.initial.self) (p ++ take l.used l.piece));

@@ -1,5 +1,5 @@
-use Rattle.std.proofs.Common.{◌≡◌, ◌≤◌, arith}
-use Rattle.dump_replay.specs.Receiving.{settings_of, held_of}
+use Rattle.std.proofs.Common.{arith}
+use Rattle.dump_replay.specs.Receiving.{settings_of}
 use Rattle.dump_replay.proofs.receiver.Receiver.kept.Goals as goal
 
 pub returns-clause-within : goal.returns-clause-within
