@@ -16,7 +16,7 @@ unfoldable pub limit_of : StringReader → ℕ
 limit_of reader = reader.limit
 
 -- how many bytes of text the reader holds
-abbrev pub held_of : StringReader → ℕ
+unfoldable pub held_of : StringReader → ℕ
 held_of reader = vec_len reader.bytes
 
 -- the length has begun

@@ -68,5 +68,6 @@ fn strings_are_read_in_pieces(rt: HostRuntime) -> Result<(), Fail> {
     reader.restart();
     assert_eq!(rt; reader.feed(b"\x04four"), (5, StringStep::Done));
     assert_eq!(rt; reader.text(), "four");
+    assert_eq!(rt; reader.held(), 4);
     Ok(())
 }

@@ -104,7 +104,7 @@ impl StringReader {
     }
 
     /// How many bytes of text it holds.
-    #[tactic(auto, unfolding(crate::specs::TextReader::limit_of))]
+    #[tactic(auto, unfolding(crate::specs::TextReader::limit_of, crate::specs::TextReader::held_of))]
     pub fn held(&self) -> usize
         ensures held { result ≡ held_of self.now }
         ensures within { result ≤ limit_of self.now }
