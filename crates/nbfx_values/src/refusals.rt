@@ -8,13 +8,13 @@ pub enum Reason {
     Unbuilt,
     /// An integer's fifth byte is above 07, or a four-byte length is negative.
     BadInt,
-    /// A frame's type byte is above 0C.
+    /// The type byte of a framing record is above 0C.
     UnknownRecord,
-    /// A known frame that may not come here.
+    /// A known framing record that may not come here.
     OutOfOrder,
     /// The version isn't 1.0.
     BadVersion,
-    /// The mode isn't 1, 2 or 3.
+    /// The mode isn't one that is read: 2 alone today, 1, 2 and 3 later.
     BadMode,
     /// The length of a Via or a Fault's text is above the via quota.
     TextTooLong,
@@ -131,7 +131,7 @@ impl Reason {
 /// Where in a stream a refused unit begins.
 #[derive(Clone, Copy, Debug, PartialEq, Eq)]
 pub enum Place {
-    /// A frame, by its offset in the stream.
+    /// A framing record, or the head of an envelope, by its offset in the stream.
     Frame(u64),
     /// A unit of a payload, by the envelope's number from 0 and the offset in its payload.
     Payload { message: u64, at: u32 },

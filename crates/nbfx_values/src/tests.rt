@@ -127,6 +127,47 @@ fn a_document(rt: HostRuntime) -> Result<(), Fail> {
     Ok(())
 }
 
+#[test]
+fn attributes_of_an_array(rt: HostRuntime) -> Result<(), Fail> {
+    let alloc = rt.alloc();
+    let mut spans = Values::new(alloc);
+    spans.push(Scalar::TimeSpan(-7))?;
+    let mut attrs = Attrs::new(alloc);
+    let declaration = AttrItem::Xmlns {
+        prefix: Txt::of(alloc, "p")?,
+        uri: Txt::of(alloc, "urn:p")?,
+    };
+    attrs.push(declaration)?;
+    let attribute = AttrItem::Attr {
+        prefix: Txt::of(alloc, "p")?,
+        local: Txt::of(alloc, "k")?,
+        value: Value::List(spans.copy()?),
+    };
+    attrs.push(attribute)?;
+    let array = ArrayItem {
+        prefix: Txt::of(alloc, "")?,
+        local: Txt::of(alloc, "a")?,
+        attrs,
+        kind: ArrayKind::TimeSpan,
+        values: spans,
+    };
+    assert!(rt; array.check());
+    assert_eq!(rt; array.content(), 25);
+    let array = array.copy()?;
+    assert_eq!(rt; array.content(), 25);
+    let attr = array.attrs.get(1).ok_or("two attributes")?.copy()?;
+    assert!(rt; attr.check());
+    assert_eq!(rt; attr.content(), 10);
+    match &attr {
+        AttrItem::Attr { local, value, .. } => {
+            assert_eq!(rt; local.as_str(), "k");
+            assert!(rt; matches!(value, Value::List(_)));
+        }
+        AttrItem::Xmlns { .. } => assert!(rt; false),
+    }
+    Ok(())
+}
+
 const ID: [u8; 16] = [
     0x33, 0x22, 0x11, 0x00, 0x55, 0x44, 0x77, 0x66, 0x88, 0x99, 0xaa, 0xbb, 0xcc, 0xdd, 0xee, 0xff,
 ];
@@ -247,6 +288,7 @@ fn quotas_and_reasons(rt: HostRuntime) -> Result<(), Fail> {
     assert_eq!(rt; Quotas::of(65_536, 129, 0, 65_536, 16, 1), None);
     assert_eq!(rt; Mode::from_number(3), Some(Mode::Simplex));
     assert_eq!(rt; Mode::Singleton.number(), 1);
+    assert_eq!(rt; Kind::from_number(7), Some(Kind::Plain));
     assert_eq!(rt; Kind::from_number(9), None);
     assert_eq!(rt; Kind::Session.number(), 8);
     assert_eq!(rt; Reason::SessionTooLong.number(), 25);
