@@ -109,6 +109,24 @@ fn refused_rows(rt: HostRuntime) {
     );
 }
 
+// The kinds of fault are tested in one order, and the rows from the first on.
+#[test]
+fn two_faults(rt: HostRuntime) {
+    let alloc = rt.alloc();
+    refused(&rt, alloc, b"\xFF,string,c\n", 0, TableKind::Header);
+    refused(&rt, alloc, b"id,string\nx,\xFF,c\n", 1, TableKind::Fields);
+    refused(&rt, alloc, b"id,string\nx,\xFF\n", 1, TableKind::NotUtf8);
+    refused(
+        &rt,
+        alloc,
+        b"id,string\n2,a\n2,\xFF\n",
+        2,
+        TableKind::NotUtf8,
+    );
+    refused(&rt, alloc, b"id,string\n03,a\n", 1, TableKind::NotANumber);
+    refused(&rt, alloc, b"id,string\n3,a\n0\n", 1, TableKind::Odd);
+}
+
 // Takes what several threads may read at once.
 fn share<T: Sync>(_: &T) {}
 
