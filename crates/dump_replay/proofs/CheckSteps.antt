@@ -14,13 +14,14 @@ use Rattle.dump_replay.specs.declared.check.Ending.{Ending}
 use Rattle.dump_replay.specs.declared.check.Ending.TheVariants as endings
 use Rattle.dump_replay.specs.Stream.{Settings, limits_of, unit_at, peeled, standing}
 use Rattle.dump_replay.specs.Judging.{refusal_at, offence}
-use Rattle.dump_replay.specs.Report.{report}
+use Rattle.dump_replay.specs.Report.{report, event_lines}
 use Rattle.dump_replay.specs.Receiving.{StandsFor, settings_of, taken_of}
 use Rattle.dump_replay.specs.Running.{usual, IsPending}
-use Rattle.dump_replay.specs.Checking.{set_to, stopped_by, HasRead, Judges, Reports, Breaks, Reaches}
+use Rattle.dump_replay.specs.Checking.{set_to, stopped_by, HasRead, Judges, Reports, Breaks, Grows, Reaches}
 use Rattle.dump_replay.proofs.Standing.{standing_nothing}
 use Rattle.dump_replay.proofs.Events.{nothing_not_over}
-use Rattle.dump_replay.proofs.Pending.{pending_open}
+use Rattle.dump_replay.proofs.Pending.{pending_open, nothing_lines, lines_begin}
+use Rattle.dump_replay.proofs.Writing.{grown_within}
 
 -- what is known to be told is told afterwards
 pub told_known : (P : List ℕ → List ℕ → Type 0) (old new : Option (List ℕ)) (l : List ℕ) → old ≡ Some l → Told old new P → (l' : List ℕ) × (new ≡ Some l') × P l l'
@@ -32,6 +33,12 @@ told_known P (Some old) (Some new) l e t = let same : old ≡ l = cc in (new, re
 pub known_told : (P : List ℕ → List ℕ → Type 0) (old new : Option (List ℕ)) → ((l : List ℕ) → old ≡ Some l → (l' : List ℕ) × (new ≡ Some l') × P l l') → Told old new P
 known_told P None new known = tt
 known_told P (Some old) new known = let k = known old refl in rw k.1 k.2
+
+-- what is told says what follows from it
+pub told_as : (P Q : List ℕ → List ℕ → Type 0) (old new : Option (List ℕ)) → Told old new P → ((l l' : List ℕ) → P l l' → Q l l') → Told old new Q
+told_as P Q None new told weaker = tt
+told_as P Q (Some l) None told weaker = absurd told
+told_as P Q (Some l) (Some l') told weaker = weaker l l' told
 
 -- a count that stood still and then rose
 pub rose_later : (a b c : ℕ) → b ≡ a → Rose b c → Rose a c
@@ -106,18 +113,72 @@ module _ (left before after : Option (List ℕ)) (p : List ℕ)
       let k = told_known (λ l l'. (n ≡ 0) ↔ (l ≡ [])) before after h.0 h.1 told in
       h.2 ∙ ap (λ l. p ++ l) (k.2.0 none) ∙ append-nil p
 
--- what was read and a piece behind it
-pub grown_reaches : (taken after : Option (List ℕ)) (p y : List ℕ) → IsPending usual p → length y ≤ 65536 → ((t : List ℕ) → taken ≡ Some t → after ≡ Some (t ++ (p ++ y))) → Told taken after (Reaches usual)
-grown_reaches taken after p y pending short grown =
-    known_told (Reaches usual) taken after (λ t e. (t ++ (p ++ y), grown t e, record { before = p; piece = y; grown = sym (append_assoc t p y); pending = pending; short = short }))
+module _ (left left' taken taken' written mid written' : Option (List ℕ)) where
+  -- what was read, a piece behind it, and what was written then
+  pub piece_reaches : (p y : List ℕ) → IsPending usual p → length y ≤ 65536
+      → ((stream : List ℕ) → left ≡ Some stream → (rest : List ℕ) × (left' ≡ Some rest) × (stream ≡ p ++ y ++ rest))
+      → ((t : List ℕ) → taken ≡ Some t → taken' ≡ Some (t ++ (p ++ y)))
+      → ((w : List ℕ) → written ≡ Some w → mid ≡ Some (w ++ event_lines usual p))
+      → Told mid written' Grows → Reaches usual left left' taken taken' written written'
+  piece_reaches p y pending short stream took lines grows = record {
+    before = p;
+    piece = y;
+    pending = pending;
+    short = short;
+    stream = known_told (λ all rest. all ≡ p ++ y ++ rest) left left' stream;
+    took = known_told (λ t t'. t' ≡ t ++ p ++ y) taken taken' (λ t e. (t ++ (p ++ y), took t e, sym (append_assoc t p y)));
+    wrote = known_told (λ w w'. Grows (w ++ event_lines usual p) w') written written' (λ w e. told_known Grows mid written' (w ++ event_lines usual p) (lines w e) grows);
+  }
 
--- what was read alone
-pub read_reaches : (taken after : Option (List ℕ)) (p : List ℕ) → IsPending usual p → ((t : List ℕ) → taken ≡ Some t → after ≡ Some (t ++ p)) → Told taken after (Reaches usual)
-read_reaches taken after p pending grown = grown_reaches taken after p [] pending (omega arith) (λ t e. grown t e ∙ ap (λ l. Some (t ++ l)) (sym (append-nil p)))
+-- what was read where reading failed
+pub read_breaks : (left mid left' taken mid' taken' written written' : Option (List ℕ)) (p : List ℕ) → IsPending usual p
+    → ((stream : List ℕ) → left ≡ Some stream → (rest : List ℕ) × (mid ≡ Some rest) × (stream ≡ p ++ rest))
+    → Told mid left' (λ l l'. l' ≡ l)
+    → ((t : List ℕ) → taken ≡ Some t → mid' ≡ Some (t ++ p))
+    → Told mid' taken' (λ t t'. t' ≡ t)
+    → ((w : List ℕ) → written ≡ Some w → written' ≡ Some (w ++ event_lines usual p)) → Breaks usual left left' taken taken' written written'
+read_breaks left mid left' taken mid' taken' written written' p pending stream kept took kept' lines = record {
+  bytes = p;
+  pending = pending;
+  stream = known_told (λ all rest. all ≡ p ++ rest) left left' (λ all e.
+      let h = stream all e in
+      let k = told_known (λ l l'. l' ≡ l) mid left' h.0 h.1 kept in
+      (k.0, k.1, h.2 ∙ ap (λ l. p ++ l) (sym k.2)));
+  took = known_told (λ t t'. t' ≡ t ++ p) taken taken' (λ t e. told_known (λ u u'. u' ≡ u) mid' taken' (t ++ p) (took t e) kept');
+  wrote = known_told (λ w w'. w' ≡ w ++ event_lines usual p) written written' (λ w e. (w ++ event_lines usual p, lines w e, refl));
+}
+
+-- it has read these bytes, and no piece behind them
+pub breaks_reach : (left left' taken taken' written written' : Option (List ℕ)) → Breaks usual left left' taken taken' written written' → Reaches usual left left' taken taken' written written'
+breaks_reach left left' taken taken' written written' b = record {
+  before = b.bytes;
+  piece = [];
+  pending = b.pending;
+  short = omega arith;
+  stream = told_as (λ all rest. all ≡ b.bytes ++ rest) (λ all rest. all ≡ b.bytes ++ [] ++ rest) left left' b.stream (λ all rest e. e ∙ ap (λ l. l ++ rest) (sym (append-nil b.bytes)));
+  took = told_as (λ t t'. t' ≡ t ++ b.bytes) (λ t t'. t' ≡ t ++ b.bytes ++ []) taken taken' b.took (λ t t' e. e ∙ sym (append-nil (t ++ b.bytes)));
+  wrote = told_as (λ w w'. w' ≡ w ++ event_lines usual b.bytes) (λ w w'. Grows (w ++ event_lines usual b.bytes) w') written written' b.wrote (λ w w' e. record { more = []; grown = e ∙ sym (append-nil (w ++ event_lines usual b.bytes)) });
+}
 
 -- nothing was read
-pub none_reaches : (taken : Option (List ℕ)) → Told taken taken (Reaches usual)
-none_reaches taken = read_reaches taken taken [] usual_nothing (λ t e. e ∙ ap Some (sym (append-nil t)))
+pub none_reaches : (left taken written : Option (List ℕ)) → Reaches usual left left taken taken written written
+none_reaches left taken written = breaks_reach left left taken taken written written record {
+  bytes = [];
+  pending = usual_nothing;
+  stream = known_told (λ all rest. all ≡ rest) left left (λ all e. (all, e, refl));
+  took = known_told (λ t t'. t' ≡ t ++ []) taken taken (λ t e. (t, e, sym (append-nil t)));
+  wrote = known_told (λ w w'. w' ≡ w ++ event_lines usual []) written written (λ w e. (w, e, sym (ap (λ l. w ++ l) (nothing_lines usual) ∙ append-nil w)));
+}
+
+-- the lines so far are the first bytes of the report
+pub lines_front : (p rest stream w : List ℕ) → IsPending usual p → stream ≡ p ++ rest → GrowsByPrefix w (w ++ event_lines usual p) (report usual stream)
+lines_front p rest stream w pending split =
+    let begin = lines_begin usual p (pending_open usual p pending) rest in
+    let all : GrowsByPrefix w (w ++ event_lines usual p) (event_lines usual p) = record {
+      kept = length (event_lines usual p);
+      grown = ap (λ l. w ++ l) (sym (take_all (length (event_lines usual p)) (event_lines usual p) (omega arith)));
+    } in
+    subst (GrowsByPrefix w (w ++ event_lines usual p)) (sym begin.1 ∙ ap (report usual) (sym split)) (grown_within w (w ++ event_lines usual p) (event_lines usual p) begin.0 all)
 
 -- the first bytes of a room of the usual length
 pub short_piece : (items new : List ℕ) (n : ℕ) → length items ≡ 65536 → length new ≡ length items → n ≤ length new → length (take n new) ≤ 65536
@@ -141,11 +202,6 @@ module _ (x : Settings) where
   stopped_reports stream w w' faults.Failed grows = grows
   stopped_reports stream w w' faults.Memory grows = grows
 
-  -- reading has not failed then
-  pub stopped_breaks : (t t' : List ℕ) (w w' : Option (List ℕ)) (fault : SinkFault) → Breaks x t t' w w' (stopped_by fault)
-  stopped_breaks t t' w w' faults.Failed = tt
-  stopped_breaks t t' w w' faults.Memory = tt
-
   module _ (r : Ending) where
     -- the end of the input judges the stream
     pub ended_judges : (stream : List ℕ) (v : Result (Option Offence) SinkFault) → IfOk v (λ o. r ≡ endings.Judged o) → IfErr v (λ f. r ≡ stopped_by f) → IfOk v (λ o. offence x stream ≡ o) → Judges x stream r
@@ -157,11 +213,6 @@ module _ (x : Settings) where
         → OnOk v (w' ≡ w ++ report x stream) → OnErr v (GrowsByPrefix w w' (report x stream)) → Reports x stream w w' r
     ended_reports stream w w' (Ok o) judged stopped all some = rw judged all
     ended_reports stream w w' (Err fault) judged stopped all some = rw stopped (stopped_reports stream w w' fault some)
-
-    -- reading has not failed then
-    pub ended_breaks : (t t' : List ℕ) (w w' : Option (List ℕ)) (v : Result (Option Offence) SinkFault) → IfOk v (λ o. r ≡ endings.Judged o) → IfErr v (λ f. r ≡ stopped_by f) → Breaks x t t' w w' r
-    ended_breaks t t' w w' (Ok o) judged stopped = rw judged tt
-    ended_breaks t t' w w' (Err fault) judged stopped = rw stopped (stopped_breaks t t' w w' fault)
 
 -- a fault of the output is none of the input
 pub stopped_not_read : (fault : SinkFault) → stopped_by fault ≡ endings.ReadFault → ⊥

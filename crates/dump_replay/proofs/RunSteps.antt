@@ -1,19 +1,17 @@
 -- What a status tells of how a check ended.
-use Rattle.std.proofs.Common.{◌≡◌, ℕ, ◌⊎◌, inl, inr, List, [], ◌∷◌, ◌++◌, length, map, false, Option, Some, None, Result, Ok, Err, String, Global, OnOk, OnErr, slice_index_or, refl, sym, ap, ◌∙◌, arith}
-use Rattle.std.specs.Prelude.{⊤, codes}
+use Rattle.std.proofs.Common.{◌≡◌, ℕ, ◌⊎◌, inl, inr, List, [], ◌∷◌, ◌++◌, length, map, false, Option, Some, None, String, Global, slice_index_or, refl, sym, ap, ◌∙◌, arith}
+use Rattle.std.specs.Prelude.{codes}
 use Rattle.std.specs.String.{string_bytes}
 use Rattle.std.proofs.lemmas.Bool.{cases_Bool}
-use Rattle.std.proofs.lemmas.List.{take_all}
-use Rattle.io_edges.specs.Flow.{Told, GrowsByPrefix}
-use Rattle.io_edges.specs.declared.SinkFault.{SinkFault}
+use Rattle.io_edges.specs.Flow.{GrowsByPrefix}
 use Rattle.nbfx_values.specs.declared.refusals.Offence.{Offence}
 use Rattle.dump_replay.specs.declared.check.Ending.{Ending}
 use Rattle.dump_replay.specs.declared.check.Ending.TheVariants as endings
 use Rattle.dump_replay.specs.Stream.{Settings}
 use Rattle.dump_replay.specs.Judging.{offence}
 use Rattle.dump_replay.specs.Sessions.{IsClosed}
-use Rattle.dump_replay.specs.Report.{report, event_lines}
-use Rattle.dump_replay.specs.Running.{IsPending, IsCheck, status_of, is_session_too_long}
+use Rattle.dump_replay.specs.Report.{report}
+use Rattle.dump_replay.specs.Running.{IsCheck, status_of, is_session_too_long}
 use Rattle.dump_replay.specs.Checking.{Judges, Reports, status_at}
 use Rattle.dump_replay.proofs.Closed.{none_is_closed}
 
@@ -78,29 +76,21 @@ module _ (x : Settings) (stream : List ℕ) where
     status_reported endings.WriteFault s h = absurd (no_judgement 4 (λ e. cc) (λ e. cc) (λ e. cc) s)
     status_reported endings.Memory s h = absurd (no_judgement 5 (λ e. cc) (λ e. cc) (λ e. cc) s)
 
-    -- status 3
-    pub status_broken : (e : Ending) → status_at e ≡ 3 → Reports x stream w w' e → (b : List ℕ) × (rest : List ℕ) × (stream ≡ b ++ rest) × IsPending x b × (w' ≡ w ++ event_lines x b)
-    status_broken (endings.Judged o) s h = absurd (other_status o 3 s (λ e. cc) (λ e. cc) (λ e. cc))
-    status_broken endings.ReadFault s h = h
-    status_broken endings.WriteFault s h = cc
-    status_broken endings.Memory s h = cc
-
-    -- statuses 4 and 5
-    pub status_cut : (e : Ending) → (status_at e ≡ 4) ⊎ (status_at e ≡ 5) → Reports x stream w w' e → GrowsByPrefix w w' (report x stream)
-    status_cut (endings.Judged o) (inl s) h = absurd (other_status o 4 s (λ e. cc) (λ e. cc) (λ e. cc))
-    status_cut (endings.Judged o) (inr s) h = absurd (other_status o 5 s (λ e. cc) (λ e. cc) (λ e. cc))
-    status_cut endings.ReadFault (inl s) h = cc
-    status_cut endings.ReadFault (inr s) h = cc
+    -- statuses 3, 4 and 5
+    pub status_cut : (e : Ending) → (status_at e ≡ 3) ⊎ (status_at e ≡ 4) ⊎ (status_at e ≡ 5) → Reports x stream w w' e → GrowsByPrefix w w' (report x stream)
+    status_cut (endings.Judged o) (inl s) h = absurd (other_status o 3 s (λ e. cc) (λ e. cc) (λ e. cc))
+    status_cut (endings.Judged o) (inr (inl s)) h = absurd (other_status o 4 s (λ e. cc) (λ e. cc) (λ e. cc))
+    status_cut (endings.Judged o) (inr (inr s)) h = absurd (other_status o 5 s (λ e. cc) (λ e. cc) (λ e. cc))
+    status_cut endings.ReadFault s h = h
     status_cut endings.WriteFault s h = h
     status_cut endings.Memory s h = h
 
--- what a put leaves, whether it is refused or not
-pub put_either : (answer : Result ⊤ SinkFault) (old new : Option (List ℕ)) (b : List ℕ) → OnOk answer (Told old new (λ w w'. w' ≡ w ++ b)) → OnErr answer (Told old new (λ w w'. GrowsByPrefix w w' b))
-    → Told old new (λ w w'. GrowsByPrefix w w' b)
-put_either (Ok u) None new b h k = tt
-put_either (Ok u) (Some w) None b h k = absurd h
-put_either (Ok u) (Some w) (Some w') b h k = record { kept = length b; grown = h ∙ ap (λ l. w ++ l) (sym (take_all (length b) b (omega arith))) }
-put_either (Err fault) old new b h k = k
+-- status 3
+pub status_broken : (e : Ending) → status_at e ≡ 3 → e ≡ endings.ReadFault
+status_broken (endings.Judged o) s = absurd (other_status o 3 s (λ e. cc) (λ e. cc) (λ e. cc))
+status_broken endings.ReadFault s = refl
+status_broken endings.WriteFault s = cc
+status_broken endings.Memory s = cc
 
 -- two words, the second of which is the command
 pub check_words : (words : List (String Global)) (other : String Global) → length words ≡ 2 → string_bytes (slice_index_or words 1 other) ≡ codes "check" → IsCheck (map string_bytes words)

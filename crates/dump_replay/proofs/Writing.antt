@@ -1,10 +1,11 @@
 -- What is written of a stream, piece by piece.
-use Rattle.std.proofs.Common.{◌≡◌, ℕ, ◌+◌, inl, inr, List, ◌++◌, length, take, Option, Some, None, Result, Ok, Err, refl, sym, ap, ◌∙◌, arith, append_assoc}
+use Rattle.std.proofs.Common.{◌≡◌, ℕ, ◌+◌, inl, inr, List, [], ◌++◌, length, take, Option, Some, None, Result, Ok, Err, OnOk, OnErr, refl, sym, ap, ◌∙◌, arith, append_assoc}
 use Rattle.std.proofs.Math.Seq.{take-append-add}
 use Rattle.std.proofs.lemmas.Bool.{cases_lt}
 use Rattle.std.proofs.lemmas.List.{append-nil, take_all, take-append-le}
 use Rattle.std.specs.Prelude.{⊤}
 use Rattle.io_edges.specs.Flow.{Told, GrowsByPrefix}
+use Rattle.io_edges.specs.declared.SinkFault.{SinkFault}
 use Rattle.nbfx_values.specs.declared.refusals.Offence.{Offence}
 use Rattle.nbfx_values.specs.declared.refusals.Reason.TheVariants.{Truncated}
 use Rattle.dump_replay.specs.Stream.{Settings, standing}
@@ -12,6 +13,7 @@ use Rattle.dump_replay.specs.Judging.{open_offence, ending_at, offence}
 use Rattle.dump_replay.specs.Report.{offence_line, report, event_lines}
 use Rattle.dump_replay.specs.Receiving.{said_at_end}
 use Rattle.dump_replay.specs.Running.{IsPending}
+use Rattle.dump_replay.specs.Checking.{Grows}
 use Rattle.dump_replay.proofs.Pending.{pending_ends}
 
 -- what was told before, and what it became
@@ -34,6 +36,36 @@ grown_within w w' b c h =
           record { kept = length b; grown = h.grown ∙ ap (λ l. w ++ l) (all ∙ sym front) }
       | inr ge ↦ record { kept = h.kept; grown = h.grown ∙ ap (λ l. w ++ l) (sym (take-append-le h.kept b c ge)) }
     ]
+
+-- what a put leaves, whether it is refused or not
+pub put_either : (answer : Result ⊤ SinkFault) (old new : Option (List ℕ)) (b : List ℕ) → OnOk answer (Told old new (λ w w'. w' ≡ w ++ b)) → OnErr answer (Told old new (λ w w'. GrowsByPrefix w w' b))
+    → Told old new (λ w w'. GrowsByPrefix w w' b)
+put_either (Ok u) None new b h k = tt
+put_either (Ok u) (Some w) None b h k = absurd h
+put_either (Ok u) (Some w) (Some w') b h k = record { kept = length b; grown = h ∙ ap (λ l. w ++ l) (sym (take_all (length b) b (omega arith))) }
+put_either (Err fault) old new b h k = k
+
+-- a first part of it is more
+pub grows : (old new : Option (List ℕ)) (b : List ℕ) → Told old new (λ w w'. GrowsByPrefix w w' b) → Told old new Grows
+grows None new b told = tt
+grows (Some w) None b told = absurd told
+grows (Some w) (Some w') b told = record { more = take told.kept b; grown = told.grown }
+
+-- as a put leaves it
+pub put_grows : (answer : Result ⊤ SinkFault) (old new : Option (List ℕ)) (b : List ℕ) → OnOk answer (Told old new (λ w w'. w' ≡ w ++ b)) → OnErr answer (Told old new (λ w w'. GrowsByPrefix w w' b)) → Told old new Grows
+put_grows answer old new b written refused = grows old new b (put_either answer old new b written refused)
+
+-- nothing more is written
+pub grows_not : (written : Option (List ℕ)) → Told written written Grows
+grows_not None = tt
+grows_not (Some w) = record { more = []; grown = sym (append-nil w) }
+
+-- more behind more
+pub grows_further : (first mid last : Option (List ℕ)) → Told first mid Grows → Told mid last Grows → Told first last Grows
+grows_further None mid last before now = tt
+grows_further (Some u) None last before now = absurd before
+grows_further (Some u) (Some v) None before now = absurd now
+grows_further (Some u) (Some v) (Some w) before now = record { more = before.more ++ now.more; grown = now.grown ∙ ap (λ l. l ++ now.more) before.grown ∙ append_assoc u before.more now.more }
 
 -- nothing of it is written
 pub grown_none : (w b : List ℕ) → GrowsByPrefix w w b

@@ -46,25 +46,35 @@ abbrev pub Judges : Settings → List ℕ → Ending → Type 0
 Judges x stream (endings.Judged o) = offence x stream ≡ o
 Judges x stream _ = Unit {0}
 
--- what is written of the stream: its report, or the first bytes of it; where reading failed, the lines of the events of
--- the bytes that came
+-- what is written of the stream: its report, or the first bytes of it
 abbrev pub Reports : Settings → List ℕ → List ℕ → List ℕ → Ending → Type 0
 Reports x stream w w' (endings.Judged o) = w' ≡ w ++ report x stream
-Reports x stream w w' endings.ReadFault = (b : List ℕ) × (rest : List ℕ) × (stream ≡ b ++ rest) × IsPending x b × (w' ≡ w ++ event_lines x b)
 Reports x stream w w' _ = GrowsByPrefix w w' (report x stream)
 
--- what came before reading failed
-abbrev pub Breaks : Settings → List ℕ → List ℕ → Option (List ℕ) → Option (List ℕ) → Ending → Type 0
-Breaks x t t' w w' endings.ReadFault = (b : List ℕ) × (t' ≡ t ++ b) × IsPending x b × Told w w' (λ v v'. v' ≡ v ++ event_lines x b)
-Breaks x t t' w w' _ = Unit {0}
+-- what was read and written where reading failed: bytes of which no prefix is refused or ends the session, and the lines of their
+-- events
+pub record Breaks (x : Settings) (left left' taken taken' written written' : Option (List ℕ)) : Type 0 where
+  pub bytes : List ℕ
+  pub pending : IsPending x bytes
+  pub stream : Told left left' (λ all rest. all ≡ bytes ++ rest)
+  pub took : Told taken taken' (λ t t'. t' ≡ t ++ bytes)
+  pub wrote : Told written written' (λ w w'. w' ≡ w ++ event_lines x bytes)
 
--- what was taken grew by bytes of which no prefix is refused or ends the session, and by at most one piece behind them
-pub record Reaches (x : Settings) (t t' : List ℕ) : Type 0 where
+-- more is written behind what was
+pub record Grows (w w' : List ℕ) : Type 0 where
+  pub more : List ℕ
+  pub grown : w' ≡ w ++ more
+
+-- what was read and written however a check ends: such bytes, and at most one piece behind them; the lines of the events of the bytes,
+-- and maybe more
+pub record Reaches (x : Settings) (left left' taken taken' written written' : Option (List ℕ)) : Type 0 where
   pub before : List ℕ
   pub piece : List ℕ
-  pub grown : t' ≡ t ++ before ++ piece
   pub pending : IsPending x before
   pub short : length piece ≤ 65536
+  pub stream : Told left left' (λ all rest. all ≡ before ++ piece ++ rest)
+  pub took : Told taken taken' (λ t t'. t' ≡ t ++ before ++ piece)
+  pub wrote : Told written written' (λ w w'. Grows (w ++ event_lines x before) w')
 
 -- the status of an ending
 abbrev pub status_at : Ending → ℕ

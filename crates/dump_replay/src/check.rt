@@ -9,7 +9,7 @@ ghost use Rattle.dump_replay.specs.Judging.{offence};
 ghost use Rattle.dump_replay.specs.Report.{event_line, event_lines, report};
 ghost use Rattle.dump_replay.specs.Receiving.{StandsFor};
 ghost use Rattle.dump_replay.specs.Running.{counted, usual, IsPending};
-ghost use Rattle.dump_replay.specs.Checking.{stopped_by, Judges, Reports, Breaks, Reaches};
+ghost use Rattle.dump_replay.specs.Checking.{stopped_by, Judges, Reports, Breaks, Reaches, Grows};
 
 use crate::output::put_line;
 use crate::receiver::{Receiver, Step};
@@ -88,6 +88,7 @@ impl Reading {
             → self.old.messages + counted (Some step) ≡ (standing (set_to self.old) q).situation.messages
             → self.new.messages ≡ (standing (set_to self.old) q).situation.messages }
         ensures receiver { self.new.receiver ≡ self.old.receiver }
+        ensures grows { Told (O.written output.old) (O.written output.new) Grows }
         ensures good { OnOk result (O.faults output.new ≡ O.faults output.old) }
         ensures failed { IsErrOf result SinkFault.Failed → Rose (O.faults output.old) (O.faults output.new) }
         ensures memory { IsErrOf result SinkFault.Memory → O.faults output.new ≡ O.faults output.old }
@@ -112,6 +113,7 @@ impl Reading {
         ensures writes { (p w : List ℕ) → HasRead self.old p → O.written output.old ≡ Some (w ++ event_lines (set_to self.old) p)
             → (w' : List ℕ) × (O.written output.new ≡ Some w') × WritesOf (set_to self.old) p piece.now w w' result }
         ensures settings { set_to self.new ≡ set_to self.old }
+        ensures grows { Told (O.written output.old) (O.written output.new) Grows }
         ensures good { OnOk result (O.faults output.new ≡ O.faults output.old) }
         ensures failed { IsErrOf result SinkFault.Failed → Rose (O.faults output.old) (O.faults output.new) }
         ensures memory { IsErrOf result SinkFault.Memory → O.faults output.new ≡ O.faults output.old }
@@ -146,6 +148,7 @@ impl Reading {
         ensures writes { (p w : List ℕ) → HasRead self.old p → IsPending (set_to self.old) p → O.written output.old ≡ Some (w ++ event_lines (set_to self.old) p)
             → (w' : List ℕ) × (O.written output.new ≡ Some w') × OnOk result (w' ≡ w ++ report (set_to self.old) p)
             × OnErr result (GrowsByPrefix w w' (report (set_to self.old) p)) }
+        ensures grows { Told (O.written output.old) (O.written output.new) Grows }
         ensures good { OnOk result (O.faults output.new ≡ O.faults output.old) }
         ensures failed { IsErrOf result SinkFault.Failed → Rose (O.faults output.old) (O.faults output.new) }
         ensures memory { IsErrOf result SinkFault.Memory → O.faults output.new ≡ O.faults output.old }
@@ -166,10 +169,10 @@ pub fn check<I: Source, O: Sink>(alloc: Global, input: &mut I, output: &mut O) -
     ensures judges { (stream : List ℕ) → I.left input.old ≡ Some stream → Judges usual stream result }
     ensures reports { (stream w : List ℕ) → I.left input.old ≡ Some stream → O.written output.old ≡ Some w
         → (w' : List ℕ) × (O.written output.new ≡ Some w') × Reports usual stream w w' result }
-    ensures breaks { (t : List ℕ) → I.taken input.old ≡ Some t
-        → (t' : List ℕ) × (I.taken input.new ≡ Some t') × Breaks usual t t' (O.written output.old) (O.written output.new) result }
-    // No piece is taken behind the one that decides.
-    ensures reaches { Told (I.taken input.old) (I.taken input.new) (Reaches usual) }
+    ensures breaks { result ≡ Ending.ReadFault → Breaks usual (I.left input.old) (I.left input.new) (I.taken input.old) (I.taken input.new)
+        (O.written output.old) (O.written output.new) }
+    ensures reaches { Reaches usual (I.left input.old) (I.left input.new) (I.taken input.old) (I.taken input.new)
+        (O.written output.old) (O.written output.new) }
 
     // The counts of outside faults.
     ensures read_failed { result ≡ Ending.ReadFault → Rose (I.faults input.old) (I.faults input.new) }

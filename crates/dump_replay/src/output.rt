@@ -4,6 +4,7 @@ ghost use Rattle.std.specs.Prelude.{◌≡◌, ◌≤◌, ◌++◌, ℕ, List, I
 ghost use Rattle.std.specs.String.{string_bytes};
 ghost use Rattle.io_edges.specs.Faults.{Rose};
 ghost use Rattle.io_edges.specs.Flow.{Told, GrowsByPrefix};
+ghost use Rattle.dump_replay.specs.Checking.{Grows};
 
 use io_edges::{Sink, SinkFault};
 use std::alloc::AllocError;
@@ -14,6 +15,7 @@ pub fn put_line<O: Sink>(output: &mut O, line: Result<String, AllocError>) -> Re
         → OnOk result (Told (O.written output.old) (O.written output.new) (λ w w'. w' ≡ w ++ text)) }
     ensures refused { (text : List ℕ) → IfOk line (λ made. string_bytes made ≡ text)
         → OnErr result (Told (O.written output.old) (O.written output.new) (λ w w'. GrowsByPrefix w w' text)) }
+    ensures grows { Told (O.written output.old) (O.written output.new) Grows }
     ensures good { OnOk result (O.faults output.new ≡ O.faults output.old) }
     ensures failed { IsErrOf result SinkFault.Failed → Rose (O.faults output.old) (O.faults output.new) }
     ensures memory { IsErrOf result SinkFault.Memory → O.faults output.new ≡ O.faults output.old }

@@ -7,9 +7,9 @@ ghost use Rattle.io_edges.specs.Flow.{Told, GrowsByPrefix};
 ghost use Rattle.nbfx_values.specs.declared.refusals.Offence.{Offence as Refusal};
 ghost use Rattle.dump_replay.specs.Judging.{offence};
 ghost use Rattle.dump_replay.specs.Sessions.{IsClosed};
-ghost use Rattle.dump_replay.specs.Report.{report, event_lines};
-ghost use Rattle.dump_replay.specs.Running.{usual, IsPending, IsCheck, IsStatus, status_of, note_of, is_session_too_long};
-ghost use Rattle.dump_replay.specs.Checking.{status_at, Reaches};
+ghost use Rattle.dump_replay.specs.Report.{report};
+ghost use Rattle.dump_replay.specs.Running.{usual, IsCheck, IsStatus, status_of, note_of, is_session_too_long};
+ghost use Rattle.dump_replay.specs.Checking.{status_at, Breaks, Reaches};
 
 use crate::check::{self, Ending};
 use io_edges::{Sink, Source};
@@ -39,47 +39,47 @@ pub fn run<I: Source, O: Sink + Send, N: Sink>(
     output: O,
     notes: &mut N,
 ) -> Ran<I, O>
-    // Each status, and when it comes.
+    // Whatever the words are.
     ensures statuses { IsStatus result.status }
-    ensures ended { result.status ≡ 0 → (stream : List ℕ) → I.left input ≡ Some stream → IsClosed usual stream }
-    ensures offended { result.status ≡ 1 → (stream : List ℕ) → I.left input ≡ Some stream
-        → (o : Refusal) × (offence usual stream ≡ Some o) × (is_session_too_long o.reason ≡ false) }
     ensures words { (result.status ≡ 2) ↔ (IsCheck (map string_bytes words.now) → ⊥) }
+    ensures untouched { result.status ≡ 2 → (result.input ≡ input) × (result.output ≡ output) }
     ensures read_fault { result.status ≡ 3 → Rose (I.faults input) (I.faults result.input) }
     ensures write_fault { result.status ≡ 4 → Rose (O.faults output) (O.faults result.output) }
-    ensures too_long { result.status ≡ 10 → (stream : List ℕ) → I.left input ≡ Some stream
+    ensures input_faults { I.faults input ≤ I.faults result.input }
+    ensures output_faults { O.faults output ≤ O.faults result.output }
+
+    // The note.
+    ensures noted { Told (N.written notes.old) (N.written notes.new) (λ w w'. GrowsByPrefix w w' (note_of result.status)) }
+    ensures noted_whole { N.may_want notes.old ≡ false → (Rose (N.faults notes.old) (N.faults notes.new) → ⊥)
+        → Told (N.written notes.old) (N.written notes.new) (λ w w'. w' ≡ w ++ note_of result.status) }
+    ensures unnoted { note_of result.status ≡ [] → notes.new ≡ notes.old }
+    ensures notes_faults { N.faults notes.old ≤ N.faults notes.new }
+
+    // `check`: when each status comes.
+    ensures ended { IsCheck (map string_bytes words.now) → result.status ≡ 0 → (stream : List ℕ) → I.left input ≡ Some stream → IsClosed usual stream }
+    ensures offended { IsCheck (map string_bytes words.now) → result.status ≡ 1 → (stream : List ℕ) → I.left input ≡ Some stream
+        → (o : Refusal) × (offence usual stream ≡ Some o) × (is_session_too_long o.reason ≡ false) }
+    ensures too_long { IsCheck (map string_bytes words.now) → result.status ≡ 10 → (stream : List ℕ) → I.left input ≡ Some stream
         → (o : Refusal) × (offence usual stream ≡ Some o) × (is_session_too_long o.reason ≡ true) }
+    ensures read_well { IsCheck (map string_bytes words.now) → (result.status ≡ 3 → ⊥) → I.faults result.input ≡ I.faults input }
+    ensures written_well { IsCheck (map string_bytes words.now) → (result.status ≡ 4 → ⊥) → O.faults result.output ≡ O.faults output }
     ensures complete { IsCheck (map string_bytes words.now) → (stream : List ℕ) → I.left input ≡ Some stream
         → (result.status ≡ status_of (offence usual stream)) ⊎ (result.status ≡ 3) ⊎ (result.status ≡ 4) ⊎ (result.status ≡ 5) }
     ensures closed { IsCheck (map string_bytes words.now) → (stream : List ℕ) → I.left input ≡ Some stream → IsClosed usual stream
         → (Rose (I.faults input) (I.faults result.input) → ⊥) → (Rose (O.faults output) (O.faults result.output) → ⊥)
         → (result.status ≡ 0) ⊎ (result.status ≡ 5) }
 
-    // What each leaves.
-    ensures reported { (result.status ≡ 0) ⊎ (result.status ≡ 1) ⊎ (result.status ≡ 10)
+    // `check`: what each leaves.
+    ensures reported { IsCheck (map string_bytes words.now) → (result.status ≡ 0) ⊎ (result.status ≡ 1) ⊎ (result.status ≡ 10)
         → (stream w : List ℕ) → I.left input ≡ Some stream → O.written output ≡ Some w
         → O.written result.output ≡ Some (w ++ report usual stream) }
-    ensures untouched { result.status ≡ 2 → (result.input ≡ input) × (result.output ≡ output) }
-    ensures broken { result.status ≡ 3 → (stream w : List ℕ) → I.left input ≡ Some stream → O.written output ≡ Some w
-        → (b : List ℕ) × (rest : List ℕ) × (stream ≡ b ++ rest) × IsPending usual b × (O.written result.output ≡ Some (w ++ event_lines usual b)) }
-    ensures taken { result.status ≡ 3 → (t : List ℕ) → I.taken input ≡ Some t
-        → (b : List ℕ) × (I.taken result.input ≡ Some (t ++ b)) × IsPending usual b
-        × Told (O.written output) (O.written result.output) (λ w w'. w' ≡ w ++ event_lines usual b) }
-    ensures cut { (result.status ≡ 4) ⊎ (result.status ≡ 5) → (stream w : List ℕ) → I.left input ≡ Some stream → O.written output ≡ Some w
+    ensures broken { IsCheck (map string_bytes words.now) → result.status ≡ 3
+        → Breaks usual (I.left input) (I.left result.input) (I.taken input) (I.taken result.input) (O.written output) (O.written result.output) }
+    ensures cut { IsCheck (map string_bytes words.now) → (result.status ≡ 3) ⊎ (result.status ≡ 4) ⊎ (result.status ≡ 5)
+        → (stream w : List ℕ) → I.left input ≡ Some stream → O.written output ≡ Some w
         → (w' : List ℕ) × (O.written result.output ≡ Some w') × GrowsByPrefix w w' (report usual stream) }
-    // No piece is taken behind the one that decides.
-    ensures reaches { Told (I.taken input) (I.taken result.input) (Reaches usual) }
-    ensures noted { Told (N.written notes.old) (N.written notes.new) (λ w w'. GrowsByPrefix w w' (note_of result.status)) }
-    ensures noted_whole { N.may_want notes.old ≡ false → (Rose (N.faults notes.old) (N.faults notes.new) → ⊥)
-        → Told (N.written notes.old) (N.written notes.new) (λ w w'. w' ≡ w ++ note_of result.status) }
-    ensures unnoted { note_of result.status ≡ [] → notes.new ≡ notes.old }
-
-    // The counts of outside faults.
-    ensures read_well { (result.status ≡ 3 → ⊥) → I.faults result.input ≡ I.faults input }
-    ensures written_well { (result.status ≡ 4 → ⊥) → O.faults result.output ≡ O.faults output }
-    ensures input_faults { I.faults input ≤ I.faults result.input }
-    ensures output_faults { O.faults output ≤ O.faults result.output }
-    ensures notes_faults { N.faults notes.old ≤ N.faults notes.new }
+    ensures reaches { IsCheck (map string_bytes words.now)
+        → Reaches usual (I.left input) (I.left result.input) (I.taken input) (I.taken result.input) (O.written output) (O.written result.output) }
 {
     if !is_check(words) {
         note(2, notes);

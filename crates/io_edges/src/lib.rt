@@ -9,9 +9,10 @@
 //!
 //! Each trait has implementations in memory, for tests and for work without an outside: `Memory..`
 //! ones, which meet a fault at the calls that they are told to, and for sources and sinks `Sure..`
-//! ones, which never meet one. Those sinks and the shelf may want memory at any call. All tell their
-//! content. [`ReadSource`], [`WriteSink`] and [`FileShelf`] stand over the readers, the writers
-//! and the files of std, and tell none: that a file or a socket gave or took these bytes is trusted.
+//! ones, which never meet one. A put to one of these sinks may want memory, and so may a fetch that
+//! isn't to fail. All tell their content. [`ReadSource`], [`WriteSink`] and [`FileShelf`] stand over
+//! the readers, the writers and the files of std, and tell none: that a file or a socket gave or took
+//! these bytes is trusted.
 //!
 //! The definitions are in `specs/`: `Faults` has the count, `Flow` what moves at a call, `Store` what
 //! a shelf holds, `Plan` and `InMemory` what the implementations in memory do call by call, and
@@ -95,7 +96,7 @@ pub trait Sink {
     /// How many calls met an outside fault, up to 2^64 - 1.
     ghost faults: { Self → ℕ };
 
-    /// Whether the next put may want memory.
+    /// Whether a put may want memory.
     ghost may_want: { Self → Bool };
 
     /// Writes the whole piece. A refusal may have written the first bytes of it.
@@ -108,6 +109,7 @@ pub trait Sink {
         ensures failed { IsErrOf result SinkFault.Failed → Rose (faults self.old) (faults self.new) }
         ensures memory { IsErrOf result SinkFault.Memory → faults self.new ≡ faults self.old }
         ensures wanted { IsErrOf result SinkFault.Memory → may_want self.old ≡ true }
+        ensures settled { may_want self.new ≡ may_want self.old }
         ensures faults { faults self.old ≤ faults self.new };
 }
 

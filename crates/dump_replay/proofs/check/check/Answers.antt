@@ -5,7 +5,7 @@ use Rattle.dump_replay.specs.Judging.{offence}
 use Rattle.dump_replay.specs.Report.{event_lines, report}
 use Rattle.dump_replay.specs.Running.{usual, IsPending}
 use Rattle.dump_replay.proofs.Pending.{nothing_lines}
-use Rattle.dump_replay.proofs.CheckSteps.{told_known, known_told, rose_later, room_is, usual_is, nothing_read, less_left, piece_is, none_reaches, read_reaches, grown_reaches, short_piece, left_moves, left_none, taken_grows, stopped_judges, stopped_reports, stopped_breaks, ended_judges, ended_reports, ended_breaks, stopped_not_read, stopped_write, ended_not_read, ended_write, stopped_still, ended_still}
+use Rattle.dump_replay.proofs.CheckSteps.{rose_later, room_is, usual_is, nothing_read, less_left, piece_is, piece_reaches, read_breaks, breaks_reach, none_reaches, lines_front, short_piece, left_moves, left_none, taken_grows, stopped_judges, stopped_reports, ended_judges, ended_reports, stopped_not_read, stopped_write, ended_not_read, ended_write, stopped_still, ended_still}
 use Rattle.dump_replay.proofs.check.check.Goals as goal
 
 -- before the first piece nothing is read
@@ -23,30 +23,31 @@ loop-n-init g c =
 
 -- there was no memory to begin with
 pub returns-in_default-clause-reaches : goal.returns-in_default-clause-reaches
-returns-in_default-clause-reaches g c = none_reaches (g.I.Source.taken c.args.input.now)
+returns-in_default-clause-reaches g c = none_reaches (g.I.Source.left c.args.input.now) (g.I.Source.taken c.args.input.now) (g.O.Sink.written c.args.output.now)
 
 pub returns-in_default-vec-clause-reaches : goal.returns-in_default-vec-clause-reaches
-returns-in_default-vec-clause-reaches g c = none_reaches (g.I.Source.taken c.args.input.now)
+returns-in_default-vec-clause-reaches g c = none_reaches (g.I.Source.left c.args.input.now) (g.I.Source.taken c.args.input.now) (g.O.Sink.written c.args.output.now)
 
 -- reading failed
+-- what was read then
+read_so_far : goal.returns-in_default-take-clause-breaks
+read_so_far g c = λ e.
+    let r = c.loop-n.invariant.reads in
+    read_breaks (g.I.Source.left c.args.input.now) (g.I.Source.left c.loop-n.input) (g.I.Source.left c.take.new.self) (g.I.Source.taken c.args.input.now) (g.I.Source.taken c.loop-n.input) (g.I.Source.taken c.take.new.self)
+    (g.O.Sink.written c.args.output.now) (g.O.Sink.written c.loop-n.output) r.0 r.2 r.3 c.in_default-take.ensures.failed_left r.4 c.in_default-take.ensures.failed_taken r.5
+
 pub returns-in_default-take-clause-reaches : goal.returns-in_default-take-clause-reaches
 returns-in_default-take-clause-reaches g c =
-    let r = c.loop-n.invariant.reads in
-    read_reaches (g.I.Source.taken c.args.input.now) (g.I.Source.taken c.take.new.self) r.0 r.2
-    (λ t taken. let k = told_known (λ t t'. t' ≡ t) (g.I.Source.taken c.loop-n.input) (g.I.Source.taken c.take.new.self) (t ++ r.0) (r.4 t taken) c.in_default-take.ensures.failed_taken in k.1 ∙ ap Some k.2)
+    breaks_reach (g.I.Source.left c.args.input.now) (g.I.Source.left c.take.new.self) (g.I.Source.taken c.args.input.now) (g.I.Source.taken c.take.new.self) (g.O.Sink.written c.args.output.now) (g.O.Sink.written c.loop-n.output) (read_so_far g c refl)
 
 pub returns-in_default-take-clause-reports : goal.returns-in_default-take-clause-reports
 returns-in_default-take-clause-reports g c = λ stream w left written.
     let r = c.loop-n.invariant.reads in
     let l = r.3 stream left in
-    (w ++ event_lines usual r.0, r.5 w written, (r.0, l.0, l.2, r.2, refl))
+    (w ++ event_lines usual r.0, r.5 w written, lines_front r.0 l.0 stream w r.2 l.2)
 
 pub returns-in_default-take-clause-breaks : goal.returns-in_default-take-clause-breaks
-returns-in_default-take-clause-breaks g c = λ t taken.
-    let r = c.loop-n.invariant.reads in
-    let k = told_known (λ t t'. t' ≡ t) (g.I.Source.taken c.loop-n.input) (g.I.Source.taken c.take.new.self) (t ++ r.0) (r.4 t taken) c.in_default-take.ensures.failed_taken in
-    let lines = known_told (λ v v'. v' ≡ v ++ event_lines usual r.0) (g.O.Sink.written c.args.output.now) (g.O.Sink.written c.loop-n.output) (λ w e. (w ++ event_lines usual r.0, r.5 w e, refl)) in
-    (t ++ r.0, k.1 ∙ ap Some k.2, (r.0, refl, r.2, lines))
+returns-in_default-take-clause-breaks g c = read_so_far g c
 
 pub returns-in_default-take-clause-read_failed : goal.returns-in_default-take-clause-read_failed
 returns-in_default-take-clause-read_failed g c = λ e.
@@ -59,8 +60,10 @@ returns-then-n-eq0-clause-reaches g c =
     let r = inv.reads in
     let y : List ℕ = take c.in-Ok-take.n c.take.new.room in
     let full : length c.take.new.room ≡ length c.loop-n.room.items = c.take.auto.room ∙ ap length c.deref_mut.ensures.value in
-    grown_reaches (g.I.Source.taken c.args.input.now) (g.I.Source.taken c.take.new.self) r.0 y r.2 (short_piece c.loop-n.room.items c.take.new.room c.in-Ok-take.n inv.room full c.in-Ok-take.ensures.within)
-    (taken_grows (g.I.Source.taken c.args.input.now) (g.I.Source.taken c.loop-n.input) (g.I.Source.taken c.take.new.self) r.0 c.take.new.room y c.in-Ok-take.n r.4 c.in-Ok-take.ensures.taken refl)
+    piece_reaches (g.I.Source.left c.args.input.now) (g.I.Source.left c.take.new.self) (g.I.Source.taken c.args.input.now) (g.I.Source.taken c.take.new.self) (g.O.Sink.written c.args.output.now) (g.O.Sink.written c.loop-n.output)
+    (g.O.Sink.written c.end.new.output) r.0 y r.2 (short_piece c.loop-n.room.items c.take.new.room c.in-Ok-take.n inv.room full c.in-Ok-take.ensures.within)
+    (left_moves (g.I.Source.left c.args.input.now) (g.I.Source.left c.loop-n.input) (g.I.Source.left c.take.new.self) r.0 r.3 c.take.new.room y c.in-Ok-take.n c.in-Ok-take.ensures.moved refl)
+    (taken_grows (g.I.Source.taken c.args.input.now) (g.I.Source.taken c.loop-n.input) (g.I.Source.taken c.take.new.self) r.0 c.take.new.room y c.in-Ok-take.n r.4 c.in-Ok-take.ensures.taken refl) r.5 c.end.ensures.grows
 
 pub returns-then-n-eq0-clause-written_well : goal.returns-then-n-eq0-clause-written_well
 returns-then-n-eq0-clause-written_well g c = λ well.
@@ -87,13 +90,7 @@ returns-then-n-eq0-clause-reports g c = λ stream w left written.
     )
 
 pub returns-then-n-eq0-clause-breaks : goal.returns-then-n-eq0-clause-breaks
-returns-then-n-eq0-clause-breaks g c = λ t taken.
-    let r = c.loop-n.invariant.reads in
-    let k = taken_grows (g.I.Source.taken c.args.input.now) (g.I.Source.taken c.loop-n.input) (g.I.Source.taken c.take.new.self) r.0 c.take.new.room (take c.in-Ok-take.n c.take.new.room) c.in-Ok-take.n r.4 c.in-Ok-take.ensures.taken refl t taken in (
-      t ++ (r.0 ++ take c.in-Ok-take.n c.take.new.room),
-      k,
-      ended_breaks usual c.ended.result t (t ++ (r.0 ++ take c.in-Ok-take.n c.take.new.room)) (g.O.Sink.written c.args.output.now) (g.O.Sink.written c.end.new.output) c.end.result c.ended.ensures.judged c.ended.ensures.stopped,
-    )
+returns-then-n-eq0-clause-breaks g c = λ e. absurd (ended_not_read c.ended.result c.end.result c.ended.ensures.judged c.ended.ensures.stopped e)
 
 pub returns-then-n-eq0-clause-read_failed : goal.returns-then-n-eq0-clause-read_failed
 returns-then-n-eq0-clause-read_failed g c = λ e. absurd (ended_not_read c.ended.result c.end.result c.ended.ensures.judged c.ended.ensures.stopped e)
@@ -148,8 +145,10 @@ returns-in-Ok-Judged-clause-reaches g c =
     let r = inv.reads in
     let y : List ℕ = take c.in-Ok-take.n c.take.new.room in
     let full : length c.take.new.room ≡ length c.loop-n.room.items = c.take.auto.room ∙ ap length c.deref_mut.ensures.value in
-    grown_reaches (g.I.Source.taken c.args.input.now) (g.I.Source.taken c.take.new.self) r.0 y r.2 (short_piece c.loop-n.room.items c.take.new.room c.in-Ok-take.n inv.room full c.in-Ok-take.ensures.within)
-    (taken_grows (g.I.Source.taken c.args.input.now) (g.I.Source.taken c.loop-n.input) (g.I.Source.taken c.take.new.self) r.0 c.take.new.room y c.in-Ok-take.n r.4 c.in-Ok-take.ensures.taken refl)
+    piece_reaches (g.I.Source.left c.args.input.now) (g.I.Source.left c.take.new.self) (g.I.Source.taken c.args.input.now) (g.I.Source.taken c.take.new.self) (g.O.Sink.written c.args.output.now) (g.O.Sink.written c.loop-n.output)
+    (g.O.Sink.written c.read.new.output) r.0 y r.2 (short_piece c.loop-n.room.items c.take.new.room c.in-Ok-take.n inv.room full c.in-Ok-take.ensures.within)
+    (left_moves (g.I.Source.left c.args.input.now) (g.I.Source.left c.loop-n.input) (g.I.Source.left c.take.new.self) r.0 r.3 c.take.new.room y c.in-Ok-take.n c.in-Ok-take.ensures.moved refl)
+    (taken_grows (g.I.Source.taken c.args.input.now) (g.I.Source.taken c.loop-n.input) (g.I.Source.taken c.take.new.self) r.0 c.take.new.room y c.in-Ok-take.n r.4 c.in-Ok-take.ensures.taken refl) r.5 c.in-Ok-Judged.ensures.grows
 
 pub returns-in-Ok-Judged-clause-judges : goal.returns-in-Ok-Judged-clause-judges
 returns-in-Ok-Judged-clause-judges g c = λ stream left.
@@ -174,12 +173,6 @@ returns-in-Ok-Judged-clause-reports g c = λ stream w left written.
     let all = rw c.in-Ok-Judged.field-0-is at k.2 in
     (k.0, k.1, all l.0 ∙ ap (λ x. w ++ report x (r.0 ++ y ++ l.0)) inv.settings ∙ ap (λ s. w ++ report usual s) (sym l.2))
 
-pub returns-in-Ok-Judged-clause-breaks : goal.returns-in-Ok-Judged-clause-breaks
-returns-in-Ok-Judged-clause-breaks g c = λ t taken.
-    let r = c.loop-n.invariant.reads in
-    let k = taken_grows (g.I.Source.taken c.args.input.now) (g.I.Source.taken c.loop-n.input) (g.I.Source.taken c.take.new.self) r.0 c.take.new.room (take c.in-Ok-take.n c.take.new.room) c.in-Ok-take.n r.4 c.in-Ok-take.ensures.taken refl t taken in
-    (t ++ (r.0 ++ take c.in-Ok-take.n c.take.new.room), k, tt)
-
 -- writing failed, or there was no memory
 pub returns-in-Err-clause-reaches : goal.returns-in-Err-clause-reaches
 returns-in-Err-clause-reaches g c =
@@ -187,8 +180,10 @@ returns-in-Err-clause-reaches g c =
     let r = inv.reads in
     let y : List ℕ = take c.in-Ok-take.n c.take.new.room in
     let full : length c.take.new.room ≡ length c.loop-n.room.items = c.take.auto.room ∙ ap length c.deref_mut.ensures.value in
-    grown_reaches (g.I.Source.taken c.args.input.now) (g.I.Source.taken c.take.new.self) r.0 y r.2 (short_piece c.loop-n.room.items c.take.new.room c.in-Ok-take.n inv.room full c.in-Ok-take.ensures.within)
-    (taken_grows (g.I.Source.taken c.args.input.now) (g.I.Source.taken c.loop-n.input) (g.I.Source.taken c.take.new.self) r.0 c.take.new.room y c.in-Ok-take.n r.4 c.in-Ok-take.ensures.taken refl)
+    piece_reaches (g.I.Source.left c.args.input.now) (g.I.Source.left c.take.new.self) (g.I.Source.taken c.args.input.now) (g.I.Source.taken c.take.new.self) (g.O.Sink.written c.args.output.now) (g.O.Sink.written c.loop-n.output)
+    (g.O.Sink.written c.read.new.output) r.0 y r.2 (short_piece c.loop-n.room.items c.take.new.room c.in-Ok-take.n inv.room full c.in-Ok-take.ensures.within)
+    (left_moves (g.I.Source.left c.args.input.now) (g.I.Source.left c.loop-n.input) (g.I.Source.left c.take.new.self) r.0 r.3 c.take.new.room y c.in-Ok-take.n c.in-Ok-take.ensures.moved refl)
+    (taken_grows (g.I.Source.taken c.args.input.now) (g.I.Source.taken c.loop-n.input) (g.I.Source.taken c.take.new.self) r.0 c.take.new.room y c.in-Ok-take.n r.4 c.in-Ok-take.ensures.taken refl) r.5 c.in-Err.ensures.grows
 
 pub returns-in-Err-clause-written_well : goal.returns-in-Err-clause-written_well
 returns-in-Err-clause-written_well g c = λ well.
@@ -210,13 +205,7 @@ returns-in-Err-clause-reports g c = λ stream w left written.
     (k.0, k.1, rw c.stopped.ensures (stopped_reports usual stream w k.0 c.in-Err.fault grows))
 
 pub returns-in-Err-clause-breaks : goal.returns-in-Err-clause-breaks
-returns-in-Err-clause-breaks g c = λ t taken.
-    let r = c.loop-n.invariant.reads in
-    let k = taken_grows (g.I.Source.taken c.args.input.now) (g.I.Source.taken c.loop-n.input) (g.I.Source.taken c.take.new.self) r.0 c.take.new.room (take c.in-Ok-take.n c.take.new.room) c.in-Ok-take.n r.4 c.in-Ok-take.ensures.taken refl t taken in (
-      t ++ (r.0 ++ take c.in-Ok-take.n c.take.new.room),
-      k,
-      rw c.stopped.ensures (stopped_breaks usual t (t ++ (r.0 ++ take c.in-Ok-take.n c.take.new.room)) (g.O.Sink.written c.args.output.now) (g.O.Sink.written c.read.new.output) c.in-Err.fault),
-    )
+returns-in-Err-clause-breaks g c = λ e. absurd (stopped_not_read c.in-Err.fault (sym c.stopped.ensures ∙ e))
 
 pub returns-in-Err-clause-read_failed : goal.returns-in-Err-clause-read_failed
 returns-in-Err-clause-read_failed g c = λ e. absurd (stopped_not_read c.in-Err.fault (sym c.stopped.ensures ∙ e))

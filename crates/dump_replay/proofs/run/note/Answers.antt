@@ -1,6 +1,6 @@
 use Rattle.std.proofs.Common.{◌∙◌, subst}
 use Rattle.io_edges.specs.Flow.{Told, GrowsByPrefix}
-use Rattle.dump_replay.proofs.RunSteps.{put_either}
+use Rattle.dump_replay.proofs.Writing.{put_either}
 use Rattle.dump_replay.proofs.run.note.Goals as goal
 
 pub returns-then-not-is_empty-clause-noted : goal.returns-then-not-is_empty-clause-noted

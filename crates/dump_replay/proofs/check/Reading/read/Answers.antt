@@ -13,7 +13,7 @@ use Rattle.dump_replay.specs.Receiving.{StandsFor, settings_of}
 use Rattle.dump_replay.specs.Running.{IsOpenAt}
 use Rattle.dump_replay.specs.Checking.{set_to}
 use Rattle.dump_replay.proofs.Pending.{pending_open}
-use Rattle.dump_replay.proofs.Writing.{told_some, grown_behind}
+use Rattle.dump_replay.proofs.Writing.{told_some, grown_behind, grows_further}
 use Rattle.dump_replay.proofs.ReadSteps.{rest_of, further, read_more, event_within, event_read, event_cut, end_read, offence_read, on_here, not_over_here, counted_here, has_read, told_here, due, line_here}
 use Rattle.dump_replay.proofs.check.Reading.read.Goals as goal
 
@@ -205,6 +205,7 @@ loop-answer-preserved g c =
           omega (arith, within.1, len, inv.within);
       settings = settings;
       faults = c.in_ok-put_event-in_default.ensures.good ∙ inv.faults;
+      grows = grows_further (g.O.Sink.written c.args.output.now) (g.O.Sink.written c.loop-answer.output) (g.O.Sink.written c.put_event-in_default.new.output) inv.grows c.in_ok-put_event-in_default.ensures.grows;
       reads = λ p read.
           let q : List ℕ = p ++ take used piece in
           let y : List ℕ = rest_of piece used in

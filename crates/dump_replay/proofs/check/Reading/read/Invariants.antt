@@ -1,6 +1,7 @@
 use Rattle.std.proofs.Common.{◌≡◌, ℕ, ◌-◌, ◌≤◌, List, ◌++◌, length, take, Some}
+use Rattle.io_edges.specs.Flow.{Told}
 use Rattle.dump_replay.specs.Report.{event_lines}
-use Rattle.dump_replay.specs.Checking.{set_to, HasRead}
+use Rattle.dump_replay.specs.Checking.{set_to, HasRead, Grows}
 use Rattle.dump_replay.proofs.check.Reading.read.Given as goal
 
 abbrev pub invariant-loop-answer : goal.invariant-loop-answer
@@ -8,6 +9,7 @@ invariant-loop-answer g l = record {
   within : l.used ≤ length l.piece;
   settings : set_to l.self ≡ set_to l.initial.self;
   faults : g.O.Sink.faults l.output ≡ g.O.Sink.faults l.initial.output;
+  grows : Told (g.O.Sink.written l.initial.output) (g.O.Sink.written l.output) Grows;
   reads : (p : List ℕ) → HasRead l.initial.self p → HasRead l.self (p ++ take l.used l.piece);
   writes : (p w : List ℕ) → HasRead l.initial.self p → g.O.Sink.written l.initial.output ≡ Some (w ++ event_lines (set_to l.initial.self) p)
       → g.O.Sink.written l.output ≡ Some (w ++ event_lines (set_to l.initial.self) (p ++ take l.used l.piece));

@@ -11,5 +11,6 @@ put-tells c = record {
   failed = grind (arith, common_steps);
   memory = grind (arith, common_steps);
   wanted = λ _. refl;
+  settled = refl;
   faults = grind (arith, common_steps);
 }
