@@ -2,8 +2,9 @@
 use Rattle.std.specs.Prelude.{◌≡◌, ℕ, List, [], ◌++◌, length, None, ◌↔◌}
 use Rattle.std.specs.List.{flat_map}
 use Rattle.multibyte_ints.specs.Front.{whole}
+use Rattle.dump_replay.specs.declared.receiver.Step.TheVariants.{More}
 use Rattle.dump_replay.specs.Stream.{Settings, Stage, StreamUnit, unit_at, standing}
-use Rattle.dump_replay.specs.Judging.{offence, events}
+use Rattle.dump_replay.specs.Judging.{offence, events, completes, answer}
 use Rattle.dump_replay.specs.Report.{event_line, offence_line_of, report}
 use Rattle.dump_replay.specs.Sessions.{IsClosed}
 
@@ -22,3 +23,7 @@ abbrev pub NoUnitGoesOn : Type 0
 NoUnitGoesOn =
     (x : Settings) (stage : Stage) (b c : List ℕ) (u v : StreamUnit)
     → unit_at x stage b ≡ whole u (length b) → unit_at x stage (b ++ c) ≡ whole v (length (b ++ c)) → c ≡ []
+
+-- no event is More
+abbrev pub NoEventIsMore : Type 0
+NoEventIsMore = (x : Settings) (p y : List ℕ) (n : ℕ) → answer x p y ≡ completes n More → ⊥

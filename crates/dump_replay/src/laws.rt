@@ -1,7 +1,7 @@
 //! What holds of an initiator's streams by their definitions alone. Each function does nothing: its
 //! contract is a law, which a caller has where it calls the function.
 
-ghost use Rattle.dump_replay.specs.Laws.{ClosedOrRefused, ReportsEvents, NoUnitGoesOn};
+ghost use Rattle.dump_replay.specs.Laws.{ClosedOrRefused, ReportsEvents, NoUnitGoesOn, NoEventIsMore};
 
 /// A stream either is closed, which is that a session stands at its front, or has an offence, which
 /// is one: what refuses it is a function of its bytes.
@@ -18,4 +18,9 @@ pub fn reports()
 /// No unit, which is a record or a byte of a payload, begins a longer one that may come in its place.
 pub fn units()
     ensures none_goes_on { NoUnitGoesOn }
+{}
+
+/// An event that a piece completes is never `More`, which stands for none.
+pub fn events()
+    ensures { NoEventIsMore }
 {}
