@@ -109,7 +109,7 @@ module _ (x : Settings) where
       ]
 
   -- behind the end nothing is read
-  over_begun : (stage : Stage) (b : List ℕ) → is_over stage ≡ true → unit_at x stage b ≡ begun
+  pub over_begun : (stage : Stage) (b : List ℕ) → is_over stage ≡ true → unit_at x stage b ≡ begun
   unfolding unit_at
   over_begun stage b e = let h = over_stage stage e in rw h refl
 

@@ -53,11 +53,11 @@ module _ (x : Settings) where
   a_line q step e = rw e refl
 
   -- the report past a byte more
-  report_next : (q : List ℕ) (b : ℕ) (y : List ℕ) → refusal_at x q ≡ None → is_over_at x q ≡ false → after_report x q (b ∷ y) ≡ line_at x (q ++ b ∷ []) ++ after_report x (q ++ b ∷ []) y
+  pub report_next : (q : List ℕ) (b : ℕ) (y : List ℕ) → refusal_at x q ≡ None → is_over_at x q ≡ false → after_report x q (b ∷ y) ≡ line_at x (q ++ b ∷ []) ++ after_report x (q ++ b ∷ []) y
   report_next q b y r o = rw (r, o) (report_from_is (q ++ b ∷ []) y)
 
   -- a byte that decides nothing adds nothing to a report
-  report_carries : IsCarried x (after_report x)
+  pub report_carries : IsCarried x (after_report x)
   report_carries q b y r o e = report_next q b y r o ∙ rw (no_line (q ++ b ∷ []) e) refl
 
   -- an event adds its line to a report

@@ -2,11 +2,12 @@
 use Rattle.std.specs.Prelude.{◌≡◌, ℕ, List, [], ◌++◌, length, None, ◌↔◌}
 use Rattle.std.specs.List.{flat_map}
 use Rattle.multibyte_ints.specs.Front.{whole}
+use Rattle.nbfx_values.specs.declared.session.Kind.{Kind}
 use Rattle.dump_replay.specs.declared.receiver.Step.TheVariants.{More}
 use Rattle.dump_replay.specs.Stream.{Settings, Stage, StreamUnit, unit_at, standing}
 use Rattle.dump_replay.specs.Judging.{offence, events, completes, answer}
-use Rattle.dump_replay.specs.Report.{event_line, offence_line_of, report}
-use Rattle.dump_replay.specs.Sessions.{IsClosed}
+use Rattle.dump_replay.specs.Report.{event_line, offence_line_of, report, session_report}
+use Rattle.dump_replay.specs.Sessions.{IsSession, IsClosed}
 
 -- a stream has no offence exactly where a session stands at its front
 abbrev pub ClosedOrRefused : Type 0
@@ -17,6 +18,12 @@ abbrev pub ReportsEvents : Type 0
 ReportsEvents =
     (x : Settings) (stream : List ℕ)
     → report x stream ≡ flat_map (λ event. event_line (standing x event.prefix).situation (length event.prefix) event.step) (events x stream) ++ offence_line_of (offence x stream)
+
+-- Where a session stands at the front of a stream, its parts are the report, whatever follows.
+abbrev pub ReportsSessions : Type 0
+ReportsSessions =
+    (x : Settings) (via : List ℕ) (kind : Kind) (payloads : List (List ℕ)) (session rest : List ℕ)
+    → IsSession x via kind payloads session → report x (session ++ rest) ≡ session_report via kind payloads (length session)
 
 -- where a unit may come, none begins a longer one
 abbrev pub NoUnitGoesOn : Type 0

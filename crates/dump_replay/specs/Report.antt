@@ -1,5 +1,5 @@
 -- The lines that a report of an initiator's stream has.
-use Rattle.std.specs.Prelude.{ℕ, ◌-◌, ◌/◌, ◌%◌, List, [], ◌∷◌, ◌++◌, length, Bool, true, false, Option, Some, None, nat_lt, nat_le, ◌==◌, ◌&&◌, not, if◌then◌else◌, codes}
+use Rattle.std.specs.Prelude.{ℕ, ◌+◌, ◌-◌, ◌/◌, ◌%◌, List, [], ◌∷◌, ◌++◌, length, Bool, true, false, Option, Some, None, nat_lt, nat_le, ◌==◌, ◌&&◌, not, if◌then◌else◌, codes}
 use Rattle.std.specs.List.{flat_map}
 use Rattle.std.specs.Fmt.{decimal, digit_glyph}
 use Rattle.nbfx_values.specs.declared.session.Mode.{Mode}
@@ -94,3 +94,12 @@ event_lines_from x p (b ∷ y) = line_at x p ++ event_lines_from x (p ++ b ∷ [
 
 unfoldable pub event_lines : Settings → List ℕ → List ℕ
 event_lines x b = event_lines_from x [] b
+
+-- a line for each payload, numbered from here on
+abbrev pub message_lines : ℕ → List (List ℕ) → List ℕ
+message_lines number [] = []
+message_lines number (payload ∷ payloads) = message_line number (length payload) ++ message_lines (number + 1) payloads
+
+-- the lines of a session of so many bytes, which is a Via, a known encoding and payloads
+unfoldable pub session_report : List ℕ → Kind → List (List ℕ) → ℕ → List ℕ
+session_report via kind payloads n = open_line Duplex kind via ++ message_lines 0 payloads ++ ended_line n

@@ -1,7 +1,7 @@
 //! What holds of an initiator's streams by their definitions alone. Each function does nothing: its
 //! contract is a law, which a caller has where it calls the function.
 
-ghost use Rattle.dump_replay.specs.Laws.{ClosedOrRefused, ReportsEvents, NoUnitGoesOn, NoEventIsMore};
+ghost use Rattle.dump_replay.specs.Laws.{ClosedOrRefused, ReportsEvents, ReportsSessions, NoUnitGoesOn, NoEventIsMore};
 
 /// A stream either is closed, which is that a session stands at its front, or has an offence, which
 /// is one: what refuses it is a function of its bytes.
@@ -13,6 +13,12 @@ pub fn closed_or_refused()
 /// offence where it has one.
 pub fn reports()
     ensures { ReportsEvents }
+{}
+
+/// The report of a stream at the front of which a session stands is the session's open line, a line
+/// for each of its payloads and its ended line, whatever follows.
+pub fn session_reports()
+    ensures { ReportsSessions }
 {}
 
 /// No unit, which is a record or a byte of a payload, begins a longer one that may come in its place.
