@@ -80,7 +80,7 @@ module _ (x : Settings) where
   answer_undecided p n e = rw e refl
 
   -- where nothing is decided the next byte is taken
-  answer_next : (p : List ℕ) (n b : ℕ) (y : List ℕ) → decided_at x p n ≡ None → answer_from x p n (b ∷ y) ≡ answer_from x (p ++ b ∷ []) (suc n) y
+  pub answer_next : (p : List ℕ) (n b : ℕ) (y : List ℕ) → decided_at x p n ≡ None → answer_from x p n (b ∷ y) ≡ answer_from x (p ++ b ∷ []) (suc n) y
   unfolding answer_from
   answer_next p n b y e = rw e refl
 

@@ -83,7 +83,7 @@ module _ (x : Settings) where
   unfolding offence_from
   offence_next p b y e = rw e refl
 
-  -- at each of the bytes c behind p but the last nothing is decided
+  -- before the last of the bytes c behind p nothing is decided
   abbrev AreUndecided : List ℕ → List ℕ → Type 0
   AreUndecided p c = (j : ℕ) → j < length c → IsUndecided x (p ++ take j c) j
 

@@ -10,6 +10,7 @@ pub mod Answers
 pub mod Lines
 pub mod Meaning
 pub mod Carried
+pub mod Cuts
 pub mod Reports
 pub mod Vias
 pub mod FromSession

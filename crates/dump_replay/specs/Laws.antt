@@ -1,11 +1,11 @@
 -- What holds of streams by their definitions alone.
-use Rattle.std.specs.Prelude.{◌≡◌, ℕ, List, [], ◌++◌, length, None, ◌↔◌}
+use Rattle.std.specs.Prelude.{◌≡◌, ℕ, ◌+◌, List, [], ◌++◌, length, None, ◌↔◌}
 use Rattle.std.specs.List.{flat_map}
 use Rattle.multibyte_ints.specs.Front.{whole}
 use Rattle.nbfx_values.specs.declared.session.Kind.{Kind}
 use Rattle.dump_replay.specs.declared.receiver.Step.TheVariants.{More}
 use Rattle.dump_replay.specs.Stream.{Settings, Stage, StreamUnit, unit_at, standing}
-use Rattle.dump_replay.specs.Judging.{offence, events, completes, answer}
+use Rattle.dump_replay.specs.Judging.{offence, events, Answer, goes_on, completes, offends, answer}
 use Rattle.dump_replay.specs.Report.{event_line, offence_line_of, report, session_report}
 use Rattle.dump_replay.specs.Sessions.{IsSession, IsClosed}
 
@@ -34,3 +34,19 @@ NoUnitGoesOn =
 -- no event is More
 abbrev pub NoEventIsMore : Type 0
 NoEventIsMore = (x : Settings) (p y : List ℕ) (n : ℕ) → answer x p y ≡ completes n More → ⊥
+
+-- an answer, its bytes counted with so many before them
+abbrev pub raised : ℕ → Answer → Answer
+raised k goes_on = goes_on
+raised k (completes n step) = completes (k + n) step
+raised k (offends n o) = offends (k + n) o
+
+-- an answer, or the next where it decides nothing
+abbrev pub unless_decided : Answer → Answer → Answer
+unless_decided goes_on next = next
+unless_decided (completes n step) next = completes n step
+unless_decided (offends n o) next = offends n o
+
+-- the answer to two pieces as one is the first's, or else the second's
+abbrev pub CutsChangeNothing : Type 0
+CutsChangeNothing = (x : Settings) (p y z : List ℕ) → answer x p (y ++ z) ≡ unless_decided (answer x p y) (raised (length y) (answer x (p ++ y) z))

@@ -1,7 +1,7 @@
 //! What holds of an initiator's streams by their definitions alone. Each function does nothing: its
 //! contract is a law, which a caller has where it calls the function.
 
-ghost use Rattle.dump_replay.specs.Laws.{ClosedOrRefused, ReportsEvents, ReportsSessions, NoUnitGoesOn, NoEventIsMore};
+ghost use Rattle.dump_replay.specs.Laws.{ClosedOrRefused, ReportsEvents, ReportsSessions, NoUnitGoesOn, NoEventIsMore, CutsChangeNothing};
 
 /// A stream either is closed, which is that a session stands at its front, or has an offence, which
 /// is one: what refuses it is a function of its bytes.
@@ -29,4 +29,10 @@ pub fn units()
 /// An event that a piece completes is never `More`, which stands for none.
 pub fn events()
     ensures { NoEventIsMore }
+{}
+
+/// Where pieces are cut changes nothing: two as one are answered as the first is, or, where that
+/// decides nothing, as the second is behind it, counted from the beginning of the first.
+pub fn cuts()
+    ensures { CutsChangeNothing }
 {}
