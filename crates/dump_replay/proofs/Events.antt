@@ -1,19 +1,19 @@
 -- What each prefix of a stream completes, what refuses it, and what a byte more changes.
 use Rattle.std.proofs.Common.{◌≡◌, ℕ, ◌+◌, ◌<◌, inl, inr, List, [], ◌∷◌, ◌++◌, length, Bool, true, false, Option, Some, None, refl, arith}
 use Rattle.std.specs.Prelude.{nat_le, ◌&&◌, not, if◌then◌else◌}
-use Rattle.std.proofs.lemmas.Bool.{lt-leb, leb-false, cases_Bool}
+use Rattle.std.proofs.lemmas.Bool.{leb-false, cases_Bool}
 use Rattle.multibyte_ints.specs.Front.{Front, begun, whole, wrong}
 use Rattle.nbfx_values.specs.declared.refusals.Offence.{Offence}
 use Rattle.nbfx_values.specs.declared.refusals.Reason.{Reason}
 use Rattle.nbfx_values.specs.declared.refusals.Reason.TheVariants.{SessionTooLong, Truncated}
 use Rattle.dump_replay.specs.declared.receiver.Step.{Step}
 use Rattle.dump_replay.specs.declared.receiver.Step.TheVariants.{More, Ended}
-use Rattle.dump_replay.specs.Stream.{Settings, Stage, after_end, Situation, StreamUnit, Standing, unit_at, after, standing}
+use Rattle.dump_replay.specs.Stream.{Settings, Stage, after_end, StreamUnit, Standing, unit_at, after, standing}
 use Rattle.dump_replay.specs.Judging.{is_over, open_offence, length_refusal, unit_refusal, refusal_at, completed_by, completed_at, is_over_at, ending_at}
 use Rattle.dump_replay.proofs.Coming.{coming}
 use Rattle.dump_replay.specs.Running.{counted}
 use Rattle.dump_replay.proofs.After.{after_counts}
-use Rattle.dump_replay.proofs.Standing.{IsOpen, stand, standing_nothing, standing_grows, begun_open, standing_byte, standing_open, standing_sound}
+use Rattle.dump_replay.proofs.Standing.{IsOpen, standing_nothing, standing_grows, begun_open, standing_byte, standing_open, standing_sound}
 
 -- only the last stage is over
 pub over_stage : (stage : Stage) → is_over stage ≡ true → stage ≡ after_end
@@ -152,12 +152,3 @@ module _ (x : Settings) where
   pub nothing_not_over : is_over_at x [] ≡ false
   unfolding is_over_at
   nothing_not_over = rw (standing_nothing x) refl
-
-  -- a length below the quota is not refused
-  length_fits : (s : Standing) (n : ℕ) → n < x.limits.session → length_refusal x s n ≡ None
-  length_fits s n h = rw (lt-leb x.limits.session n h) refl
-
-  -- a prefix within the session quota, a unit of which is begun, isn't refused
-  pub unrefused : (q : List ℕ) (z : Situation) (f : ℕ) (b : List ℕ) → standing x q ≡ stand z f b → unit_at x z.stage b ≡ begun → length q < x.limits.session → refusal_at x q ≡ None
-  unfolding refusal_at
-  unrefused q z f b e u h = rw (e, u) (length_fits (stand z f b) (length q) h)
