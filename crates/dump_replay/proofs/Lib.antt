@@ -1,4 +1,4 @@
-mod Rows
+mod Worked
 mod Refusals
 pub mod Units
 pub mod Coming

@@ -1,4 +1,4 @@
 pub mod Pieces
 pub mod Tapes
-pub mod Rows
+pub mod Worked
 pub mod Stores

@@ -1,4 +1,4 @@
-mod Rows
+mod Worked
 pub mod IntegerFacts
 pub mod Values
 pub mod IntegerLaws

@@ -1,4 +1,4 @@
 pub mod Heights
 pub mod OnLiterals
-pub mod Rows
+pub mod Worked
 pub mod Walks

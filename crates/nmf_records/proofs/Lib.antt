@@ -1,4 +1,4 @@
-mod Rows
+mod Worked
 pub mod Peeling
 pub mod Fronts
 pub mod Typed

@@ -1,4 +1,4 @@
 pub mod Laws
 pub mod StringFacts
 pub mod TableFacts
-mod Rows
+mod Worked

@@ -1,4 +1,4 @@
--- Worked rows: what the definitions make of literal items and values.
+-- Worked cases: what the definitions make of literal items and values.
 use Rattle.std.proofs.Common.{◌≡◌, ◌^◌, ◌-◌, ℕ, List, [], ◌∷◌, codes, refl, pos, negsuc, Some, arith}
 use Rattle.nbfx_values.specs.declared.content.ArrayKind.TheVariants.{Int32}
 use Rattle.nbfx_values.specs.declared.content.Item.{Item}
