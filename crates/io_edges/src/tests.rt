@@ -4,6 +4,8 @@ ghost use Rattle.io_edges.specs.Faults.{Rose};
 use super::*;
 use std::alloc::Global;
 use std::collections::BTreeMap;
+use std::fs::OpenOptions;
+use std::io::Read;
 use std::test::Fail;
 use std::{env, fs, process};
 
@@ -117,6 +119,33 @@ fn adapters_move_real_bytes(rt: HostRuntime) -> Result<(), Fail> {
     assert_eq!(rt; pass_on(&mut source, &mut sink, &mut room), Ok(1));
     assert_eq!(rt; pass_on(&mut source, &mut sink, &mut room), Ok(0));
     assert_eq!(rt; written.as_slice(), b"abc".as_slice());
+    Ok(())
+}
+
+#[test]
+fn a_take_is_one_read(rt: HostRuntime) {
+    let mut source = ReadSource::new(b"ab".as_slice().chain(b"c".as_slice()));
+    let mut room = [0u8; 4];
+    assert_eq!(rt; source.take(&mut room), Ok(2));
+    assert_eq!(rt; room, *b"ab\0\0");
+    assert_eq!(rt; source.take(&mut room), Ok(1));
+    assert_eq!(rt; room, *b"cb\0\0");
+    assert_eq!(rt; source.take(&mut room), Ok(0));
+}
+
+#[test]
+fn a_folder_fails_the_take(rt: HostRuntime) -> Result<(), Fail> {
+    let mut source = ReadSource::new(fs::open(&rt, ".")?);
+    let mut room = [0u8; 4];
+    assert_eq!(rt; source.take(&mut room), Err(Failed));
+    Ok(())
+}
+
+#[test]
+fn a_full_device_fails_the_put(rt: HostRuntime) -> Result<(), Fail> {
+    let full = OpenOptions::new().write(true).open(&rt, "/dev/full")?;
+    let mut sink = WriteSink::new(full);
+    assert_eq!(rt; sink.put(b"ab"), Err(SinkFault::Failed));
     Ok(())
 }
 
