@@ -1,12 +1,19 @@
 -- A worked stream for each refusal, computed by the definitions: its place, and the byte that shows it.
 use Rattle.std.proofs.Common.{◌≡◌, ◌^◌, ℕ, List, [], ◌∷◌, ◌++◌, refl}
-use Rattle.std.specs.Prelude.{codes}
+use Rattle.std.specs.Prelude.{codes, Option, Some, None}
 use Rattle.std.specs.Str.{is_utf8, chars}
 use Rattle.std.specs.Fmt.{digits}
 use lib.Utf8.{encode}
+use Rattle.multibyte_ints.specs.Front.{Front, begun, whole, wrong}
 use Rattle.multibyte_ints.specs.Integer.{int_at, int_ending_at, value_of}
 use Rattle.multibyte_ints.specs.Text.{string_at, text_behind, text_at, text_ending_at}
-use Rattle.dump_replay.specs.Stream.{Settings, unit_at, after, peeled, standing}
+use Rattle.nbfx_values.specs.declared.refusals.Reason.{Reason}
+use Rattle.nbfx_values.specs.declared.refusals.Reason.TheVariants.{BadInt, UnknownRecord, OutOfOrder, BadVersion, BadMode, TextTooLong, TextNotUtf8, BadEncoding, UpgradeRefused, MessageTooLarge}
+use Rattle.nmf_records.specs.declared.frame.Expect.TheVariants.{Types}
+use Rattle.nmf_records.specs.declared.frame.FrameFault.{FrameFault}
+use Rattle.nmf_records.specs.Records.{Read}
+use Rattle.nmf_records.specs.Reading.{frame_at}
+use Rattle.dump_replay.specs.Stream.{Settings, Stage, at_version, at_mode, at_via, at_encoding, at_preamble_end, at_message, types_of, reason_of, refused, unit_at, after, peeled, standing}
 use Rattle.dump_replay.specs.Judging.{refusal_at, completed_at, is_over_at, ending_at}
 use Rattle.dump_replay.specs.Report.{quoted, offence_line, line_at, report_from, report}
 
@@ -72,9 +79,10 @@ types_out_of_order :
     × Reports usual (with_encoding ++ 6 ∷ 0 ∷ []) (codes "offence frame 22 0 Unbuilt\n")
     × ReportsBehind usual (12 ∷ []) (codes "offence frame 23 0 Unbuilt\n")
     × ReportsBehind usual (5 ∷ []) (codes "offence frame 23 0 Unbuilt\n")
+    × ReportsBehind usual (8 ∷ []) (codes "offence frame 23 0 Unbuilt\n")
     × ReportsBehind usual (11 ∷ []) (codes "offence frame 23 0 Unbuilt\n")
 unfolding is_utf8 chars encode digits int_at int_ending_at value_of string_at text_behind text_at text_ending_at unit_at after peeled standing refusal_at completed_at is_over_at ending_at quoted offence_line line_at report_from report
-types_out_of_order = (refl, refl, refl, refl, refl, refl, refl, refl, refl)
+types_out_of_order = (refl, refl, refl, refl, refl, refl, refl, refl, refl, refl)
 
 -- an encoding that is spelled out, an upgrade, and its answer
 types_without_a_record :
@@ -189,3 +197,100 @@ unit_first :
     × ReportsBehind (of_session 24) (7 ∷ 13 ∷ []) (codes "ended 24\n")
 unfolding is_utf8 chars encode digits int_at int_ending_at value_of string_at text_behind text_at text_ending_at unit_at after peeled standing refusal_at completed_at is_over_at ending_at quoted offence_line line_at report_from report
 unit_first = (refl, refl, refl, refl, refl)
+
+-- why the record at the front of some bytes is refused, told apart
+abbrev reason_at : Settings → Stage → Front Read FrameFault → Option Reason
+reason_at x stage begun = None
+reason_at x stage (whole read n) = refused x read.frame
+reason_at x stage (wrong fault n) = Some (reason_of stage fault)
+
+abbrev named : Settings → Stage → List ℕ → Option Reason
+named x stage bytes = reason_at x stage (frame_at x.limits.via (Types (types_of stage)) bytes)
+
+-- each record of a preamble, an envelope and the end, and one that is only begun
+nothing_named :
+    (named usual at_version (0 ∷ 1 ∷ 0 ∷ []) ≡ None)
+    × (named usual at_mode (1 ∷ 2 ∷ []) ≡ None)
+    × (named usual at_via (2 ∷ 2 ∷ 104 ∷ 105 ∷ []) ≡ None)
+    × (named usual at_encoding (3 ∷ 7 ∷ []) ≡ None)
+    × (named usual at_encoding (3 ∷ 8 ∷ []) ≡ None)
+    × (named usual at_preamble_end (12 ∷ []) ≡ None)
+    × (named usual at_message (6 ∷ 128 ∷ 128 ∷ 4 ∷ []) ≡ None)
+    × (named usual at_message (7 ∷ []) ≡ None)
+    × (named usual at_message (6 ∷ 129 ∷ []) ≡ None)
+unfolding is_utf8 chars encode int_at int_ending_at value_of string_at text_behind text_at text_ending_at
+nothing_named = (refl, refl, refl, refl, refl, refl, refl, refl, refl)
+
+-- the fifth byte of a size or of a length is above 07
+bad_integers_named :
+    (named usual at_message (6 ∷ 255 ∷ 255 ∷ 255 ∷ 255 ∷ 8 ∷ []) ≡ Some BadInt)
+    × (named usual at_via (2 ∷ 255 ∷ 255 ∷ 255 ∷ 255 ∷ 8 ∷ []) ≡ Some BadInt)
+unfolding is_utf8 chars encode int_at int_ending_at value_of string_at text_behind text_at text_ending_at
+bad_integers_named = (refl, refl)
+
+-- a type byte above 0C, wherever it stands
+unknown_types_named :
+    (named usual at_version (13 ∷ []) ≡ Some UnknownRecord)
+    × (named usual at_mode (13 ∷ []) ≡ Some UnknownRecord)
+    × (named usual at_via (13 ∷ []) ≡ Some UnknownRecord)
+    × (named usual at_encoding (13 ∷ []) ≡ Some UnknownRecord)
+    × (named usual at_preamble_end (13 ∷ []) ≡ Some UnknownRecord)
+    × (named usual at_message (13 ∷ []) ≡ Some UnknownRecord)
+unknown_types_named = (refl, refl, refl, refl, refl, refl)
+
+-- a known type that may not come, and not for the encoding or an upgrade
+types_out_of_order_named :
+    (named usual at_version (7 ∷ []) ≡ Some OutOfOrder)
+    × (named usual at_version (4 ∷ []) ≡ Some OutOfOrder)
+    × (named usual at_mode (9 ∷ []) ≡ Some OutOfOrder)
+    × (named usual at_via (3 ∷ 8 ∷ []) ≡ Some OutOfOrder)
+    × (named usual at_encoding (9 ∷ []) ≡ Some OutOfOrder)
+    × (named usual at_encoding (12 ∷ []) ≡ Some OutOfOrder)
+    × (named usual at_preamble_end (4 ∷ []) ≡ Some OutOfOrder)
+    × (named usual at_preamble_end (8 ∷ []) ≡ Some OutOfOrder)
+    × (named usual at_preamble_end (10 ∷ []) ≡ Some OutOfOrder)
+    × (named usual at_message (4 ∷ []) ≡ Some OutOfOrder)
+    × (named usual at_message (8 ∷ []) ≡ Some OutOfOrder)
+    × (named usual at_message (9 ∷ []) ≡ Some OutOfOrder)
+types_out_of_order_named = (refl, refl, refl, refl, refl, refl, refl, refl, refl, refl, refl, refl)
+
+-- a version other than 1, 0
+other_versions_named :
+    (named usual at_version (0 ∷ 2 ∷ 0 ∷ []) ≡ Some BadVersion)
+    × (named usual at_version (0 ∷ 1 ∷ 1 ∷ []) ≡ Some BadVersion)
+other_versions_named = (refl, refl)
+
+-- a mode other than 2
+other_modes_named :
+    (named usual at_mode (1 ∷ 1 ∷ []) ≡ Some BadMode)
+    × (named usual at_mode (1 ∷ 3 ∷ []) ≡ Some BadMode)
+    × (named usual at_mode (1 ∷ 0 ∷ []) ≡ Some BadMode)
+other_modes_named = (refl, refl, refl)
+
+-- the length of a Via is above 2,048
+long_vias_named :
+    (named usual at_via (2 ∷ 129 ∷ 16 ∷ []) ≡ Some TextTooLong)
+    × (named usual at_via (2 ∷ 128 ∷ 16 ∷ []) ≡ None)
+unfolding is_utf8 chars encode int_at int_ending_at value_of string_at text_behind text_at text_ending_at
+long_vias_named = (refl, refl)
+
+-- a Via that is not UTF-8
+vias_not_utf8_named : named usual at_via (2 ∷ 1 ∷ 255 ∷ []) ≡ Some TextNotUtf8
+unfolding is_utf8 chars encode int_at int_ending_at value_of string_at text_behind text_at text_ending_at
+vias_not_utf8_named = refl
+
+-- an encoding other than 7 and 8, or spelled out
+other_encodings_named :
+    (named usual at_encoding (3 ∷ 9 ∷ []) ≡ Some BadEncoding)
+    × (named usual at_encoding (3 ∷ 6 ∷ []) ≡ Some BadEncoding)
+    × (named usual at_encoding (4 ∷ []) ≡ Some BadEncoding)
+other_encodings_named = (refl, refl, refl)
+
+-- an upgrade in place of the preamble's end
+upgrade_named : named usual at_preamble_end (9 ∷ []) ≡ Some UpgradeRefused
+upgrade_named = refl
+
+-- an envelope of more than 65,536 bytes
+too_large_named : named usual at_message (6 ∷ 129 ∷ 128 ∷ 4 ∷ []) ≡ Some MessageTooLarge
+unfolding int_at int_ending_at value_of
+too_large_named = refl
