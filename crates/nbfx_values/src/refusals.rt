@@ -4,7 +4,7 @@ ghost use Rattle.nbfx_values.specs.Refusals.{reason_name, reason_number};
 /// Why a stream was refused.
 #[derive(Clone, Copy, Debug, PartialEq, Eq)]
 pub enum Reason {
-    /// What this stage of the stack doesn't read yet.
+    /// What this version doesn't read yet.
     Unbuilt,
     /// An integer's fifth byte is above 07, or a four-byte length is negative.
     BadInt,

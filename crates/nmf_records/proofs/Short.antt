@@ -23,7 +23,7 @@ use Rattle.nmf_records.proofs.Frames.{frames_front}
 abbrev pub longest : ℕ → ℕ
 longest limit = min limit (2 ^ 31 - 1)
 
--- what has begun behind n bytes has, with them, at most five bytes beside those of a text
+-- what has begun behind n bytes has, with them, at most five bytes more than the longest text
 abbrev IsShort : {A R : Type 0} → ℕ → ℕ → (List ℕ → Front A R) → Type 0
 IsShort limit n f = (b : List ℕ) → f b ≡ begun → n + length b ≤ longest limit + 5
 
@@ -97,13 +97,13 @@ behind_type limit types kind =
     choice_short limit (nat_lt 12 kind) _ _ (wrong_short limit faults.UnknownRecord) (
     choice_short limit (allows types kind) _ _ (typed_short limit kind) (wrong_short limit (faults.Unexpected kind)))
 
--- a record that has begun has at most five bytes beside those of a text
+-- a record that has begun has at most five bytes more than the longest text
 pub begun_short : (limit : ℕ) (expect : Expect) → IsShort limit 0 (frame_at limit expect)
 begun_short limit (Types types) [] e = omega arith
 begun_short limit (Types types) (kind ∷ b) e = omega (arith, behind_type limit types kind b e)
 begun_short limit Chunk b e = size_short limit 0 (omega arith) frames.Chunk b e
 
--- so what decides one is at most six
+-- so what decides one has at most six more
 pub decided_short : (limit : ℕ) (expect : Expect) (b : List ℕ) → extent (frame_at limit expect b) ≤ longest limit + 6
 decided_short limit expect b =
     elim (said_of (frame_at limit expect b)) [

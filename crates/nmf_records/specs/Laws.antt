@@ -43,7 +43,7 @@ abbrev pub NoRecordGoesOn : Type 0
 NoRecordGoesOn = (expect : Expect) (one other : Read) (bytes more : List ℕ) → MayCome expect one.frame → MayCome expect other.frame
     → IsRecord one bytes → IsRecord other (bytes ++ more) → (more ≡ []) × (one ≡ other)
 
--- a record that has begun has at most five bytes beside those of a text, and what decides one at most six
+-- a record that has begun has at most five bytes more than the limit, and what decides one at most six more
 abbrev pub BegunIsShort : Type 0
 BegunIsShort = (limit : ℕ) (expect : Expect) (bytes : List ℕ) → frame_at limit expect bytes ≡ begun → length bytes ≤ limit + 5
 

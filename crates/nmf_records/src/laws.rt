@@ -19,7 +19,8 @@ pub fn records()
     ensures none_goes_on { NoRecordGoesOn }
 {}
 
-/// A record has at most six bytes beside those of its text, and what is wrong shows within as many.
+/// A record that has only begun has at most five bytes more than the limit on a text. One that is
+/// whole has at most six more than the limit, and what is wrong shows within as many.
 pub fn record_lengths()
     ensures begun { BegunIsShort }
     ensures whole { WholeIsShort }
