@@ -148,6 +148,7 @@ impl Reading {
         ensures writes { (p w : List ℕ) → HasRead self.old p → IsPending (set_to self.old) p → O.written output.old ≡ Some (w ++ event_lines (set_to self.old) p)
             → (w' : List ℕ) × (O.written output.new ≡ Some w') × OnOk result (w' ≡ w ++ report (set_to self.old) p)
             × OnErr result (GrowsByPrefix w w' (report (set_to self.old) p)) }
+        ensures messages { self.new.messages ≡ self.old.messages }
         ensures grows { Told (O.written output.old) (O.written output.new) Grows }
         ensures good { OnOk result (O.faults output.new ≡ O.faults output.old) }
         ensures failed { IsErrOf result SinkFault.Failed → Rose (O.faults output.old) (O.faults output.new) }

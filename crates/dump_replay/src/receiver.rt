@@ -186,6 +186,7 @@ impl Receiver {
         ensures frames { self.new.frames ≡ self.old.frames }
         ensures quotas { self.new.quotas ≡ self.old.quotas }
         ensures taken { self.new.taken ≡ self.old.taken }
+        ensures unit_from { self.new.unit_from ≡ self.old.unit_from }
     {
         let offence = Offence {
             place: Place::Frame(from),

@@ -30,7 +30,7 @@ pub struct Ran<I, O> {
 /// `check` reads an initiator's stream from the input and puts its report to the output. The status
 /// is 0 where the session ended, 1 where the stream is refused, and 10 where its bytes reach the
 /// session quota first. It is 2 where the words are none of the program's, 3 where a read failed, 4
-/// where a write failed, and 5 where memory was wanting. With 2, 3, 4 and 5 a note says so; that a
+/// where a write failed, and 5 where memory ran out. With 2, 3, 4 and 5 a note says so; that a
 /// note can't be put changes nothing else.
 pub fn run<I: Source, O: Sink + Send, N: Sink>(
     alloc: Global,
