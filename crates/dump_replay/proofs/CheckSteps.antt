@@ -1,5 +1,5 @@
 -- What a check that reads a stream piece by piece knows between two pieces, and where it ends.
-use Rattle.std.proofs.Common.{◌≡◌, ℕ, ◌-◌, ◌^◌, ◌≤◌, ◌<◌, List, [], ◌++◌, length, take, drop, Option, Some, None, Result, Ok, Err, IfOk, IfErr, OnOk, OnErr, ◌↔◌, refl, sym, ap, ◌∙◌, subst, arith, append_assoc, length-append}
+use Rattle.std.proofs.Common.{◌≡◌, ℕ, ◌-◌, ◌^◌, ◌≤◌, ◌<◌, ◌⊎◌, inl, inr, List, [], ◌++◌, length, take, drop, Option, Some, None, Result, Ok, Err, IfOk, IfErr, OnOk, OnErr, ◌↔◌, refl, sym, ap, ◌∙◌, subst, arith, append_assoc, length-append}
 use Rattle.std.proofs.lemmas.List.{append-nil, length-take-le, take-append-le, take-append-drop, take_all}
 use Rattle.io_edges.specs.Faults.{Rose}
 use Rattle.io_edges.specs.Flow.{Told, Moves, GrowsByPrefix}
@@ -17,7 +17,7 @@ use Rattle.dump_replay.specs.Judging.{refusal_at, offence}
 use Rattle.dump_replay.specs.Report.{report, event_lines}
 use Rattle.dump_replay.specs.Receiving.{StandsFor, settings_of, taken_of}
 use Rattle.dump_replay.specs.Running.{usual, IsPending}
-use Rattle.dump_replay.specs.Checking.{set_to, stopped_by, HasRead, Judges, Reports, Breaks, Grows, Reaches}
+use Rattle.dump_replay.specs.Checking.{set_to, stopped_by, HasRead, Judges, Reports, Decides, Breaks, Grows, Reaches}
 use Rattle.dump_replay.proofs.Standing.{standing_nothing}
 use Rattle.dump_replay.proofs.Events.{nothing_not_over}
 use Rattle.dump_replay.proofs.Pending.{pending_open, nothing_lines, lines_begin}
@@ -130,6 +130,40 @@ module _ (left left' taken taken' written mid written' : Option (List ℕ)) wher
     wrote = known_told (λ w w'. Grows (w ++ event_lines usual p) w') written written' (λ w e. told_known Grows mid written' (w ++ event_lines usual p) (lines w e) grows);
   }
 
+-- a piece that decides the session
+pub piece_decides : (left left' taken taken' : Option (List ℕ)) (p y : List ℕ) (o : Option Offence)
+    → ((stream : List ℕ) → left ≡ Some stream → (rest : List ℕ) × (left' ≡ Some rest) × (stream ≡ p ++ y ++ rest))
+    → ((t : List ℕ) → taken ≡ Some t → taken' ≡ Some (t ++ (p ++ y)))
+    → ((more : List ℕ) → offence usual (p ++ y ++ more) ≡ o) → Decides usual left left' taken taken'
+piece_decides left left' taken taken' p y o stream took says = record {
+  bytes = p ++ y;
+  stream = known_told (λ all rest. (all ≡ p ++ y ++ rest) × ((rest ≡ []) ⊎ ((more : List ℕ) → offence usual (p ++ y ++ more) ≡ offence usual (p ++ y)))) left left' (λ all e.
+      let k = stream all e in
+      (k.0, k.1, (k.2, inr (λ more. says more ∙ sym (says []) ∙ ap (offence usual) (append-nil (p ++ y))))));
+  took = known_told (λ t t'. t' ≡ t ++ (p ++ y)) taken taken' (λ t e. (t ++ (p ++ y), took t e, refl));
+}
+
+-- the input is over
+pub end_decides : (left mid left' taken mid' taken' : Option (List ℕ)) (p room : List ℕ) (n : ℕ) → n ≡ 0
+    → ((stream : List ℕ) → left ≡ Some stream → (rest : List ℕ) × (mid ≡ Some rest) × (stream ≡ p ++ rest))
+    → Told mid left' (λ l l'. Moves l l' room n)
+    → Told mid left' (λ l l'. (n ≡ 0) ↔ (l ≡ []))
+    → ((t : List ℕ) → taken ≡ Some t → mid' ≡ Some (t ++ p))
+    → Told mid' taken' (λ t t'. t' ≡ t ++ take n room) → Decides usual left left' taken taken'
+end_decides left mid left' taken mid' taken' p room n zero stream moved ended took handed = record {
+  bytes = p;
+  stream = known_told (λ all rest. (all ≡ p ++ rest) × ((rest ≡ []) ⊎ ((more : List ℕ) → offence usual (p ++ more) ≡ offence usual p))) left left' (λ all e.
+      let h = stream all e in
+      let k = told_known (λ l l'. Moves l l' room n) mid left' h.0 h.1 moved in
+      let over = told_known (λ l l'. (n ≡ 0) ↔ (l ≡ [])) mid left' h.0 h.1 ended in
+      let none : h.0 ≡ [] = over.2.0 zero in
+      let same : k.0 ≡ h.0 = k.2.rest ∙ ap (λ m. drop m h.0) zero in
+      (k.0, k.1, (h.2 ∙ ap (λ l. p ++ l) (sym same), inl (same ∙ none))));
+  took = known_told (λ t t'. t' ≡ t ++ p) taken taken' (λ t e.
+      let k = told_known (λ u u'. u' ≡ u ++ take n room) mid' taken' (t ++ p) (took t e) handed in
+      (k.0, k.1, k.2 ∙ ap (λ m. (t ++ p) ++ take m room) zero ∙ append-nil (t ++ p)));
+}
+
 -- what was read where reading failed
 pub read_breaks : (left mid left' taken mid' taken' written written' : Option (List ℕ)) (p : List ℕ) → IsPending usual p
     → ((stream : List ℕ) → left ≡ Some stream → (rest : List ℕ) × (mid ≡ Some rest) × (stream ≡ p ++ rest))
@@ -218,6 +252,11 @@ module _ (x : Settings) where
 pub stopped_not_read : (fault : SinkFault) → stopped_by fault ≡ endings.ReadFault → ⊥
 stopped_not_read faults.Failed e = cc
 stopped_not_read faults.Memory e = cc
+
+-- and no judgement
+pub stopped_not_judged : (fault : SinkFault) (o : Option Offence) → stopped_by fault ≡ endings.Judged o → ⊥
+stopped_not_judged faults.Failed o e = cc
+stopped_not_judged faults.Memory o e = cc
 
 -- only a fault of the outside is one of writing
 pub stopped_write : (fault : SinkFault) → stopped_by fault ≡ endings.WriteFault → fault ≡ faults.Failed

@@ -188,7 +188,7 @@ too_long :
 unfolding is_utf8 chars encode digits int_at int_ending_at value_of string_at text_behind text_at text_ending_at unit_at after peeled standing refusal_at completed_at is_over_at ending_at quoted offence_line line_at report_from report
 too_long = (refl, refl, refl, refl, refl, refl, refl)
 
--- a refusal of a unit goes before that of a length, and an event before both
+-- a refusal of a unit goes before that of the session's length, and so does an event
 unit_first :
     Reports (of_session 1) (13 ∷ []) (codes "offence frame 0 0 Unbuilt\n")
     × Reports (of_session 4) (version ++ 13 ∷ []) (codes "offence frame 3 0 Unbuilt\n")

@@ -85,6 +85,13 @@ module _ (x : Settings) (stream : List ℕ) where
     status_cut endings.WriteFault s h = h
     status_cut endings.Memory s h = h
 
+-- statuses 0, 1 and 10
+pub status_judged : (e : Ending) → (status_at e ≡ 0) ⊎ (status_at e ≡ 1) ⊎ (status_at e ≡ 10) → (o : Option Offence) × (e ≡ endings.Judged o)
+status_judged (endings.Judged o) s = (o, refl)
+status_judged endings.ReadFault s = absurd (no_judgement 3 (λ e. cc) (λ e. cc) (λ e. cc) s)
+status_judged endings.WriteFault s = absurd (no_judgement 4 (λ e. cc) (λ e. cc) (λ e. cc) s)
+status_judged endings.Memory s = absurd (no_judgement 5 (λ e. cc) (λ e. cc) (λ e. cc) s)
+
 -- status 3
 pub status_broken : (e : Ending) → status_at e ≡ 3 → e ≡ endings.ReadFault
 status_broken (endings.Judged o) s = absurd (other_status o 3 s (λ e. cc) (λ e. cc) (λ e. cc))

@@ -22,7 +22,7 @@ told_some P None new w e h = cc
 told_some P (Some v) None w e h = absurd h
 told_some P (Some v) (Some v') w e h = let same : v ≡ w = cc in (v', refl, rw same at h)
 
--- a first part of what is to come behind a is one of a and what is to come
+-- a prefix of what is to come behind a is one of a and what is to come
 pub grown_behind : (w w' a b : List ℕ) → GrowsByPrefix (w ++ a) w' b → GrowsByPrefix w w' (a ++ b)
 grown_behind w w' a b h = record { kept = length a + h.kept; grown = h.grown ∙ append_assoc w a (take h.kept b) ∙ ap (λ l. w ++ l) (sym (take-append-add a b h.kept)) }
 
@@ -45,7 +45,7 @@ put_either (Ok u) (Some w) None b h k = absurd h
 put_either (Ok u) (Some w) (Some w') b h k = record { kept = length b; grown = h ∙ ap (λ l. w ++ l) (sym (take_all (length b) b (omega arith))) }
 put_either (Err fault) old new b h k = k
 
--- a first part of it is more
+-- a prefix of it is more
 pub grows : (old new : Option (List ℕ)) (b : List ℕ) → Told old new (λ w w'. GrowsByPrefix w w' b) → Told old new Grows
 grows None new b told = tt
 grows (Some w) None b told = absurd told

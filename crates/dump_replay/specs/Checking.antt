@@ -1,5 +1,5 @@
 -- What a check of a stream has read and written.
-use Rattle.std.specs.Prelude.{◌≡◌, ℕ, ◌≤◌, List, ◌++◌, length, Option, Result, Ok, Err}
+use Rattle.std.specs.Prelude.{◌≡◌, ℕ, ◌≤◌, ◌⊎◌, List, [], ◌++◌, length, Option, Result, Ok, Err}
 use Rattle.io_edges.specs.Flow.{Told, GrowsByPrefix}
 use Rattle.io_edges.specs.declared.SinkFault.{SinkFault}
 use Rattle.io_edges.specs.declared.SinkFault.TheVariants as faults
@@ -75,6 +75,12 @@ pub record Reaches (x : Settings) (left left' taken taken' written written' : Op
   pub stream : Told left left' (λ all rest. all ≡ before ++ piece ++ rest)
   pub took : Told taken taken' (λ t t'. t' ≡ t ++ before ++ piece)
   pub wrote : Told written written' (λ w w'. Grows (w ++ event_lines x before) w')
+
+-- what was read of a stream that is judged: bytes that decide its offence however they go on, or all of it
+pub record Decides (x : Settings) (left left' taken taken' : Option (List ℕ)) : Type 0 where
+  pub bytes : List ℕ
+  pub stream : Told left left' (λ all rest. (all ≡ bytes ++ rest) × ((rest ≡ []) ⊎ ((more : List ℕ) → offence x (bytes ++ more) ≡ offence x bytes)))
+  pub took : Told taken taken' (λ t t'. t' ≡ t ++ bytes)
 
 -- the status of an ending
 abbrev pub status_at : Ending → ℕ

@@ -31,7 +31,7 @@ NoUnitGoesOn =
     (x : Settings) (stage : Stage) (b c : List ℕ) (u v : StreamUnit)
     → unit_at x stage b ≡ whole u (length b) → unit_at x stage (b ++ c) ≡ whole v (length (b ++ c)) → c ≡ []
 
--- no event is More
+-- no event that a piece completes is More
 abbrev pub NoEventIsMore : Type 0
 NoEventIsMore = (x : Settings) (p y : List ℕ) (n : ℕ) → answer x p y ≡ completes n More → ⊥
 

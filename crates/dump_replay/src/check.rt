@@ -1,15 +1,16 @@
 //! The command that reads a stream and prints its framing.
 
-ghost use Rattle.std.specs.Prelude.{◌≡◌, ℕ, ◌+◌, ◌≤◌, List, [], ◌++◌, length, Some, IfOk, IfErr, OnOk, OnErr, IsErrOf};
+ghost use Rattle.std.specs.Prelude.{◌≡◌, ℕ, ◌+◌, ◌≤◌, List, [], ◌++◌, length, Option, Some, IfOk, IfErr, OnOk, OnErr, IsErrOf};
 ghost use Rattle.std.specs.String.{string_bytes};
 ghost use Rattle.io_edges.specs.Faults.{Rose};
 ghost use Rattle.io_edges.specs.Flow.{Told, GrowsByPrefix};
+ghost use Rattle.nbfx_values.specs.declared.refusals.Offence.{Offence as Refusal};
 ghost use Rattle.dump_replay.specs.Stream.{standing};
 ghost use Rattle.dump_replay.specs.Judging.{offence};
 ghost use Rattle.dump_replay.specs.Report.{event_line, event_lines, report};
 ghost use Rattle.dump_replay.specs.Receiving.{StandsFor};
 ghost use Rattle.dump_replay.specs.Running.{counted, usual, IsPending};
-ghost use Rattle.dump_replay.specs.Checking.{stopped_by, Judges, Reports, Breaks, Reaches, Grows};
+ghost use Rattle.dump_replay.specs.Checking.{stopped_by, Judges, Reports, Decides, Breaks, Reaches, Grows};
 
 use crate::output::put_line;
 use crate::receiver::{Receiver, Step};
@@ -170,6 +171,7 @@ pub fn check<I: Source, O: Sink>(alloc: Global, input: &mut I, output: &mut O) -
     ensures judges { (stream : List ℕ) → I.left input.old ≡ Some stream → Judges usual stream result }
     ensures reports { (stream w : List ℕ) → I.left input.old ≡ Some stream → O.written output.old ≡ Some w
         → (w' : List ℕ) × (O.written output.new ≡ Some w') × Reports usual stream w w' result }
+    ensures decides { (o : Option Refusal) → result ≡ Ending.Judged o → Decides usual (I.left input.old) (I.left input.new) (I.taken input.old) (I.taken input.new) }
     ensures breaks { result ≡ Ending.ReadFault → Breaks usual (I.left input.old) (I.left input.new) (I.taken input.old) (I.taken input.new)
         (O.written output.old) (O.written output.new) }
     ensures reaches { Reaches usual (I.left input.old) (I.left input.new) (I.taken input.old) (I.taken input.new)

@@ -9,7 +9,7 @@ ghost use Rattle.dump_replay.specs.Judging.{offence};
 ghost use Rattle.dump_replay.specs.Sessions.{IsClosed};
 ghost use Rattle.dump_replay.specs.Report.{report};
 ghost use Rattle.dump_replay.specs.Running.{usual, IsCheck, IsStatus, status_of, note_of, is_session_too_long};
-ghost use Rattle.dump_replay.specs.Checking.{status_at, Breaks, Reaches};
+ghost use Rattle.dump_replay.specs.Checking.{status_at, Decides, Breaks, Reaches};
 
 use crate::check::{self, Ending};
 use io_edges::{Sink, Source};
@@ -73,6 +73,8 @@ pub fn run<I: Source, O: Sink + Send, N: Sink>(
     ensures reported { IsCheck (map string_bytes words.now) → (result.status ≡ 0) ⊎ (result.status ≡ 1) ⊎ (result.status ≡ 10)
         → (stream w : List ℕ) → I.left input ≡ Some stream → O.written output ≡ Some w
         → O.written result.output ≡ Some (w ++ report usual stream) }
+    ensures decided { IsCheck (map string_bytes words.now) → (result.status ≡ 0) ⊎ (result.status ≡ 1) ⊎ (result.status ≡ 10)
+        → Decides usual (I.left input) (I.left result.input) (I.taken input) (I.taken result.input) }
     ensures broken { IsCheck (map string_bytes words.now) → result.status ≡ 3
         → Breaks usual (I.left input) (I.left result.input) (I.taken input) (I.taken result.input) (O.written output) (O.written result.output) }
     ensures cut { IsCheck (map string_bytes words.now) → (result.status ≡ 3) ⊎ (result.status ≡ 4) ⊎ (result.status ≡ 5)

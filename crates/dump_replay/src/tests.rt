@@ -46,7 +46,7 @@ fn listed(alloc: Global, words: &[&str]) -> Result<Vec<String>, AllocError> {
 }
 
 // Runs the program on fakes.
-fn ran(
+fn run_on_fakes(
     alloc: Global,
     words: &[&str],
     bytes: &[u8],
@@ -87,7 +87,7 @@ fn assert_left(
     rest: &[u8],
 ) -> Result<(), Fail> {
     let mut notes = sure_sink(rt.alloc());
-    let ran = ran(
+    let ran = run_on_fakes(
         rt.alloc(),
         &["nettcp", "check"],
         stream,
@@ -239,7 +239,7 @@ fn other_words_take_nothing(rt: HostRuntime) -> Result<(), Fail> {
     ];
     for words in table {
         let mut notes = sure_sink(rt.alloc());
-        let ran = ran(rt.alloc(), words, SESSION, SURE, &mut notes)?;
+        let ran = run_on_fakes(rt.alloc(), words, SESSION, SURE, &mut notes)?;
         assert_eq!(rt; ran.status, 2);
         assert_eq!(rt; ran.input.rest(), SESSION);
         assert_eq!(rt; ran.output.bytes().len(), 0);
@@ -251,7 +251,7 @@ fn other_words_take_nothing(rt: HostRuntime) -> Result<(), Fail> {
 #[test]
 fn the_first_word_is_not_judged(rt: HostRuntime) -> Result<(), Fail> {
     let mut notes = sure_sink(rt.alloc());
-    let ran = ran(rt.alloc(), &["", "check"], SESSION, SURE, &mut notes)?;
+    let ran = run_on_fakes(rt.alloc(), &["", "check"], SESSION, SURE, &mut notes)?;
     assert_eq!(rt; ran.status, 0);
     Ok(())
 }
@@ -276,7 +276,7 @@ fn a_note_that_fails_changes_no_status(rt: HostRuntime) -> Result<(), Fail> {
                 ..SURE
             };
             let words = ["nettcp", command];
-            let ran = ran(rt.alloc(), &words, SESSION, outside, &mut notes)?;
+            let ran = run_on_fakes(rt.alloc(), &words, SESSION, outside, &mut notes)?;
             let note = note(status).as_bytes();
             assert_eq!(rt; ran.status, status);
             assert_eq!(rt; notes.bytes(), note.get(..kept).unwrap_or(note));
@@ -284,6 +284,17 @@ fn a_note_that_fails_changes_no_status(rt: HostRuntime) -> Result<(), Fail> {
     }
     Ok(())
 }
+
+const OPENED: Step = Step::Opened {
+    mode: Mode::Duplex,
+    kind: Kind::Session,
+};
+
+// Of the session behind the preamble.
+const TOO_LONG: Offence = Offence {
+    place: Place::Frame(23),
+    reason: Reason::SessionTooLong,
+};
 
 // Feeds the bytes in pieces of so many, and answers the last event, or the refusal.
 fn last_step(receiver: &mut Receiver, bytes: &[u8], size: usize) -> Result<Step, Offence> {
@@ -305,16 +316,8 @@ fn last_step(receiver: &mut Receiver, bytes: &[u8], size: usize) -> Result<Step,
 
 #[test]
 fn a_session_ends_within_its_quota(rt: HostRuntime) -> Result<(), Fail> {
-    let opened = Step::Opened {
-        mode: Mode::Duplex,
-        kind: Kind::Session,
-    };
-    let too_long = Offence {
-        place: Place::Frame(23),
-        reason: Reason::SessionTooLong,
-    };
     let cases = [
-        (23, Err(too_long), Err(too_long)),
+        (23, Err(TOO_LONG), Err(TOO_LONG)),
         (24, Ok(Step::Ended), Ok(())),
     ];
     for (session, want, at_end) in cases {
@@ -322,12 +325,13 @@ fn a_session_ends_within_its_quota(rt: HostRuntime) -> Result<(), Fail> {
             let quotas = Quotas::of(65_536, 32, 2_048, 262_144, 2_048, session);
             let quotas = quotas.ok_or("good quotas")?;
             let mut receiver = Receiver::new(rt.alloc(), quotas).map_err(|_| "no memory")?;
-            assert_eq!(rt; last_step(&mut receiver, PREAMBLE, size), Ok(opened));
+            assert_eq!(rt; last_step(&mut receiver, PREAMBLE, size), Ok(OPENED));
             assert_eq!(rt; receiver.via(), "net.tcp://h/e");
             assert_eq!(rt; last_step(&mut receiver, b"\x07", size), want);
             assert_eq!(rt; last_step(&mut receiver, b"\x07", size), want);
             assert_eq!(rt; receiver.end_of_input(), at_end);
             assert_eq!(rt; receiver.taken(), session);
+            assert_eq!(rt; receiver.kept().raw, 13);
             assert_eq!(rt; receiver.kept().content, 0);
         }
     }
@@ -338,15 +342,7 @@ fn a_session_ends_within_its_quota(rt: HostRuntime) -> Result<(), Fail> {
 fn an_event_comes_before_the_session_quota(rt: HostRuntime) -> Result<(), Fail> {
     let quotas = Quotas::of(65_536, 32, 2_048, 262_144, 2_048, 23).ok_or("good quotas")?;
     let mut receiver = Receiver::new(rt.alloc(), quotas).map_err(|_| "no memory")?;
-    let opened = Step::Opened {
-        mode: Mode::Duplex,
-        kind: Kind::Session,
-    };
-    let too_long = Offence {
-        place: Place::Frame(23),
-        reason: Reason::SessionTooLong,
-    };
-    assert_eq!(rt; receiver.feed(SESSION), Ok((23, opened)));
-    assert_eq!(rt; receiver.feed(b""), Err(too_long));
+    assert_eq!(rt; receiver.feed(SESSION), Ok((23, OPENED)));
+    assert_eq!(rt; receiver.feed(b""), Err(TOO_LONG));
     Ok(())
 }

@@ -7,7 +7,7 @@ use Rattle.io_edges.specs.declared.SinkFault.{SinkFault}
 use Rattle.io_edges.specs.declared.SinkFault.TheVariants.{Failed, Memory}
 use Rattle.io_edges.specs.Flow.{GrowsByPrefix}
 
--- a sink that keeps the front of the piece where it fails, and nothing where memory is wanting
+-- a sink that keeps the front of the piece where it fails, and nothing where it wants memory
 pub refused_front : (w w' piece : List ℕ) (kept : ℕ) (r : Result (Unit {0}) SinkFault) → (IsErrOf r Failed → w' ≡ w ++ take kept piece) → (IsErrOf r Memory → w' ≡ w) → OnErr r (GrowsByPrefix w w' piece)
 refused_front w w' piece kept (Ok x) failed memory = tt
 refused_front w w' piece kept (Err Failed) failed memory = record { kept = kept; grown = failed refl }

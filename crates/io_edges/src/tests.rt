@@ -167,7 +167,7 @@ fn memory_shelf_has_its_files_and_fails_once(rt: HostRuntime) -> Result<(), Fail
     )?;
     let mut shelf = moved(MemoryShelf::new(files, [1].to_vec(rt.alloc())?));
     assert!(rt; is_file(&shelf.fetch("a"), b"bytes"));
-    assert!(rt; shelf.fetch("a").is_err());
+    assert!(rt; matches!(shelf.fetch("a"), Err(ShelfFault::Failed)));
     assert!(rt; is_file(&shelf.fetch("a"), b"bytes"));
     assert!(rt; matches!(shelf.fetch("b"), Ok(None)));
     Ok(())

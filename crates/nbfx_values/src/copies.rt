@@ -3,7 +3,7 @@ ghost use Rattle.nbfx_values.specs.declared.copies.Memory.{Memory};
 
 use std::alloc::{AllocError, AllocFailed};
 
-/// Memory is wanting. It is never another answer in disguise.
+/// There was no memory. It is never another answer in disguise.
 #[derive(Clone, Copy, Debug, PartialEq, Eq)]
 pub struct Memory;
 

@@ -72,7 +72,8 @@ impl FrameReader {
         Ok((used, FrameStep::More))
     }
 
-    /// The text of the last Via or Fault, and the empty one before it or while one is read.
+    /// The text of the last Via or Fault, and the empty one before it, while one is read, and where one
+    /// is wrong.
     pub fn text(&self) -> &str
         ensures { (s : List ℕ) → ShowsText self.now s → result.now ≡ s }
     {

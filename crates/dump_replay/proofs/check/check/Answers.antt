@@ -5,7 +5,7 @@ use Rattle.dump_replay.specs.Judging.{offence}
 use Rattle.dump_replay.specs.Report.{event_lines, report}
 use Rattle.dump_replay.specs.Running.{usual, IsPending}
 use Rattle.dump_replay.proofs.Pending.{nothing_lines}
-use Rattle.dump_replay.proofs.CheckSteps.{rose_later, room_is, usual_is, nothing_read, less_left, piece_is, piece_reaches, read_breaks, breaks_reach, none_reaches, lines_front, short_piece, left_moves, left_none, taken_grows, stopped_judges, stopped_reports, ended_judges, ended_reports, stopped_not_read, stopped_write, ended_not_read, ended_write, stopped_still, ended_still}
+use Rattle.dump_replay.proofs.CheckSteps.{rose_later, room_is, usual_is, nothing_read, less_left, piece_is, piece_reaches, piece_decides, end_decides, read_breaks, breaks_reach, none_reaches, lines_front, short_piece, left_moves, left_none, taken_grows, stopped_judges, stopped_reports, ended_judges, ended_reports, stopped_not_read, stopped_not_judged, stopped_write, ended_not_read, ended_write, stopped_still, ended_still}
 use Rattle.dump_replay.proofs.check.check.Goals as goal
 
 -- before the first piece nothing is read
@@ -68,6 +68,12 @@ returns-then-n-eq0-clause-reaches g c =
 pub returns-then-n-eq0-clause-written_well : goal.returns-then-n-eq0-clause-written_well
 returns-then-n-eq0-clause-written_well g c = λ well.
     ended_still c.ended.result c.end.result (g.O.Sink.faults c.end.new.output ≡ g.O.Sink.faults c.loop-n.output) c.ended.ensures.stopped c.end.ensures.good c.end.ensures.memory well ∙ c.loop-n.invariant.output_faults
+
+pub returns-then-n-eq0-clause-decides : goal.returns-then-n-eq0-clause-decides
+returns-then-n-eq0-clause-decides g c = λ o e.
+    let r = c.loop-n.invariant.reads in
+    end_decides (g.I.Source.left c.args.input.now) (g.I.Source.left c.loop-n.input) (g.I.Source.left c.take.new.self) (g.I.Source.taken c.args.input.now) (g.I.Source.taken c.loop-n.input) (g.I.Source.taken c.take.new.self)
+    r.0 c.take.new.room c.in-Ok-take.n c.if-n-eq0.true r.3 c.in-Ok-take.ensures.moved (c.in-Ok-take.ensures.ended (omega arith)) r.4 c.in-Ok-take.ensures.taken
 
 pub returns-then-n-eq0-clause-judges : goal.returns-then-n-eq0-clause-judges
 returns-then-n-eq0-clause-judges g c = λ stream left.
@@ -150,6 +156,19 @@ returns-in-Ok-Judged-clause-reaches g c =
     (left_moves (g.I.Source.left c.args.input.now) (g.I.Source.left c.loop-n.input) (g.I.Source.left c.take.new.self) r.0 r.3 c.take.new.room y c.in-Ok-take.n c.in-Ok-take.ensures.moved refl)
     (taken_grows (g.I.Source.taken c.args.input.now) (g.I.Source.taken c.loop-n.input) (g.I.Source.taken c.take.new.self) r.0 c.take.new.room y c.in-Ok-take.n r.4 c.in-Ok-take.ensures.taken refl) r.5 c.in-Ok-Judged.ensures.grows
 
+pub returns-in-Ok-Judged-clause-decides : goal.returns-in-Ok-Judged-clause-decides
+returns-in-Ok-Judged-clause-decides g c = λ o e.
+    let inv = c.loop-n.invariant in
+    let r = inv.reads in
+    let y : List ℕ = take c.in-Ok-take.n c.deref.result.now in
+    let full : length c.take.new.room ≡ length c.loop-n.room.items = c.take.auto.room ∙ ap length c.deref_mut.ensures.value in
+    let piece = piece_is c.loop-n.room.items c.take.new.room c.deref.result.now c.loop-n.room.len c.in-Ok-take.n c.loop-n.room.ok.0 full c.deref.ensures.value in
+    let says = rw c.in-Ok-Judged.field-0-is at (c.in-Ok-Judged.ensures.says r.0 r.1) in
+    piece_decides (g.I.Source.left c.args.input.now) (g.I.Source.left c.take.new.self) (g.I.Source.taken c.args.input.now) (g.I.Source.taken c.take.new.self) r.0 y c.in-Ok-Judged.offence
+    (left_moves (g.I.Source.left c.args.input.now) (g.I.Source.left c.loop-n.input) (g.I.Source.left c.take.new.self) r.0 r.3 c.take.new.room y c.in-Ok-take.n c.in-Ok-take.ensures.moved piece)
+    (taken_grows (g.I.Source.taken c.args.input.now) (g.I.Source.taken c.loop-n.input) (g.I.Source.taken c.take.new.self) r.0 c.take.new.room y c.in-Ok-take.n r.4 c.in-Ok-take.ensures.taken piece)
+    (λ more. ap (λ x. offence x (r.0 ++ y ++ more)) (sym inv.settings) ∙ says more)
+
 pub returns-in-Ok-Judged-clause-judges : goal.returns-in-Ok-Judged-clause-judges
 returns-in-Ok-Judged-clause-judges g c = λ stream left.
     let inv = c.loop-n.invariant in
@@ -203,6 +222,9 @@ returns-in-Err-clause-reports g c = λ stream w left written.
     let k = c.in-Err.ensures.writes r.0 w r.1 (r.5 w written ∙ ap (λ x. Some (w ++ event_lines x r.0)) (sym inv.settings)) in
     let grows : GrowsByPrefix w k.0 (report usual stream) = subst (λ s. GrowsByPrefix w k.0 (report usual s)) (sym l.2) (subst (λ x. GrowsByPrefix w k.0 (report x (r.0 ++ y ++ l.0))) inv.settings (k.2 l.0)) in
     (k.0, k.1, rw c.stopped.ensures (stopped_reports usual stream w k.0 c.in-Err.fault grows))
+
+pub returns-in-Err-clause-decides : goal.returns-in-Err-clause-decides
+returns-in-Err-clause-decides g c = λ o e. absurd (stopped_not_judged c.in-Err.fault o (sym c.stopped.ensures ∙ e))
 
 pub returns-in-Err-clause-breaks : goal.returns-in-Err-clause-breaks
 returns-in-Err-clause-breaks g c = λ e. absurd (stopped_not_read c.in-Err.fault (sym c.stopped.ensures ∙ e))

@@ -1,6 +1,6 @@
 use Rattle.std.proofs.Common.{Some, ap, sym, ◌∙◌}
 use Rattle.dump_replay.specs.Running.{usual}
-use Rattle.dump_replay.proofs.RunSteps.{status_closed, status_ended, status_offended, status_reported, status_broken, status_cut}
+use Rattle.dump_replay.proofs.RunSteps.{status_closed, status_ended, status_offended, status_reported, status_judged, status_broken, status_cut}
 use Rattle.dump_replay.proofs.run.run.Goals as goal
 
 pub returns-clause-ended : goal.returns-clause-ended
@@ -13,6 +13,9 @@ pub returns-clause-reported : goal.returns-clause-reported
 returns-clause-reported g c = λ form s stream w e o.
     let h = c.check.ensures.reports stream w e o in
     h.1 ∙ ap Some (status_reported usual stream w h.0 c.check.result (rw c.status-status.ensures at s) h.2)
+
+pub returns-clause-decided : goal.returns-clause-decided
+returns-clause-decided g c = λ form s. let j = status_judged c.check.result (rw c.status-status.ensures at s) in c.check.ensures.decides j.0 j.1
 
 pub returns-clause-broken : goal.returns-clause-broken
 returns-clause-broken g c = λ form three. c.check.ensures.breaks (status_broken c.check.result (sym c.status-status.ensures ∙ three))
