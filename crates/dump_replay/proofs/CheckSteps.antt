@@ -21,13 +21,7 @@ use Rattle.dump_replay.specs.Checking.{set_to, stopped_by, HasRead, Judges, Repo
 use Rattle.dump_replay.proofs.Standing.{standing_nothing}
 use Rattle.dump_replay.proofs.Events.{nothing_not_over}
 use Rattle.dump_replay.proofs.Pending.{pending_open, nothing_lines, lines_begin}
-use Rattle.dump_replay.proofs.Writing.{grown_within}
-
--- what is known to be told is told afterwards
-pub told_known : (P : List ℕ → List ℕ → Type 0) (old new : Option (List ℕ)) (l : List ℕ) → old ≡ Some l → Told old new P → (l' : List ℕ) × (new ≡ Some l') × P l l'
-told_known P None new l e t = cc
-told_known P (Some old) None l e t = absurd t
-told_known P (Some old) (Some new) l e t = let same : old ≡ l = cc in (new, refl, subst (λ o. P o new) same t)
+use Rattle.dump_replay.proofs.Writing.{told_some, grown_within}
 
 -- what is told afterwards wherever it was told before
 pub known_told : (P : List ℕ → List ℕ → Type 0) (old new : Option (List ℕ)) → ((l : List ℕ) → old ≡ Some l → (l' : List ℕ) × (new ≡ Some l') × P l l') → Told old new P
@@ -98,7 +92,7 @@ module _ (left before after : Option (List ℕ)) (p : List ℕ)
       → (stream : List ℕ) → left ≡ Some stream → (rest : List ℕ) × (after ≡ Some rest) × (stream ≡ p ++ y ++ rest)
   left_moves room y n told piece stream e =
       let h = split stream e in
-      let k = told_known (λ l l'. Moves l l' room n) before after h.0 h.1 told in (
+      let k = told_some (λ l l'. Moves l l' room n) before after h.0 h.1 told in (
         k.0,
         k.1,
         h.2
@@ -110,7 +104,7 @@ module _ (left before after : Option (List ℕ)) (p : List ℕ)
   pub left_none : (n : ℕ) → Told before after (λ l l'. (n ≡ 0) ↔ (l ≡ [])) → n ≡ 0 → (stream : List ℕ) → left ≡ Some stream → stream ≡ p
   left_none n told none stream e =
       let h = split stream e in
-      let k = told_known (λ l l'. (n ≡ 0) ↔ (l ≡ [])) before after h.0 h.1 told in
+      let k = told_some (λ l l'. (n ≡ 0) ↔ (l ≡ [])) before after h.0 h.1 told in
       h.2 ∙ ap (λ l. p ++ l) (k.2.0 none) ∙ append-nil p
 
 module _ (left left' taken taken' written mid written' : Option (List ℕ)) where
@@ -127,7 +121,7 @@ module _ (left left' taken taken' written mid written' : Option (List ℕ)) wher
     short = short;
     stream = known_told (λ all rest. all ≡ p ++ y ++ rest) left left' stream;
     took = known_told (λ t t'. t' ≡ t ++ p ++ y) taken taken' (λ t e. (t ++ (p ++ y), took t e, sym (append_assoc t p y)));
-    wrote = known_told (λ w w'. Grows (w ++ event_lines usual p) w') written written' (λ w e. told_known Grows mid written' (w ++ event_lines usual p) (lines w e) grows);
+    wrote = known_told (λ w w'. Grows (w ++ event_lines usual p) w') written written' (λ w e. told_some Grows mid written' (w ++ event_lines usual p) (lines w e) grows);
   }
 
 -- a piece that decides the session
@@ -154,13 +148,13 @@ end_decides left mid left' taken mid' taken' p room n zero stream moved ended to
   bytes = p;
   stream = known_told (λ all rest. (all ≡ p ++ rest) × ((rest ≡ []) ⊎ ((more : List ℕ) → offence usual (p ++ more) ≡ offence usual p))) left left' (λ all e.
       let h = stream all e in
-      let k = told_known (λ l l'. Moves l l' room n) mid left' h.0 h.1 moved in
-      let over = told_known (λ l l'. (n ≡ 0) ↔ (l ≡ [])) mid left' h.0 h.1 ended in
+      let k = told_some (λ l l'. Moves l l' room n) mid left' h.0 h.1 moved in
+      let over = told_some (λ l l'. (n ≡ 0) ↔ (l ≡ [])) mid left' h.0 h.1 ended in
       let none : h.0 ≡ [] = over.2.0 zero in
       let same : k.0 ≡ h.0 = k.2.rest ∙ ap (λ m. drop m h.0) zero in
       (k.0, k.1, (h.2 ∙ ap (λ l. p ++ l) (sym same), inl (same ∙ none))));
   took = known_told (λ t t'. t' ≡ t ++ p) taken taken' (λ t e.
-      let k = told_known (λ u u'. u' ≡ u ++ take n room) mid' taken' (t ++ p) (took t e) handed in
+      let k = told_some (λ u u'. u' ≡ u ++ take n room) mid' taken' (t ++ p) (took t e) handed in
       (k.0, k.1, k.2 ∙ ap (λ m. (t ++ p) ++ take m room) zero ∙ append-nil (t ++ p)));
 }
 
@@ -176,9 +170,9 @@ read_breaks left mid left' taken mid' taken' written written' p pending stream k
   pending = pending;
   stream = known_told (λ all rest. all ≡ p ++ rest) left left' (λ all e.
       let h = stream all e in
-      let k = told_known (λ l l'. l' ≡ l) mid left' h.0 h.1 kept in
+      let k = told_some (λ l l'. l' ≡ l) mid left' h.0 h.1 kept in
       (k.0, k.1, h.2 ∙ ap (λ l. p ++ l) (sym k.2)));
-  took = known_told (λ t t'. t' ≡ t ++ p) taken taken' (λ t e. told_known (λ u u'. u' ≡ u) mid' taken' (t ++ p) (took t e) kept');
+  took = known_told (λ t t'. t' ≡ t ++ p) taken taken' (λ t e. told_some (λ u u'. u' ≡ u) mid' taken' (t ++ p) (took t e) kept');
   wrote = known_told (λ w w'. w' ≡ w ++ event_lines usual p) written written' (λ w e. (w ++ event_lines usual p, lines w e, refl));
 }
 
@@ -222,7 +216,7 @@ short_piece items new n room full within = let l = length-take-le n new within i
 pub taken_grows : (taken before after : Option (List ℕ)) (p room y : List ℕ) (n : ℕ) → ((t : List ℕ) → taken ≡ Some t → before ≡ Some (t ++ p)) → Told before after (λ t t'. t' ≡ t ++ take n room)
     → take n room ≡ y → (t : List ℕ) → taken ≡ Some t → after ≡ Some (t ++ (p ++ y))
 taken_grows taken before after p room y n so_far told piece t e =
-    let k = told_known (λ t t'. t' ≡ t ++ take n room) before after (t ++ p) (so_far t e) told in
+    let k = told_some (λ t t'. t' ≡ t ++ take n room) before after (t ++ p) (so_far t e) told in
     k.1 ∙ ap Some (k.2 ∙ ap (λ l. (t ++ p) ++ l) piece ∙ append_assoc t p y)
 
 module _ (x : Settings) where

@@ -71,11 +71,6 @@ module _ (x : Settings) where
   pub no_event_is_more : (q : List ℕ) → completed_at x q ≡ Some More → ⊥
   no_event_is_more q e = (standing_sound x q).no_more (completed_parts q More e).1
 
-  -- the bytes of a prefix that isn't refused begin a unit, and no more are wrong
-  pub refusal_none_begun : (q : List ℕ) → refusal_at x q ≡ None → unit_at x (standing x q).situation.stage (standing x q).begun ≡ begun
-  unfolding refusal_at
-  refusal_none_begun q e = (unit_refusal_none x (standing x q) (length q) (unit_at x (standing x q).situation.stage (standing x q).begun) (standing_open x q) e).0
-
   -- a prefix that isn't refused is within the session quota, or ends a session
   pub refusal_none_within : (q : List ℕ) → refusal_at x q ≡ None → is_over_at x q ≡ false → length q < x.limits.session
   unfolding refusal_at is_over_at

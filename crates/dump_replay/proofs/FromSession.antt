@@ -26,6 +26,7 @@ use Rattle.dump_replay.proofs.Payloads.{less, some_bytes, rest_bytes}
 use Rattle.dump_replay.proofs.Events.{byte_not_over, over_begun}
 use Rattle.dump_replay.proofs.Answers.{no_event_before, no_event_none, no_event_begun, decided_none}
 use Rattle.dump_replay.proofs.Meaning.{IsUndecided, undecided_means}
+use Rattle.dump_replay.proofs.Pending.{offence_further}
 use Rattle.dump_replay.proofs.Reports.{after_report, report_next, report_carries, report_is, offence_is, report_over, offence_over}
 
 -- what may come next, and what the lines of events show of a situation
@@ -78,11 +79,6 @@ pub record Leads (unit : StreamUnit) (n : ℕ) (view view' : View) (line : List 
   pub says : (z : Situation) (from : ℕ) → view_of z ≡ view → event_line_of (after z from unit) n (after z from unit).completed ≡ line
 
 module _ (x : Settings) where
-  -- a prefix that nothing refuses is passed over
-  offence_next : (p : List ℕ) (b : ℕ) (y : List ℕ) → refusal_at x p ≡ None → offence_from x p (b ∷ y) ≡ offence_from x (p ++ b ∷ []) y
-  unfolding offence_from
-  offence_next p b y e = rw e refl
-
   -- before the last of the bytes c behind p nothing is decided
   abbrev AreUndecided : List ℕ → List ℕ → Type 0
   AreUndecided p c = (j : ℕ) → j < length c → IsUndecided x (p ++ take j c) j
@@ -100,9 +96,7 @@ module _ (x : Settings) where
 
   -- bytes that nothing refuses are passed over
   offence_skips : (c p y : List ℕ) → AreUndecided p c → offence_from x p (c ++ y) ≡ offence_from x (p ++ c) y
-  offence_skips [] p y h = ap (λ q. offence_from x q y) (sym (append-nil p))
-  offence_skips (b ∷ c) p y h =
-      offence_next p b (c ++ y) (first_unrefused p b c h) ∙ offence_skips c (p ++ b ∷ []) y (undecided_tail p b c h) ∙ ap (λ q. offence_from x q y) (append_assoc p (b ∷ []) c)
+  offence_skips c p y h = offence_further x c p y (λ j lt. (h j lt).unrefused)
 
   -- the line of the last of such bytes is what they report
   report_skips : (c p y : List ℕ) → 0 < length c → is_over_at x p ≡ false → AreUndecided p c → after_report x p (c ++ y) ≡ line_at x (p ++ c) ++ after_report x (p ++ c) y

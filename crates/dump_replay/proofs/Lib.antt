@@ -1,5 +1,5 @@
 mod Worked
-mod Refusals
+pub mod Refusals
 pub mod Units
 pub mod Coming
 pub mod After
@@ -21,7 +21,6 @@ pub mod ReceiverFacts
 pub mod PayloadSteps
 pub mod Pending
 pub mod CheckSteps
-pub mod Contents
 pub mod Reasons
 pub mod Said
 pub mod RecordSteps

@@ -9,7 +9,7 @@ use Rattle.dump_replay.specs.Stream.{Settings, standing}
 use Rattle.dump_replay.specs.Judging.{Event, event_of, unless_last, events_from, events, refusal_at, completed_at, is_over_at, ending_at, offence_from, offence}
 use Rattle.dump_replay.specs.Report.{event_line, line_at, offence_line_of, report_from, report}
 use Rattle.dump_replay.specs.Laws.{ReportsEvents}
-use Rattle.dump_replay.proofs.Reports.{after_report, report_from_is, no_line, a_line, closed_by, closed_over, offence_by, offence_over}
+use Rattle.dump_replay.proofs.Reports.{after_report, report_from_is, no_line, a_line, closed_by, closed_over, offence_by, offence_next, offence_over}
 
 module _ (x : Settings) where
   abbrev line_of : Event → List ℕ
@@ -42,11 +42,6 @@ module _ (x : Settings) where
   after_over p [] r o = refl
   after_over p (b ∷ y) r o = rw (r, o) refl
 
-  -- a prefix that isn't refused leaves the offence to what follows
-  offence_past : (p y : List ℕ) (b : ℕ) → refusal_at x p ≡ None → offence_from x p (b ∷ y) ≡ offence_from x (p ++ b ∷ []) y
-  unfolding offence_from
-  offence_past p y b e = rw e refl
-
   offence_at_end : (p : List ℕ) → refusal_at x p ≡ None → offence_from x p [] ≡ ending_at x p
   unfolding offence_from
   offence_at_end p e = rw e refl
@@ -65,7 +60,7 @@ module _ (x : Settings) where
   past p y None true e e' = rw (after_over p y e e', offence_over x p y e') (closed_over x p y e e')
   past p [] None false e e' = rw (e, e', offence_at_end p e) refl
   past p (b ∷ y) None false e e' =
-      rw (e, e', offence_past p y b e)
+      rw (e, e', offence_next x p b y e)
       (whole_of (p ++ b ∷ []) y (past (p ++ b ∷ []) y (refusal_at x (p ++ b ∷ [])) (is_over_at x (p ++ b ∷ [])) refl refl))
 
 -- of a stream

@@ -1,7 +1,6 @@
 -- What the answer to a piece of a stream says of the prefixes that end in it.
 use Rattle.std.proofs.Common.{◌≡◌, ℕ, zero, suc, ◌+◌, ◌<◌, ◌≤◌, ◌⊎◌, inl, inr, List, [], ◌∷◌, ◌++◌, length, take, get_or, true, false, Option, Some, None, refl, sym, ap, ◌∙◌, arith, append_assoc}
 use Rattle.std.specs.Option.{option_map, option_or}
-use Rattle.std.proofs.lemmas.Bool.{cases_lt}
 use Rattle.std.proofs.lemmas.List.{append-nil, take_more, take_all}
 use Rattle.nbfx_values.specs.declared.refusals.Offence.{Offence}
 use Rattle.dump_replay.specs.declared.receiver.Step.{Step}
@@ -9,7 +8,7 @@ use Rattle.dump_replay.specs.declared.receiver.Step.TheVariants.{More, Ended}
 use Rattle.dump_replay.specs.Stream.{Settings, standing}
 use Rattle.dump_replay.specs.Judging.{refusal_at, completed_at, is_over_at, Answer, goes_on, completes, offends, completes_with, decided_at, answer}
 use Rattle.dump_replay.specs.Running.{counted}
-use Rattle.dump_replay.proofs.Events.{ended_is_over, others_are_not_over, no_event_is_more, refusal_none_within, byte_not_over, byte_counts}
+use Rattle.dump_replay.proofs.Events.{ended_is_over, others_are_not_over, no_event_is_more, byte_not_over, byte_counts}
 use Rattle.dump_replay.proofs.Answers.{DecidesAt, IsAnswer, answer_is}
 
 -- no event is decided only where none is completed
@@ -167,18 +166,6 @@ module _ (x : Settings) where
     pub goes_on_eventless : answer x p y ≡ goes_on → AreEventless x p y (length y)
     goes_on_eventless e i some le = (goes_on_means x p y e i le).no_event some
 
-    -- where nothing is decided the session goes on
-    pub goes_on_not_over : answer x p y ≡ goes_on → is_over_at x p ≡ false → is_over_at x (p ++ y) ≡ false
-    goes_on_not_over e o = ap (is_over_at x) (sym whole_piece) ∙ eventless_not_over y p (length y) (goes_on_eventless e) o
-
-    -- where nothing is decided nothing is refused
-    pub goes_on_unrefused : answer x p y ≡ goes_on → refusal_at x (p ++ y) ≡ None
-    goes_on_unrefused e = ap (refusal_at x) (sym whole_piece) ∙ (goes_on_means x p y e (length y) (omega arith)).unrefused
-
-    -- where nothing is decided the bytes are fewer than the session quota
-    pub goes_on_within : answer x p y ≡ goes_on → is_over_at x p ≡ false → length (p ++ y) < x.limits.session
-    goes_on_within e o = refusal_none_within x (p ++ y) (goes_on_unrefused e) (goes_on_not_over e o)
-
     -- where nothing is decided no envelope is made whole
     pub goes_on_messages : answer x p y ≡ goes_on → (standing x (p ++ y)).situation.messages ≡ (standing x p).situation.messages
     goes_on_messages e = ap (λ q. (standing x q).situation.messages) (sym whole_piece) ∙ eventless_messages y p (length y) (goes_on_eventless e)
@@ -219,16 +206,3 @@ module _ (x : Settings) where
     before_event_not_over n step e o i lt =
         let c = completes_means x p y n step e in
         eventless_not_over y p i (λ k some le. (c.before k (omega arith)).no_event some) o
-
-    -- before the offence the session isn't over
-    pub before_offence_not_over : (n : ℕ) (o : Offence) → answer x p y ≡ offends n o → is_over_at x p ≡ false → (i : ℕ) → i ≤ n → is_over_at x (p ++ take i y) ≡ false
-    before_offence_not_over n o e over i le =
-        let c = offends_means x p y n o e in
-        eventless_not_over y p i (λ k some h. eventless k some (omega arith) c) over
-      where
-        eventless : (k : ℕ) → 0 < k → k ≤ n → Offends x p y n o → completed_at x (p ++ take k y) ≡ None
-        eventless k some h c =
-            elim (cases_lt k n) [
-              | inl lt ↦ (c.before k lt).no_event some
-              | inr ge ↦ let same : k ≡ n = omega arith in rw same (c.no_event (omega arith))
-            ]

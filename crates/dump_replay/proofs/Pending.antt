@@ -11,9 +11,9 @@ use Rattle.dump_replay.specs.Stream.{Settings, standing}
 use Rattle.dump_replay.specs.Judging.{open_offence, refusal_at, is_over_at, ending_at, offence_from, offence, goes_on, completes, offends, answer}
 use Rattle.dump_replay.specs.Report.{offence_line, ended_line, event_line, line_at, report, event_lines}
 use Rattle.dump_replay.specs.Running.{IsPending, IsOpenAt}
-use Rattle.dump_replay.proofs.Events.{ending_is, nothing_not_over}
+use Rattle.dump_replay.proofs.Events.{ending_is}
 use Rattle.dump_replay.proofs.Meaning.{eventless_not_over, goes_on_means, goes_on_eventless, completes_means, completes_ended, completes_not_over, before_event_not_over}
-use Rattle.dump_replay.proofs.Reports.{after_report, after_lines, report_from_is, event_lines_from_is, report_is, offence_is, event_lines_are, report_completes, report_offends, offence_completes, offence_offends, lines_go_on, lines_complete, report_over, offence_over, report_ends, offence_ends}
+use Rattle.dump_replay.proofs.Reports.{after_report, after_lines, report_next, event_lines_from_is, report_is, offence_is, event_lines_are, report_completes, report_offends, offence_completes, offence_offends, lines_go_on, lines_complete, report_over, offence_over, report_ends, offence_ends}
 
 module _ (P : List ℕ → Type 0) (p y : List ℕ) where
   -- what holds of the first prefixes, and of those with some bytes more behind all of them
@@ -43,10 +43,6 @@ further_at : (x : Settings) {T : Type 0} (f : List ℕ → T) (t : T) (q : List 
     → (i : ℕ) → i < length y → f ((q ++ b ∷ []) ++ take i y) ≡ t
 further_at x f t q b y h i lt = ap f (append_assoc q (b ∷ []) (take i y)) ∙ h (suc i) (omega arith)
 
--- the report past a byte more
-report_next : (x : Settings) (q : List ℕ) (b : ℕ) (y : List ℕ) → refusal_at x q ≡ None → is_over_at x q ≡ false → after_report x q (b ∷ y) ≡ line_at x (q ++ b ∷ []) ++ after_report x (q ++ b ∷ []) y
-report_next x q b y r o = rw (r, o) (report_from_is x (q ++ b ∷ []) y)
-
 module _ (x : Settings) where
   -- a report is its events' lines, and what is past them
   report_further : (y q more : List ℕ) → ((i : ℕ) → i < length y → refusal_at x (q ++ take i y) ≡ None) → ((i : ℕ) → i < length y → is_over_at x (q ++ take i y) ≡ false)
@@ -63,7 +59,7 @@ module _ (x : Settings) where
       ∙ ap (λ p. after_lines x q (b ∷ y) ++ after_report x p more) (append_assoc q (b ∷ []) y)
 
   -- an offence is past the bytes that aren't refused
-  offence_further : (y q more : List ℕ) → ((i : ℕ) → i < length y → refusal_at x (q ++ take i y) ≡ None) → offence_from x q (y ++ more) ≡ offence_from x (q ++ y) more
+  pub offence_further : (y q more : List ℕ) → ((i : ℕ) → i < length y → refusal_at x (q ++ take i y) ≡ None) → offence_from x q (y ++ more) ≡ offence_from x (q ++ y) more
   unfolding offence_from
   offence_further [] q more r = ap (λ p. offence_from x p more) (sym (append-nil q))
   offence_further (b ∷ y) q more r =
@@ -85,10 +81,6 @@ module _ (x : Settings) where
   pub pending_open : (p : List ℕ) → IsPending x p → IsOpenAt x p
   pending_open p h = record { before = λ n lt. h.unrefused n; going_on = h.going_on }
 
-  -- no bytes have no shorter ones
-  pub nothing_open : IsOpenAt x []
-  nothing_open = record { before = λ n lt. absurd (omega arith); going_on = λ n. rw (take_all {A = ℕ} n [] (omega arith)) (nothing_not_over x) }
-
   -- no bytes have no lines
   pub nothing_lines : event_lines x [] ≡ []
   nothing_lines = event_lines_are x []
@@ -97,17 +89,6 @@ module _ (x : Settings) where
     -- the session isn't over
     pub open_not_over : is_over_at x p ≡ false
     open_not_over = ap (is_over_at x) (sym (take_all (length p) p (omega arith))) ∙ on.going_on (length p)
-
-    -- where all the bytes aren't refused either
-    pub open_pending : refusal_at x p ≡ None → IsPending x p
-    open_pending none = record { unrefused = unrefused; going_on = on.going_on }
-      where
-        unrefused : (n : ℕ) → refusal_at x (take n p) ≡ None
-        unrefused n =
-            elim (cases_lt n (length p)) [
-              | inl lt ↦ on.before n lt
-              | inr ge ↦ rw (take_all n p ge) none
-            ]
 
     -- the report is the lines of the events so far, and what is past them
     pub report_split : (more : List ℕ) → report x (p ++ more) ≡ event_lines x p ++ after_report x p more

@@ -20,11 +20,11 @@ use Rattle.dump_replay.specs.Report.{quoted, offence_line, line_at, report_from,
 abbrev set_to : ℕ → ℕ → ℕ → Settings
 set_to payload via session = record { limits = record { payload = payload; depth = 32; dictionary = 2048; content = 262144; via = via; session = session } }
 
-abbrev usual : Settings
+abbrev pub usual : Settings
 usual = set_to 65536 2048 (2 ^ 48)
 
 -- with this session quota
-abbrev of_session : ℕ → Settings
+abbrev pub of_session : ℕ → Settings
 of_session session = set_to 65536 2048 session
 
 -- a payload of at most three bytes
@@ -47,7 +47,7 @@ with_via = with_mode ++ 2 ∷ 13 ∷ codes "net.tcp://h/e"
 abbrev with_encoding : List ℕ
 with_encoding = with_via ++ 3 ∷ 8 ∷ []
 
-abbrev preamble : List ℕ
+abbrev pub preamble : List ℕ
 preamble = with_encoding ++ 12 ∷ []
 
 -- the report of a stream

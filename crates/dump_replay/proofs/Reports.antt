@@ -98,6 +98,11 @@ module _ (x : Settings) where
   offence_by q [] o e = rw e refl
   offence_by q (b ∷ y) o e = rw e refl
 
+  -- a prefix that nothing refuses leaves the offence to what follows
+  pub offence_next : (q : List ℕ) (b : ℕ) (y : List ℕ) → refusal_at x q ≡ None → offence_from x q (b ∷ y) ≡ offence_from x (q ++ b ∷ []) y
+  unfolding offence_from
+  offence_next q b y e = rw e refl
+
 module _ (x : Settings) where
   -- of no bytes yet
   pub report_is : (b : List ℕ) → report x b ≡ after_report x [] b
@@ -119,10 +124,6 @@ module _ (x : Settings) where
     event_place : (n : ℕ) (step : Step) → answer x p y ≡ completes n step → length (p ++ take n y) ≡ length p + n
     event_place n step e = length-append p (take n y) ∙ ap (λ k. length p + k) (length-take-le n y (completes_means x p y n step e).within)
 
-    -- a piece that decides nothing adds nothing to a report
-    pub report_goes_on : answer x p y ≡ goes_on → after_report x p (y ++ more) ≡ after_report x (p ++ y) more
-    report_goes_on e = carried_over x (after_report x) (report_carries x) p y more not_over e
-
     -- an event adds its line
     pub report_completes : (n : ℕ) (step : Step) → answer x p y ≡ completes n step
         → after_report x p (y ++ more) ≡ event_line (standing x (p ++ take n y)).situation (length p + n) step ++ after_report x (p ++ take n y) (drop n y ++ more)
@@ -135,10 +136,6 @@ module _ (x : Settings) where
     report_offends n o e =
         carried_to_offence x (after_report x) (report_carries x) p y more n o not_over e
         ∙ closed_by x (p ++ take n y) (drop n y ++ more) o (offends_means x p y n o e).refusal
-
-    -- a piece that decides nothing changes no offence
-    pub offence_goes_on : answer x p y ≡ goes_on → offence_from x p (y ++ more) ≡ offence_from x (p ++ y) more
-    offence_goes_on e = carried_over x (offence_from x) (offence_carries x) p y more not_over e
 
     -- nor does an event
     pub offence_completes : (n : ℕ) (step : Step) → answer x p y ≡ completes n step → offence_from x p (y ++ more) ≡ offence_from x (p ++ take n y) (drop n y ++ more)
@@ -160,10 +157,6 @@ module _ (x : Settings) where
     lines_complete n step e =
         carried_to_event x (after_lines x) (lines_carry x) (with_line x) (lines_add x) p y more n step not_over e
         ∙ ap (λ k. event_line (standing x (p ++ take n y)).situation k step ++ after_lines x (p ++ take n y) (drop n y ++ more)) (event_place n step e)
-
-    -- an offence adds no event's line up to it
-    pub lines_offend : (n : ℕ) (o : Offence) → answer x p y ≡ offends n o → after_lines x p (y ++ more) ≡ after_lines x (p ++ take n y) (drop n y ++ more)
-    lines_offend n o e = carried_to_offence x (after_lines x) (lines_carry x) p y more n o not_over e
 
   -- behind a session's end nothing is reported
   pub report_over : (p y : List ℕ) → is_over_at x p ≡ true → after_report x p y ≡ []

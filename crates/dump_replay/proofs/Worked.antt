@@ -1,5 +1,5 @@
 -- The worked streams, computed by the definitions.
-use Rattle.std.proofs.Common.{◌≡◌, ◌^◌, ℕ, List, [], ◌∷◌, ◌++◌, length, map, refl}
+use Rattle.std.proofs.Common.{◌≡◌, ℕ, [], ◌∷◌, ◌++◌, length, map, refl}
 use Rattle.std.specs.Prelude.{codes}
 use Rattle.std.specs.Str.{is_utf8, chars}
 use Rattle.std.specs.Fmt.{digits}
@@ -10,18 +10,10 @@ use Rattle.nbfx_values.specs.declared.session.Mode.TheVariants.{Duplex}
 use Rattle.nbfx_values.specs.declared.session.Kind.TheVariants.{Session}
 use Rattle.dump_replay.specs.declared.receiver.Step.{Step}
 use Rattle.dump_replay.specs.declared.receiver.Step.TheVariants.{Opened, Envelope, Ended}
-use Rattle.dump_replay.specs.Stream.{Settings, unit_at, after, peeled, standing}
+use Rattle.dump_replay.specs.Stream.{unit_at, after, peeled, standing}
 use Rattle.dump_replay.specs.Judging.{Event, refusal_at, completed_at, is_over_at, ending_at, events_from, events}
+use Rattle.dump_replay.proofs.Refusals.{of_session, usual, preamble}
 use Rattle.dump_replay.specs.Report.{quoted, offence_line, line_at, report_from, report}
-
-abbrev usual_with : ℕ → Settings
-usual_with session = record { limits = record { payload = 65536; depth = 32; dictionary = 2048; content = 262144; via = 2048; session = session } }
-
-abbrev usual : Settings
-usual = usual_with (2 ^ 48)
-
-abbrev preamble : List ℕ
-preamble = 0 ∷ 1 ∷ 0 ∷ 1 ∷ 2 ∷ 2 ∷ 13 ∷ codes "net.tcp://h/e" ++ 3 ∷ 8 ∷ 12 ∷ []
 
 preamble_and_end : report usual (preamble ++ 7 ∷ []) ≡ codes "open duplex 8 \"net.tcp://h/e\"\nended 24\n"
 unfolding is_utf8 chars encode digits int_at int_ending_at value_of string_at text_behind text_at text_ending_at unit_at after peeled standing refusal_at completed_at is_over_at ending_at quoted offence_line line_at report_from report
@@ -43,11 +35,11 @@ simplex : report usual (0 ∷ 1 ∷ 0 ∷ 1 ∷ 3 ∷ []) ≡ codes "offence fra
 unfolding is_utf8 chars encode digits int_at int_ending_at value_of string_at text_behind text_at text_ending_at unit_at after peeled standing refusal_at completed_at is_over_at ending_at quoted offence_line line_at report_from report
 simplex = refl
 
-session_of_23 : report (usual_with 23) (preamble ++ 7 ∷ []) ≡ codes "open duplex 8 \"net.tcp://h/e\"\noffence frame 23 25 SessionTooLong\n"
+session_of_23 : report (of_session 23) (preamble ++ 7 ∷ []) ≡ codes "open duplex 8 \"net.tcp://h/e\"\noffence frame 23 25 SessionTooLong\n"
 unfolding is_utf8 chars encode digits int_at int_ending_at value_of string_at text_behind text_at text_ending_at unit_at after peeled standing refusal_at completed_at is_over_at ending_at quoted offence_line line_at report_from report
 session_of_23 = refl
 
-session_of_24 : report (usual_with 24) (preamble ++ 7 ∷ []) ≡ codes "open duplex 8 \"net.tcp://h/e\"\nended 24\n"
+session_of_24 : report (of_session 24) (preamble ++ 7 ∷ []) ≡ codes "open duplex 8 \"net.tcp://h/e\"\nended 24\n"
 unfolding is_utf8 chars encode digits int_at int_ending_at value_of string_at text_behind text_at text_ending_at unit_at after peeled standing refusal_at completed_at is_over_at ending_at quoted offence_line line_at report_from report
 session_of_24 = refl
 

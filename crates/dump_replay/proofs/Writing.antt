@@ -51,10 +51,6 @@ grows None new b told = tt
 grows (Some w) None b told = absurd told
 grows (Some w) (Some w') b told = record { more = take told.kept b; grown = told.grown }
 
--- as a put leaves it
-pub put_grows : (answer : Result ⊤ SinkFault) (old new : Option (List ℕ)) (b : List ℕ) → OnOk answer (Told old new (λ w w'. w' ≡ w ++ b)) → OnErr answer (Told old new (λ w w'. GrowsByPrefix w w' b)) → Told old new Grows
-put_grows answer old new b written refused = grows old new b (put_either answer old new b written refused)
-
 -- nothing more is written
 pub grows_not : (written : Option (List ℕ)) → Told written written Grows
 grows_not None = tt
@@ -66,10 +62,6 @@ grows_further None mid last before now = tt
 grows_further (Some u) None last before now = absurd before
 grows_further (Some u) (Some v) None before now = absurd now
 grows_further (Some u) (Some v) (Some w) before now = record { more = before.more ++ now.more; grown = now.grown ∙ ap (λ l. l ++ now.more) before.grown ∙ append_assoc u before.more now.more }
-
--- nothing of it is written
-pub grown_none : (w b : List ℕ) → GrowsByPrefix w w b
-grown_none w b = record { kept = 0; grown = sym (append-nil w) }
 
 module _ (x : Settings) (p : List ℕ) (pending : IsPending x p) where
   -- a session that isn't over doesn't end with the input

@@ -1,11 +1,13 @@
 -- What holds of streams by their definitions alone.
-use Rattle.std.specs.Prelude.{◌≡◌, ℕ, ◌+◌, List, [], ◌++◌, length, None, ◌↔◌}
+use Rattle.std.specs.Prelude.{◌≡◌, ◌≤◌, ℕ, ◌+◌, List, [], ◌++◌, length, false, Some, None, ◌↔◌}
 use Rattle.std.specs.List.{flat_map}
 use Rattle.multibyte_ints.specs.Front.{whole}
 use Rattle.nbfx_values.specs.declared.session.Kind.{Kind}
+use Rattle.nbfx_values.specs.declared.refusals.Offence.{Offence}
+use Rattle.nbfx_values.specs.declared.refusals.Reason.TheVariants.{Truncated, SessionTooLong}
 use Rattle.dump_replay.specs.declared.receiver.Step.TheVariants.{More}
 use Rattle.dump_replay.specs.Stream.{Settings, Stage, StreamUnit, unit_at, standing}
-use Rattle.dump_replay.specs.Judging.{offence, events, Answer, goes_on, completes, offends, answer}
+use Rattle.dump_replay.specs.Judging.{refusal_at, is_over_at, ending_at, offence, events, Answer, goes_on, completes, offends, answer}
 use Rattle.dump_replay.specs.Report.{event_line, offence_line_of, report, session_report}
 use Rattle.dump_replay.specs.Sessions.{IsSession, IsClosed}
 
@@ -30,6 +32,18 @@ abbrev pub NoUnitGoesOn : Type 0
 NoUnitGoesOn =
     (x : Settings) (stage : Stage) (b c : List ℕ) (u v : StreamUnit)
     → unit_at x stage b ≡ whole u (length b) → unit_at x stage (b ++ c) ≡ whole v (length (b ++ c)) → c ≡ []
+
+-- only a prefix as long as the session quota, of a session that isn't over, is refused as too long
+abbrev pub TooLongByLength : Type 0
+TooLongByLength = (x : Settings) (p : List ℕ) (o : Offence) → refusal_at x p ≡ Some o → o.reason ≡ SessionTooLong → (x.limits.session ≤ length p) × (is_over_at x p ≡ false)
+
+-- no piece shows that a stream is cut off
+abbrev pub NoPieceCutsOff : Type 0
+NoPieceCutsOff = (x : Settings) (p y : List ℕ) (n : ℕ) (o : Offence) → answer x p y ≡ offends n o → o.reason ≡ Truncated → ⊥
+
+-- the end of the input does, where the session isn't over
+abbrev pub EndCutsOff : Type 0
+EndCutsOff = (x : Settings) (p : List ℕ) (o : Offence) → ending_at x p ≡ Some o → (o.reason ≡ Truncated) × (is_over_at x p ≡ false)
 
 -- no event that a piece completes is More
 abbrev pub NoEventIsMore : Type 0
