@@ -4,13 +4,14 @@ use Rattle.std.specs.Prelude.{nat_lt, ◌==◌, ◌||◌, ⊤}
 use Rattle.std.proofs.lemmas.Bool.{cond_both}
 use Rattle.std.proofs.lemmas.Bool.Decides.{nat_tests}
 use Rattle.std.proofs.lemmas.List.{length-take-le, take-append-drop, length-drop}
-use Rattle.unit_streams.specs.Front.{Front, begun, whole, wrong}
+use Rattle.unit_streams.specs.Front.{Front, begun, whole, wrong, behind}
 use Rattle.multibyte_ints.specs.Integer.{int_at}
 use Rattle.multibyte_ints.specs.Text.{string_at, StringFault, bad_int, too_long, bad_utf8}
 use Rattle.multibyte_ints.specs.Laws.{FifthIsAbove}
 use Rattle.multibyte_ints.proofs.IntegerBytes.{above_from}
 use Rattle.multibyte_ints.proofs.IntegerLaws.{spells_from_whole}
 use Rattle.multibyte_ints.proofs.TextCauses.{bad_int_cause, too_long_cause, bad_text_cause}
+use Rattle.nmf_records.specs.declared.record_types.TheConstants.{VIA, FAULT, GREATEST}
 use Rattle.nmf_records.specs.declared.frame.Frame.{Frame}
 use Rattle.nmf_records.specs.declared.frame.Frame.TheVariants as frames
 use Rattle.nmf_records.specs.declared.frame.Expect.{Expect}
@@ -18,10 +19,10 @@ use Rattle.nmf_records.specs.declared.frame.Expect.TheVariants.{Types, Chunk}
 use Rattle.nmf_records.specs.declared.frame.FrameFault.{FrameFault}
 use Rattle.nmf_records.specs.declared.frame.FrameFault.TheVariants as faults
 use Rattle.nmf_records.specs.Records.{Read}
-use Rattle.nmf_records.specs.Reading.{behind, bare, fault_of, size_at, text_at, version_at, byte_at, typed_at, allows, frame_at}
+use Rattle.nmf_records.specs.Reading.{with_text, bare, fault_of, size_at, text_at, version_at, byte_at, typed_at, allows, frame_at}
 use Rattle.nmf_records.specs.Laws.{BeginsUnknown, BeginsUnexpected, has_integer, IntegerComes, HasLongText, HasBadText}
 use Rattle.nmf_records.proofs.Typed.{type_known}
-use Rattle.nmf_records.proofs.Types.{by_type}
+use Rattle.nmf_records.proofs.TypeCases.{by_type}
 
 -- of a fault and the number of bytes that show it
 abbrev OfWrong : (FrameFault → ℕ → Type 0) → Front Read FrameFault → Type 0
@@ -37,10 +38,6 @@ HasCause limit expect bytes faults.BadInt n = (k : ℕ) × IntegerComes expect b
 HasCause limit expect bytes faults.TextTooLong n = HasLongText limit expect bytes n
 HasCause limit expect bytes faults.TextNotUtf8 n = HasBadText limit expect bytes n
 
--- an integer is wrong by its fifth byte
-int_cause : (b : List ℕ) (k : ℕ) → int_at b ≡ wrong tt k → (k ≡ 5) × FifthIsAbove b
-int_cause b k e = above_from b tt k e
-
 -- behind a type byte that may come
 module _ (limit types kind : ℕ) (bytes : List ℕ) (may : allows types kind ≡ true) where
   -- what is read behind the type byte is no fault, or one with its cause
@@ -49,10 +46,10 @@ module _ (limit types kind : ℕ) (bytes : List ℕ) (may : allows types kind �
 
   -- a wrong integer behind the type byte
   int_causes : (k : ℕ) → has_integer kind ≡ true → int_at bytes ≡ wrong tt k → HasCause limit (Types types) (kind ∷ bytes) faults.BadInt (1 + k)
-  int_causes k has e = let c = int_cause bytes k e in (1, (refl, may, has), ap (λ j. 1 + j) c.0, c.1)
+  int_causes k has e = let c = above_from bytes tt k e in (1, (refl, may, has), ap (λ j. 1 + j) c.0, c.1)
 
   -- a text whose length is above the limit
-  long_text : (k : ℕ) → ((kind == 2) || (kind == 8)) ≡ true → string_at limit bytes ≡ wrong too_long k → HasLongText limit (Types types) (kind ∷ bytes) (1 + k)
+  long_text : (k : ℕ) → ((kind == VIA) || (kind == FAULT)) ≡ true → string_at limit bytes ≡ wrong too_long k → HasLongText limit (Types types) (kind ∷ bytes) (1 + k)
   long_text k text e =
       let c = too_long_cause limit bytes k e in
       let s = spells_from_whole bytes c.0 k c.1 in
@@ -69,7 +66,7 @@ module _ (limit types kind : ℕ) (bytes : List ℕ) (may : allows types kind �
       }
 
   -- a text that isn't UTF-8
-  bad_text : (k : ℕ) → ((kind == 2) || (kind == 8)) ≡ true → string_at limit bytes ≡ wrong bad_utf8 k → HasBadText limit (Types types) (kind ∷ bytes) (1 + k)
+  bad_text : (k : ℕ) → ((kind == VIA) || (kind == FAULT)) ≡ true → string_at limit bytes ≡ wrong bad_utf8 k → HasBadText limit (Types types) (kind ∷ bytes) (1 + k)
   bad_text k text e =
       let c = bad_text_cause limit bytes k e in
       let s = spells_from_whole bytes c.n c.j c.int in
@@ -88,10 +85,10 @@ module _ (limit types kind : ℕ) (bytes : List ℕ) (may : allows types kind �
       }
 
   -- a text is wrong by its integer, its length or its bytes
-  text_causes : (frame : Frame) → ((kind == 2) || (kind == 8)) ≡ true → has_integer kind ≡ true → Of (text_at limit frame bytes)
+  text_causes : (frame : Frame) → ((kind == VIA) || (kind == FAULT)) ≡ true → has_integer kind ≡ true → Of (text_at limit frame bytes)
   text_causes frame text has = by_string (string_at limit bytes) refl
     where
-      by_string : (y : Front (List ℕ) StringFault) → string_at limit bytes ≡ y → Of (behind 1 (λ text. record { frame = frame; text = text }) fault_of y)
+      by_string : (y : Front (List ℕ) StringFault) → string_at limit bytes ≡ y → Of (behind 1 (with_text frame) fault_of y)
       by_string begun h = tt
       by_string (whole s k) h = tt
       by_string (wrong bad_int k) h = int_causes k has (bad_int_cause limit bytes k h)
@@ -119,7 +116,7 @@ byte_causes P frame [] = tt
 byte_causes P frame (x ∷ rest) = tt
 
 -- behind a type byte that may come
-typed_causes : (limit types kind : ℕ) (bytes : List ℕ) (may : allows types kind ≡ true) → kind ≤ 12 → Of limit types kind bytes may (typed_at limit kind bytes)
+typed_causes : (limit types kind : ℕ) (bytes : List ℕ) (may : allows types kind ≡ true) → kind ≤ GREATEST → Of limit types kind bytes may (typed_at limit kind bytes)
 typed_causes limit types kind bytes may le =
     let P : FrameFault → ℕ → Type 0 = HasCause limit (Types types) (kind ∷ bytes) in
     by_type limit kind bytes (Of limit types kind bytes may) le record {
@@ -137,7 +134,7 @@ typed_causes limit types kind bytes may le =
     }
 
 -- a type byte above the known ones
-above_known : (kind : ℕ) → nat_lt 12 kind ≡ true → 12 < kind
+above_known : (kind : ℕ) → nat_lt GREATEST kind ≡ true → GREATEST < kind
 above_known kind e = grind (arith, nat_tests)
 
 -- a front is no fault, or one with its cause
@@ -145,14 +142,14 @@ front_causes : (limit : ℕ) (expect : Expect) (bytes : List ℕ) → OfWrong (H
 front_causes limit (Types types) [] = tt
 front_causes limit (Types types) (kind ∷ bytes) =
     let P : Front Read FrameFault → Type 0 = OfWrong (HasCause limit (Types types) (kind ∷ bytes)) in
-    cond_both (nat_lt 12 kind) _ _ P (λ above. (refl, above_known kind above))
+    cond_both (nat_lt GREATEST kind) _ _ P (λ above. (refl, above_known kind above))
     (λ known. cond_both (allows types kind) _ _ P (λ may. typed_causes limit types kind bytes may (type_known kind known)) (λ not_due. (refl, (refl, type_known kind known, inl not_due))))
 front_causes limit Chunk bytes = by_int (int_at bytes) refl
   where
     by_int : (y : Front ℕ ⊤) → int_at bytes ≡ y → OfWrong (HasCause limit Chunk bytes) (behind 0 (λ size. bare (frames.Chunk size)) (λ _. faults.BadInt) y)
     by_int begun h = tt
     by_int (whole n k) h = tt
-    by_int (wrong r k) h = let c = int_cause bytes k h in (0, refl, ap (λ j. 0 + j) c.0, c.1)
+    by_int (wrong r k) h = let c = above_from bytes tt k h in (0, refl, ap (λ j. 0 + j) c.0, c.1)
 
 -- what holds of a fault holds of this one
 OfWrong_at : (P : FrameFault → ℕ → Type 0) (y : Front Read FrameFault) (fault : FrameFault) (n : ℕ) → y ≡ wrong fault n → OfWrong P y → P fault n

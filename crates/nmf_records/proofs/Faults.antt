@@ -1,59 +1,49 @@
 -- Bytes that have the cause of a fault are wrong by it.
-use Rattle.std.proofs.Common.{◌≡◌, ℕ, ◌+◌, ◌≤◌, List, [], ◌∷◌, ◌++◌, length, take, drop, Bool, true, false, refl, sym, ap, ◌∙◌, subst, ◌⊎◌, inl, inr, arith, length-append}
-use Rattle.std.specs.Prelude.{nat_lt, ◌==◌, ◌&&◌, ◌||◌}
-use Rattle.std.proofs.lemmas.Bool.{eqb-true, cases_Bool}
+use Rattle.std.proofs.Common.{◌≡◌, ℕ, ◌+◌, ◌≤◌, List, [], ◌∷◌, ◌++◌, length, take, drop, true, false, refl, sym, ap, ◌∙◌, subst, inl, inr, arith, length-append}
+use Rattle.std.specs.Prelude.{nat_lt, ◌==◌, ◌||◌}
+use Rattle.std.proofs.lemmas.Bool.{eqb-true, cases_Bool, and_parts, or_cases}
 use Rattle.std.proofs.lemmas.Bool.Decides.{nat_tests}
 use Rattle.std.proofs.Math.Seq.{take-append_seam, drop-append_seam}
-use Rattle.unit_streams.specs.Front.{whole, wrong}
-use Rattle.multibyte_ints.specs.Integer.{int_at, Spells}
+use Rattle.unit_streams.specs.Front.{wrong, behind}
+use Rattle.multibyte_ints.specs.Integer.{int_at}
 use Rattle.multibyte_ints.specs.Text.{string_at, too_long, bad_utf8}
 use Rattle.multibyte_ints.specs.Laws.{FifthIsAbove}
 use Rattle.multibyte_ints.proofs.IntegerFacts.{wrong_is}
-use Rattle.multibyte_ints.proofs.IntegerLaws.{whole_from_spells}
+use Rattle.multibyte_ints.proofs.IntegerLaws.{whole_then}
 use Rattle.multibyte_ints.proofs.TextCauses.{bad_int_comes, too_long_comes, bad_text_comes}
+use Rattle.nmf_records.specs.declared.record_types.TheConstants.{VIA, EXTENSIBLE_ENCODING, SIZED_ENVELOPE, FAULT, UPGRADE_REQUEST, UPGRADE_RESPONSE, GREATEST}
 use Rattle.nmf_records.specs.declared.frame.Frame.{Frame}
 use Rattle.nmf_records.specs.declared.frame.Frame.TheVariants as frames
 use Rattle.nmf_records.specs.declared.frame.Expect.{Expect}
 use Rattle.nmf_records.specs.declared.frame.Expect.TheVariants.{Types, Chunk}
 use Rattle.nmf_records.specs.declared.frame.FrameFault.{FrameFault}
 use Rattle.nmf_records.specs.declared.frame.FrameFault.TheVariants as faults
-use Rattle.nmf_records.specs.Reading.{behind, fault_of, text_at, typed_at, allows, record_at, frame_at}
+use Rattle.nmf_records.specs.Reading.{with_text, fault_of, text_at, typed_at, allows, record_at, frame_at}
 use Rattle.nmf_records.specs.Steps.{begins_text}
 use Rattle.nmf_records.specs.Laws.{BeginsUnknown, BeginsUnexpected, has_no_frame, has_integer, IntegerComes, HasLongText, HasBadText}
-use Rattle.nmf_records.proofs.Fronts.{with_text}
 use Rattle.nmf_records.proofs.Typed.{allowed_reads}
 use Rattle.nmf_records.proofs.Causes.{HasCause}
 
--- Of a test that is one of several, which one it is
-one_of_two : (x y : Bool) → (x || y) ≡ true → (x ≡ true) ⊎ (y ≡ true)
-one_of_two true y e = inl refl
-one_of_two false y e = inr e
-
--- of two tests that hold, that each does
-both : (x y : Bool) → (x && y) ≡ true → (x ≡ true) × (y ≡ true)
-both true y e = (refl, e)
-both false y e = cc
-
--- a type byte above 12 is unknown
+-- a type byte above the known ones is unknown
 unknown_comes : (limit : ℕ) (expect : Expect) (bytes : List ℕ) → BeginsUnknown expect bytes → frame_at limit expect bytes ≡ wrong faults.UnknownRecord 1
 unknown_comes limit (Types types) [] h = absurd h
-unknown_comes limit (Types types) (kind ∷ rest) h = let above : nat_lt 12 kind ≡ true = grind (arith, nat_tests) in rw above refl
+unknown_comes limit (Types types) (kind ∷ rest) h = let above : nat_lt GREATEST kind ≡ true = grind (arith, nat_tests) in rw above refl
 unknown_comes limit Chunk bytes h = absurd h
 
 -- the record of a type without a frame
 no_frame_at : (limit kind : ℕ) (rest : List ℕ) → has_no_frame kind ≡ true → typed_at limit kind rest ≡ wrong (faults.Unexpected kind) 1
 no_frame_at limit kind rest e =
-    elim (one_of_two (kind == 4) ((kind == 9) || (kind == 10)) e) [
-      | inl is ↦ rw (eqb-true kind 4 is) refl
-      | inr more ↦ elim (one_of_two (kind == 9) (kind == 10) more) [
-        | inl is ↦ rw (eqb-true kind 9 is) refl
-        | inr is ↦ rw (eqb-true kind 10 is) refl
+    elim (or_cases (kind == EXTENSIBLE_ENCODING) ((kind == UPGRADE_REQUEST) || (kind == UPGRADE_RESPONSE)) e) [
+      | inl is ↦ rw (eqb-true kind EXTENSIBLE_ENCODING is) refl
+      | inr more ↦ elim (or_cases (kind == UPGRADE_REQUEST) (kind == UPGRADE_RESPONSE) more) [
+        | inl is ↦ rw (eqb-true kind UPGRADE_REQUEST is) refl
+        | inr is ↦ rw (eqb-true kind UPGRADE_RESPONSE is) refl
       ]
     ]
 
 -- a known type whose bit is not set
-not_due_at : (limit types kind : ℕ) (rest : List ℕ) → kind ≤ 12 → allows types kind ≡ false → record_at limit types (kind ∷ rest) ≡ wrong (faults.Unexpected kind) 1
-not_due_at limit types kind rest le e = let known : nat_lt 12 kind ≡ false = grind (arith, nat_tests) in rw (known, e) refl
+not_due_at : (limit types kind : ℕ) (rest : List ℕ) → kind ≤ GREATEST → allows types kind ≡ false → record_at limit types (kind ∷ rest) ≡ wrong (faults.Unexpected kind) 1
+not_due_at limit types kind rest le e = let known : nat_lt GREATEST kind ≡ false = grind (arith, nat_tests) in rw (known, e) refl
 
 -- a known type that may not come is unexpected
 unexpected_comes : (limit : ℕ) (expect : Expect) (bytes : List ℕ) (t : ℕ) → BeginsUnexpected expect bytes t → frame_at limit expect bytes ≡ wrong (faults.Unexpected t) 1
@@ -68,31 +58,27 @@ unexpected_comes limit (Types types) (kind ∷ rest) t h =
     ])
 unexpected_comes limit Chunk bytes t h = absurd h
 
--- an integer with a fifth byte above 7 is wrong
-int_comes : (b : List ℕ) → FifthIsAbove b → int_at b ≡ wrong tt 5
-int_comes b h = wrong_is b h
-
--- and so is a record that has one
-int_behind_type : (limit types kind : ℕ) (rest : List ℕ) → kind ≤ 12 → allows types kind ≡ true → has_integer kind ≡ true → int_at rest ≡ wrong tt 5
+-- a record with an integer that is wrong
+int_behind_type : (limit types kind : ℕ) (rest : List ℕ) → kind ≤ GREATEST → allows types kind ≡ true → has_integer kind ≡ true → int_at rest ≡ wrong tt 5
     → record_at limit types (kind ∷ rest) ≡ wrong faults.BadInt 6
 int_behind_type limit types kind rest le may has e =
     allowed_reads limit types kind rest le may
-    ∙ elim (one_of_two (kind == 2) ((kind == 6) || (kind == 8)) has) [
-      | inl is ↦ rw (eqb-true kind 2 is, bad_int_comes limit rest 5 e) refl
-      | inr more ↦ elim (one_of_two (kind == 6) (kind == 8) more) [
-        | inl is ↦ rw (eqb-true kind 6 is, e) refl
-        | inr is ↦ rw (eqb-true kind 8 is, bad_int_comes limit rest 5 e) refl
+    ∙ elim (or_cases (kind == VIA) ((kind == SIZED_ENVELOPE) || (kind == FAULT)) has) [
+      | inl is ↦ rw (eqb-true kind VIA is, bad_int_comes limit rest 5 e) refl
+      | inr more ↦ elim (or_cases (kind == SIZED_ENVELOPE) (kind == FAULT) more) [
+        | inl is ↦ rw (eqb-true kind SIZED_ENVELOPE is, e) refl
+        | inr is ↦ rw (eqb-true kind FAULT is, bad_int_comes limit rest 5 e) refl
       ]
     ]
 
 -- a type that has an integer is known
-has_integer_known : (kind : ℕ) → has_integer kind ≡ true → kind ≤ 12
+has_integer_known : (kind : ℕ) → has_integer kind ≡ true → kind ≤ GREATEST
 has_integer_known kind has =
-    elim (one_of_two (kind == 2) ((kind == 6) || (kind == 8)) has) [
-      | inl is ↦ omega (arith, eqb-true kind 2 is)
-      | inr more ↦ elim (one_of_two (kind == 6) (kind == 8) more) [
-        | inl is ↦ omega (arith, eqb-true kind 6 is)
-        | inr is ↦ omega (arith, eqb-true kind 8 is)
+    elim (or_cases (kind == VIA) ((kind == SIZED_ENVELOPE) || (kind == FAULT)) has) [
+      | inl is ↦ omega (arith, eqb-true kind VIA is)
+      | inr more ↦ elim (or_cases (kind == SIZED_ENVELOPE) (kind == FAULT) more) [
+        | inl is ↦ omega (arith, eqb-true kind SIZED_ENVELOPE is)
+        | inr is ↦ omega (arith, eqb-true kind FAULT is)
       ]
     ]
 
@@ -101,35 +87,28 @@ bad_int_comes_at : (limit : ℕ) (expect : Expect) (bytes : List ℕ) (k : ℕ) 
     → frame_at limit expect bytes ≡ wrong faults.BadInt (k + 5)
 bad_int_comes_at limit Chunk bytes k at h =
     let h' : FifthIsAbove bytes = rw at at h in
-    rw (at, int_comes bytes h') refl
+    rw (at, wrong_is bytes h') refl
 bad_int_comes_at limit (Types types) [] k at h = absurd at
 bad_int_comes_at limit (Types types) (kind ∷ rest) k at h =
     let h' : FifthIsAbove rest = rw at.0 at h in
-    rw at.0 (int_behind_type limit types kind rest (has_integer_known kind at.2) at.1 at.2 (int_comes rest h'))
+    rw at.0 (int_behind_type limit types kind rest (has_integer_known kind at.2) at.1 at.2 (wrong_is rest h'))
 
 -- a text that may come is read as one
 text_comes : (limit : ℕ) (expect : Expect) (kind : ℕ) (rest : List ℕ) → begins_text expect (kind ∷ rest) ≡ true
     → (frame : Frame) × (frame_at limit expect (kind ∷ rest) ≡ text_at limit frame rest)
 text_comes limit (Types types) kind rest begins =
-    let parts = both (allows types kind) ((kind == 2) || (kind == 8)) begins in
-    elim (one_of_two (kind == 2) (kind == 8) parts.1) [
+    let parts = and_parts (allows types kind) ((kind == VIA) || (kind == FAULT)) begins in
+    elim (or_cases (kind == VIA) (kind == FAULT) parts.1) [
       | inl is ↦
-          let e : kind ≡ 2 = eqb-true kind 2 is in
-          let may : allows types 2 ≡ true = subst (λ k. allows types k ≡ true) e parts.0 in
-          (frames.Via, rw e (allowed_reads limit types 2 rest (omega arith) may))
+          let e : kind ≡ VIA = eqb-true kind VIA is in
+          let may : allows types VIA ≡ true = subst (λ k. allows types k ≡ true) e parts.0 in
+          (frames.Via, rw e (allowed_reads limit types VIA rest (omega arith) may))
       | inr is ↦
-          let e : kind ≡ 8 = eqb-true kind 8 is in
-          let may : allows types 8 ≡ true = subst (λ k. allows types k ≡ true) e parts.0 in
-          (frames.Fault, rw e (allowed_reads limit types 8 rest (omega arith) may))
+          let e : kind ≡ FAULT = eqb-true kind FAULT is in
+          let may : allows types FAULT ≡ true = subst (λ k. allows types k ≡ true) e parts.0 in
+          (frames.Fault, rw e (allowed_reads limit types FAULT rest (omega arith) may))
     ]
 text_comes limit Chunk kind rest begins = cc
-
--- the integer of a spelling, whatever follows it
-int_of : (n : ℕ) (spelling rest : List ℕ) → Spells n spelling → int_at (spelling ++ rest) ≡ whole n (length spelling)
-int_of n spelling rest h =
-    let alone : take (length spelling) (spelling ++ rest) ≡ spelling = take-append_seam spelling rest in
-    let len : length (spelling ++ rest) ≡ length spelling + length rest = simp length-append (omega arith) in
-    whole_from_spells (spelling ++ rest) n (length spelling) (omega (arith, len)) (rw alone h)
 
 -- a length above the limit is wrong where it is whole
 long_text_comes : (limit : ℕ) (expect : Expect) (bytes : List ℕ) (n : ℕ) → HasLongText limit expect bytes n → frame_at limit expect bytes ≡ wrong faults.TextTooLong n
@@ -137,7 +116,7 @@ long_text_comes limit expect bytes n h =
     let begins : begins_text expect (h.kind ∷ (h.spelling ++ h.rest)) ≡ true = ap (begins_text expect) (sym h.joined) ∙ h.begins in
     let text = text_comes limit expect h.kind (h.spelling ++ h.rest) begins in
     let long : string_at limit (h.spelling ++ h.rest) ≡ wrong too_long (length h.spelling)
-    = too_long_comes limit (h.spelling ++ h.rest) (length h.spelling) h.size (int_of h.size h.spelling h.rest h.spelled) h.above in
+    = too_long_comes limit (h.spelling ++ h.rest) (length h.spelling) h.size (whole_then h.spelling h.rest h.size h.spelled) h.above in
     rw (h.joined, h.place) (text.1 ∙ ap (behind 1 (with_text text.0) fault_of) long)
 
 -- a text that isn't UTF-8 is wrong at its last byte
@@ -153,7 +132,7 @@ bad_text_comes_at limit expect bytes n h =
     = bad_text_comes limit rest (length h.spelling + length h.text) (record {
       n = length h.text;
       j = length h.spelling;
-      int = int_of (length h.text) h.spelling (h.text ++ h.rest) h.spelled;
+      int = whole_then h.spelling (h.text ++ h.rest) (length h.text) h.spelled;
       low = h.within;
       size = refl;
       within = omega (arith, len);

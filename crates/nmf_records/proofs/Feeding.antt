@@ -1,20 +1,21 @@
 -- How a reader comes along a piece.
 use Rattle.std.proofs.Common.{◌≡◌, ℕ, ◌+◌, ◌-◌, ◌≤◌, ◌<◌, Bool, true, false, List, [], ◌∷◌, ◌++◌, length, take, drop, refl, sym, ap, ◌∙◌, subst, arith, append_assoc, length-append, Some}
 use Rattle.std.specs.Prelude.{if◌then◌else◌}
-use Rattle.std.proofs.Math.Seq.{take-add, take-length}
+use Rattle.std.proofs.Math.Seq.{take-add}
 use Rattle.std.proofs.lemmas.List.{append-nil, take_rest, length-take-le, take-append-drop}
 use Rattle.unit_streams.specs.Front.{Front, begun}
 use Rattle.nmf_records.specs.declared.frame.Expect.{Expect}
 use Rattle.nmf_records.specs.declared.frame.Expect.TheVariants.{Types, Chunk}
 use Rattle.nmf_records.specs.declared.frame.FrameFault.{FrameFault}
+use Rattle.nmf_records.specs.declared.frame.FrameRefusal.{FrameRefusal}
 use Rattle.nmf_records.specs.declared.stage.Stage.{Stage}
 use Rattle.nmf_records.specs.declared.stage.Stage.TheVariants as stages
 use Rattle.nmf_records.specs.declared.reader.FrameReader.{FrameReader}
 use Rattle.nmf_records.specs.Records.{Read}
 use Rattle.nmf_records.specs.Reading.{frame_at}
 use Rattle.nmf_records.specs.Steps.{HasShape, begins_text, kind_of_text}
-use Rattle.nmf_records.specs.Reader.{StandsFor, ShowsText, HoldsText, text_after, text_read, limit_of, fault_at}
-use Rattle.nmf_records.proofs.Peeling.{goes_on, decided_some}
+use Rattle.nmf_records.specs.Reader.{StandsFor, ShowsText, HoldsText, text_after, text_read, limit_of, pending_of, failure_of, refusal_at}
+use Rattle.unit_streams.proofs.Peeling.{goes_on, decided_some}
 use Rattle.nmf_records.proofs.Frames.{frame_peels}
 use Rattle.nmf_records.proofs.Showing.{plain_shows, field_head, size_head, text_shows}
 
@@ -95,13 +96,23 @@ pub begun_still : (limit : ℕ) (r : FrameReader) (expect : Expect) (p : List �
 unfolding StandsFor
 begun_still limit r expect p e stands = ap (λ l. frame_at l expect p) (sym e) ∙ stands.begun
 
--- a stage that isn't a failed one answers no fault from now on
-pub failed_stage : (stage : Stage) (fault : FrameFault) → fault_at stage ≡ Some fault → stage ≡ stages.Failed fault
-failed_stage stages.Type fault e = cc
-failed_stage (stages.Field field) fault e = cc
-failed_stage (stages.Text text) fault e = cc
-failed_stage (stages.Size size) fault e = cc
-failed_stage (stages.Failed other) fault e = ap stages.Failed cc
+-- a failed stage answers its refusal from now on
+pub refusal_is : (reader : FrameReader) (fault : FrameFault) → reader.stage ≡ stages.Failed fault
+    → failure_of reader ≡ Some (record { fault = fault; shown_by = pending_of reader })
+unfolding failure_of pending_of
+refusal_is reader fault e = ap (λ stage. refusal_at stage reader.pending) e
+
+-- and another stage none
+pub no_refusal : (reader : FrameReader) (refusal : FrameRefusal) → ((fault : FrameFault) → reader.stage ≡ stages.Failed fault → ⊥)
+    → failure_of reader ≡ Some refusal → ⊥
+unfolding failure_of
+no_refusal reader refusal isnt e = by_stage reader.stage isnt e where
+  by_stage : (stage : Stage) → ((fault : FrameFault) → stage ≡ stages.Failed fault → ⊥) → refusal_at stage reader.pending ≡ Some refusal → ⊥
+  by_stage stages.Type isnt e = cc
+  by_stage (stages.Field field) isnt e = cc
+  by_stage (stages.Text text) isnt e = cc
+  by_stage (stages.Size size) isnt e = cc
+  by_stage (stages.Failed fault) isnt e = isnt fault refl
 
 -- what n bytes of the rest of a piece decide, the whole piece decides
 module _ (limit limit' : ℕ) (expect : Expect) (p piece : List ℕ) (used n : ℕ) (same : limit ≡ limit') where
@@ -124,7 +135,3 @@ module _ (limit limit' : ℕ) (expect : Expect) (p piece : List ℕ) (used n : �
       let shown = after_after s expect b more (frame_at limit expect (b ++ more)) ∙ after_along s limit expect upto (drop n (rest_of p piece used n)) said in
       subst (λ l. ShowsText new (text_after s expect (p ++ piece) (frame_at l expect (p ++ piece)))) same
       (subst (λ q. ShowsText new (text_after s expect q (frame_at limit expect q))) (all_along p piece used n) (subst (ShowsText new) shown h))
-
--- a piece that is used up
-pub used_up : (p piece : List ℕ) (used : ℕ) → length piece ≤ used → used ≤ length piece → p ++ take used piece ≡ p ++ piece
-used_up p piece used low high = let e : used ≡ length piece = omega arith in rw e (ap (λ x. p ++ x) (take-length piece))

@@ -1,9 +1,11 @@
 -- What a byte of a type, a field or a size led to.
-use Rattle.std.proofs.Common.{◌≡◌, ℕ, suc, ◌+◌, ◌≤◌, inl, inr, List, [], ◌∷◌, ◌++◌, length, drop, refl, sym, ap, ◌∙◌, subst, arith, length-append}
-use Rattle.unit_streams.specs.Front.{begun, wrong}
+use Rattle.std.proofs.Common.{◌≡◌, ℕ, suc, ◌+◌, ◌≤◌, List, [], ◌∷◌, ◌++◌, length, drop, refl, sym, ap, ◌∙◌, subst, arith, length-append}
+use Rattle.unit_streams.specs.Front.{begun, behind}
 use Rattle.multibyte_ints.specs.Integer.{int_at}
 use Rattle.multibyte_ints.specs.Reader.{StandsFor as IntStandsFor}
-use Rattle.multibyte_ints.proofs.IntegerBytes.{int_reads_front}
+use Rattle.multibyte_ints.proofs.IntegerBytes.{wrong_at_last}
+use Rattle.unit_streams.proofs.Behind.{behind_begun}
+use Rattle.nmf_records.specs.declared.record_types.TheConstants.{SIZED_ENVELOPE}
 use Rattle.nmf_records.specs.declared.frame.Frame.{Frame}
 use Rattle.nmf_records.specs.declared.frame.Frame.TheVariants as frames
 use Rattle.nmf_records.specs.declared.frame.Expect.{Expect}
@@ -17,13 +19,10 @@ use Rattle.nmf_records.specs.declared.stage.Stage.TheVariants as stages
 use Rattle.nmf_records.specs.declared.stage.Progress.{Progress}
 use Rattle.nmf_records.specs.declared.stage.Progress.TheVariants.{Going, Done, Wrong}
 use Rattle.nmf_records.specs.declared.reader.FrameReader.{FrameReader}
-use Rattle.nmf_records.specs.Reading.{behind, bare, size_at, frame_at}
+use Rattle.nmf_records.specs.Reading.{bare, size_at, frame_at}
 use Rattle.nmf_records.specs.Steps.{HasShape, HasNoText, Meets, GoesTo, size_bytes, sized}
 use Rattle.nmf_records.specs.Reader.{HoldsText}
 use Rattle.nmf_records.specs.Advancing.{Leads, BeginsAnew, ReadsBytes, SizeAnswers}
-use Rattle.nmf_records.proofs.Fronts.{behind_begun}
-use Rattle.nmf_records.proofs.Peeling.{extent}
-use Rattle.nmf_records.proofs.Frames.{peels_behind, no_int}
 use Rattle.nmf_records.proofs.Typed.{begun_reads}
 
 -- a reader of texts that begins anew has no byte of one
@@ -57,15 +56,6 @@ not_anew expect p mid (Wrong fault) two goes = tt
 begun_size : (n : ℕ) (frame : ℕ → Frame) (b : List ℕ) → size_at n frame b ≡ begun → int_at b ≡ begun
 begun_size n frame b h = behind_begun n (λ size. bare (frame size)) (λ _. faults.BadInt) (int_at b) h
 
--- an integer is wrong at its fifth byte
-wrong_at_fifth : (q : List ℕ) (byte : ℕ) → int_at q ≡ begun → int_at (q ++ byte ∷ []) ≡ wrong tt 5 → 5 ≡ length (q ++ byte ∷ [])
-wrong_at_fifth q byte h e =
-    let len : length (q ++ byte ∷ []) ≡ suc (length q) = simp length-append (omega arith) in
-    elim ((peels_behind int_at int_reads_front no_int).byte q byte h) [
-      | inl b ↦ cc
-      | inr n ↦ omega (arith, sym (ap extent e) ∙ n, len)
-    ]
-
 -- what a size behind n bytes led to
 module _ (limit n : ℕ) (expect : Expect) (size : SizeRecord) (q : List ℕ) (byte : ℕ) (p : List ℕ) where
   -- where its bytes with one more lead
@@ -77,7 +67,7 @@ module _ (limit n : ℕ) (expect : Expect) (size : SizeRecord) (q : List ℕ) (b
   size_leads mid (Done frame) reads len shape bytes so_far answers =
       ([], reads ∙ ap (behind n (λ m. bare (sized size m)) (λ _. faults.BadInt)) answers.2 ∙ rw (answers.1, len) refl, answers.3)
   size_leads mid (Wrong fault) reads len shape bytes so_far answers =
-      let fifth = wrong_at_fifth q byte so_far answers.1 in
+      let fifth = wrong_at_last q byte so_far answers.1 in
       reads ∙ ap (behind n (λ m. bare (sized size m)) (λ _. faults.BadInt)) answers.1 ∙ rw (answers.0, len, ← fifth) refl
 
 -- a fixed field has a byte before it
@@ -114,11 +104,11 @@ pub size_byte_leads : (limit : ℕ) (expect : Expect) (size : SizeRecord) (p : L
     → SizeAnswers size (size_bytes (stages.Size size) p ++ byte ∷ []) mid.size progress → Leads limit expect (p ++ byte ∷ []) mid progress
 size_byte_leads limit expect sizes.SizedEnvelope p byte mid progress so_far shape answers =
     let q : List ℕ = drop 1 p in
-    let so_far' : frame_at limit expect (6 ∷ q) ≡ begun = ap (frame_at limit expect) (sym shape) ∙ so_far in
-    let more : p ++ byte ∷ [] ≡ 6 ∷ (q ++ byte ∷ []) = ap (λ x. x ++ byte ∷ []) shape in
-    let reads : frame_at limit expect (6 ∷ (q ++ byte ∷ [])) ≡ size_at 1 frames.SizedEnvelope (q ++ byte ∷ []) = begun_reads limit expect 6 q (q ++ byte ∷ []) (omega arith) so_far' in
-    let so_far_size : size_at 1 frames.SizedEnvelope q ≡ begun = sym (begun_reads limit expect 6 q q (omega arith) so_far') ∙ so_far' in
-    rw more (size_leads limit 1 expect sizes.SizedEnvelope q byte (6 ∷ (q ++ byte ∷ [])) mid progress reads (omega arith) refl refl (begun_size 1 frames.SizedEnvelope q so_far_size) answers)
+    let so_far' : frame_at limit expect (SIZED_ENVELOPE ∷ q) ≡ begun = ap (frame_at limit expect) (sym shape) ∙ so_far in
+    let more : p ++ byte ∷ [] ≡ SIZED_ENVELOPE ∷ (q ++ byte ∷ []) = ap (λ x. x ++ byte ∷ []) shape in
+    let reads : frame_at limit expect (SIZED_ENVELOPE ∷ (q ++ byte ∷ [])) ≡ size_at 1 frames.SizedEnvelope (q ++ byte ∷ []) = begun_reads limit expect SIZED_ENVELOPE q (q ++ byte ∷ []) (omega arith) so_far' in
+    let so_far_size : size_at 1 frames.SizedEnvelope q ≡ begun = sym (begun_reads limit expect SIZED_ENVELOPE q q (omega arith) so_far') ∙ so_far' in
+    rw more (size_leads limit 1 expect sizes.SizedEnvelope q byte (SIZED_ENVELOPE ∷ (q ++ byte ∷ [])) mid progress reads (omega arith) refl refl (begun_size 1 frames.SizedEnvelope q so_far_size) answers)
 size_byte_leads limit expect sizes.Chunk p byte mid progress so_far shape answers =
     let so_far' : size_at 0 frames.Chunk p ≡ begun = ap (λ e. frame_at limit e p) (sym shape) ∙ so_far in
     size_leads limit 0 expect sizes.Chunk p byte (p ++ byte ∷ []) mid progress (rw shape refl) (omega arith) shape refl (begun_size 0 frames.Chunk p so_far') answers

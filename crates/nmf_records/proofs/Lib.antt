@@ -1,8 +1,6 @@
 mod Worked
-pub mod Peeling
-pub mod Fronts
 pub mod Typed
-pub mod Types
+pub mod TypeCases
 pub mod Frames
 pub mod Records
 pub mod Causes

@@ -1,26 +1,26 @@
 -- A record that is read is the bytes that it is read of, and a record's bytes are read as it.
-use Rattle.std.proofs.Common.{◌≡◌, ℕ, suc, ◌+◌, ◌≤◌, List, [], ◌∷◌, ◌++◌, length, take, drop, true, refl, sym, ap, ◌∙◌, arith, length-append}
+use Rattle.std.proofs.Common.{◌≡◌, ℕ, suc, ◌+◌, ◌≤◌, List, [], ◌∷◌, ◌++◌, length, take, drop, true, refl, sym, ap, ◌∙◌, arith}
 use Rattle.std.specs.Prelude.{nat_lt, ⊤, Some}
 use Rattle.std.proofs.lemmas.Bool.{cond_both}
-use Rattle.std.proofs.lemmas.List.{take_all, length-take-le, take-append-drop}
-use Rattle.unit_streams.specs.Front.{Front, begun, whole, wrong}
-use Rattle.multibyte_ints.specs.Integer.{int_at, Spells}
+use Rattle.std.proofs.lemmas.List.{length-take-le, take-append-drop}
+use Rattle.unit_streams.specs.Front.{Front, begun, whole, wrong, behind}
+use Rattle.unit_streams.proofs.Fronts.{none_goes_on}
+use Rattle.multibyte_ints.specs.Integer.{int_at}
 use Rattle.multibyte_ints.specs.Text.{string_at, StringFault}
-use Rattle.multibyte_ints.proofs.IntegerLaws.{spells_from_whole, whole_from_spells}
+use Rattle.multibyte_ints.proofs.IntegerLaws.{spells_from_whole, whole_from_all}
 use Rattle.multibyte_ints.proofs.TextLaws.{string_from_whole, string_alone}
+use Rattle.nmf_records.specs.declared.record_types.TheConstants.{VERSION, MODE, VIA, KNOWN_ENCODING, UNSIZED_ENVELOPE, SIZED_ENVELOPE, END, FAULT, PREAMBLE_ACK, PREAMBLE_END, GREATEST}
 use Rattle.nmf_records.specs.declared.frame.Frame.{Frame}
 use Rattle.nmf_records.specs.declared.frame.Frame.TheVariants as frames
 use Rattle.nmf_records.specs.declared.frame.Expect.{Expect}
 use Rattle.nmf_records.specs.declared.frame.Expect.TheVariants.{Types, Chunk}
 use Rattle.nmf_records.specs.declared.frame.FrameFault.{FrameFault}
 use Rattle.nmf_records.specs.declared.frame.FrameFault.TheVariants as faults
-use Rattle.nmf_records.specs.Records.{Read, IsTextRecord, IsRecordOf, IsRecord}
-use Rattle.nmf_records.specs.Reading.{behind, bare, fault_of, size_at, text_at, version_at, byte_at, lone, typed_at, allows, frame_at}
-use Rattle.nmf_records.specs.Laws.{type_of, MayCome}
-use Rattle.nmf_records.proofs.Fronts.{with_text}
+use Rattle.nmf_records.specs.Records.{Read, type_of, IsTextRecord, IsRecordOf, IsRecord}
+use Rattle.nmf_records.specs.Reading.{with_text, bare, fault_of, size_at, text_at, version_at, byte_at, lone, typed_at, allows, allows_type, MayCome, frame_at}
 use Rattle.nmf_records.proofs.Frames.{frames_front}
 use Rattle.nmf_records.proofs.Typed.{type_known}
-use Rattle.nmf_records.proofs.Types.{by_type, read_by_type}
+use Rattle.nmf_records.proofs.TypeCases.{by_type, read_by_type}
 
 -- of a whole record and its length
 abbrev OfWhole : (Read → ℕ → Type 0) → Front Read FrameFault → Type 0
@@ -40,7 +40,7 @@ module _ (limit types kind : ℕ) (bytes : List ℕ) (may : allows types kind �
 
   -- a record of the type may come
   type_may : (frame : Frame) (n : ℕ) → kind ≡ n → type_of frame ≡ Some n → MayCome (Types types) frame
-  type_may frame n e is = (n, is, rw (sym e) may)
+  type_may frame n e is = ap (allows_type types) is ∙ ap (allows types) (sym e) ∙ may
 
   -- the type byte before the others
   first_more : (n k : ℕ) → kind ≡ n → take (1 + k) (kind ∷ bytes) ≡ n ∷ take k bytes
@@ -54,7 +54,7 @@ module _ (limit types kind : ℕ) (bytes : List ℕ) (may : allows types kind �
   read_text : (frame : Frame) (n : ℕ) → kind ≡ n → type_of frame ≡ Some n → ((text b : List ℕ) → IsTextRecord n text b → IsRecordOf frame text b) → Of (text_at limit frame bytes)
   read_text frame n e is record_of = by_string (string_at limit bytes) refl
     where
-      by_string : (y : Front (List ℕ) StringFault) → string_at limit bytes ≡ y → Of (behind 1 (λ text. record { frame = frame; text = text }) fault_of y)
+      by_string : (y : Front (List ℕ) StringFault) → string_at limit bytes ≡ y → Of (behind 1 (with_text frame) fault_of y)
       by_string begun h = tt
       by_string (whole s k) h =
           let w = string_from_whole limit bytes s k h in
@@ -62,20 +62,20 @@ module _ (limit types kind : ℕ) (bytes : List ℕ) (may : allows types kind �
       by_string (wrong r k) h = tt
 
   -- an envelope's head is its bytes
-  read_size : kind ≡ 6 → Of (size_at 1 frames.SizedEnvelope bytes)
+  read_size : kind ≡ SIZED_ENVELOPE → Of (size_at 1 frames.SizedEnvelope bytes)
   read_size e = by_int (int_at bytes) refl
     where
       by_int : (y : Front ℕ ⊤) → int_at bytes ≡ y → Of (behind 1 (λ size. bare (frames.SizedEnvelope size)) (λ _. faults.BadInt) y)
       by_int begun h = tt
-      by_int (whole n k) h = ((refl, take k bytes, (spells_from_whole bytes n k h).1, first_more 6 k e), type_may (frames.SizedEnvelope n) 6 e refl, omega arith)
+      by_int (whole n k) h = ((refl, take k bytes, (spells_from_whole bytes n k h).1, first_more SIZED_ENVELOPE k e), type_may (frames.SizedEnvelope n) SIZED_ENVELOPE e refl, omega arith)
       by_int (wrong r k) h = tt
 
 -- a Version record is its bytes
-read_version : (limit types kind : ℕ) (bytes : List ℕ) (may : allows types kind ≡ true) → kind ≡ 0 → Of limit types kind bytes may (version_at bytes)
+read_version : (limit types kind : ℕ) (bytes : List ℕ) (may : allows types kind ≡ true) → kind ≡ VERSION → Of limit types kind bytes may (version_at bytes)
 read_version limit types kind [] may e = tt
 read_version limit types kind (major ∷ []) may e = tt
 read_version limit types kind (major ∷ minor ∷ rest) may e =
-    ((refl, ap (λ t. t ∷ major ∷ minor ∷ []) e), type_may limit types kind (major ∷ minor ∷ rest) may (frames.Version major minor) 0 e refl, omega arith)
+    ((refl, ap (λ t. t ∷ major ∷ minor ∷ []) e), type_may limit types kind (major ∷ minor ∷ rest) may (frames.Version major minor) VERSION e refl, omega arith)
 
 -- a record of one byte is its bytes
 read_byte : (limit types kind : ℕ) (bytes : List ℕ) (may : allows types kind ≡ true) (frame : ℕ → Frame) (n : ℕ) → kind ≡ n → ((x : ℕ) → type_of (frame x) ≡ Some n)
@@ -85,18 +85,18 @@ read_byte limit types kind (x ∷ rest) may frame n e is record_of =
     (record_of x (kind ∷ x ∷ []) (ap (λ t. t ∷ x ∷ []) e), type_may limit types kind (x ∷ rest) may (frame x) n e (is x), omega arith)
 
 -- a record of a type is its bytes
-read_typed : (limit types kind : ℕ) (bytes : List ℕ) (may : allows types kind ≡ true) → kind ≤ 12 → Of limit types kind bytes may (typed_at limit kind bytes)
+read_typed : (limit types kind : ℕ) (bytes : List ℕ) (may : allows types kind ≡ true) → kind ≤ GREATEST → Of limit types kind bytes may (typed_at limit kind bytes)
 read_typed limit types kind bytes may le = by_type limit kind bytes (Of limit types kind bytes may) le record {
   version = read_version limit types kind bytes may;
-  mode = λ e. read_byte limit types kind bytes may frames.Mode 1 e (λ x. refl) (λ x b h. (refl, h));
-  via = λ e. read_text limit types kind bytes may frames.Via 2 e refl (λ text b h. h);
-  encoding = λ e. read_byte limit types kind bytes may frames.KnownEncoding 3 e (λ x. refl) (λ x b h. (refl, h));
-  unsized_envelope = λ e. read_lone limit types kind bytes may frames.UnsizedEnvelope 5 e refl (λ b h. (refl, h));
+  mode = λ e. read_byte limit types kind bytes may frames.Mode MODE e (λ x. refl) (λ x b h. (refl, h));
+  via = λ e. read_text limit types kind bytes may frames.Via VIA e refl (λ text b h. h);
+  encoding = λ e. read_byte limit types kind bytes may frames.KnownEncoding KNOWN_ENCODING e (λ x. refl) (λ x b h. (refl, h));
+  unsized_envelope = λ e. read_lone limit types kind bytes may frames.UnsizedEnvelope UNSIZED_ENVELOPE e refl (λ b h. (refl, h));
   sized_envelope = read_size limit types kind bytes may;
-  end = λ e. read_lone limit types kind bytes may frames.End 7 e refl (λ b h. (refl, h));
-  fault = λ e. read_text limit types kind bytes may frames.Fault 8 e refl (λ text b h. h);
-  preamble_ack = λ e. read_lone limit types kind bytes may frames.PreambleAck 11 e refl (λ b h. (refl, h));
-  preamble_end = λ e. read_lone limit types kind bytes may frames.PreambleEnd 12 e refl (λ b h. (refl, h));
+  end = λ e. read_lone limit types kind bytes may frames.End END e refl (λ b h. (refl, h));
+  fault = λ e. read_text limit types kind bytes may frames.Fault FAULT e refl (λ text b h. h);
+  preamble_ack = λ e. read_lone limit types kind bytes may frames.PreambleAck PREAMBLE_ACK e refl (λ b h. (refl, h));
+  preamble_end = λ e. read_lone limit types kind bytes may frames.PreambleEnd PREAMBLE_END e refl (λ b h. (refl, h));
   other = λ e. tt;
 }
 
@@ -105,7 +105,7 @@ read_front : (limit : ℕ) (expect : Expect) (bytes : List ℕ) → OfWhole (IsR
 read_front limit (Types types) [] = tt
 read_front limit (Types types) (kind ∷ bytes) =
     let P : Front Read FrameFault → Type 0 = OfWhole (IsReadOf limit (Types types) (kind ∷ bytes)) in
-    cond_both (nat_lt 12 kind) _ _ P (λ _. tt)
+    cond_both (nat_lt GREATEST kind) _ _ P (λ _. tt)
     (λ known. cond_both (allows types kind) _ _ P (λ may. read_typed limit types kind bytes may (type_known kind known)) (λ _. tt))
 read_front limit Chunk bytes = by_int (int_at bytes) refl
   where
@@ -123,14 +123,8 @@ pub read_record : (limit : ℕ) (expect : Expect) (bytes : List ℕ) (read : Rea
     → IsRecord read (take n bytes) × MayCome expect read.frame × (length read.text ≤ limit)
 read_record limit expect bytes read n e = OfWhole_at (IsReadOf limit expect bytes) (frame_at limit expect bytes) read n e (read_front limit expect bytes)
 
--- an integer is read of its spelling
-int_alone : (n : ℕ) (b : List ℕ) → Spells n b → int_at b ≡ whole n (length b)
-int_alone n b h =
-    let all : take (length b) b ≡ b = take_all (length b) b (omega arith) in
-    whole_from_spells b n (length b) (omega arith) (rw all h)
-
 -- a Via's or a Fault's bytes are read as it
-text_record_read : (limit : ℕ) (expect : Expect) (frame : Frame) (kind : ℕ) (text b : List ℕ) → kind ≤ 12 → type_of frame ≡ Some kind
+text_record_read : (limit : ℕ) (expect : Expect) (frame : Frame) (kind : ℕ) (text b : List ℕ) → kind ≤ GREATEST → type_of frame ≡ Some kind
     → ((c : List ℕ) → typed_at limit kind c ≡ text_at limit frame c) → IsTextRecord kind text b → MayCome expect frame → length text ≤ limit
     → frame_at limit expect b ≡ whole (with_text frame text) (length b)
 text_record_read limit expect frame kind text b le is reads h may low =
@@ -141,24 +135,24 @@ text_record_read limit expect frame kind text b le is reads h may low =
 record_of_read : (limit : ℕ) (expect : Expect) (frame : Frame) (text b : List ℕ) → IsRecordOf frame text b → MayCome expect frame → length text ≤ limit
     → frame_at limit expect b ≡ whole (with_text frame text) (length b)
 record_of_read limit expect (frames.Version major minor) text b h may low =
-    rw (h.0, h.1) (read_by_type limit expect (frames.Version major minor) 0 (major ∷ minor ∷ []) (omega arith) refl may)
+    rw (h.0, h.1) (read_by_type limit expect (frames.Version major minor) VERSION (major ∷ minor ∷ []) (omega arith) refl may)
 record_of_read limit expect (frames.Mode mode) text b h may low =
-    rw (h.0, h.1) (read_by_type limit expect (frames.Mode mode) 1 (mode ∷ []) (omega arith) refl may)
-record_of_read limit expect frames.Via text b h may low = text_record_read limit expect frames.Via 2 text b (omega arith) refl (λ c. refl) h may low
+    rw (h.0, h.1) (read_by_type limit expect (frames.Mode mode) MODE (mode ∷ []) (omega arith) refl may)
+record_of_read limit expect frames.Via text b h may low = text_record_read limit expect frames.Via VIA text b (omega arith) refl (λ c. refl) h may low
 record_of_read limit expect (frames.KnownEncoding encoding) text b h may low =
-    rw (h.0, h.1) (read_by_type limit expect (frames.KnownEncoding encoding) 3 (encoding ∷ []) (omega arith) refl may)
-record_of_read limit expect frames.UnsizedEnvelope text b h may low = rw (h.0, h.1) (read_by_type limit expect frames.UnsizedEnvelope 5 [] (omega arith) refl may)
+    rw (h.0, h.1) (read_by_type limit expect (frames.KnownEncoding encoding) KNOWN_ENCODING (encoding ∷ []) (omega arith) refl may)
+record_of_read limit expect frames.UnsizedEnvelope text b h may low = rw (h.0, h.1) (read_by_type limit expect frames.UnsizedEnvelope UNSIZED_ENVELOPE [] (omega arith) refl may)
 record_of_read limit Chunk (frames.Chunk size) text b h may low =
     let none : 0 + length b ≡ length b = omega arith in
-    rw (h.0, int_alone size b h.1, none) refl
-record_of_read limit (Types types) (frames.Chunk size) text b h may low = cc (may.1)
+    rw (h.0, whole_from_all b size h.1, none) refl
+record_of_read limit (Types types) (frames.Chunk size) text b h may low = cc
 record_of_read limit expect (frames.SizedEnvelope size) text b h may low =
     let n : 1 + length h.1 ≡ suc (length h.1) = omega arith in
-    rw (h.0, h.3, read_by_type limit expect (frames.SizedEnvelope size) 6 h.1 (omega arith) refl may, int_alone size h.1 h.2, n) refl
-record_of_read limit expect frames.End text b h may low = rw (h.0, h.1) (read_by_type limit expect frames.End 7 [] (omega arith) refl may)
-record_of_read limit expect frames.Fault text b h may low = text_record_read limit expect frames.Fault 8 text b (omega arith) refl (λ c. refl) h may low
-record_of_read limit expect frames.PreambleAck text b h may low = rw (h.0, h.1) (read_by_type limit expect frames.PreambleAck 11 [] (omega arith) refl may)
-record_of_read limit expect frames.PreambleEnd text b h may low = rw (h.0, h.1) (read_by_type limit expect frames.PreambleEnd 12 [] (omega arith) refl may)
+    rw (h.0, h.3, read_by_type limit expect (frames.SizedEnvelope size) SIZED_ENVELOPE h.1 (omega arith) refl may, whole_from_all h.1 size h.2, n) refl
+record_of_read limit expect frames.End text b h may low = rw (h.0, h.1) (read_by_type limit expect frames.End END [] (omega arith) refl may)
+record_of_read limit expect frames.Fault text b h may low = text_record_read limit expect frames.Fault FAULT text b (omega arith) refl (λ c. refl) h may low
+record_of_read limit expect frames.PreambleAck text b h may low = rw (h.0, h.1) (read_by_type limit expect frames.PreambleAck PREAMBLE_ACK [] (omega arith) refl may)
+record_of_read limit expect frames.PreambleEnd text b h may low = rw (h.0, h.1) (read_by_type limit expect frames.PreambleEnd PREAMBLE_END [] (omega arith) refl may)
 
 -- a record's bytes are read as it, where it may come and its text is within the limit
 pub record_read : (limit : ℕ) (expect : Expect) (read : Read) (bytes : List ℕ) → IsRecord read bytes → MayCome expect read.frame → length read.text ≤ limit
@@ -177,12 +171,5 @@ pub no_longer_record : (expect : Expect) (one other : Read) (bytes more : List �
     → IsRecord one bytes → IsRecord other (bytes ++ more) → (more ≡ []) × (one ≡ other)
 no_longer_record expect one other bytes more may may' h h' =
     let limit : ℕ = length one.text + length other.text in
-    let short : frame_at limit expect (bytes ++ more) ≡ whole one (length bytes)
-    = (frames_front limit expect).whole_stays bytes more one (length bytes) (record_read limit expect one bytes h may (omega arith)) in
-    let long : frame_at limit expect (bytes ++ more) ≡ whole other (length (bytes ++ more)) = record_read limit expect other (bytes ++ more) h' may' (omega arith) in
-    let size : length bytes ≡ length (bytes ++ more) = cc in
-    (no_more bytes more size, cc)
-  where
-    no_more : (b more : List ℕ) → length b ≡ length (b ++ more) → more ≡ []
-    no_more b [] e = refl
-    no_more b (x ∷ more) e = let len : length (b ++ x ∷ more) ≡ length b + suc (length more) = simp length-append (omega arith) in absurd (omega (arith, e, len))
+    none_goes_on (frame_at limit expect) (frames_front limit expect) bytes more one other
+    (record_read limit expect one bytes h may (omega arith)) (record_read limit expect other (bytes ++ more) h' may' (omega arith))

@@ -1,6 +1,5 @@
 -- Where a reader stands once it has gone on to where some bytes led.
-use Rattle.std.proofs.Common.{◌≡◌, ℕ, ◌+◌, ◌-◌, ◌^◌, ◌≤◌, min, List, ◌++◌, length, take, refl, ap, ◌∙◌, arith, length-append}
-use Rattle.std.proofs.lemmas.List.{length-take-le}
+use Rattle.std.proofs.Common.{◌≡◌, ℕ, ◌+◌, ◌-◌, ◌^◌, ◌≤◌, min, List, ◌++◌, length, take, refl, ap, ◌∙◌, arith}
 use Rattle.multibyte_ints.specs.TextReader.{limit_of as text_limit_of}
 use Rattle.nmf_records.specs.declared.frame.Expect.{Expect}
 use Rattle.nmf_records.specs.declared.stage.Progress.{Progress}
@@ -9,7 +8,8 @@ use Rattle.nmf_records.specs.declared.reader.FrameReader.{FrameReader}
 use Rattle.nmf_records.specs.Reading.{frame_at}
 use Rattle.nmf_records.specs.Reader.{StandsFor, limit_of, pending_of, failure_of}
 use Rattle.nmf_records.specs.Advancing.{Leads, Steps, Keeps, stage_after, pending_after}
-use Rattle.nmf_records.proofs.Peeling.{extent}
+use Rattle.unit_streams.proofs.Peeling.{extent}
+use Rattle.unit_streams.proofs.Fronts.{taken_len}
 use Rattle.nmf_records.proofs.Frames.{frame_peels}
 use Rattle.nmf_records.proofs.Short.{begun_short, decided_short}
 
@@ -24,10 +24,6 @@ pub record IsSettled (mid new : FrameReader) (n : ℕ) (progress : Progress) : T
 pub settled_limit : (mid new : FrameReader) (n : ℕ) (progress : Progress) → IsSettled mid new n progress → limit_of new ≡ limit_of mid
 unfolding limit_of
 settled_limit mid new n progress s = ap text_limit_of s.text
-
--- n bytes more
-taken_len : (p bytes : List ℕ) (n : ℕ) → n ≤ length bytes → length (p ++ take n bytes) ≡ length p + n
-taken_len p bytes n within = simp length-append (omega (arith, length-take-le n bytes within))
 
 -- a reader stands for the bytes that led there
 pub settled_steps : (limit : ℕ) (expect : Expect) (p bytes : List ℕ) (n : ℕ) (mid new : FrameReader) (progress : Progress)
@@ -63,7 +59,7 @@ settled_steps limit expect p bytes n mid new (Wrong fault) within lim counted le
 
 -- and keeps a fault
 pub settled_keeps : (mid new : FrameReader) (n : ℕ) (progress : Progress) → IsSettled mid new n progress → Keeps new progress
-unfolding failure_of
+unfolding failure_of pending_of
 settled_keeps mid new n (Going stage) s = tt
 settled_keeps mid new n (Done frame) s = tt
 settled_keeps mid new n (Wrong fault) s = rw s.stage refl

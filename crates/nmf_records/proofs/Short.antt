@@ -1,13 +1,16 @@
 -- A record that has begun is short, and so is what decides one.
-use Rattle.std.proofs.Common.{◌≡◌, ℕ, zero, suc, ◌+◌, ◌-◌, ◌^◌, ◌≤◌, ◌<◌, min, Bool, true, false, nat_lt, List, [], ◌∷◌, length, take, sym, ap, ◌∙◌, arith}
+use Rattle.std.proofs.Common.{◌≡◌, ℕ, ◌+◌, ◌-◌, ◌^◌, ◌≤◌, ◌<◌, inl, inr, min, Bool, true, false, nat_lt, List, [], ◌∷◌, length, take, ap, arith}
 use Rattle.std.specs.Prelude.{◌==◌, if◌then◌else◌}
 use Rattle.std.proofs.lemmas.List.{length-take-le}
-use Rattle.unit_streams.specs.Front.{Front, begun, ReadsFront}
+use Rattle.unit_streams.specs.Front.{Front, begun, wrong}
+use Rattle.unit_streams.proofs.Peeling.{extent, leaves_or_decides}
+use Rattle.unit_streams.proofs.Behind.{behind_begun}
 use Rattle.multibyte_ints.specs.Integer.{int_at}
 use Rattle.multibyte_ints.specs.Text.{string_at}
 use Rattle.multibyte_ints.proofs.IntegerBytes.{begun_from, ended_from}
 use Rattle.multibyte_ints.proofs.IntegerLaws.{spells_from_whole}
 use Rattle.multibyte_ints.proofs.TextFacts.{int_begun, int_wrong, above, waiting, text, no_text, string_cases}
+use Rattle.nmf_records.specs.declared.record_types.TheConstants.{VERSION, MODE, VIA, KNOWN_ENCODING, UNSIZED_ENVELOPE, SIZED_ENVELOPE, END, FAULT, PREAMBLE_ACK, PREAMBLE_END, GREATEST}
 use Rattle.nmf_records.specs.declared.frame.Frame.{Frame}
 use Rattle.nmf_records.specs.declared.frame.Frame.TheVariants as frames
 use Rattle.nmf_records.specs.declared.frame.Expect.{Expect}
@@ -15,10 +18,8 @@ use Rattle.nmf_records.specs.declared.frame.Expect.TheVariants.{Types, Chunk}
 use Rattle.nmf_records.specs.declared.frame.FrameFault.{FrameFault}
 use Rattle.nmf_records.specs.declared.frame.FrameFault.TheVariants as faults
 use Rattle.nmf_records.specs.Records.{Read}
-use Rattle.nmf_records.specs.Reading.{bare, fault_of, size_at, text_at, version_at, byte_at, lone, typed_at, allows, record_at, frame_at}
-use Rattle.nmf_records.proofs.Peeling.{extent}
-use Rattle.nmf_records.proofs.Fronts.{nothing_yet, a_whole, a_wrong, said_of, behind_begun, with_text, wrong_byte}
-use Rattle.nmf_records.proofs.Frames.{frames_front}
+use Rattle.nmf_records.specs.Reading.{with_text, bare, fault_of, size_at, text_at, version_at, byte_at, lone, typed_at, allows, record_at, frame_at}
+use Rattle.nmf_records.proofs.Frames.{frame_peels}
 
 -- the most bytes that a text within the limit can have: an integer is below 2^31
 abbrev pub longest : ℕ → ℕ
@@ -70,7 +71,7 @@ lone_short : (limit : ℕ) (frame : Frame) → IsShort limit 1 (λ (b : List ℕ
 lone_short limit frame b e = cc
 
 -- nor has what is wrong by it
-wrong_short : (limit : ℕ) (fault : FrameFault) → IsShort limit 1 (λ (b : List ℕ). wrong_byte fault)
+wrong_short : (limit : ℕ) (fault : FrameFault) → IsShort limit 1 (λ (b : List ℕ). let front : Front Read FrameFault = wrong fault 1 in front)
 wrong_short limit fault b e = cc
 
 -- of two readings the one that a test takes
@@ -81,21 +82,21 @@ choice_short limit false f g p q = q
 -- what follows a type byte is short
 typed_short : (limit kind : ℕ) → IsShort limit 1 (typed_at limit kind)
 typed_short limit kind =
-    choice_short limit (kind == 0) _ _ (version_short limit) (
-    choice_short limit (kind == 1) _ _ (byte_short limit frames.Mode) (
-    choice_short limit (kind == 2) _ _ (text_short limit frames.Via) (
-    choice_short limit (kind == 3) _ _ (byte_short limit frames.KnownEncoding) (
-    choice_short limit (kind == 5) _ _ (lone_short limit frames.UnsizedEnvelope) (
-    choice_short limit (kind == 6) _ _ (size_short limit 1 (omega arith) frames.SizedEnvelope) (
-    choice_short limit (kind == 7) _ _ (lone_short limit frames.End) (
-    choice_short limit (kind == 8) _ _ (text_short limit frames.Fault) (
-    choice_short limit (kind == 11) _ _ (lone_short limit frames.PreambleAck) (
-    choice_short limit (kind == 12) _ _ (lone_short limit frames.PreambleEnd) (wrong_short limit (faults.Unexpected kind)))))))))))
+    choice_short limit (kind == VERSION) _ _ (version_short limit) (
+    choice_short limit (kind == MODE) _ _ (byte_short limit frames.Mode) (
+    choice_short limit (kind == VIA) _ _ (text_short limit frames.Via) (
+    choice_short limit (kind == KNOWN_ENCODING) _ _ (byte_short limit frames.KnownEncoding) (
+    choice_short limit (kind == UNSIZED_ENVELOPE) _ _ (lone_short limit frames.UnsizedEnvelope) (
+    choice_short limit (kind == SIZED_ENVELOPE) _ _ (size_short limit 1 (omega arith) frames.SizedEnvelope) (
+    choice_short limit (kind == END) _ _ (lone_short limit frames.End) (
+    choice_short limit (kind == FAULT) _ _ (text_short limit frames.Fault) (
+    choice_short limit (kind == PREAMBLE_ACK) _ _ (lone_short limit frames.PreambleAck) (
+    choice_short limit (kind == PREAMBLE_END) _ _ (lone_short limit frames.PreambleEnd) (wrong_short limit (faults.Unexpected kind)))))))))))
 
 -- whether or not it may come
 behind_type : (limit types kind : ℕ) → IsShort limit 1 (λ b. record_at limit types (kind ∷ b))
 behind_type limit types kind =
-    choice_short limit (nat_lt 12 kind) _ _ (wrong_short limit faults.UnknownRecord) (
+    choice_short limit (nat_lt GREATEST kind) _ _ (wrong_short limit faults.UnknownRecord) (
     choice_short limit (allows types kind) _ _ (typed_short limit kind) (wrong_short limit (faults.Unexpected kind)))
 
 -- a record that has begun has at most five bytes more than the longest text
@@ -107,18 +108,10 @@ begun_short limit Chunk b e = size_short limit 0 (omega arith) frames.Chunk b e
 -- so what decides one has at most six more
 pub decided_short : (limit : ℕ) (expect : Expect) (b : List ℕ) → extent (frame_at limit expect b) ≤ longest limit + 6
 decided_short limit expect b =
-    elim (said_of (frame_at limit expect b)) [
-      | nothing_yet e ↦ omega (arith, ap extent e)
-      | a_whole a k e ↦ omega (arith, ap extent e, before k (front.whole_within b a k e) (front.whole_first b a k (k - 1) e))
-      | a_wrong r k e ↦ omega (arith, ap extent e, before k (front.wrong_within b r k e) (front.wrong_first b r k (k - 1) e))
+    let peels = frame_peels limit expect in
+    elim (leaves_or_decides (frame_at limit expect) peels [] b peels.nothing) [
+      | inl l ↦ omega (arith, ap extent l.at_end)
+      | inr (n, d) ↦
+          let short = begun_short limit expect (take (n - 1) b) (d.before (n - 1) (omega (arith, d.some))) in
+          omega (arith, d.extent_is, d.some, short, length-take-le (n - 1) b (omega (arith, d.within)))
     ]
-  where
-    front : ReadsFront (frame_at limit expect)
-    front = frames_front limit expect
-
-    before : (k : ℕ) → k ≤ length b → (k - 1 < k → frame_at limit expect (take (k - 1) b) ≡ begun) → k ≤ longest limit + 6
-    before zero le h = omega arith
-    before (suc j) le h =
-        let at : take (suc j - 1) b ≡ take j b = ap (λ n. take n b) (omega arith) in
-        let short = begun_short limit expect (take j b) (ap (frame_at limit expect) (sym at) ∙ h (omega arith)) in
-        omega (arith, length-take-le j b (omega arith))

@@ -1,10 +1,12 @@
 -- Which text a reader shows once it has gone on.
-use Rattle.std.proofs.Common.{◌≡◌, ℕ, ◌≤◌, Bool, true, false, List, [], ◌∷◌, ◌++◌, drop, refl, sym, ap, ◌∙◌, arith}
+use Rattle.std.proofs.Common.{◌≡◌, ℕ, Bool, true, false, List, [], ◌∷◌, ◌++◌, drop, refl, sym, ap, ◌∙◌, arith}
 use Rattle.std.specs.Prelude.{◌==◌, ◌&&◌, ◌||◌}
-use Rattle.unit_streams.specs.Front.{Front, begun, whole, wrong}
+use Rattle.std.proofs.Math.Bool.{and-false}
+use Rattle.unit_streams.specs.Front.{Front, begun, whole, wrong, behind}
 use Rattle.multibyte_ints.specs.Text.{StringFault, string_at}
 use Rattle.multibyte_ints.specs.Reader.{StandsFor as IntStandsFor}
 use Rattle.multibyte_ints.specs.TextReader.{StringStandsFor, text_of, limit_of as text_limit_of}
+use Rattle.nmf_records.specs.declared.record_types.TheConstants.{VERSION, MODE, VIA, KNOWN_ENCODING, SIZED_ENVELOPE, FAULT}
 use Rattle.nmf_records.specs.declared.frame.Frame.{Frame}
 use Rattle.nmf_records.specs.declared.frame.Expect.{Expect}
 use Rattle.nmf_records.specs.declared.frame.Expect.TheVariants.{Types, Chunk}
@@ -20,12 +22,12 @@ use Rattle.nmf_records.specs.declared.stage.Progress.{Progress}
 use Rattle.nmf_records.specs.declared.stage.Progress.TheVariants.{Going, Done, Wrong}
 use Rattle.nmf_records.specs.declared.reader.FrameReader.{FrameReader}
 use Rattle.nmf_records.specs.Records.{Read}
-use Rattle.nmf_records.specs.Reading.{allows, behind, fault_of, text_at, frame_at}
+use Rattle.nmf_records.specs.Reading.{with_text, allows, fault_of, text_at, frame_at}
 use Rattle.nmf_records.specs.Steps.{HasShape, Meets, begins_text, is_text_start, kind_of_text, texted}
 use Rattle.nmf_records.specs.Reader.{ShowsText, text_after, text_read, limit_of}
 use Rattle.nmf_records.specs.Advancing.{BeginsAnew, TextAnswers, Leads}
-use Rattle.nmf_records.proofs.Fronts.{behind_begun, with_text}
-use Rattle.nmf_records.proofs.Frames.{no_string}
+use Rattle.unit_streams.proofs.Behind.{behind_begun}
+use Rattle.multibyte_ints.proofs.TextBytes.{string_peels}
 use Rattle.nmf_records.proofs.Typed.{begun_may_come, begun_reads}
 
 -- what has the same text shows the same
@@ -37,14 +39,9 @@ shows_same old new s e h = record {
   text_is = h.text_is ∙ ap (λ t. text_of (string_at (text_limit_of t) h.string)) (sym e);
 }
 
--- a test with one that fails
-and_never : (b : Bool) → (b && false) ≡ false
-and_never true = refl
-and_never false = refl
-
 -- a record that isn't a Via or a Fault
-pub plain_head : (expect : Expect) (kind : ℕ) (q : List ℕ) → ((kind == 2) || (kind == 8)) ≡ false → begins_text expect (kind ∷ q) ≡ false
-plain_head (Types types) kind q e = ap (λ b. allows types kind && b) e ∙ and_never (allows types kind)
+pub plain_head : (expect : Expect) (kind : ℕ) (q : List ℕ) → ((kind == VIA) || (kind == FAULT)) ≡ false → begins_text expect (kind ∷ q) ≡ false
+plain_head (Types types) kind q e = ap (λ b. allows types kind && b) e ∙ and-false (allows types kind)
 plain_head Chunk kind q e = refl
 
 -- no text has begun, so what was shown is shown
@@ -59,7 +56,7 @@ unfolding ShowsText
 start_shows mid (Going (stages.Text text)) s expect p n reading start begins meets anew = record {
   string = [];
   stands = anew;
-  text_is = rw (begins, meets) (ap text_of (sym (no_string (limit_of mid))));
+  text_is = rw (begins, meets) (ap text_of (sym ((string_peels (limit_of mid)).nothing)));
 }
 start_shows mid (Going stages.Type) s expect p n reading start begins meets anew = cc
 start_shows mid (Going (stages.Field field)) s expect p n reading start begins meets anew = cc
@@ -79,28 +76,23 @@ first_shows old mid progress s types kind n reading false e same meets anew unch
 
 -- behind a fixed field no text begins
 pub field_head : (expect : Expect) (field : Field) (p c : List ℕ) → HasShape expect (stages.Field field) p → begins_text expect (p ++ c) ≡ false
-field_head expect fields.Major p c shape = rw shape (plain_head expect 0 c refl)
-field_head expect (fields.Minor major) p c shape = rw shape (plain_head expect 0 (major ∷ c) refl)
-field_head expect fields.Mode p c shape = rw shape (plain_head expect 1 c refl)
-field_head expect fields.Encoding p c shape = rw shape (plain_head expect 3 c refl)
+field_head expect fields.Major p c shape = rw shape (plain_head expect VERSION c refl)
+field_head expect (fields.Minor major) p c shape = rw shape (plain_head expect VERSION (major ∷ c) refl)
+field_head expect fields.Mode p c shape = rw shape (plain_head expect MODE c refl)
+field_head expect fields.Encoding p c shape = rw shape (plain_head expect KNOWN_ENCODING c refl)
 
 -- nor behind a size
 pub size_head : (expect : Expect) (size : SizeRecord) (p c : List ℕ) → HasShape expect (stages.Size size) p → begins_text expect (p ++ c) ≡ false
-size_head expect sizes.SizedEnvelope p c shape = ap (λ x. begins_text expect (x ++ c)) shape ∙ plain_head expect 6 (drop 1 p ++ c) refl
+size_head expect sizes.SizedEnvelope p c shape = ap (λ x. begins_text expect (x ++ c)) shape ∙ plain_head expect SIZED_ENVELOPE (drop 1 p ++ c) refl
 size_head expect sizes.Chunk p c shape = rw shape refl
-
--- the types of records with a text are known
-text_kind : (text : TextRecord) → kind_of_text text ≤ 12
-text_kind texts.Via = omega arith
-text_kind texts.Fault = omega arith
 
 -- a Via or a Fault that has begun
 pub text_head : (limit : ℕ) (expect : Expect) (text : TextRecord) (q c : List ℕ) → frame_at limit expect (kind_of_text text ∷ q) ≡ begun → begins_text expect (kind_of_text text ∷ c) ≡ true
-text_head limit expect texts.Via q c h = let m = begun_may_come limit expect 2 q (omega arith) h in rw (m.1, m.2) refl
-text_head limit expect texts.Fault q c h = let m = begun_may_come limit expect 8 q (omega arith) h in rw (m.1, m.2) refl
+text_head limit expect texts.Via q c h = let m = begun_may_come limit expect VIA q (omega arith) h in rw (m.1, m.2) refl
+text_head limit expect texts.Fault q c h = let m = begun_may_come limit expect FAULT q (omega arith) h in rw (m.1, m.2) refl
 
 -- the text that is read of a record is that of its string
-read_text : (frame : Frame) (y : Front (List ℕ) StringFault) → text_read (behind 1 (λ text. let r : Read = record { frame = frame; text = text } in r) fault_of y) ≡ text_of y
+read_text : (frame : Frame) (y : Front (List ℕ) StringFault) → text_read (behind 1 (with_text frame) fault_of y) ≡ text_of y
 read_text frame begun = refl
 read_text frame (whole s k) = refl
 read_text frame (wrong r k) = refl
@@ -108,8 +100,8 @@ read_text frame (wrong r k) = refl
 -- a text that has begun is read as one, however it goes on
 pub text_reads : (limit : ℕ) (expect : Expect) (text : TextRecord) (q c : List ℕ) → frame_at limit expect (kind_of_text text ∷ q) ≡ begun
     → frame_at limit expect (kind_of_text text ∷ c) ≡ text_at limit (texted text) c
-text_reads limit expect texts.Via q c h = begun_reads limit expect 2 q c (omega arith) h
-text_reads limit expect texts.Fault q c h = begun_reads limit expect 8 q c (omega arith) h
+text_reads limit expect texts.Via q c h = begun_reads limit expect VIA q c (omega arith) h
+text_reads limit expect texts.Fault q c h = begun_reads limit expect FAULT q c (omega arith) h
 
 -- a text goes on
 pub text_shows : (limit : ℕ) (new : FrameReader) (s : List ℕ) (expect : Expect) (text : TextRecord) (q c : List ℕ) → limit_of new ≡ limit

@@ -16,7 +16,7 @@ use Rattle.nmf_records.specs.declared.stage.Stage.TheVariants as stages
 use Rattle.nmf_records.specs.declared.stage.Progress.{Progress}
 use Rattle.nmf_records.specs.declared.stage.Progress.TheVariants as progress
 use Rattle.nmf_records.specs.declared.reader.FrameReader.{FrameReader}
-use Rattle.nmf_records.specs.Reading.{fault_of, frame_at}
+use Rattle.nmf_records.specs.Reading.{with_text, fault_of, frame_at}
 use Rattle.nmf_records.specs.Steps.{HasShape, sized, texted, size_bytes}
 use Rattle.nmf_records.specs.Reader.{StandsFor, HoldsText, pending_of, failure_of}
 
@@ -47,13 +47,13 @@ TextAnswers limit text q reader (progress.Wrong fault) = (r : StringFault) × (f
 abbrev pub Leads : ℕ → Expect → List ℕ → FrameReader → Progress → Type 0
 Leads limit expect p mid (progress.Going stage) =
     (frame_at limit expect p ≡ begun) × HasShape expect stage p × IntStandsFor mid.size (size_bytes stage p) × HoldsText stage mid.text p
-Leads limit expect p mid (progress.Done frame) = (text : List ℕ) × (frame_at limit expect p ≡ whole (record { frame = frame; text = text }) (length p)) × IntStandsFor mid.size []
+Leads limit expect p mid (progress.Done frame) = (text : List ℕ) × (frame_at limit expect p ≡ whole (with_text frame text) (length p)) × IntStandsFor mid.size []
 Leads limit expect p mid (progress.Wrong fault) = frame_at limit expect p ≡ wrong fault (length p)
 
 -- what they led to
 abbrev pub Steps : ℕ → Expect → List ℕ → FrameReader → Progress → Type 0
 Steps limit expect p new (progress.Going stage) = StandsFor new expect p
-Steps limit expect p new (progress.Done frame) = (text : List ℕ) × (frame_at limit expect p ≡ whole (record { frame = frame; text = text }) (length p)) × ((next : Expect) → StandsFor new next [])
+Steps limit expect p new (progress.Done frame) = (text : List ℕ) × (frame_at limit expect p ≡ whole (with_text frame text) (length p)) × ((next : Expect) → StandsFor new next [])
 Steps limit expect p new (progress.Wrong fault) = (frame_at limit expect p ≡ wrong fault (length p)) × (pending_of new ≡ length p)
 
 -- a reader goes on only with a byte or more
@@ -61,9 +61,9 @@ abbrev pub Moves : ℕ → Progress → Type 0
 Moves n (progress.Going stage) = 0 < n
 Moves n _ = Unit {0}
 
--- a fault is kept
+-- a fault is kept, and how many bytes show it
 abbrev pub Keeps : FrameReader → Progress → Type 0
-Keeps new (progress.Wrong fault) = failure_of new ≡ Some fault
+Keeps new (progress.Wrong fault) = failure_of new ≡ Some (record { fault = fault; shown_by = pending_of new })
 Keeps new _ = Unit {0}
 
 -- the stage behind what some bytes led to

@@ -1,36 +1,16 @@
 -- What holds of records by their definitions alone, whatever bytes they are read from.
-use Rattle.std.specs.Prelude.{◌≡◌, ℕ, ◌+◌, ◌<◌, ◌≤◌, ◌↔◌, ◌⊎◌, List, [], ◌∷◌, ◌++◌, length, take, drop, Bool, true, false, ◌==◌, ◌||◌, Option, Some, None, IsUtf8}
+use Rattle.std.specs.Prelude.{◌≡◌, ℕ, ◌+◌, ◌<◌, ◌≤◌, ◌↔◌, ◌⊎◌, List, [], ◌∷◌, ◌++◌, length, take, drop, Bool, true, false, ◌==◌, ◌||◌, IsUtf8}
 use Rattle.unit_streams.specs.Front.{begun, whole, wrong}
 use Rattle.multibyte_ints.specs.Integer.{Spells}
 use Rattle.multibyte_ints.specs.Laws.{FifthIsAbove}
-use Rattle.nmf_records.specs.declared.frame.Frame.{Frame}
-use Rattle.nmf_records.specs.declared.frame.Frame.TheVariants as frames
+use Rattle.nmf_records.specs.declared.record_types.TheConstants.{VIA, EXTENSIBLE_ENCODING, SIZED_ENVELOPE, FAULT, UPGRADE_REQUEST, UPGRADE_RESPONSE, GREATEST}
 use Rattle.nmf_records.specs.declared.frame.Expect.{Expect}
 use Rattle.nmf_records.specs.declared.frame.Expect.TheVariants.{Types, Chunk}
 use Rattle.nmf_records.specs.declared.frame.FrameFault.{FrameFault}
 use Rattle.nmf_records.specs.declared.frame.FrameFault.TheVariants as faults
 use Rattle.nmf_records.specs.Records.{Read, IsRecord}
-use Rattle.nmf_records.specs.Reading.{allows, frame_at}
+use Rattle.nmf_records.specs.Reading.{allows, MayCome, frame_at}
 use Rattle.nmf_records.specs.Steps.{begins_text}
-
--- the type of a record; a chunk's size has none
-abbrev pub type_of : Frame → Option ℕ
-type_of (frames.Version major minor) = Some 0
-type_of (frames.Mode mode) = Some 1
-type_of frames.Via = Some 2
-type_of (frames.KnownEncoding encoding) = Some 3
-type_of frames.UnsizedEnvelope = Some 5
-type_of (frames.Chunk size) = None
-type_of (frames.SizedEnvelope size) = Some 6
-type_of frames.End = Some 7
-type_of frames.Fault = Some 8
-type_of frames.PreambleAck = Some 11
-type_of frames.PreambleEnd = Some 12
-
--- the record's type is one that may come, or a chunk's size is what comes
-abbrev pub MayCome : Expect → Frame → Type 0
-MayCome (Types types) frame = (kind : ℕ) × (type_of frame ≡ Some kind) × (allows types kind ≡ true)
-MayCome Chunk frame = type_of frame ≡ None
 
 -- the record at the front is the one that bytes there are, where it may come with its text
 abbrev pub RecordsAreRead : Type 0
@@ -53,9 +33,9 @@ WholeIsShort = (limit : ℕ) (expect : Expect) (bytes : List ℕ) (read : Read) 
 abbrev pub WrongIsShort : Type 0
 WrongIsShort = (limit : ℕ) (expect : Expect) (bytes : List ℕ) (fault : FrameFault) (n : ℕ) → frame_at limit expect bytes ≡ wrong fault n → n ≤ limit + 6
 
--- a type byte above 12 comes first
+-- a type byte above the known ones comes first
 abbrev pub BeginsUnknown : Expect → List ℕ → Type 0
-BeginsUnknown (Types types) (kind ∷ rest) = 12 < kind
+BeginsUnknown (Types types) (kind ∷ rest) = GREATEST < kind
 BeginsUnknown _ _ = ⊥
 
 -- that is what makes a record unknown, and nothing else
@@ -65,11 +45,11 @@ UnknownByType = (limit : ℕ) (expect : Expect) (bytes : List ℕ) (n : ℕ)
 
 -- the types of records that have no frame: Extensible Encoding, Upgrade Request and Upgrade Response
 abbrev pub has_no_frame : ℕ → Bool
-has_no_frame kind = (kind == 4) || ((kind == 9) || (kind == 10))
+has_no_frame kind = (kind == EXTENSIBLE_ENCODING) || ((kind == UPGRADE_REQUEST) || (kind == UPGRADE_RESPONSE))
 
 -- this type byte comes first, which is a known one and may not come
 abbrev pub BeginsUnexpected : Expect → List ℕ → ℕ → Type 0
-BeginsUnexpected (Types types) (kind ∷ rest) t = (kind ≡ t) × (t ≤ 12) × ((allows types t ≡ false) ⊎ (has_no_frame t ≡ true))
+BeginsUnexpected (Types types) (kind ∷ rest) t = (kind ≡ t) × (t ≤ GREATEST) × ((allows types t ≡ false) ⊎ (has_no_frame t ≡ true))
 BeginsUnexpected _ _ t = ⊥
 
 -- that is what makes a record unexpected, and nothing else
@@ -79,7 +59,7 @@ UnexpectedByType = (limit : ℕ) (expect : Expect) (bytes : List ℕ) (t n : ℕ
 
 -- the types of records that have an integer, behind the type byte
 abbrev pub has_integer : ℕ → Bool
-has_integer kind = (kind == 2) || ((kind == 6) || (kind == 8))
+has_integer kind = (kind == VIA) || ((kind == SIZED_ENVELOPE) || (kind == FAULT))
 
 -- an integer comes behind k bytes: none for a chunk's size, else the type byte
 abbrev pub IntegerComes : Expect → List ℕ → ℕ → Type 0

@@ -9,11 +9,12 @@ use Rattle.nmf_records.specs.declared.frame.Expect.{Expect}
 use Rattle.nmf_records.specs.declared.frame.FrameStep.{FrameStep}
 use Rattle.nmf_records.specs.declared.frame.FrameStep.TheVariants.{More, Done}
 use Rattle.nmf_records.specs.declared.frame.FrameFault.{FrameFault}
+use Rattle.nmf_records.specs.declared.frame.FrameRefusal.{FrameRefusal}
 use Rattle.nmf_records.specs.declared.stage.Stage.{Stage}
 use Rattle.nmf_records.specs.declared.stage.Stage.TheVariants as stages
 use Rattle.nmf_records.specs.declared.reader.FrameReader.{FrameReader}
 use Rattle.nmf_records.specs.Records.{Read}
-use Rattle.nmf_records.specs.Reading.{frame_at}
+use Rattle.nmf_records.specs.Reading.{with_text, frame_at}
 use Rattle.nmf_records.specs.Steps.{HasShape, size_bytes, begins_text}
 
 -- the greatest length of a text that the reader takes
@@ -28,14 +29,14 @@ held_of reader = text_held_of reader.text
 unfoldable pub pending_of : FrameReader → ℕ
 pending_of reader = reader.pending
 
--- the fault of a failed stage
-abbrev pub fault_at : Stage → Option FrameFault
-fault_at (stages.Failed fault) = Some fault
-fault_at _ = None
+-- the refusal at a failed stage, where so many bytes show the fault
+abbrev pub refusal_at : Stage → ℕ → Option FrameRefusal
+refusal_at (stages.Failed fault) shown_by = Some (record { fault = fault; shown_by = shown_by })
+refusal_at _ shown_by = None
 
--- the fault that it answers from now on
-unfoldable pub failure_of : FrameReader → Option FrameFault
-failure_of reader = fault_at reader.stage
+-- the refusal that it answers from now on
+unfoldable pub failure_of : FrameReader → Option FrameRefusal
+failure_of reader = refusal_at reader.stage reader.pending
 
 -- the reader of texts has the bytes of one that has begun
 abbrev pub HoldsText : Stage → StringReader → List ℕ → Type 0
@@ -74,14 +75,21 @@ text_read (wrong fault n) = []
 abbrev pub text_after : List ℕ → Expect → List ℕ → Front Read FrameFault → List ℕ
 text_after s expect p reading = if begins_text expect p then text_read reading else s
 
+-- the text that is shown behind these bytes, where s was shown before
+abbrev pub shown_behind : ℕ → Expect → List ℕ → List ℕ → List ℕ
+shown_behind limit expect p s = text_after s expect p (frame_at limit expect p)
+
 -- what a piece behind p is answered with
-abbrev pub FrameAnswers : ℕ → Expect → List ℕ → List ℕ → FrameReader → Result (ℕ × FrameStep) FrameFault → Type 0
-FrameAnswers limit expect p piece new (Ok (n, More)) = (n ≡ length piece) × (frame_at limit expect (p ++ piece) ≡ begun)
-FrameAnswers limit expect p piece new (Ok (n, Done frame)) = (text : List ℕ) × (frame_at limit expect (p ++ piece) ≡ whole (record { frame = frame; text = text }) (length p + n))
-FrameAnswers limit expect p piece new (Err fault) = frame_at limit expect (p ++ piece) ≡ wrong fault (pending_of new)
+abbrev pub FrameAnswers : ℕ → Expect → List ℕ → List ℕ → Result (ℕ × FrameStep) FrameRefusal → Type 0
+FrameAnswers limit expect p piece (Ok (n, More)) =
+    (n ≡ length piece) × (frame_at limit expect (p ++ piece) ≡ begun)
+FrameAnswers limit expect p piece (Ok (n, Done frame)) =
+    (text : List ℕ) × (frame_at limit expect (p ++ piece) ≡ whole (with_text frame text) (length p + n))
+FrameAnswers limit expect p piece (Err refusal) =
+    frame_at limit expect (p ++ piece) ≡ wrong refusal.fault refusal.shown_by
 
 -- what the reader stands for then, the bytes having been q
-abbrev pub AfterPiece : FrameReader → Expect → List ℕ → Result (ℕ × FrameStep) FrameFault → Type 0
+abbrev pub AfterPiece : FrameReader → Expect → List ℕ → Result (ℕ × FrameStep) FrameRefusal → Type 0
 AfterPiece new expect q (Ok (n, More)) = StandsFor new expect q
 AfterPiece new expect q (Ok (n, Done frame)) = (next : Expect) → StandsFor new next []
-AfterPiece new expect q (Err fault) = Unit {0}
+AfterPiece new expect q (Err refusal) = Unit {0}

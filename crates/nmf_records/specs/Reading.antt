@@ -1,26 +1,25 @@
 -- What the front of some bytes is, where a record or a chunk's size is to come.
-use Rattle.std.specs.Prelude.{ℕ, ◌+◌, List, [], ◌∷◌, Bool, nat_lt, ◌==◌, if◌then◌else◌}
+use Rattle.std.specs.Prelude.{◌≡◌, ℕ, List, [], ◌∷◌, Bool, true, false, Option, Some, None, is_none, nat_lt, ◌==◌, if◌then◌else◌}
 use Rattle.std.specs.Int.{bit_at}
-use Rattle.unit_streams.specs.Front.{Front, begun, whole, wrong}
+use Rattle.unit_streams.specs.Front.{Front, begun, whole, wrong, behind}
 use Rattle.multibyte_ints.specs.Integer.{int_at}
 use Rattle.multibyte_ints.specs.Text.{string_at, StringFault, bad_int, too_long, bad_utf8}
+use Rattle.nmf_records.specs.declared.record_types.TheConstants.{VERSION, MODE, VIA, KNOWN_ENCODING, UNSIZED_ENVELOPE, SIZED_ENVELOPE, END, FAULT, PREAMBLE_ACK, PREAMBLE_END, GREATEST}
 use Rattle.nmf_records.specs.declared.frame.Frame.{Frame}
 use Rattle.nmf_records.specs.declared.frame.Frame.TheVariants as frames
 use Rattle.nmf_records.specs.declared.frame.Expect.{Expect}
 use Rattle.nmf_records.specs.declared.frame.Expect.TheVariants as expects
 use Rattle.nmf_records.specs.declared.frame.FrameFault.{FrameFault}
 use Rattle.nmf_records.specs.declared.frame.FrameFault.TheVariants as faults
-use Rattle.nmf_records.specs.Records.{Read}
+use Rattle.nmf_records.specs.Records.{Read, type_of}
 
--- what is read behind so many bytes, seen as f and g see it
-abbrev pub behind : {A B R S : Type 0} → ℕ → (A → B) → (R → S) → Front A R → Front B S
-behind n f g begun = begun
-behind n f g (whole a k) = whole (f a) (n + k)
-behind n f g (wrong r k) = wrong (g r) (n + k)
+-- a record with this text
+abbrev pub with_text : Frame → List ℕ → Read
+with_text frame text = record { frame = frame; text = text }
 
--- a record without a text
+-- a record without one
 abbrev pub bare : Frame → Read
-bare frame = record { frame = frame; text = [] }
+bare frame = with_text frame []
 
 -- a fault of a string, as one of its record
 abbrev pub fault_of : StringFault → FrameFault
@@ -34,7 +33,7 @@ size_at n frame bytes = behind n (λ size. bare (frame size)) (λ _. faults.BadI
 
 -- a text behind a type byte
 abbrev pub text_at : ℕ → Frame → List ℕ → Front Read FrameFault
-text_at limit frame bytes = behind 1 (λ text. record { frame = frame; text = text }) fault_of (string_at limit bytes)
+text_at limit frame bytes = behind 1 (with_text frame) fault_of (string_at limit bytes)
 
 -- two bytes behind a type byte
 abbrev pub version_at : List ℕ → Front Read FrameFault
@@ -54,27 +53,40 @@ lone frame = whole (bare frame) 1
 -- the record of this type
 abbrev pub typed_at : ℕ → ℕ → List ℕ → Front Read FrameFault
 typed_at limit kind bytes =
-    if kind == 0 then version_at bytes
-    else (if kind == 1 then byte_at frames.Mode bytes
-    else (if kind == 2 then text_at limit frames.Via bytes
-    else (if kind == 3 then byte_at frames.KnownEncoding bytes
-    else (if kind == 5 then lone frames.UnsizedEnvelope
-    else (if kind == 6 then size_at 1 frames.SizedEnvelope bytes
-    else (if kind == 7 then lone frames.End
-    else (if kind == 8 then text_at limit frames.Fault bytes
-    else (if kind == 11 then lone frames.PreambleAck
-    else (if kind == 12 then lone frames.PreambleEnd
+    if kind == VERSION then version_at bytes
+    else (if kind == MODE then byte_at frames.Mode bytes
+    else (if kind == VIA then text_at limit frames.Via bytes
+    else (if kind == KNOWN_ENCODING then byte_at frames.KnownEncoding bytes
+    else (if kind == UNSIZED_ENVELOPE then lone frames.UnsizedEnvelope
+    else (if kind == SIZED_ENVELOPE then size_at 1 frames.SizedEnvelope bytes
+    else (if kind == END then lone frames.End
+    else (if kind == FAULT then text_at limit frames.Fault bytes
+    else (if kind == PREAMBLE_ACK then lone frames.PreambleAck
+    else (if kind == PREAMBLE_END then lone frames.PreambleEnd
     else wrong (faults.Unexpected kind) 1)))))))))
 
--- a type byte that may come; the types 4, 9 and 10 have no record here
+-- a type byte that may come
 abbrev pub allows : ℕ → ℕ → Bool
 allows types kind = bit_at types kind == 1
+
+-- the type of a record is one that may come
+abbrev pub allows_type : ℕ → Option ℕ → Bool
+allows_type types None = false
+allows_type types (Some kind) = allows types kind
+
+-- a record of a type that may come, or the size of a chunk where that is what comes
+abbrev pub comes : Expect → Frame → Bool
+comes (expects.Types types) frame = allows_type types (type_of frame)
+comes expects.Chunk frame = is_none (type_of frame)
+
+abbrev pub MayCome : Expect → Frame → Type 0
+MayCome expect frame = comes expect frame ≡ true
 
 -- a record, where the types with their bits set may come
 abbrev pub record_at : ℕ → ℕ → List ℕ → Front Read FrameFault
 record_at limit types [] = begun
 record_at limit types (kind ∷ bytes) =
-    if nat_lt 12 kind then wrong faults.UnknownRecord 1
+    if nat_lt GREATEST kind then wrong faults.UnknownRecord 1
     else (if allows types kind then typed_at limit kind bytes else wrong (faults.Unexpected kind) 1)
 
 -- the front of the bytes, where this may come and texts are at most so long

@@ -1,9 +1,24 @@
--- What a framing record's bytes are, one row for each record of MC-NMF.
-use Rattle.std.specs.Prelude.{◌≡◌, ℕ, List, [], ◌∷◌}
+-- The framing records of MC-NMF: the type of each, and what its bytes are.
+use Rattle.std.specs.Prelude.{◌≡◌, ℕ, List, [], ◌∷◌, Option, Some, None}
 use Rattle.multibyte_ints.specs.Integer.{Spells}
 use Rattle.multibyte_ints.specs.Text.{IsString}
+use Rattle.nmf_records.specs.declared.record_types.TheConstants.{VERSION, MODE, VIA, KNOWN_ENCODING, UNSIZED_ENVELOPE, SIZED_ENVELOPE, END, FAULT, PREAMBLE_ACK, PREAMBLE_END}
 use Rattle.nmf_records.specs.declared.frame.Frame.{Frame}
 use Rattle.nmf_records.specs.declared.frame.Frame.TheVariants.{Version, Mode, Via, KnownEncoding, UnsizedEnvelope, Chunk, SizedEnvelope, End, Fault, PreambleAck, PreambleEnd}
+
+-- the type of a record; a chunk's size has none
+abbrev pub type_of : Frame → Option ℕ
+type_of (Version major minor) = Some VERSION
+type_of (Mode mode) = Some MODE
+type_of Via = Some VIA
+type_of (KnownEncoding encoding) = Some KNOWN_ENCODING
+type_of UnsizedEnvelope = Some UNSIZED_ENVELOPE
+type_of (Chunk size) = None
+type_of (SizedEnvelope size) = Some SIZED_ENVELOPE
+type_of End = Some END
+type_of Fault = Some FAULT
+type_of PreambleAck = Some PREAMBLE_ACK
+type_of PreambleEnd = Some PREAMBLE_END
 
 -- a record, with the text of a Via or a Fault
 pub record Read : Type 0 where
@@ -16,17 +31,17 @@ IsTextRecord kind text bytes = (string : List ℕ) × IsString text string × (b
 
 -- the bytes are this record
 abbrev pub IsRecordOf : Frame → List ℕ → List ℕ → Type 0
-IsRecordOf (Version major minor) text bytes = (text ≡ []) × (bytes ≡ 0 ∷ major ∷ minor ∷ [])
-IsRecordOf (Mode mode) text bytes = (text ≡ []) × (bytes ≡ 1 ∷ mode ∷ [])
-IsRecordOf Via text bytes = IsTextRecord 2 text bytes
-IsRecordOf (KnownEncoding encoding) text bytes = (text ≡ []) × (bytes ≡ 3 ∷ encoding ∷ [])
-IsRecordOf UnsizedEnvelope text bytes = (text ≡ []) × (bytes ≡ 5 ∷ [])
+IsRecordOf (Version major minor) text bytes = (text ≡ []) × (bytes ≡ VERSION ∷ major ∷ minor ∷ [])
+IsRecordOf (Mode mode) text bytes = (text ≡ []) × (bytes ≡ MODE ∷ mode ∷ [])
+IsRecordOf Via text bytes = IsTextRecord VIA text bytes
+IsRecordOf (KnownEncoding encoding) text bytes = (text ≡ []) × (bytes ≡ KNOWN_ENCODING ∷ encoding ∷ [])
+IsRecordOf UnsizedEnvelope text bytes = (text ≡ []) × (bytes ≡ UNSIZED_ENVELOPE ∷ [])
 IsRecordOf (Chunk size) text bytes = (text ≡ []) × Spells size bytes
-IsRecordOf (SizedEnvelope size) text bytes = (text ≡ []) × (spelling : List ℕ) × Spells size spelling × (bytes ≡ 6 ∷ spelling)
-IsRecordOf End text bytes = (text ≡ []) × (bytes ≡ 7 ∷ [])
-IsRecordOf Fault text bytes = IsTextRecord 8 text bytes
-IsRecordOf PreambleAck text bytes = (text ≡ []) × (bytes ≡ 11 ∷ [])
-IsRecordOf PreambleEnd text bytes = (text ≡ []) × (bytes ≡ 12 ∷ [])
+IsRecordOf (SizedEnvelope size) text bytes = (text ≡ []) × (spelling : List ℕ) × Spells size spelling × (bytes ≡ SIZED_ENVELOPE ∷ spelling)
+IsRecordOf End text bytes = (text ≡ []) × (bytes ≡ END ∷ [])
+IsRecordOf Fault text bytes = IsTextRecord FAULT text bytes
+IsRecordOf PreambleAck text bytes = (text ≡ []) × (bytes ≡ PREAMBLE_ACK ∷ [])
+IsRecordOf PreambleEnd text bytes = (text ≡ []) × (bytes ≡ PREAMBLE_END ∷ [])
 
 -- the bytes are what was read
 abbrev pub IsRecord : Read → List ℕ → Type 0

@@ -1,12 +1,16 @@
 -- The stages of a reader: which bytes of a record it has had at each, and what its steps say of the bytes so far.
 use Rattle.std.specs.Prelude.{◌≡◌, ℕ, List, [], ◌∷◌, drop, Bool, true, false, ◌==◌, ◌&&◌, ◌||◌}
-use Rattle.nmf_records.specs.Reading.{allows}
+use Rattle.nmf_records.specs.Reading.{allows, with_text}
 use Rattle.unit_streams.specs.Front.{Front, begun, whole, wrong}
+use Rattle.nmf_records.specs.declared.record_types.TheConstants.{VERSION, MODE, VIA, KNOWN_ENCODING, SIZED_ENVELOPE, FAULT}
 use Rattle.nmf_records.specs.declared.frame.Frame.{Frame}
 use Rattle.nmf_records.specs.declared.frame.Frame.TheVariants as frames
 use Rattle.nmf_records.specs.declared.frame.Expect.{Expect}
 use Rattle.nmf_records.specs.declared.frame.Expect.TheVariants as expects
 use Rattle.nmf_records.specs.declared.frame.FrameFault.{FrameFault}
+use Rattle.nmf_records.specs.declared.frame.FrameFault.TheVariants as faults
+use Rattle.multibyte_ints.specs.declared.text.StringStep.{StringStep}
+use Rattle.multibyte_ints.specs.declared.text.StringStep.TheVariants as steps
 use Rattle.nmf_records.specs.declared.stage.TextRecord.{TextRecord}
 use Rattle.nmf_records.specs.declared.stage.TextRecord.TheVariants as texts
 use Rattle.nmf_records.specs.declared.stage.SizeRecord.{SizeRecord}
@@ -20,8 +24,8 @@ use Rattle.nmf_records.specs.Records.{Read}
 
 -- the type byte of a record with a text
 abbrev pub kind_of_text : TextRecord → ℕ
-kind_of_text texts.Via = 2
-kind_of_text texts.Fault = 8
+kind_of_text texts.Via = VIA
+kind_of_text texts.Fault = FAULT
 
 -- what ends with this size
 abbrev pub sized : SizeRecord → ℕ → Frame
@@ -33,22 +37,30 @@ abbrev pub texted : TextRecord → Frame
 texted texts.Via = frames.Via
 texted texts.Fault = frames.Fault
 
+-- what a reader of strings answers, as a step of a record
+abbrev pub progress_of : TextRecord → StringStep → Progress
+progress_of text steps.More = Going (stages.Text text)
+progress_of text steps.Done = Done (texted text)
+progress_of text steps.BadInt = Wrong faults.BadInt
+progress_of text steps.TooLong = Wrong faults.TextTooLong
+progress_of text steps.BadUtf8 = Wrong faults.TextNotUtf8
+
 -- the bytes at this stage
 abbrev pub HasShape : Expect → Stage → List ℕ → Type 0
 HasShape expect stages.Type p = p ≡ []
-HasShape expect (stages.Field fields.Major) p = p ≡ 0 ∷ []
-HasShape expect (stages.Field (fields.Minor major)) p = p ≡ 0 ∷ major ∷ []
-HasShape expect (stages.Field fields.Mode) p = p ≡ 1 ∷ []
-HasShape expect (stages.Field fields.Encoding) p = p ≡ 3 ∷ []
+HasShape expect (stages.Field fields.Major) p = p ≡ VERSION ∷ []
+HasShape expect (stages.Field (fields.Minor major)) p = p ≡ VERSION ∷ major ∷ []
+HasShape expect (stages.Field fields.Mode) p = p ≡ MODE ∷ []
+HasShape expect (stages.Field fields.Encoding) p = p ≡ KNOWN_ENCODING ∷ []
 HasShape expect (stages.Text record_of) p = p ≡ kind_of_text record_of ∷ drop 1 p
-HasShape expect (stages.Size sizes.SizedEnvelope) p = p ≡ 6 ∷ drop 1 p
+HasShape expect (stages.Size sizes.SizedEnvelope) p = p ≡ SIZED_ENVELOPE ∷ drop 1 p
 HasShape expect (stages.Size sizes.Chunk) p = expect ≡ expects.Chunk
 HasShape expect (stages.Failed fault) p = ⊥
 
 -- what is read of the bytes, of which there are n
 abbrev pub Meets : Front Read FrameFault → ℕ → Progress → Type 0
 Meets reading n (Going stage) = reading ≡ begun
-Meets reading n (Done frame) = (text : List ℕ) × (reading ≡ whole (record { frame = frame; text = text }) n)
+Meets reading n (Done frame) = (text : List ℕ) × (reading ≡ whole (with_text frame text) n)
 Meets reading n (Wrong fault) = reading ≡ wrong fault n
 
 -- of the bytes at this stage, those of a size that has begun
@@ -70,7 +82,7 @@ GoesTo expect p _ = Unit {0}
 -- a Via or a Fault has begun
 abbrev pub begins_text : Expect → List ℕ → Bool
 begins_text (expects.Types types) [] = false
-begins_text (expects.Types types) (kind ∷ rest) = allows types kind && ((kind == 2) || (kind == 8))
+begins_text (expects.Types types) (kind ∷ rest) = allows types kind && ((kind == VIA) || (kind == FAULT))
 begins_text expects.Chunk p = false
 
 -- a text comes next

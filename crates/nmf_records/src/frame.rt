@@ -1,34 +1,35 @@
-/// A framing record (MC-NMF, 2.2.3), or the size of a chunk. The text of a Via or a Fault stays in the reader.
+/// A framing record (MC-NMF, 2.2.3), or the size of a chunk. The text of a Via or a Fault stays in
+/// the reader.
 #[derive(Clone, Copy, Debug, PartialEq, Eq)]
 pub enum Frame {
-    /// Version Record, type 0x00.
+    /// Version Record.
     Version { major: u8, minor: u8 },
-    /// Mode Record, type 0x01, with the mode's byte.
+    /// Mode Record, with the mode's byte.
     Mode(u8),
-    /// Via Record, type 0x02.
+    /// Via Record.
     Via,
-    /// Known Encoding Record, type 0x03, with the encoding's byte.
+    /// Known Encoding Record, with the encoding's byte.
     KnownEncoding(u8),
-    /// The head of an Unsized Envelope Record, type 0x05.
+    /// The head of an Unsized Envelope Record.
     UnsizedEnvelope,
     /// The size of a chunk of an unsized envelope; 0 ends the envelope.
     Chunk(u32),
-    /// The head of a Sized Envelope Record, type 0x06, with the payload's size in bytes.
+    /// The head of a Sized Envelope Record, with the payload's size in bytes.
     SizedEnvelope(u32),
-    /// End Record, type 0x07.
+    /// End Record.
     End,
-    /// Fault Record, type 0x08.
+    /// Fault Record.
     Fault,
-    /// Preamble Ack Record, type 0x0B.
+    /// Preamble Ack Record.
     PreambleAck,
-    /// Preamble End Record, type 0x0C.
+    /// Preamble End Record.
     PreambleEnd,
 }
 
 /// What may come next.
 ///
-/// The types 0x04 (Extensible Encoding), 0x09 and 0x0A (Upgrade Request and Upgrade Response) have no
-/// frame, so they are unexpected everywhere.
+/// Extensible Encoding, Upgrade Request and Upgrade Response have no frame, so they are unexpected
+/// everywhere.
 #[derive(Clone, Copy, Debug, PartialEq, Eq)]
 pub enum Expect {
     /// A record of a type t whose bit, 1 << t, is set.
@@ -49,7 +50,7 @@ pub enum FrameStep {
 /// Why bytes are no record that may come.
 #[derive(Clone, Copy, Debug, PartialEq, Eq)]
 pub enum FrameFault {
-    /// The type byte is above 0x0C.
+    /// The type byte is none of `record_types`.
     UnknownRecord,
     /// The type byte is this known one, which may not come.
     Unexpected(u8),
@@ -59,4 +60,11 @@ pub enum FrameFault {
     TextTooLong,
     /// A text isn't UTF-8.
     TextNotUtf8,
+}
+
+/// A fault, and how many bytes of the record, or of the chunk's size, show it.
+#[derive(Clone, Copy, Debug, PartialEq, Eq)]
+pub struct FrameRefusal {
+    pub fault: FrameFault,
+    pub shown_by: usize,
 }

@@ -16,9 +16,10 @@
 mod frame;
 pub mod laws;
 mod reader;
+pub mod record_types;
 mod stage;
 
-pub use frame::{Expect, Frame, FrameFault, FrameStep};
+pub use frame::{Expect, Frame, FrameFault, FrameRefusal, FrameStep};
 pub use reader::FrameReader;
 
 #[cfg(test)]

@@ -3,17 +3,16 @@
 ghost use Rattle.std.specs.Prelude.{◌≡◌, ℕ, ◌+◌, ◌-◌, ◌^◌, min, ◌≤◌, ◌<◌, List, [], ◌∷◌, ◌++◌, length, take, IfOk, IfErr, Some, false};
 ghost use Rattle.multibyte_ints.specs.Reader.{StandsFor as IntStandsFor};
 ghost use Rattle.nmf_records.specs.declared.frame.Expect.{Expect as Expected};
-ghost use Rattle.nmf_records.specs.Reading.{frame_at};
 ghost use Rattle.nmf_records.specs.Steps.{is_text_start};
-ghost use Rattle.nmf_records.specs.Reader.{StandsFor, ShowsText, FrameAnswers, AfterPiece, limit_of, held_of, pending_of, failure_of, text_after};
+ghost use Rattle.nmf_records.specs.Reader.{StandsFor, ShowsText, FrameAnswers, AfterPiece, limit_of, held_of, pending_of, failure_of, shown_behind};
 ghost use Rattle.nmf_records.specs.Advancing.{SizeAnswers, TextAnswers, Leads, ReadsBytes, BeginsAnew, Steps, Moves, Keeps, stage_after, pending_after};
 ghost use Rattle.unit_streams.specs.Front.{begun};
 ghost use Rattle.multibyte_ints.specs.Text.{string_at};
 ghost use Rattle.multibyte_ints.specs.TextReader.{StringStandsFor};
 
-use crate::frame::{Expect, Frame, FrameFault, FrameStep};
+use crate::frame::{Expect, FrameFault, FrameRefusal, FrameStep};
 use crate::stage::{self, Progress, SizeRecord, Stage, TextRecord};
-use multibyte_ints::{IntReader, IntStep, Memory, StringReader, StringStep};
+use multibyte_ints::{IntReader, IntStep, Memory, StringReader};
 use std::alloc::Global;
 
 /// Reads records, one after the other, in whatever pieces their bytes come.
@@ -45,19 +44,24 @@ impl FrameReader {
     /// Reads on with a piece, up to the byte that makes a record whole, and answers how many bytes it
     /// used and whether the record is. `expect` says what may come, and is to be the same for all
     /// pieces of one record. A fault is answered at the first byte that shows it, and from then on.
-    pub fn feed(&mut self, piece: &[u8], expect: Expect) -> Result<(usize, FrameStep), FrameFault>
+    pub fn feed(&mut self, piece: &[u8], expect: Expect) -> Result<(usize, FrameStep), FrameRefusal>
         ensures within { IfOk result (λ answer. answer.0 ≤ length piece.now) }
-        ensures answers { (p : List ℕ) → StandsFor self.old expect p → FrameAnswers (limit_of self.old) expect p piece.now self.new result }
-        ensures stands { (p : List ℕ) → StandsFor self.old expect p → AfterPiece self.new expect (p ++ piece.now) result }
+        ensures answers { (p : List ℕ) → StandsFor self.old expect p
+            → FrameAnswers (limit_of self.old) expect p piece.now result }
+        ensures stands { (p : List ℕ) → StandsFor self.old expect p
+            → AfterPiece self.new expect (p ++ piece.now) result }
         ensures text { (p s : List ℕ) → StandsFor self.old expect p → ShowsText self.old s
-            → ShowsText self.new (text_after s expect (p ++ piece.now) (frame_at (limit_of self.old) expect (p ++ piece.now))) }
+            → ShowsText self.new (shown_behind (limit_of self.old) expect (p ++ piece.now) s) }
         ensures limit { limit_of self.new ≡ limit_of self.old }
-        ensures failed { IfErr result (λ fault. failure_of self.new ≡ Some fault) }
-        ensures repeated { (fault : FrameFault) → failure_of self.old ≡ Some fault → result ≡ Err fault }
-        ensures unchanged { (fault : FrameFault) → failure_of self.old ≡ Some fault → self.new ≡ self.old }
+        ensures failed { IfErr result (λ refusal. failure_of self.new ≡ Some refusal) }
+        ensures counted { IfErr result (λ refusal. pending_of self.new ≡ refusal.shown_by) }
+        ensures repeated { (refusal : FrameRefusal) → failure_of self.old ≡ Some refusal
+            → result ≡ Err refusal }
+        ensures unchanged { (refusal : FrameRefusal) → failure_of self.old ≡ Some refusal
+            → self.new ≡ self.old }
     {
         if let Stage::Failed(fault) = self.stage {
-            return Err(fault);
+            return Err(self.refusal(fault));
         }
         let mut used = 0;
         while used < piece.len() {
@@ -66,7 +70,7 @@ impl FrameReader {
             match progress {
                 Progress::Going(_) => {}
                 Progress::Done(frame) => return Ok((used, FrameStep::Done(frame))),
-                Progress::Wrong(fault) => return Err(fault),
+                Progress::Wrong(fault) => return Err(self.refusal(fault)),
             }
         }
         Ok((used, FrameStep::More))
@@ -84,7 +88,8 @@ impl FrameReader {
     pub fn pending(&self) -> u32
         ensures counted { result ≡ pending_of self.now }
         ensures stands { (expect : Expected) (p : List ℕ) → StandsFor self.now expect p → result ≡ length p }
-        ensures within { (expect : Expected) (p : List ℕ) → StandsFor self.now expect p → result ≤ limit_of self.now + 5 }
+        ensures within { (expect : Expected) (p : List ℕ) → StandsFor self.now expect p
+            → result ≤ limit_of self.now + 5 }
     {
         self.pending
     }
@@ -97,14 +102,27 @@ impl FrameReader {
         self.text.held()
     }
 
+    // The refusal by a fault that all bytes so far show.
+    #[tactic(auto, unfolding(crate::specs::Reader::pending_of))]
+    fn refusal(&self, fault: FrameFault) -> FrameRefusal
+        ensures { result ≡ record { fault = fault; shown_by = pending_of self.now } }
+    {
+        FrameRefusal {
+            fault,
+            shown_by: self.pending as usize,
+        }
+    }
+
     // Reads some of the bytes, and goes on to where they led.
     fn advance(&mut self, bytes: &[u8], expect: Expect) -> (usize, Progress)
         requires { 0 < length bytes.now }
         ensures within { result.0 ≤ length bytes.now }
         ensures moves { Moves result.0 result.1 }
-        ensures steps { (p : List ℕ) → StandsFor self.old expect p → Steps (limit_of self.old) expect (p ++ take result.0 bytes.now) self.new result.1 }
+        ensures steps { (p : List ℕ) → StandsFor self.old expect p
+            → Steps (limit_of self.old) expect (p ++ take result.0 bytes.now) self.new result.1 }
         ensures text { (p s : List ℕ) → StandsFor self.old expect p → ShowsText self.old s
-            → ShowsText self.new (text_after s expect (p ++ take result.0 bytes.now) (frame_at (limit_of self.old) expect (p ++ take result.0 bytes.now))) }
+            → ShowsText self.new
+            (shown_behind (limit_of self.old) expect (p ++ take result.0 bytes.now) s) }
         ensures limit { limit_of self.new ≡ limit_of self.old }
         ensures kept { Keeps self.new result.1 }
     {
@@ -118,9 +136,11 @@ impl FrameReader {
         requires { 0 < length bytes.now }
         ensures within { result.0 ≤ length bytes.now }
         ensures moves { Moves result.0 result.1 }
-        ensures leads { (p : List ℕ) → StandsFor self.old expect p → Leads (limit_of self.old) expect (p ++ take result.0 bytes.now) self.new result.1 }
+        ensures leads { (p : List ℕ) → StandsFor self.old expect p
+            → Leads (limit_of self.old) expect (p ++ take result.0 bytes.now) self.new result.1 }
         ensures text { (p s : List ℕ) → StandsFor self.old expect p → ShowsText self.old s
-            → ShowsText self.new (text_after s expect (p ++ take result.0 bytes.now) (frame_at (limit_of self.old) expect (p ++ take result.0 bytes.now))) }
+            → ShowsText self.new
+            (shown_behind (limit_of self.old) expect (p ++ take result.0 bytes.now) s) }
         ensures limit { limit_of self.new ≡ limit_of self.old }
         ensures pending { self.new.pending ≡ self.old.pending }
     {
@@ -149,9 +169,11 @@ impl FrameReader {
 
     // Reads a byte that belongs to no text.
     fn read_byte(&mut self, byte: u8, expect: Expect) -> Progress
-        ensures leads { (p : List ℕ) → StandsFor self.old expect p → ReadsBytes self.old.stage → Leads (limit_of self.old) expect (p ++ byte ∷ []) self.new result }
-        ensures text { (p s : List ℕ) → StandsFor self.old expect p → ReadsBytes self.old.stage → ShowsText self.old s
-            → ShowsText self.new (text_after s expect (p ++ byte ∷ []) (frame_at (limit_of self.old) expect (p ++ byte ∷ []))) }
+        ensures leads { (p : List ℕ) → StandsFor self.old expect p → ReadsBytes self.old.stage
+            → Leads (limit_of self.old) expect (p ++ byte ∷ []) self.new result }
+        ensures text { (p s : List ℕ) → StandsFor self.old expect p → ReadsBytes self.old.stage
+            → ShowsText self.old s
+            → ShowsText self.new (shown_behind (limit_of self.old) expect (p ++ byte ∷ []) s) }
         ensures limit { limit_of self.new ≡ limit_of self.old }
         ensures others { self.new ≡ record self.old { size = self.new.size; text = self.new.text } }
     {
@@ -164,8 +186,10 @@ impl FrameReader {
 
     // Reads the first byte of a record or of a chunk's size.
     fn read_first_byte(&mut self, byte: u8, expect: Expect) -> Progress
-        ensures leads { StandsFor self.old expect [] → self.old.stage ≡ Stage.Type → Leads (limit_of self.old) expect (byte ∷ []) self.new result }
-        ensures text { (s : List ℕ) → ShowsText self.old s → ShowsText self.new (text_after s expect (byte ∷ []) (frame_at (limit_of self.old) expect (byte ∷ []))) }
+        ensures leads { StandsFor self.old expect [] → self.old.stage ≡ Stage.Type
+            → Leads (limit_of self.old) expect (byte ∷ []) self.new result }
+        ensures text { (s : List ℕ) → ShowsText self.old s
+            → ShowsText self.new (shown_behind (limit_of self.old) expect (byte ∷ []) s) }
         ensures limit { limit_of self.new ≡ limit_of self.old }
         ensures others { self.new ≡ record self.old { size = self.new.size; text = self.new.text } }
     {
@@ -194,7 +218,8 @@ impl FrameReader {
 
     // Reads a byte of a size.
     fn read_size_byte(&mut self, size: SizeRecord, byte: u8) -> Progress
-        ensures answers { (q : List ℕ) → IntStandsFor self.old.size q → SizeAnswers size (q ++ byte ∷ []) self.new.size result }
+        ensures answers { (q : List ℕ) → IntStandsFor self.old.size q
+            → SizeAnswers size (q ++ byte ∷ []) self.new.size result }
         ensures others { self.new ≡ record self.old { size = self.new.size } }
     {
         match self.size.feed(byte) {
@@ -205,23 +230,20 @@ impl FrameReader {
     }
 
     // Reads the bytes that belong to a text.
+    #[tactic(auto, unfolding(crate::specs::Reader::limit_of))]
     fn read_text(&mut self, text: TextRecord, bytes: &[u8]) -> (usize, Progress)
         ensures within { result.0 ≤ length bytes.now }
         ensures moves { 0 < length bytes.now → Moves result.0 result.1 }
-        ensures answers { (q : List ℕ) → StringStandsFor self.old.text q → string_at (limit_of self.old) q ≡ begun
-            → TextAnswers (limit_of self.old) text (q ++ take result.0 bytes.now) self.new.text result.1 }
-        ensures stands { (q : List ℕ) → StringStandsFor self.old.text q → StringStandsFor self.new.text (q ++ take result.0 bytes.now) }
+        ensures answers { (q : List ℕ) → StringStandsFor self.old.text q
+            → string_at (limit_of self.old) q ≡ begun
+            → TextAnswers (limit_of self.old) text (q ++ take result.0 bytes.now)
+            self.new.text result.1 }
+        ensures stands { (q : List ℕ) → StringStandsFor self.old.text q
+            → StringStandsFor self.new.text (q ++ take result.0 bytes.now) }
         ensures limit { limit_of self.new ≡ limit_of self.old }
         ensures others { self.new ≡ record self.old { text = self.new.text } }
     {
         let (n, step) = self.text.feed(bytes);
-        let progress = match step {
-            StringStep::More => Progress::Going(Stage::Text(text)),
-            StringStep::Done => Progress::Done(text.frame()),
-            StringStep::BadInt => Progress::Wrong(FrameFault::BadInt),
-            StringStep::TooLong => Progress::Wrong(FrameFault::TextTooLong),
-            StringStep::BadUtf8 => Progress::Wrong(FrameFault::TextNotUtf8),
-        };
-        (n, progress)
+        (n, stage::after_text(text, step))
     }
 }

@@ -2,12 +2,15 @@
 
 ghost use Rattle.std.specs.Prelude.{◌≡◌, ℕ, List, [], ◌∷◌, ◌++◌, ◌+◌, ◌≤◌, length, ◌==◌, ◌||◌};
 ghost use Rattle.unit_streams.specs.Front.{begun};
+ghost use Rattle.nmf_records.specs.declared.record_types.TheConstants.{VIA, FAULT, GREATEST};
 ghost use Rattle.nmf_records.specs.declared.frame.Expect.{Expect};
 ghost use Rattle.nmf_records.specs.declared.frame.Expect.TheVariants.{Types};
 ghost use Rattle.nmf_records.specs.Reading.{frame_at, record_at, typed_at, allows};
-ghost use Rattle.nmf_records.specs.Steps.{Meets, GoesTo, HasShape, sized, texted, begins_text, is_text_start};
+ghost use Rattle.nmf_records.specs.Steps.{Meets, GoesTo, HasShape, sized, texted, begins_text, is_text_start, progress_of};
 
 use crate::frame::{Frame, FrameFault};
+use crate::record_types;
+use multibyte_ints::StringStep;
 
 /// A record with a text.
 #[derive(Clone, Copy, Debug, PartialEq, Eq)]
@@ -84,26 +87,26 @@ pub enum Progress {
 fn after_known_type(kind: u8) -> Progress
     ensures reads { (limit : ℕ) → Meets (typed_at limit kind []) 1 result }
     ensures goes { (types : ℕ) → GoesTo (Types types) (kind ∷ []) result }
-    ensures text { is_text_start result ≡ ((kind == 2) || (kind == 8)) }
+    ensures text { is_text_start result ≡ ((kind == VIA) || (kind == FAULT)) }
 {
     match kind {
-        0 => Progress::Going(Stage::Field(Field::Major)),
-        1 => Progress::Going(Stage::Field(Field::Mode)),
-        2 => Progress::Going(Stage::Text(TextRecord::Via)),
-        3 => Progress::Going(Stage::Field(Field::Encoding)),
-        5 => Progress::Done(Frame::UnsizedEnvelope),
-        6 => Progress::Going(Stage::Size(SizeRecord::SizedEnvelope)),
-        7 => Progress::Done(Frame::End),
-        8 => Progress::Going(Stage::Text(TextRecord::Fault)),
-        11 => Progress::Done(Frame::PreambleAck),
-        12 => Progress::Done(Frame::PreambleEnd),
+        record_types::VERSION => Progress::Going(Stage::Field(Field::Major)),
+        record_types::MODE => Progress::Going(Stage::Field(Field::Mode)),
+        record_types::VIA => Progress::Going(Stage::Text(TextRecord::Via)),
+        record_types::KNOWN_ENCODING => Progress::Going(Stage::Field(Field::Encoding)),
+        record_types::UNSIZED_ENVELOPE => Progress::Done(Frame::UnsizedEnvelope),
+        record_types::SIZED_ENVELOPE => Progress::Going(Stage::Size(SizeRecord::SizedEnvelope)),
+        record_types::END => Progress::Done(Frame::End),
+        record_types::FAULT => Progress::Going(Stage::Text(TextRecord::Fault)),
+        record_types::PREAMBLE_ACK => Progress::Done(Frame::PreambleAck),
+        record_types::PREAMBLE_END => Progress::Done(Frame::PreambleEnd),
         _ => Progress::Wrong(FrameFault::Unexpected(kind)),
     }
 }
 
 /// Whether a record of this type may come.
 fn may_come(types: u16, kind: u8) -> bool
-    requires { kind ≤ 12 }
+    requires { kind ≤ GREATEST }
     ensures { result ≡ allows types kind }
 {
     types >> kind & 1 == 1
@@ -115,7 +118,7 @@ pub fn after_type(types: u16, kind: u8) -> Progress
     ensures goes { GoesTo (Types types) (kind ∷ []) result }
     ensures text { is_text_start result ≡ begins_text (Types types) (kind ∷ []) }
 {
-    if kind > 12 {
+    if kind > record_types::GREATEST {
         return Progress::Wrong(FrameFault::UnknownRecord);
     }
     if !may_come(types, kind) {
@@ -135,5 +138,18 @@ pub fn after_field(field: Field, byte: u8) -> Progress
         Field::Minor { major } => Progress::Done(Frame::Version { major, minor: byte }),
         Field::Mode => Progress::Done(Frame::Mode(byte)),
         Field::Encoding => Progress::Done(Frame::KnownEncoding(byte)),
+    }
+}
+
+/// What some bytes of a text led to, which a reader of strings answered so.
+pub fn after_text(text: TextRecord, step: StringStep) -> Progress
+    ensures { result ≡ progress_of text step }
+{
+    match step {
+        StringStep::More => Progress::Going(Stage::Text(text)),
+        StringStep::Done => Progress::Done(text.frame()),
+        StringStep::BadInt => Progress::Wrong(FrameFault::BadInt),
+        StringStep::TooLong => Progress::Wrong(FrameFault::TextTooLong),
+        StringStep::BadUtf8 => Progress::Wrong(FrameFault::TextNotUtf8),
     }
 }

@@ -71,7 +71,7 @@ fn chunks_have_sizes(rt: HostRuntime) -> Result<(), Fail> {
 
 #[test]
 fn a_fault_is_repeated(rt: HostRuntime) -> Result<(), Fail> {
-    let table: [(&[u8], FrameFault, u32); 5] = [
+    let table: [(&[u8], FrameFault, usize); 5] = [
         (b"\x0D\x00", FrameFault::UnknownRecord, 1),
         (b"\x09\x00", FrameFault::Unexpected(9), 1),
         (b"\x06\xFF\xFF\xFF\xFF\x08", FrameFault::BadInt, 6),
@@ -79,12 +79,12 @@ fn a_fault_is_repeated(rt: HostRuntime) -> Result<(), Fail> {
         (b"\x08\x02\xC3\x28", FrameFault::TextNotUtf8, 4),
     ];
     let expect = Expect::Types(1 << 2 | 1 << 6 | 1 << 8);
-    for (bytes, fault, needed) in table {
+    for (bytes, fault, shown_by) in table {
+        let refusal = FrameRefusal { fault, shown_by };
         let mut reader = FrameReader::new(rt.alloc(), 4).map_err(|_| "no memory")?;
-        assert_eq!(rt; reader.feed(bytes, expect), Err(fault));
-        assert_eq!(rt; reader.pending(), needed);
-        assert_eq!(rt; reader.feed(b"\x06\x00", expect), Err(fault));
-        assert_eq!(rt; reader.pending(), needed);
+        assert_eq!(rt; reader.feed(bytes, expect), Err(refusal));
+        assert_eq!(rt; reader.feed(b"\x06\x00", expect), Err(refusal));
+        assert_eq!(rt; reader.pending() as usize, shown_by);
     }
     Ok(())
 }

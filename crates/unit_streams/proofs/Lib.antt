@@ -1,2 +1,3 @@
 pub mod Peeling
 pub mod Fronts
+pub mod Behind

@@ -1,5 +1,5 @@
 -- What stands at the front of some bytes, where things of one kind are read from them.
-use Rattle.std.specs.Prelude.{◌≡◌, ℕ, ◌<◌, ◌≤◌, List, ◌++◌, length, take}
+use Rattle.std.specs.Prelude.{◌≡◌, ℕ, ◌+◌, ◌<◌, ◌≤◌, List, ◌++◌, length, take}
 
 -- of things in A, with what can be wrong with one in R
 pub data Front (A R : Type 0) : Type 0 where
@@ -9,6 +9,12 @@ pub data Front (A R : Type 0) : Type 0 where
   whole : A → ℕ → Front A R
   -- no such thing, however it goes on, which the first so many bytes show and fewer do not
   wrong : R → ℕ → Front A R
+
+-- what is read behind so many bytes, seen as f and g see it
+abbrev pub behind : {A B R S : Type 0} → ℕ → (A → B) → (R → S) → Front A R → Front B S
+behind n f g begun = begun
+behind n f g (whole a k) = whole (f a) (n + k)
+behind n f g (wrong r k) = wrong (g r) (n + k)
 
 -- what is said of a front rests on its own bytes: it is said of them alone and however they go on,
 -- and of fewer of them it is only said that something has begun

@@ -1,5 +1,5 @@
 use Rattle.std.proofs.Common.{ap, arith}
-use Rattle.nmf_records.proofs.Peeling.{extent}
+use Rattle.unit_streams.proofs.Peeling.{extent}
 use Rattle.nmf_records.proofs.Short.{begun_short, decided_short}
 use Rattle.nmf_records.proofs.laws.record_lengths.Goals as goal
 

@@ -1,12 +1,13 @@
 use Rattle.std.proofs.Common.{◌≡◌, ℕ, ◌-◌, List, ◌++◌, length, take, drop, Some, refl, sym, ap, ◌∙◌, subst, arith, length-drop}
 use Rattle.std.proofs.lemmas.List.{append-nil, take_rest}
 use Rattle.unit_streams.specs.Front.{begun, whole, wrong}
-use Rattle.nmf_records.specs.declared.frame.Frame.{Frame}
-use Rattle.nmf_records.specs.Records.{Read}
-use Rattle.nmf_records.specs.Reading.{frame_at}
-use Rattle.nmf_records.specs.Reader.{StandsFor, ShowsText, text_after, limit_of, failure_of, fault_at}
-use Rattle.nmf_records.proofs.Feeding.{rest_of, along, len_along, after_after, begun_shows, begun_still, failed_stage, piece_decided, piece_shows, used_up}
+use Rattle.unit_streams.proofs.Fronts.{all_taken}
+use Rattle.nmf_records.specs.declared.frame.FrameRefusal.{FrameRefusal}
+use Rattle.nmf_records.specs.Reading.{with_text, frame_at}
+use Rattle.nmf_records.specs.Reader.{StandsFor, ShowsText, text_after, limit_of}
+use Rattle.nmf_records.proofs.Feeding.{rest_of, along, len_along, after_after, begun_shows, begun_still, refusal_is, no_refusal, piece_decided, piece_shows}
 use Rattle.nmf_records.proofs.reader.FrameReader.feed.Goals as goal
+use Rattle.nmf_records.proofs.reader.FrameReader.feed.Goals.{After-loop-used}
 
 pub returns-in-Failed-clause-answers : goal.returns-in-Failed-clause-answers
 unfolding StandsFor
@@ -17,12 +18,11 @@ unfolding StandsFor
 returns-in-Failed-clause-text c = λ p s stands h. let none : ⊥ = rw c.in-Failed.is at stands.shape in absurd none
 
 pub returns-in-Failed-clause-failed : goal.returns-in-Failed-clause-failed
-unfolding failure_of
-returns-in-Failed-clause-failed c = ap fault_at c.in-Failed.is
+returns-in-Failed-clause-failed c = refusal_is _ _ c.in-Failed.is ∙ ap Some (sym c.refusal.ensures)
 
 pub returns-in-Failed-clause-repeated : goal.returns-in-Failed-clause-repeated
-unfolding failure_of
-returns-in-Failed-clause-repeated c = λ fault e. let same : Some c.in-Failed.fault ≡ Some fault = sym (ap fault_at c.in-Failed.is) ∙ e in cc
+returns-in-Failed-clause-repeated c = λ refusal e.
+    let same : Some c.refusal.result ≡ Some refusal = ap Some c.refusal.ensures ∙ sym (refusal_is _ _ c.in-Failed.is) ∙ e in cc
 
 pub loop-used-init : goal.loop-used-init
 loop-used-init c =
@@ -33,9 +33,6 @@ loop-used-init c =
       text = λ p s stands h. subst (λ q. ShowsText r (text_after s c.args.expect q begun)) (sym (append-nil p)) (begun_shows r c.args.expect p s stands h);
       limit = refl;
     }
-
-abbrev read_of : Frame → List ℕ → Read
-read_of frame text = record { frame = frame; text = text }
 
 -- how many bytes of the piece are left
 rest_len : (piece : List ℕ) (used : ℕ) → length (take (length piece - used) (drop used piece)) ≡ length piece - used
@@ -64,77 +61,83 @@ loop-used-preserved c =
       limit = c.advance-n.ensures.limit ∙ inv.limit;
     }
 
-pub returns-in-Done : goal.returns-in-Done
-unfolding failure_of
-returns-in-Done c =
+pub returns-in-Done-clause-answers : goal.returns-in-Done-clause-answers
+returns-in-Done-clause-answers c = λ p stands.
     let piece : List ℕ = c.args.piece.now in
     let used : ℕ = c.loop-used.used in
     let n : ℕ = c.advance-n.result.0 in
     let inv = c.loop-used.invariant in
-    let limit : ℕ = limit_of c.loop-used.self in
-    record {
-      within = let len = rest_len piece used in omega (arith, c.advance-n.ensures.within, inv.within);
-      answers = λ p stands.
-          let led = rw c.in-Done.is at (c.advance-n.ensures.steps (p ++ take used piece) (inv.stands p stands)) in (
-            led.0,
-            piece_decided limit (limit_of c.args.self.now) c.args.expect p piece used n inv.limit (λ h. cc) ∙ led.1
-                ∙ ap (whole (read_of c.in-Done.frame led.0)) (len_along p piece used n (let len = rest_len piece used in omega (arith, c.advance-n.ensures.within, inv.within))),
-          );
-      stands = λ p stands. (rw c.in-Done.is at (c.advance-n.ensures.steps (p ++ take used piece) (inv.stands p stands))).2;
-      text = λ p s stands h.
-          let led = rw c.in-Done.is at (c.advance-n.ensures.steps (p ++ take used piece) (inv.stands p stands)) in
-          piece_shows limit (limit_of c.args.self.now) c.args.expect p piece used n inv.limit c.advance-n.new.self s (λ h. cc)
-          (c.advance-n.ensures.text (p ++ take used piece) (text_after s c.args.expect (p ++ take used piece) begun) (inv.stands p stands) (inv.text p s stands h));
-      limit = c.advance-n.ensures.limit ∙ inv.limit;
-      failed = tt;
-      repeated = λ fault e. absurd (c.in_default.not-Failed fault (failed_stage c.args.self.now.stage fault e));
-      unchanged = λ fault e. absurd (c.in_default.not-Failed fault (failed_stage c.args.self.now.stage fault e));
-    }
+    let led = rw c.in-Done.is at (c.advance-n.ensures.steps (p ++ take used piece) (inv.stands p stands)) in
+    let decided = piece_decided _ _ c.args.expect p piece used n inv.limit (λ h. cc) in
+    let len = len_along p piece used n (omega (arith, rest_len piece used, c.advance-n.ensures.within, inv.within)) in
+    (led.0, decided ∙ led.1 ∙ ap (whole (with_text c.in-Done.frame led.0)) len)
 
-pub returns-in-Wrong : goal.returns-in-Wrong
-unfolding failure_of
-returns-in-Wrong c =
-    let piece : List ℕ = c.args.piece.now in
-    let used : ℕ = c.loop-used.used in
-    let n : ℕ = c.advance-n.result.0 in
-    let inv = c.loop-used.invariant in
-    let limit : ℕ = limit_of c.loop-used.self in
-    record {
-      within = tt;
-      answers = λ p stands.
-          let led = rw c.in-Wrong.is at (c.advance-n.ensures.steps (p ++ take used piece) (inv.stands p stands)) in
-          piece_decided limit (limit_of c.args.self.now) c.args.expect p piece used n inv.limit (λ h. cc) ∙ led.0 ∙ ap (wrong c.in-Wrong.fault) (sym led.1);
-      stands = λ p stands. tt;
-      text = λ p s stands h.
-          let led = rw c.in-Wrong.is at (c.advance-n.ensures.steps (p ++ take used piece) (inv.stands p stands)) in
-          let decided = led.0 in
-          piece_shows limit (limit_of c.args.self.now) c.args.expect p piece used n inv.limit c.advance-n.new.self s (λ h. cc)
-          (c.advance-n.ensures.text (p ++ take used piece) (text_after s c.args.expect (p ++ take used piece) begun) (inv.stands p stands) (inv.text p s stands h));
-      limit = c.advance-n.ensures.limit ∙ inv.limit;
-      failed = rw c.in-Wrong.is at c.advance-n.ensures.kept;
-      repeated = λ fault e. absurd (c.in_default.not-Failed fault (failed_stage c.args.self.now.stage fault e));
-      unchanged = λ fault e. absurd (c.in_default.not-Failed fault (failed_stage c.args.self.now.stage fault e));
-    }
+pub returns-in-Done-clause-stands : goal.returns-in-Done-clause-stands
+returns-in-Done-clause-stands c = λ p stands.
+    (rw c.in-Done.is at (c.advance-n.ensures.steps _ (c.loop-used.invariant.stands p stands))).2
 
-pub returns : goal.returns
-unfolding failure_of
-returns c =
-    let r = c.args.self.now in
-    let piece : List ℕ = c.args.piece.now in
-    let used : ℕ = c.loop-used.used in
+pub returns-in-Done-clause-text : goal.returns-in-Done-clause-text
+returns-in-Done-clause-text c = λ p s stands h.
     let inv = c.loop-used.invariant in
-    let all : (p : List ℕ) → p ++ take used piece ≡ p ++ piece = λ p. used_up p piece used c.loop-used-test.false inv.within in
-    let still : (p : List ℕ) → StandsFor r c.args.expect p → frame_at (limit_of r) c.args.expect (p ++ piece) ≡ begun
-    = λ p stands. ap (frame_at (limit_of r) c.args.expect) (sym (all p)) ∙ begun_still (limit_of r) c.loop-used.self c.args.expect (p ++ take used piece) inv.limit (inv.stands p stands) in
-    record {
-      within = inv.within;
-      answers = λ p stands. (omega (arith, inv.within, c.loop-used-test.false), still p stands);
-      stands = λ p stands. subst (StandsFor c.loop-used.self c.args.expect) (all p) (inv.stands p stands);
-      text = λ p s stands h.
-          subst (λ y. ShowsText c.loop-used.self (text_after s c.args.expect (p ++ piece) y)) (sym (still p stands))
-          (subst (λ q. ShowsText c.loop-used.self (text_after s c.args.expect q begun)) (all p) (inv.text p s stands h));
-      limit = inv.limit;
-      failed = tt;
-      repeated = λ fault e. absurd (c.in_default.not-Failed fault (failed_stage r.stage fault e));
-      unchanged = λ fault e. absurd (c.in_default.not-Failed fault (failed_stage r.stage fault e));
-    }
+    let led = rw c.in-Done.is at (c.advance-n.ensures.steps _ (inv.stands p stands)) in
+    piece_shows _ _ c.args.expect p c.args.piece.now c.loop-used.used c.advance-n.result.0 inv.limit c.advance-n.new.self s (λ h. cc)
+    (c.advance-n.ensures.text _ _ (inv.stands p stands) (inv.text p s stands h))
+
+pub returns-in-Done-clause-repeated : goal.returns-in-Done-clause-repeated
+returns-in-Done-clause-repeated c = λ refusal e. absurd (no_refusal _ refusal c.in_default.not-Failed e)
+
+pub returns-in-Done-clause-unchanged : goal.returns-in-Done-clause-unchanged
+returns-in-Done-clause-unchanged c = λ refusal e. absurd (no_refusal _ refusal c.in_default.not-Failed e)
+
+pub returns-in-Wrong-clause-answers : goal.returns-in-Wrong-clause-answers
+returns-in-Wrong-clause-answers c = λ p stands.
+    let inv = c.loop-used.invariant in
+    let led = rw c.in-Wrong.is at (c.advance-n.ensures.steps _ (inv.stands p stands)) in
+    piece_decided _ _ c.args.expect p c.args.piece.now c.loop-used.used c.advance-n.result.0 inv.limit (λ h. cc) ∙ led.0
+    ∙ ap (wrong c.in-Wrong.fault) (sym led.1) ∙ ap (λ (r : FrameRefusal). wrong r.fault r.shown_by) (sym c.refusal-in-Wrong.ensures)
+
+pub returns-in-Wrong-clause-text : goal.returns-in-Wrong-clause-text
+returns-in-Wrong-clause-text c = λ p s stands h.
+    let inv = c.loop-used.invariant in
+    let led = rw c.in-Wrong.is at (c.advance-n.ensures.steps _ (inv.stands p stands)) in
+    let decided = led.0 in
+    piece_shows _ _ c.args.expect p c.args.piece.now c.loop-used.used c.advance-n.result.0 inv.limit c.advance-n.new.self s (λ h. cc)
+    (c.advance-n.ensures.text _ _ (inv.stands p stands) (inv.text p s stands h))
+
+pub returns-in-Wrong-clause-failed : goal.returns-in-Wrong-clause-failed
+returns-in-Wrong-clause-failed c =
+    let kept = rw c.in-Wrong.is at c.advance-n.ensures.kept in kept ∙ ap Some (sym c.refusal-in-Wrong.ensures)
+
+pub returns-in-Wrong-clause-repeated : goal.returns-in-Wrong-clause-repeated
+returns-in-Wrong-clause-repeated c = λ refusal e. absurd (no_refusal _ refusal c.in_default.not-Failed e)
+
+pub returns-in-Wrong-clause-unchanged : goal.returns-in-Wrong-clause-unchanged
+returns-in-Wrong-clause-unchanged c = λ refusal e. absurd (no_refusal _ refusal c.in_default.not-Failed e)
+
+-- where the piece is used up, the reader stands for all of it
+module _ (c : After-loop-used) (p : List ℕ) where
+  all : p ++ take c.loop-used.used c.args.piece.now ≡ p ++ c.args.piece.now
+  all = all_taken p c.args.piece.now c.loop-used.used (omega (arith, c.loop-used.invariant.within, c.loop-used-test.false))
+
+  still : StandsFor c.args.self.now c.args.expect p → frame_at (limit_of c.args.self.now) c.args.expect (p ++ c.args.piece.now) ≡ begun
+  still stands =
+      let inv = c.loop-used.invariant in
+      ap (frame_at (limit_of c.args.self.now) c.args.expect) (sym all)
+      ∙ begun_still (limit_of c.args.self.now) c.loop-used.self c.args.expect (p ++ take c.loop-used.used c.args.piece.now) inv.limit (inv.stands p stands)
+
+pub returns-clause-answers : goal.returns-clause-answers
+returns-clause-answers c = λ p stands. (omega (arith, c.loop-used.invariant.within, c.loop-used-test.false), still c p stands)
+
+pub returns-clause-stands : goal.returns-clause-stands
+returns-clause-stands c = λ p stands. subst (StandsFor c.loop-used.self c.args.expect) (all c p) (c.loop-used.invariant.stands p stands)
+
+pub returns-clause-text : goal.returns-clause-text
+returns-clause-text c = λ p s stands h.
+    subst (λ y. ShowsText c.loop-used.self (text_after s c.args.expect (p ++ c.args.piece.now) y)) (sym (still c p stands))
+    (subst (λ q. ShowsText c.loop-used.self (text_after s c.args.expect q begun)) (all c p) (c.loop-used.invariant.text p s stands h))
+
+pub returns-clause-repeated : goal.returns-clause-repeated
+returns-clause-repeated c = λ refusal e. absurd (no_refusal _ refusal c.in_default.not-Failed e)
+
+pub returns-clause-unchanged : goal.returns-clause-unchanged
+returns-clause-unchanged c = λ refusal e. absurd (no_refusal _ refusal c.in_default.not-Failed e)

@@ -1,7 +1,8 @@
 use Rattle.std.proofs.Common.{[], refl, sym, ap}
 use Rattle.multibyte_ints.specs.TextReader.{text_of}
 use Rattle.nmf_records.specs.Reader.{StandsFor, ShowsText, limit_of}
-use Rattle.nmf_records.proofs.Frames.{frame_peels, no_string}
+use Rattle.multibyte_ints.proofs.TextBytes.{string_peels}
+use Rattle.nmf_records.proofs.Frames.{frame_peels}
 use Rattle.nmf_records.proofs.reader.FrameReader.new.Goals as goal
 
 pub returns-clause-stands : goal.returns-clause-stands
@@ -19,7 +20,7 @@ unfolding ShowsText
 returns-clause-text c = record {
   string = [];
   stands = c.in_ok-new.ensures.stands;
-  text_is = ap text_of (sym (no_string _));
+  text_is = ap text_of (sym (string_peels _).nothing);
 }
 
 pub returns-clause-limit : goal.returns-clause-limit

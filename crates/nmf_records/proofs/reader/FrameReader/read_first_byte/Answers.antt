@@ -6,7 +6,7 @@ use Rattle.nmf_records.specs.declared.reader.FrameReader.{FrameReader}
 use Rattle.nmf_records.specs.Steps.{is_text_start}
 use Rattle.nmf_records.specs.Reading.{frame_at}
 use Rattle.nmf_records.specs.Reader.{StandsFor, limit_of}
-use Rattle.nmf_records.proofs.Frames.{no_int}
+use Rattle.multibyte_ints.proofs.IntegerBytes.{int_peels}
 use Rattle.nmf_records.proofs.Leading.{fixed_leads, size_leads}
 use Rattle.nmf_records.proofs.Showing.{first_shows, shows_same}
 use Rattle.nmf_records.proofs.reader.FrameReader.read_first_byte.Goals as goal
@@ -22,7 +22,7 @@ pub returns-in-Chunk-clause-leads : goal.returns-in-Chunk-clause-leads
 unfolding StandsFor
 returns-in-Chunk-clause-leads c = λ stands at_type.
     let int : IntStandsFor c.args.self.now.size [] = rw at_type at stands.size in
-    rw c.in-Chunk.is (size_leads (limit_of c.args.self.now) 0 expects.Chunk sizes.Chunk [] c.args.byte (c.args.byte ∷ []) c.read_size_byte.new.self c.read_size_byte.result refl refl refl refl no_int (c.read_size_byte.ensures.answers [] int))
+    rw c.in-Chunk.is (size_leads (limit_of c.args.self.now) 0 expects.Chunk sizes.Chunk [] c.args.byte (c.args.byte ∷ []) c.read_size_byte.new.self c.read_size_byte.result refl refl refl refl int_peels.nothing (c.read_size_byte.ensures.answers [] int))
 
 pub returns-in-Chunk-clause-limit : goal.returns-in-Chunk-clause-limit
 unfolding limit_of
