@@ -11,7 +11,8 @@ use Rattle.nmf_records.specs.declared.frame.Frame.{Frame}
 use Rattle.nmf_records.specs.declared.frame.Frame.TheVariants.{Version, Mode, Via, KnownEncoding, UnsizedEnvelope, Chunk, SizedEnvelope, End, Fault, PreambleAck, PreambleEnd}
 use Rattle.nmf_records.specs.declared.frame.FrameFault.{FrameFault}
 use Rattle.nmf_records.specs.Records.{Read}
-use Rattle.nmf_records.specs.Reading.{behind, version_at, byte_at, typed_at, allows, record_at}
+use Rattle.nmf_records.specs.Reading.{version_at, byte_at, typed_at, allows, record_at}
+use Rattle.unit_streams.specs.Front.{behind}
 use Rattle.dump_replay.specs.Stream.{Settings, Stage, at_version, at_mode, at_via, at_encoding, at_preamble_end, at_message, in_payload, after_end, StreamUnit, frame, payload_byte, types_of, unless_refused, as_unit, payload_at, refused, unit_at}
 
 -- of a whole thing

@@ -11,9 +11,9 @@ use Rattle.nbfx_values.specs.Session.{kind_number}
 use Rattle.nmf_records.specs.declared.frame.Frame.TheVariants.{Version, Mode as ModeRecord, Via, KnownEncoding, SizedEnvelope, End, PreambleEnd}
 use Rattle.nmf_records.specs.declared.frame.Expect.TheVariants.{Types}
 use Rattle.nmf_records.specs.Records.{Read, IsRecordOf, IsRecord}
-use Rattle.nmf_records.specs.Reading.{bare, allows, record_at}
-use Rattle.nmf_records.specs.Laws.{type_of}
-use Rattle.nmf_records.proofs.Peeling.{extent, leaves_or_decides}
+use Rattle.nmf_records.specs.Reading.{bare, allows, allows_type, record_at}
+use Rattle.nmf_records.specs.Records.{type_of}
+use Rattle.unit_streams.proofs.Peeling.{extent, leaves_or_decides}
 use Rattle.nmf_records.proofs.Records.{record_read}
 use Rattle.dump_replay.specs.Stream.{Settings, Stage, at_version, at_mode, at_via, at_encoding, at_preamble_end, at_message, in_payload, after_end, Situation, StreamUnit, frame, beginning, types_of, message_whole, unit_at, as_unit, after, standing}
 use Rattle.dump_replay.specs.Judging.{is_over, refusal_at, completed_at, is_over_at, offence_from, offence}
@@ -214,7 +214,8 @@ module _ (x : Settings) where
   -- a record is read where its type may come
   due_read : (stage : Stage) (kind : ℕ) (read : Read) (b : List ℕ) → type_of read.frame ≡ Some kind → allows (types_of stage) kind ≡ true
       → IsRecord read b → length read.text ≤ x.limits.via → record_at x.limits.via (types_of stage) b ≡ whole read (length b)
-  due_read stage kind read b is may h low = record_read x.limits.via (Types (types_of stage)) read b h (kind, is, may) low
+  due_read stage kind read b is may h low =
+      record_read x.limits.via (Types (types_of stage)) read b h (ap (allows_type (types_of stage)) is ∙ may) low
 
   -- a Version record is a unit
   version_unit : (b : List ℕ) → IsBare (Version 1 0) b → unit_at x at_version b ≡ whole (frame (bare (Version 1 0))) (length b)

@@ -15,7 +15,7 @@ use Rattle.nmf_records.specs.declared.frame.Expect.TheVariants.{Types}
 use Rattle.nmf_records.specs.Records.{Read}
 use Rattle.nmf_records.specs.Reading.{frame_at}
 use Rattle.nmf_records.specs.Reader.{StandsFor as FrameStandsFor, ShowsText, text_after}
-use Rattle.nmf_records.proofs.Peeling.{IsPeeling, extent, Decides, Leaves, leaves_or_decides}
+use Rattle.unit_streams.proofs.Peeling.{IsPeeling, extent, Decides, Leaves, leaves_or_decides}
 use Rattle.nmf_records.proofs.Frames.{frame_peels}
 use Rattle.dump_replay.specs.declared.receiver.Receiver.{Receiver}
 use Rattle.dump_replay.specs.declared.receiver.Step.{Step}

@@ -3,7 +3,7 @@ use Rattle.std.proofs.Common.{◌≡◌, ℕ, zero, suc, ◌+◌, ◌<◌, ◌�
 use Rattle.std.proofs.lemmas.List.{drop-append-le, drop_all, length-take-le}
 use Rattle.unit_streams.specs.Front.{Front, begun, whole, wrong}
 use Rattle.nbfx_values.specs.declared.refusals.Reason.{Reason}
-use Rattle.nmf_records.proofs.Peeling.{IsPeeling, extent, goes_on, Decides, Leaves, leaves_or_decides}
+use Rattle.unit_streams.proofs.Peeling.{IsPeeling, extent, goes_on, Decides, Leaves, leaves_or_decides}
 use Rattle.dump_replay.specs.Stream.{Settings, Stage, in_payload, Situation, StreamUnit, Standing, on_whole, beginning, unit_at, after, peeled, standing}
 use Rattle.dump_replay.proofs.Units.{unit_peels}
 use Rattle.dump_replay.proofs.Coming.{coming}

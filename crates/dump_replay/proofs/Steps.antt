@@ -5,7 +5,7 @@ use Rattle.std.proofs.lemmas.List.{append-nil, length-take-le, take_all, take-ta
 use Rattle.unit_streams.specs.Front.{Front, begun, whole, wrong}
 use Rattle.nbfx_values.specs.declared.refusals.Reason.{Reason}
 use Rattle.nbfx_values.specs.declared.refusals.Reason.TheVariants.{SessionTooLong}
-use Rattle.nmf_records.proofs.Peeling.{IsPeeling, extent, goes_on as decided_stays, Decides, Leaves}
+use Rattle.unit_streams.proofs.Peeling.{IsPeeling, extent, goes_on as decided_stays, Decides, Leaves}
 use Rattle.dump_replay.specs.declared.receiver.Step.{Step}
 use Rattle.dump_replay.specs.declared.receiver.Step.TheVariants.{Envelope, Ended}
 use Rattle.dump_replay.specs.Stream.{Settings, in_payload, Situation, StreamUnit, unit_at, message_whole, after, standing}

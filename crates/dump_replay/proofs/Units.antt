@@ -6,7 +6,7 @@ use Rattle.nmf_records.specs.declared.frame.Expect.TheVariants.{Types}
 use Rattle.nmf_records.specs.declared.frame.FrameFault.{FrameFault}
 use Rattle.nmf_records.specs.Records.{Read}
 use Rattle.nmf_records.specs.Reading.{frame_at}
-use Rattle.nmf_records.proofs.Peeling.{IsPeeling, extent}
+use Rattle.unit_streams.proofs.Peeling.{IsPeeling, extent}
 use Rattle.nmf_records.proofs.Frames.{frame_peels}
 use Rattle.dump_replay.specs.Stream.{Settings, Stage, at_version, at_mode, at_via, at_encoding, at_preamble_end, at_message, in_payload, after_end, StreamUnit, types_of, unless_refused, as_unit, payload_at, refused, unit_at}
 

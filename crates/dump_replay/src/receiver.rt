@@ -258,8 +258,8 @@ impl Receiver {
                 let step = self.behind(frame)?;
                 Ok((n, step))
             }
-            Err(_) => {
-                self.taken = self.unit_from.saturating_add(self.frames.pending() as u64);
+            Err(refusal) => {
+                self.taken = self.unit_from.saturating_add(refusal.shown_by as u64);
                 Err(self.refuse(self.unit_from, Reason::Unbuilt))
             }
         }

@@ -8,7 +8,7 @@ use Rattle.nmf_records.specs.declared.frame.Expect.TheVariants.{Types}
 use Rattle.nmf_records.specs.declared.reader.FrameReader.{FrameReader}
 use Rattle.nmf_records.specs.Records.{Read}
 use Rattle.nmf_records.specs.Reading.{frame_at}
-use Rattle.nmf_records.specs.Reader.{StandsFor as FrameStandsFor, ShowsText, text_after, limit_of, pending_of}
+use Rattle.nmf_records.specs.Reader.{StandsFor as FrameStandsFor, ShowsText, text_after, limit_of}
 use Rattle.dump_replay.specs.Stream.{Settings, Limits, limits_of, types_of, standing}
 use Rattle.dump_replay.specs.Going.{GoesOn}
 use Rattle.dump_replay.specs.Receiving.{AtPayload, Reached}
@@ -75,9 +75,9 @@ returns-in-Err-clause-answers c = λ x q n away limits reached on.
     let f : After-feed = (goal.at-returns-in-Err-clause-answers c).After-feed in
     let r = c.args.self.now in
     let stands = stand_there f x q n away limits reached on in
-    let read = said_here f x q n away limits reached on (λ y. y ≡ wrong c.in-Err.field-0 (pending_of c.feed.new.self)) (c.in-Err.ensures.answers (standing x q).begun stands) in
-    record_wrong x q n c.args.bytes.now r away reached on (some f x q n away limits reached on) (fits f x q n away limits reached on) c.refuse.new.self c.in-Err.field-0 (pending_of c.feed.new.self) c.refuse.result
-    read (rw c.refuse.ensures.frames (shown_here f x q n away limits reached on)) (λ within. omega (arith, c.refuse.ensures.taken, c.saturating_add-self.ensures, c.pending.ensures.counted, within, c.args.self.now.quotas.good.session_most, ap (λ (l : Limits). l.session) limits)) c.refuse.ensures.offence c.refuse.ensures.refused
+    let read = said_here f x q n away limits reached on (λ y. y ≡ wrong c.in-Err.refusal.fault c.in-Err.refusal.shown_by) (c.in-Err.ensures.answers (standing x q).begun stands) in
+    record_wrong x q n c.args.bytes.now r away reached on (some f x q n away limits reached on) (fits f x q n away limits reached on) c.refuse.new.self c.in-Err.refusal.fault c.in-Err.refusal.shown_by c.refuse.result
+    read (rw c.refuse.ensures.frames (shown_here f x q n away limits reached on)) (λ within. omega (arith, c.refuse.ensures.taken, c.saturating_add-self.ensures, within, c.args.self.now.quotas.good.session_most, ap (λ (l : Limits). l.session) limits)) c.refuse.ensures.offence c.refuse.ensures.refused
 
 pub returns-in_ok-step-in-Ok-default-Done-clause-answers : goal.returns-in_ok-step-in-Ok-default-Done-clause-answers
 returns-in_ok-step-in-Ok-default-Done-clause-answers c = λ x q n away limits reached on.
