@@ -1,4 +1,5 @@
 mod Worked
+mod WorkedScripts
 pub mod Typed
 pub mod TypeCases
 pub mod Frames
@@ -11,3 +12,7 @@ pub mod Short
 pub mod Settling
 pub mod Showing
 pub mod Feeding
+pub mod ScriptWays
+pub mod ScriptsLead
+pub mod WaysAreScripts
+pub mod ScriptEnds

@@ -11,6 +11,11 @@ use Rattle.nmf_records.specs.declared.frame.FrameFault.TheVariants as faults
 use Rattle.nmf_records.specs.Records.{Read, IsRecord}
 use Rattle.nmf_records.specs.Reading.{allows, MayCome, frame_at}
 use Rattle.nmf_records.specs.Steps.{begins_text}
+use Rattle.nbfx_values.specs.declared.session.Mode.{Mode}
+use Rattle.nmf_records.specs.declared.frame.Frame.{Frame}
+use Rattle.nmf_records.specs.declared.script.Direction.{Direction}
+use Rattle.nmf_records.specs.declared.script.Direction.TheVariants.{Receiver}
+use Rattle.nmf_records.specs.Script.{IsScript, IsLoneAck, LeadsToEnd}
 
 -- the record at the front is the one that bytes there are, where it may come with its text
 abbrev pub RecordsAreRead : Type 0
@@ -107,3 +112,14 @@ pub record HasBadText (limit : ℕ) (expect : Expect) (bytes : List ℕ) (n : �
 abbrev pub BadByText : Type 0
 BadByText = (limit : ℕ) (expect : Expect) (bytes : List ℕ) (n : ℕ)
     → (frame_at limit expect bytes ≡ wrong faults.TextNotUtf8 n) ↔ HasBadText limit expect bytes n
+
+-- the grammar of scripts and the way through what is due are one
+abbrev pub ScriptsLeadToEnd : Type 0
+ScriptsLeadToEnd = (direction : Direction) (mode : Mode) (script : List Frame)
+    → IsScript direction mode script ↔ LeadsToEnd direction mode script
+
+-- no script goes on to a longer one, but for the lone Ack
+abbrev pub NoScriptGoesOn : Type 0
+NoScriptGoesOn = (direction : Direction) (mode : Mode) (script more : List Frame)
+    → IsScript direction mode script → IsScript direction mode (script ++ more)
+    → (more ≡ []) ⊎ ((direction ≡ Receiver) × IsLoneAck mode script)

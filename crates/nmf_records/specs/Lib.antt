@@ -3,4 +3,5 @@ pub mod Reading
 pub mod Steps
 pub mod Reader
 pub mod Advancing
+pub mod Script
 pub mod Laws

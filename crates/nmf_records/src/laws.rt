@@ -5,7 +5,7 @@ ghost use Rattle.std.specs.Prelude.{ℕ};
 ghost use Rattle.unit_streams.specs.Front.{ReadsFront};
 ghost use Rattle.nmf_records.specs.declared.frame.Expect.{Expect};
 ghost use Rattle.nmf_records.specs.Reading.{frame_at};
-ghost use Rattle.nmf_records.specs.Laws.{RecordsAreRead, NoRecordGoesOn, BegunIsShort, WholeIsShort, WrongIsShort, UnknownByType, UnexpectedByType, BadByInteger, BadByLength, BadByText};
+ghost use Rattle.nmf_records.specs.Laws.{RecordsAreRead, NoRecordGoesOn, BegunIsShort, WholeIsShort, WrongIsShort, UnknownByType, UnexpectedByType, BadByInteger, BadByLength, BadByText, ScriptsLeadToEnd, NoScriptGoesOn};
 
 /// A record is known by its own bytes: it is wrong or whole at the byte that shows it, whatever
 /// follows, and has only begun before that.
@@ -36,4 +36,12 @@ pub fn faults()
     ensures bad_int { BadByInteger }
     ensures text_too_long { BadByLength }
     ensures text_not_utf8 { BadByText }
+{}
+
+/// The scripts of the grammar are the lists of records of which each may come where those before it
+/// lead, and which lead to where a stream may end. No script goes on to a longer one, but for a
+/// receiver's Ack alone in simplex mode.
+pub fn scripts()
+    ensures ways { ScriptsLeadToEnd }
+    ensures none_goes_on { NoScriptGoesOn }
 {}

@@ -11,16 +11,22 @@
 //! makes it whole, or the fault at the first byte that shows it. What a reader stands for is in
 //! `specs/Reader.antt`. The text of a Via or a Fault stays in the reader, whose room is made with it:
 //! no other call takes memory.
+//!
+//! Which records may come is the script of a session: `Due` says what may come next in the stream of a
+//! direction and where each record leads. `IsScript` of `specs/Script.antt` is the same as a grammar on
+//! lists of records.
 #![tactic(auto)]
 
 mod frame;
 pub mod laws;
 mod reader;
 pub mod record_types;
+mod script;
 mod stage;
 
 pub use frame::{Expect, Frame, FrameFault, FrameRefusal, FrameStep};
 pub use reader::FrameReader;
+pub use script::{Direction, Due};
 
 #[cfg(test)]
 mod tests;
