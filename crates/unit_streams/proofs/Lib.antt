@@ -1,1 +1,11 @@
+mod Worked
 pub mod Peeling
+pub mod Fronts
+pub mod Standing
+pub mod Answers
+pub mod Cuts
+pub mod Histories
+pub mod Passing
+pub mod Ends
+pub mod Pending
+pub mod Units

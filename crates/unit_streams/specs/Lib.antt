@@ -1,1 +1,6 @@
 pub mod Front
+pub mod Grammar
+pub mod Judging
+pub mod Going
+pub mod Units
+pub mod Laws
