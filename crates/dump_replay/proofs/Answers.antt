@@ -4,7 +4,7 @@ use Rattle.std.specs.Prelude.{nat_le, ◌&&◌, not, if◌then◌else◌}
 use Rattle.std.specs.Option.{option_map, option_or}
 use Rattle.std.proofs.lemmas.Bool.{lt-leb, le-leb}
 use Rattle.std.proofs.lemmas.List.{append-nil}
-use Rattle.multibyte_ints.specs.Front.{begun, wrong}
+use Rattle.unit_streams.specs.Front.{begun, wrong}
 use Rattle.nbfx_values.specs.declared.refusals.Reason.{Reason}
 use Rattle.nbfx_values.specs.declared.refusals.Reason.TheVariants.{SessionTooLong}
 use Rattle.dump_replay.specs.declared.receiver.Step.{Step}

@@ -2,7 +2,7 @@
 use Rattle.std.proofs.Common.{◌≡◌, ℕ, suc, ◌+◌, ◌-◌, ◌<◌, ◌≤◌, List, [], ◌∷◌, ◌++◌, length, take, None, refl, sym, ap, ◌∙◌, arith}
 use Rattle.std.proofs.lemmas.Bool.{lt-ltb, le-ltb}
 use Rattle.std.proofs.lemmas.List.{length-take-le}
-use Rattle.multibyte_ints.specs.Front.{whole}
+use Rattle.unit_streams.specs.Front.{whole}
 use Rattle.dump_replay.specs.Stream.{Settings, Stage, in_payload, Situation, payload_byte, unit_at, message_whole, after, standing}
 use Rattle.dump_replay.proofs.Standing.{stand, peel, peel_open, peel_whole, small_open, standing_append, payload_begun}
 

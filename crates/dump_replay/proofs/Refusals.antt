@@ -4,7 +4,7 @@ use Rattle.std.specs.Prelude.{codes, Option, Some, None}
 use Rattle.std.specs.Str.{is_utf8, chars}
 use Rattle.std.specs.Fmt.{digits}
 use lib.Utf8.{encode}
-use Rattle.multibyte_ints.specs.Front.{Front, begun, whole, wrong}
+use Rattle.unit_streams.specs.Front.{Front, begun, whole, wrong}
 use Rattle.multibyte_ints.specs.Integer.{int_at, int_ending_at, value_of}
 use Rattle.multibyte_ints.specs.Text.{string_at, text_behind, text_at, text_ending_at}
 use Rattle.nbfx_values.specs.declared.refusals.Reason.{Reason}

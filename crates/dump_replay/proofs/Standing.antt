@@ -1,7 +1,7 @@
 -- How the standing of a stream grows with its bytes.
 use Rattle.std.proofs.Common.{◌≡◌, ℕ, zero, suc, ◌+◌, ◌<◌, ◌≤◌, ◌⊎◌, inl, inr, List, [], ◌∷◌, ◌++◌, length, take, drop, refl, sym, ap, ◌∙◌, arith, length-append, length-drop}
 use Rattle.std.proofs.lemmas.List.{drop-append-le, drop_all, length-take-le}
-use Rattle.multibyte_ints.specs.Front.{Front, begun, whole, wrong}
+use Rattle.unit_streams.specs.Front.{Front, begun, whole, wrong}
 use Rattle.nbfx_values.specs.declared.refusals.Reason.{Reason}
 use Rattle.nmf_records.proofs.Peeling.{IsPeeling, extent, goes_on, Decides, Leaves, leaves_or_decides}
 use Rattle.dump_replay.specs.Stream.{Settings, Stage, in_payload, Situation, StreamUnit, Standing, on_whole, beginning, unit_at, after, peeled, standing}

@@ -1,6 +1,6 @@
 -- The units of a stream are read byte by byte.
 use Rattle.std.proofs.Common.{◌≡◌, ℕ, suc, ◌<◌, ◌⊎◌, inl, inr, List, [], ◌∷◌, ◌++◌, length, Option, Some, None, refl, ap, ◌∙◌, arith}
-use Rattle.multibyte_ints.specs.Front.{Front, begun, whole, wrong}
+use Rattle.unit_streams.specs.Front.{Front, begun, whole, wrong}
 use Rattle.nbfx_values.specs.declared.refusals.Reason.{Reason}
 use Rattle.nmf_records.specs.declared.frame.Expect.TheVariants.{Types}
 use Rattle.nmf_records.specs.declared.frame.FrameFault.{FrameFault}

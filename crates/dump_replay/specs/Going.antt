@@ -1,6 +1,6 @@
 -- That a stream goes on within a piece of it.
 use Rattle.std.specs.Prelude.{◌≡◌, ℕ, List, false, Option, None}
-use Rattle.multibyte_ints.specs.Front.{begun}
+use Rattle.unit_streams.specs.Front.{begun}
 use Rattle.dump_replay.specs.declared.receiver.Step.{Step}
 use Rattle.dump_replay.specs.Stream.{Settings, unit_at, standing}
 use Rattle.dump_replay.specs.Judging.{is_over, completed_by, completes_with}

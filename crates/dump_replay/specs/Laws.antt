@@ -1,7 +1,7 @@
 -- What holds of streams by their definitions alone.
 use Rattle.std.specs.Prelude.{◌≡◌, ◌≤◌, ℕ, ◌+◌, List, [], ◌++◌, length, false, Some, None, ◌↔◌}
 use Rattle.std.specs.List.{flat_map}
-use Rattle.multibyte_ints.specs.Front.{whole}
+use Rattle.unit_streams.specs.Front.{whole}
 use Rattle.nbfx_values.specs.declared.session.Kind.{Kind}
 use Rattle.nbfx_values.specs.declared.refusals.Offence.{Offence}
 use Rattle.nbfx_values.specs.declared.refusals.Reason.TheVariants.{Truncated, SessionTooLong}

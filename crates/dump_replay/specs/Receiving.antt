@@ -1,6 +1,6 @@
 -- What a receiver stands for, and what it answers. It keeps of the bytes that it used no more than the framing's text.
 use Rattle.std.specs.Prelude.{◌≡◌, ℕ, ◌+◌, ◌≤◌, ◌<◌, List, [], ◌++◌, length, take, drop, Option, Some, None, Result, Ok, Err, ⊤}
-use Rattle.multibyte_ints.specs.Front.{begun}
+use Rattle.unit_streams.specs.Front.{begun}
 use Rattle.nbfx_values.specs.declared.refusals.Offence.{Offence}
 use Rattle.nbfx_values.specs.declared.refusals.Reason.{Reason}
 use Rattle.nmf_records.specs.declared.frame.Frame.{Frame}

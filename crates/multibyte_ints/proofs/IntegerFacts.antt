@@ -3,8 +3,9 @@ use Rattle.std.proofs.Common.{◌≡◌, ℕ, ◌+◌, ◌<◌, ◌≤◌, List,
 use Rattle.std.specs.Prelude.{nat_le}
 use Rattle.std.proofs.lemmas.List.Sums.{prefix_len-le-length, prefix_len_is, prefix_len_passes, prefix_len_stops}
 use Rattle.std.proofs.lemmas.Bool.Decides.{nat_tests, leb_tells}
-use Rattle.multibyte_ints.specs.Front.{begun, whole, wrong}
+use Rattle.unit_streams.specs.Front.{begun, whole, wrong}
 use Rattle.multibyte_ints.specs.Integer.{value_of, continued_len, int_ending_at, int_at}
+use Rattle.multibyte_ints.specs.Laws.{FifthIsAbove}
 
 -- each byte says that another follows, and there are fewer than five
 pub record Begun (b : List ℕ) : Type 0 where
@@ -18,12 +19,6 @@ pub record EndsAt (k : ℕ) (b : List ℕ) : Type 0 where
   pub continued : (i : ℕ) → i < k → 128 ≤ get_or b i 0
   pub ended : get_or b k 0 < 128
   pub fifth : k ≡ 4 → get_or b k 0 ≤ 7
-
--- four bytes say that another follows, and the fifth is above 7
-pub record Passes (b : List ℕ) : Type 0 where
-  pub within : 5 ≤ length b
-  pub continued : (i : ℕ) → i < 4 → 128 ≤ get_or b i 0
-  pub above : 7 < get_or b 4 0
 
 continued_test : (x : ℕ) → nat_le 128 x ≡ true → 128 ≤ x
 continued_test x h = grind (arith, nat_tests)
@@ -56,54 +51,45 @@ whole_is k b w =
     rw (continued_len_is b k (omega arith) w.continued (λ _. w.ended))
     (grind (arith, nat_tests))
 
-wrong_cases : (b : List ℕ) → Passes b → (continued_len b ≡ 4) ⊎ (4 < continued_len b)
+wrong_cases : (b : List ℕ) → FifthIsAbove b → (continued_len b ≡ 4) ⊎ (4 < continued_len b)
 wrong_cases b w =
     elim (leb_tells 5 (continued_len b)) [
       | inl h ↦ inr (omega arith)
       | inr h ↦ inl (grind (arith, ended_there b, w.continued (continued_len b)))
     ]
 
-pub wrong_is : (b : List ℕ) → Passes b → int_at b ≡ wrong tt 5
+pub wrong_is : (b : List ℕ) → FifthIsAbove b → int_at b ≡ wrong tt 5
 unfolding int_at int_ending_at
 wrong_is b w =
     let p = wrong_cases b w in
     grind (arith, nat_tests)
 
-ends_or_passes : (b : List ℕ) → continued_len b < 5 → continued_len b < length b
-    → Begun b ⊎ ((k : ℕ) × EndsAt k b) ⊎ Passes b
-ends_or_passes b few less =
-    let ended = ended_there b less in
+ends_there : (b : List ℕ) → continued_len b < length b → continued_len b ≤ 4 → (continued_len b ≡ 4 → get_or b (continued_len b) 0 ≤ 7)
+    → EndsAt (continued_len b) b
+ends_there b less few fifth = record {
+  within = less;
+  at_most_five = few;
+  continued = continued_before b;
+  ended = ended_there b less;
+  fifth = fifth;
+}
+
+ends_or_above : (b : List ℕ) → continued_len b < 5 → continued_len b < length b
+    → Begun b ⊎ ((k : ℕ) × EndsAt k b) ⊎ FifthIsAbove b
+ends_or_above b few less =
     elim (leb_tells (get_or b 4 0) 7) [
-      | inl low ↦ inr (inl (
-        continued_len b,
-        record {
-          within = less;
-          at_most_five = omega arith;
-          continued = continued_before b;
-          ended = ended;
-          fifth = λ e. rw e low.1;
-        },
-      ))
+      | inl low ↦ inr (inl (continued_len b, ends_there b less (omega arith) (λ e. rw e low.1)))
       | inr high ↦ elim (leb_tells 4 (continued_len b)) [
         | inl four ↦ inr (inr (record {
           within = omega arith;
           continued = λ i lt. continued_before b i (omega arith);
           above = high.1;
         }))
-        | inr below ↦ inr (inl (
-          continued_len b,
-          record {
-            within = less;
-            at_most_five = omega arith;
-            continued = continued_before b;
-            ended = ended;
-            fifth = λ e. absurd (omega arith);
-          },
-        ))
+        | inr below ↦ inr (inl (continued_len b, ends_there b less (omega arith) (λ e. absurd (omega arith))))
       ]
     ]
 
-pub cases : (b : List ℕ) → Begun b ⊎ ((k : ℕ) × EndsAt k b) ⊎ Passes b
+pub cases : (b : List ℕ) → Begun b ⊎ ((k : ℕ) × EndsAt k b) ⊎ FifthIsAbove b
 cases b =
     let within = prefix_len-le-length (λ x. nat_le 128 x) b in
     elim (leb_tells 5 (continued_len b)) [
@@ -117,6 +103,6 @@ cases b =
           short = omega arith;
           continued = λ i lt. continued_before b i (omega arith);
         })
-        | inr less ↦ ends_or_passes b (omega arith) (omega arith)
+        | inr less ↦ ends_or_above b (omega arith) (omega arith)
       ]
     ]

@@ -1,12 +1,13 @@
 mod Worked
-pub mod IntegerFacts
 pub mod Values
+pub mod IntegerFacts
+pub mod IntegerBytes
 pub mod IntegerLaws
 pub mod ShortestLaws
-pub mod FrontFacts
 pub mod TextFacts
+pub mod TextBytes
 pub mod TextLaws
+pub mod TextCauses
 pub mod ReaderSteps
 pub mod TextSteps
 pub mod WritingSteps
-pub mod TextCauses

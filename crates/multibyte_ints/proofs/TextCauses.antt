@@ -4,7 +4,7 @@ use Rattle.std.specs.Prelude.{IsUtf8}
 use Rattle.std.specs.Str.{is_utf8}
 use Rattle.std.proofs.lemmas.Bool.{false_from_ne_true}
 use Rattle.std.proofs.lemmas.Str.{IsUtf8-from_is_utf8, is_utf8-from_IsUtf8}
-use Rattle.multibyte_ints.specs.Front.{whole, wrong}
+use Rattle.unit_streams.specs.Front.{whole, wrong}
 use Rattle.multibyte_ints.specs.Integer.{int_at}
 use Rattle.multibyte_ints.specs.Text.{bad_int, too_long, bad_utf8, string_at}
 use Rattle.multibyte_ints.specs.Laws.{IsBadText}

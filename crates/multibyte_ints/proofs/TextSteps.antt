@@ -4,29 +4,26 @@ use Rattle.std.specs.Prelude.{if◌then◌else◌, Result, Ok, Err, MatchResult,
 use Rattle.std.specs.Result.{result_unwrap_or}
 use Rattle.std.proofs.Common.{Bor}
 use Rattle.std.specs.Str.{is_utf8}
-use Rattle.std.proofs.lemmas.List.{take_more, take_all, length-take-le, take-append-drop, drop-append-le}
+use Rattle.std.proofs.lemmas.List.{take_more, take_all, length-take-le, drop-append-le}
 use Rattle.std.proofs.Math.Seq.{drop-length, take-add}
 use Rattle.multibyte_ints.specs.declared.text.Part.{Part}
 use Rattle.multibyte_ints.specs.declared.text.Part.TheVariants.{Length, Text, Answered}
 use Rattle.multibyte_ints.specs.declared.text.StringReader.{StringReader}
 use Rattle.multibyte_ints.specs.declared.text.StringStep.{StringStep}
 use Rattle.multibyte_ints.specs.declared.text.StringStep.TheVariants.{More, Done, BadInt, TooLong, BadUtf8}
-use Rattle.multibyte_ints.specs.Front.{begun, whole, wrong}
+use Rattle.unit_streams.specs.Front.{begun, whole, wrong}
 use Rattle.multibyte_ints.specs.Integer.{int_at}
-use Rattle.multibyte_ints.specs.Text.{StringFault, bad_int, too_long, bad_utf8, string_at}
+use Rattle.multibyte_ints.specs.Text.{bad_int, too_long, bad_utf8, string_at}
 use Rattle.multibyte_ints.specs.Reader.{StandsFor}
 use Rattle.multibyte_ints.specs.TextPart.{Waits, InLengthAllUsed, InTextAllUsed, step_of, is_settled}
 use Rattle.multibyte_ints.specs.TextReader.{StringStandsFor, StringAnswersAt, Reached, Rests, InLength, InText, EndsAtInt, text_of}
-use Rattle.multibyte_ints.proofs.IntegerLaws.{int_reads_front, begun_from}
-use Rattle.multibyte_ints.proofs.IntegerFacts.{begun_is}
+use Rattle.unit_streams.proofs.Taken.{all_taken, whole_then, wrong_then}
+use Rattle.multibyte_ints.proofs.IntegerBytes.{int_peels, int_reads_front, wrong_at_last}
 use Rattle.multibyte_ints.proofs.TextFacts.{int_begun_is, int_wrong_is, waiting_is, text_is, no_text_is}
-use Rattle.multibyte_ints.proofs.TextLaws.{string_reads_front}
-
-none_begun : int_at [] ≡ begun
-none_begun = begun_is [] (record { short = omega arith; continued = λ i lt. absurd (omega arith) })
+use Rattle.multibyte_ints.proofs.TextBytes.{string_reads_front}
 
 reached_at_start : (r : StringReader) (part : Part) → part ≡ Length → StandsFor r.length [] → Reached r [] part × Waits part
-reached_at_start r part e s = rw e (record { begun = none_begun; int = s }, tt)
+reached_at_start r part e s = rw e (record { begun = int_peels.nothing; int = s }, tt)
 
 pub stands_at_start : (r : StringReader) → r.part ≡ Length → StandsFor r.length [] → StringStandsFor r []
 unfolding StringStandsFor
@@ -37,15 +34,10 @@ pub one_more : (p piece : List ℕ) (i b : ℕ) → i < length piece → b ≡ g
     → p ++ take (i + 1) piece ≡ (p ++ take i piece) ++ b ∷ []
 one_more p piece i b lt e = rw (take_more piece i 0 lt, e, append_assoc) refl
 
--- a byte at which the length is wrong is the fifth
+-- a byte at which the length is wrong
 pub wrong_rests : (limit : ℕ) (q : List ℕ) (b : ℕ) → int_at q ≡ begun → int_at (q ++ b ∷ []) ≡ wrong tt 5
     → string_at limit (q ++ b ∷ []) ≡ wrong bad_int (length (q ++ b ∷ []))
-wrong_rests limit q b before e =
-    let short = (begun_from q before).short in
-    let lens = length-append q (b ∷ []) in
-    let within = int_reads_front.wrong_within (q ++ b ∷ []) tt 5 e in
-    let five : 5 ≡ length (q ++ b ∷ []) = omega arith in
-    int_wrong_is limit (q ++ b ∷ []) tt 5 e ∙ ap (wrong bad_int) five
+wrong_rests limit q b before e = int_wrong_is limit (q ++ b ∷ []) tt 5 e ∙ ap (wrong bad_int) (wrong_at_last q b before e)
 
 pub begins_text : (r : StringReader) (n : ℕ) (p : List ℕ) → EndsAtInt p n → n ≤ r.limit → r.bytes.items ≡ [] → InText r n p
 begins_text r n p e low none = record {
@@ -120,31 +112,6 @@ judged r q left part step text w none same by e =
     (e ∙ ap Answered (by ∙ ap (λ s. if is_utf8 s then Done else BadUtf8) same))
     (rests_at_end r q (subst (λ n. InText r n q) none w))
 
-all_of : (p piece : List ℕ) (used : ℕ) → used ≡ length piece → p ++ take used piece ≡ p ++ piece
-all_of p piece used e = ap (λ s. p ++ s) (take_all used piece (omega arith))
-
-with_rest : (p piece : List ℕ) (used : ℕ) → (p ++ take used piece) ++ drop used piece ≡ p ++ piece
-with_rest p piece used = rw append_assoc (ap (λ s. p ++ s) (take-append-drop used piece))
-
-used_len : (p piece : List ℕ) (used : ℕ) → used ≤ length piece → length (p ++ take used piece) ≡ length p + used
-used_len p piece used within = length-append p (take used piece) ∙ ap (λ n. length p + n) (length-take-le used piece within)
-
-whole_then : (limit : ℕ) (p piece s : List ℕ) (used : ℕ) → used ≤ length piece
-    → string_at limit (p ++ take used piece) ≡ whole s (length (p ++ take used piece))
-    → string_at limit (p ++ piece) ≡ whole s (length p + used)
-whole_then limit p piece s used within e =
-    ap (string_at limit) (sym (with_rest p piece used))
-    ∙ (string_reads_front limit).whole_stays (p ++ take used piece) (drop used piece) s _ e
-    ∙ ap (whole s) (used_len p piece used within)
-
-wrong_then : (limit : ℕ) (p piece : List ℕ) (fault : StringFault) (used : ℕ) → used ≤ length piece
-    → string_at limit (p ++ take used piece) ≡ wrong fault (length (p ++ take used piece))
-    → string_at limit (p ++ piece) ≡ wrong fault (length p + used)
-wrong_then limit p piece fault used within e =
-    ap (string_at limit) (sym (with_rest p piece used))
-    ∙ (string_reads_front limit).wrong_stays (p ++ take used piece) (drop used piece) fault _ e
-    ∙ ap (wrong fault) (used_len p piece used within)
-
 -- all of a piece was used where the part waits for more
 unfoldable pub WaitsForMore : Part → ℕ → ℕ → Type 0
 WaitsForMore Length used len = used ≡ len
@@ -154,20 +121,20 @@ WaitsForMore (Answered step) used len = Unit {0}
 answers_step : (r : StringReader) (p piece : List ℕ) (used : ℕ) → used ≤ length piece → (step : StringStep)
     → Rests r.limit (p ++ take used piece) r.bytes.items step → StringAnswersAt r.limit p piece used step
 answers_step r p piece used within More w = absurd w
-answers_step r p piece used within Done w = (r.bytes.items, whole_then r.limit p piece r.bytes.items used within w)
-answers_step r p piece used within BadInt w = wrong_then r.limit p piece bad_int used within w
-answers_step r p piece used within TooLong w = wrong_then r.limit p piece too_long used within w
-answers_step r p piece used within BadUtf8 w = wrong_then r.limit p piece bad_utf8 used within w
+answers_step r p piece used within Done w = (r.bytes.items, whole_then (string_at r.limit) (string_reads_front r.limit) p piece used within r.bytes.items w)
+answers_step r p piece used within BadInt w = wrong_then (string_at r.limit) (string_reads_front r.limit) p piece used within bad_int w
+answers_step r p piece used within TooLong w = wrong_then (string_at r.limit) (string_reads_front r.limit) p piece used within too_long w
+answers_step r p piece used within BadUtf8 w = wrong_then (string_at r.limit) (string_reads_front r.limit) p piece used within bad_utf8 w
 
 pub answers_in : (r : StringReader) (p piece : List ℕ) (used : ℕ) → used ≤ length piece → (part : Part)
     → Reached r (p ++ take used piece) part → WaitsForMore part used (length piece)
     → StringAnswersAt r.limit p piece used (step_of part)
 unfolding WaitsForMore
 answers_in r p piece used within Length w all =
-    (ap (string_at r.limit) (sym (all_of p piece used all)) ∙ int_begun_is r.limit _ w.begun, all)
+    (ap (string_at r.limit) (sym (all_taken p piece used all)) ∙ int_begun_is r.limit _ w.begun, all)
 answers_in r p piece used within (Text left) w all =
     let rest = w.rest in (
-      ap (string_at r.limit) (sym (all_of p piece used all.1))
+      ap (string_at r.limit) (sym (all_taken p piece used all.1))
           ∙ waiting_is r.limit (p ++ take used piece) w.len w.int_len w.int w.low (let some = all.0 in omega arith),
       all.1,
     )

@@ -2,7 +2,7 @@
 use Rattle.std.proofs.Common.{◌≡◌, ◌∷◌, [], refl, ◌-◌, ◌^◌}
 use lib.Utf8.{encode}
 use Rattle.std.specs.Str.{is_utf8, chars}
-use Rattle.multibyte_ints.specs.Front.{begun, whole, wrong}
+use Rattle.unit_streams.specs.Front.{begun, whole, wrong}
 use Rattle.multibyte_ints.specs.Integer.{shortest, shortest_within, value_of, int_at, int_ending_at}
 use Rattle.multibyte_ints.specs.Text.{string_at, text_behind, text_at, text_ending_at, string_bytes_of, too_long, bad_utf8}
 

@@ -2,7 +2,7 @@
 -- seven value bits each, least significant first, where the top bit says that another byte follows.
 use Rattle.std.specs.Prelude.{◌≡◌, ℕ, zero, suc, ◌+◌, ◌-◌, ◌*◌, ◌/◌, ◌%◌, ◌^◌, ◌<◌, ◌≤◌, List, [], ◌∷◌, length, take, slice_index, ◌==◌, nat_lt, nat_le, ◌&&◌, if◌then◌else◌, ⊤}
 use Rattle.std.specs.List.{prefix_len}
-use Rattle.multibyte_ints.specs.Front.{Front, begun, whole, wrong}
+use Rattle.unit_streams.specs.Front.{Front, begun, whole, wrong}
 
 -- the low seven bits of each byte, the byte at i times 128 ^ i, added up
 unfoldable pub value_of : List ℕ → ℕ

@@ -1,6 +1,6 @@
 -- What holds of integers and strings by their definitions alone, whatever bytes they are read from.
 use Rattle.std.specs.Prelude.{◌≡◌, ℕ, ◌+◌, ◌-◌, ◌^◌, ◌<◌, ◌≤◌, ◌↔◌, List, [], ◌++◌, length, take, drop, slice_index, IsUtf8}
-use Rattle.multibyte_ints.specs.Front.{begun, whole, wrong}
+use Rattle.unit_streams.specs.Front.{begun, whole, wrong}
 use Rattle.multibyte_ints.specs.Integer.{Spells, IsBytes, shortest, int_at}
 use Rattle.multibyte_ints.specs.Text.{IsString, bad_int, too_long, bad_utf8, string_bytes_of, string_at}
 
@@ -14,8 +14,10 @@ BegunGoesOn = (b : List ℕ)
     → (int_at b ≡ begun) ↔ ((n : ℕ) × (more : List ℕ) × (0 < length more) × Spells n (b ++ more))
 
 -- four bytes say that another follows, and the fifth is above 7
-abbrev pub FifthIsAbove : List ℕ → Type 0
-FifthIsAbove b = (5 ≤ length b) × ((i : ℕ) → i < 4 → 128 ≤ slice_index b i) × (7 < slice_index b 4)
+pub record FifthIsAbove (b : List ℕ) : Type 0 where
+  pub within : 5 ≤ length b
+  pub continued : (i : ℕ) → i < 4 → 128 ≤ slice_index b i
+  pub above : 7 < slice_index b 4
 
 -- that is what is wrong with an integer, and nothing else
 abbrev pub WrongAtFifth : Type 0

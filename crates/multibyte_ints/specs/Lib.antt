@@ -1,7 +1,7 @@
-pub mod Front
 pub mod Integer
 pub mod Text
 pub mod Laws
+pub mod IntState
 pub mod Reader
 pub mod TextPart
 pub mod TextReader

@@ -1,21 +1,21 @@
 -- What a reader of integers stands for, and what it answers. A reader doesn't keep the bytes that it used.
 use Rattle.std.specs.Prelude.{◌≡◌, ℕ, List, [], length, ◌⊎◌}
 use Rattle.multibyte_ints.specs.declared.integer.IntReader.{IntReader}
+use Rattle.multibyte_ints.specs.declared.integer.State.TheVariants.{Within, Refused}
 use Rattle.multibyte_ints.specs.declared.integer.IntStep.{IntStep}
 use Rattle.multibyte_ints.specs.declared.integer.IntStep.TheVariants.{More, Done, Bad}
-use Rattle.multibyte_ints.specs.Front.{begun, whole, wrong}
+use Rattle.unit_streams.specs.Front.{begun, whole, wrong}
 use Rattle.multibyte_ints.specs.Integer.{value_of, int_at}
 
--- an integer has begun, of whose bytes these are the number and the value
+-- an integer has begun, whose bytes are so many and add up to this
 pub record Holds (reader : IntReader) (p : List ℕ) : Type 0 where
   pub begun : int_at p ≡ begun
-  pub count : reader.count ≡ length p
-  pub value : reader.value ≡ value_of p
+  pub state : reader.state ≡ Within (length p) (value_of p)
 
 -- the bytes are no integer
 pub record HasFailed (reader : IntReader) (p : List ℕ) : Type 0 where
   pub wrong : int_at p ≡ wrong tt 5
-  pub count : reader.count ≡ 5
+  pub state : reader.state ≡ Refused
 
 -- the bytes since the last whole integer
 unfoldable pub StandsFor : IntReader → List ℕ → Type 0

@@ -2,6 +2,7 @@
 
 ghost use Rattle.std.specs.Prelude.{◌≡◌, ℕ, ◌^◌, ◌<◌, ◌≤◌, ◌↔◌, List, [], ◌∷◌, ◌++◌};
 ghost use Rattle.multibyte_ints.specs.Integer.{Spells};
+ghost use Rattle.multibyte_ints.specs.IntState.{count_of, sum_of};
 
 /// A greater fifth byte would take an integer past 31 bits.
 const GREATEST_FIFTH: u8 = 7;
@@ -17,15 +18,21 @@ pub enum IntStep {
     Bad,
 }
 
+/// What there is of the integer that is read.
+#[derive(Clone, Copy, Debug, PartialEq, Eq)]
+enum State {
+    /// So many bytes, which add up to the value.
+    Within { count: u8, value: u32 },
+    /// No integer: a byte was refused.
+    Refused,
+}
+
 /// Reads integers byte by byte, each of them in whatever spelling it comes.
 #[derive(Debug, Drop)]
 pub struct IntReader {
-    /// How many bytes of an integer there are so far, or 5 for one that is wrong.
-    count: u8,
-    /// What they add up to.
-    value: u32,
-    ghost few: { count ≤ 5 },
-    ghost below: { value < 128 ^ count },
+    state: State,
+    ghost few: { count_of state ≤ 4 },
+    ghost below: { sum_of state < 128 ^ count_of state },
 }
 
 impl IntReader {
@@ -35,7 +42,9 @@ impl IntReader {
     pub fn new() -> IntReader
         ensures { StandsFor result [] }
     {
-        IntReader { count: 0, value: 0 }
+        IntReader {
+            state: State::Within { count: 0, value: 0 },
+        }
     }
 
     /// Takes one byte. After `Done` the next byte begins an integer; after `Bad` each byte is `Bad`.
@@ -46,20 +55,22 @@ impl IntReader {
         ensures stands { (p : List ℕ) → StandsFor self.old p
             → StandsFor self.new (since result (p ++ b ∷ [])) }
     {
-        if self.count == 5 {
+        let State::Within { count, value } = self.state else {
+            return IntStep::Bad;
+        };
+        if count == 4 && b > GREATEST_FIFTH {
+            self.state = State::Refused;
             return IntStep::Bad;
         }
-        if self.count == 4 && b > GREATEST_FIFTH {
-            self.count = 5;
-            return IntStep::Bad;
-        }
-        let value = self.value + ((b % 128) as u32) * 128u32.pow(self.count as u32);
+        let sum = value + (b % 128) as u32 * 128u32.pow(count as u32);
         if b < 128 {
             *self = IntReader::new();
-            return IntStep::Done(value);
+            return IntStep::Done(sum);
         }
-        self.value = value;
-        self.count += 1;
+        self.state = State::Within {
+            count: count + 1,
+            value: sum,
+        };
         IntStep::More
     }
 }

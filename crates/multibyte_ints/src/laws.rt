@@ -2,7 +2,7 @@
 //! contract is a law, which a caller has where it calls the function.
 
 ghost use Rattle.std.specs.Prelude.{ℕ};
-ghost use Rattle.multibyte_ints.specs.Front.{ReadsFront};
+ghost use Rattle.unit_streams.specs.Front.{ReadsFront};
 ghost use Rattle.multibyte_ints.specs.Integer.{int_at};
 ghost use Rattle.multibyte_ints.specs.Text.{string_at};
 ghost use Rattle.multibyte_ints.specs.Laws.{IntegersAreSpellings, BegunGoesOn, WrongAtFifth, NoSpellingGoesOn, ShortestIsSpelling, ShortestIsAlone, TextsAreStrings, BadByInteger, BadByLength, BadByText, NoStringGoesOn, WrittenIsString};

@@ -4,11 +4,12 @@ use Rattle.std.specs.Prelude.{nat_lt, ◌==◌, ◌||◌, ⊤}
 use Rattle.std.proofs.lemmas.Bool.{cond_both}
 use Rattle.std.proofs.lemmas.Bool.Decides.{nat_tests}
 use Rattle.std.proofs.lemmas.List.{length-take-le, take-append-drop, length-drop}
-use Rattle.multibyte_ints.specs.Front.{Front, begun, whole, wrong}
+use Rattle.unit_streams.specs.Front.{Front, begun, whole, wrong}
 use Rattle.multibyte_ints.specs.Integer.{int_at}
 use Rattle.multibyte_ints.specs.Text.{string_at, StringFault, bad_int, too_long, bad_utf8}
 use Rattle.multibyte_ints.specs.Laws.{FifthIsAbove}
-use Rattle.multibyte_ints.proofs.IntegerLaws.{spells_from_whole, passes_from}
+use Rattle.multibyte_ints.proofs.IntegerBytes.{above_from}
+use Rattle.multibyte_ints.proofs.IntegerLaws.{spells_from_whole}
 use Rattle.multibyte_ints.proofs.TextCauses.{bad_int_cause, too_long_cause, bad_text_cause}
 use Rattle.nmf_records.specs.declared.frame.Frame.{Frame}
 use Rattle.nmf_records.specs.declared.frame.Frame.TheVariants as frames
@@ -38,7 +39,7 @@ HasCause limit expect bytes faults.TextNotUtf8 n = HasBadText limit expect bytes
 
 -- an integer is wrong by its fifth byte
 int_cause : (b : List ℕ) (k : ℕ) → int_at b ≡ wrong tt k → (k ≡ 5) × FifthIsAbove b
-int_cause b k e = let p = passes_from b tt k e in (p.1, (p.0.within, p.0.continued, p.0.above))
+int_cause b k e = above_from b tt k e
 
 -- behind a type byte that may come
 module _ (limit types kind : ℕ) (bytes : List ℕ) (may : allows types kind ≡ true) where

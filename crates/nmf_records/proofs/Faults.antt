@@ -4,7 +4,7 @@ use Rattle.std.specs.Prelude.{nat_lt, ◌==◌, ◌&&◌, ◌||◌}
 use Rattle.std.proofs.lemmas.Bool.{eqb-true, cases_Bool}
 use Rattle.std.proofs.lemmas.Bool.Decides.{nat_tests}
 use Rattle.std.proofs.Math.Seq.{take-append_seam, drop-append_seam}
-use Rattle.multibyte_ints.specs.Front.{whole, wrong}
+use Rattle.unit_streams.specs.Front.{whole, wrong}
 use Rattle.multibyte_ints.specs.Integer.{int_at, Spells}
 use Rattle.multibyte_ints.specs.Text.{string_at, too_long, bad_utf8}
 use Rattle.multibyte_ints.specs.Laws.{FifthIsAbove}
@@ -70,7 +70,7 @@ unexpected_comes limit Chunk bytes t h = absurd h
 
 -- an integer with a fifth byte above 7 is wrong
 int_comes : (b : List ℕ) → FifthIsAbove b → int_at b ≡ wrong tt 5
-int_comes b h = wrong_is b (record { within = h.0; continued = h.1; above = h.2 })
+int_comes b h = wrong_is b h
 
 -- and so is a record that has one
 int_behind_type : (limit types kind : ℕ) (rest : List ℕ) → kind ≤ 12 → allows types kind ≡ true → has_integer kind ≡ true → int_at rest ≡ wrong tt 5

@@ -2,11 +2,11 @@
 use Rattle.std.proofs.Common.{◌≡◌, ℕ, zero, suc, ◌+◌, ◌<◌, ◌≤◌, ◌⊎◌, inl, inr, Bool, true, false, nat_lt, List, [], ◌∷◌, ◌++◌, length, take, drop, refl, sym, ap, ◌∙◌, arith, length-append}
 use Rattle.std.specs.Prelude.{◌==◌, if◌then◌else◌}
 use Rattle.std.proofs.lemmas.List.{take-append-le, take-append-drop}
-use Rattle.multibyte_ints.specs.Front.{Front, begun, whole, wrong, ReadsFront}
+use Rattle.unit_streams.specs.Front.{Front, begun, whole, wrong, ReadsFront}
 use Rattle.multibyte_ints.specs.Integer.{int_at, int_ending_at}
 use Rattle.multibyte_ints.specs.Text.{string_at, text_behind}
-use Rattle.multibyte_ints.proofs.IntegerLaws.{int_reads_front}
-use Rattle.multibyte_ints.proofs.TextLaws.{string_reads_front}
+use Rattle.multibyte_ints.proofs.IntegerBytes.{int_reads_front}
+use Rattle.multibyte_ints.proofs.TextBytes.{string_reads_front}
 use Rattle.nmf_records.specs.declared.frame.Frame.{Frame}
 use Rattle.nmf_records.specs.declared.frame.Frame.TheVariants as frames
 use Rattle.nmf_records.specs.declared.frame.Expect.{Expect}

@@ -1,9 +1,9 @@
 -- What a byte of a type, a field or a size led to.
 use Rattle.std.proofs.Common.{◌≡◌, ℕ, suc, ◌+◌, ◌≤◌, inl, inr, List, [], ◌∷◌, ◌++◌, length, drop, refl, sym, ap, ◌∙◌, subst, arith, length-append}
-use Rattle.multibyte_ints.specs.Front.{begun, wrong}
+use Rattle.unit_streams.specs.Front.{begun, wrong}
 use Rattle.multibyte_ints.specs.Integer.{int_at}
 use Rattle.multibyte_ints.specs.Reader.{StandsFor as IntStandsFor}
-use Rattle.multibyte_ints.proofs.IntegerLaws.{int_reads_front}
+use Rattle.multibyte_ints.proofs.IntegerBytes.{int_reads_front}
 use Rattle.nmf_records.specs.declared.frame.Frame.{Frame}
 use Rattle.nmf_records.specs.declared.frame.Frame.TheVariants as frames
 use Rattle.nmf_records.specs.declared.frame.Expect.{Expect}

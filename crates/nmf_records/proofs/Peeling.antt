@@ -2,7 +2,7 @@
 use Rattle.std.proofs.Common.{◌≡◌, ℕ, zero, suc, ◌+◌, ◌<◌, ◌≤◌, ◌⊎◌, inl, inr, List, [], ◌∷◌, ◌++◌, length, take, sym, ap, ◌∙◌, append_assoc, arith, length-append}
 use Rattle.std.proofs.Math.Seq.{take-nil}
 use Rattle.std.proofs.lemmas.List.{append-nil}
-use Rattle.multibyte_ints.specs.Front.{Front, begun, whole, wrong, ReadsFront}
+use Rattle.unit_streams.specs.Front.{Front, begun, whole, wrong, ReadsFront}
 
 -- how many bytes decide it, and 0 where they don't
 abbrev pub extent : {A R : Type 0} → Front A R → ℕ

@@ -3,7 +3,7 @@ use Rattle.std.proofs.Common.{◌≡◌, ℕ, suc, ◌+◌, ◌≤◌, List, [],
 use Rattle.std.specs.Prelude.{nat_lt, ⊤, Some}
 use Rattle.std.proofs.lemmas.Bool.{cond_both}
 use Rattle.std.proofs.lemmas.List.{take_all, length-take-le, take-append-drop}
-use Rattle.multibyte_ints.specs.Front.{Front, begun, whole, wrong}
+use Rattle.unit_streams.specs.Front.{Front, begun, whole, wrong}
 use Rattle.multibyte_ints.specs.Integer.{int_at, Spells}
 use Rattle.multibyte_ints.specs.Text.{string_at, StringFault}
 use Rattle.multibyte_ints.proofs.IntegerLaws.{spells_from_whole, whole_from_spells}

@@ -2,10 +2,11 @@
 use Rattle.std.proofs.Common.{◌≡◌, ℕ, zero, suc, ◌+◌, ◌-◌, ◌^◌, ◌≤◌, ◌<◌, min, Bool, true, false, nat_lt, List, [], ◌∷◌, length, take, sym, ap, ◌∙◌, arith}
 use Rattle.std.specs.Prelude.{◌==◌, if◌then◌else◌}
 use Rattle.std.proofs.lemmas.List.{length-take-le}
-use Rattle.multibyte_ints.specs.Front.{Front, begun, ReadsFront}
+use Rattle.unit_streams.specs.Front.{Front, begun, ReadsFront}
 use Rattle.multibyte_ints.specs.Integer.{int_at}
 use Rattle.multibyte_ints.specs.Text.{string_at}
-use Rattle.multibyte_ints.proofs.IntegerLaws.{begun_from, ended_from, spells_from_whole}
+use Rattle.multibyte_ints.proofs.IntegerBytes.{begun_from, ended_from}
+use Rattle.multibyte_ints.proofs.IntegerLaws.{spells_from_whole}
 use Rattle.multibyte_ints.proofs.TextFacts.{int_begun, int_wrong, above, waiting, text, no_text, string_cases}
 use Rattle.nmf_records.specs.declared.frame.Frame.{Frame}
 use Rattle.nmf_records.specs.declared.frame.Frame.TheVariants as frames

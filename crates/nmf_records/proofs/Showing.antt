@@ -1,7 +1,7 @@
 -- Which text a reader shows once it has gone on.
 use Rattle.std.proofs.Common.{◌≡◌, ℕ, ◌≤◌, Bool, true, false, List, [], ◌∷◌, ◌++◌, drop, refl, sym, ap, ◌∙◌, arith}
 use Rattle.std.specs.Prelude.{◌==◌, ◌&&◌, ◌||◌}
-use Rattle.multibyte_ints.specs.Front.{Front, begun, whole, wrong}
+use Rattle.unit_streams.specs.Front.{Front, begun, whole, wrong}
 use Rattle.multibyte_ints.specs.Text.{StringFault, string_at}
 use Rattle.multibyte_ints.specs.Reader.{StandsFor as IntStandsFor}
 use Rattle.multibyte_ints.specs.TextReader.{StringStandsFor, text_of, limit_of as text_limit_of}

@@ -5,10 +5,10 @@ use Rattle.std.proofs.lemmas.List.{length-take-le}
 use Rattle.multibyte_ints.specs.declared.text.StringReader.{StringReader}
 use Rattle.multibyte_ints.specs.declared.text.StringStep.{StringStep}
 use Rattle.multibyte_ints.specs.declared.text.StringStep.TheVariants as steps
-use Rattle.multibyte_ints.specs.Front.{whole, wrong}
+use Rattle.unit_streams.specs.Front.{whole, wrong}
 use Rattle.multibyte_ints.specs.Text.{string_at, StringFault, bad_int, too_long, bad_utf8}
 use Rattle.multibyte_ints.specs.TextReader.{StringStandsFor, StringAnswersAt}
-use Rattle.multibyte_ints.proofs.TextLaws.{string_reads_front}
+use Rattle.multibyte_ints.proofs.TextBytes.{string_reads_front}
 use Rattle.nmf_records.specs.declared.frame.FrameFault.TheVariants as faults
 use Rattle.nmf_records.specs.declared.stage.TextRecord.{TextRecord}
 use Rattle.nmf_records.specs.declared.stage.Stage.TheVariants as stages

@@ -2,7 +2,7 @@
 use Rattle.std.proofs.Common.{◌≡◌, ℕ, ◌≤◌, true, false, List, ◌∷◌, refl, sym, inl, inr, arith}
 use Rattle.std.specs.Prelude.{◌==◌, ◌||◌, Some}
 use Rattle.std.proofs.lemmas.Bool.{cond_both, eqb-true, eqb-false, cases_Bool, or_parts}
-use Rattle.multibyte_ints.specs.Front.{Front, wrong}
+use Rattle.unit_streams.specs.Front.{Front, wrong}
 use Rattle.nmf_records.specs.declared.frame.Frame.{Frame}
 use Rattle.nmf_records.specs.declared.frame.Frame.TheVariants as frames
 use Rattle.nmf_records.specs.declared.frame.Expect.{Expect}

@@ -3,7 +3,7 @@ use Rattle.std.proofs.Common.{◌≡◌, ◌∷◌, [], ◌++◌, ◌+◌, ◌^�
 use Rattle.std.specs.Prelude.{codes}
 use lib.Utf8.{encode}
 use Rattle.std.specs.Str.{is_utf8, chars}
-use Rattle.multibyte_ints.specs.Front.{Front, begun, whole, wrong}
+use Rattle.unit_streams.specs.Front.{Front, begun, whole, wrong}
 use Rattle.multibyte_ints.specs.Integer.{int_at, int_ending_at, value_of}
 use Rattle.multibyte_ints.specs.Text.{string_at, text_behind, text_at, text_ending_at}
 use Rattle.nmf_records.specs.declared.frame.Frame.TheVariants.{Version, Mode, Via, KnownEncoding, UnsizedEnvelope, Chunk, SizedEnvelope, End, Fault, PreambleAck, PreambleEnd}

@@ -1,6 +1,6 @@
 -- What the parts of a reading say: where a byte, a size or a text led, and where the reader stands then.
 use Rattle.std.specs.Prelude.{◌≡◌, ℕ, ◌<◌, List, [], length, Some}
-use Rattle.multibyte_ints.specs.Front.{begun, whole, wrong}
+use Rattle.unit_streams.specs.Front.{begun, whole, wrong}
 use Rattle.multibyte_ints.specs.declared.integer.IntReader.{IntReader}
 use Rattle.multibyte_ints.specs.declared.text.StringReader.{StringReader}
 use Rattle.multibyte_ints.specs.Integer.{int_at}

@@ -1,6 +1,6 @@
 -- What holds of records by their definitions alone, whatever bytes they are read from.
 use Rattle.std.specs.Prelude.{◌≡◌, ℕ, ◌+◌, ◌<◌, ◌≤◌, ◌↔◌, ◌⊎◌, List, [], ◌∷◌, ◌++◌, length, take, drop, Bool, true, false, ◌==◌, ◌||◌, Option, Some, None, IsUtf8}
-use Rattle.multibyte_ints.specs.Front.{begun, whole, wrong}
+use Rattle.unit_streams.specs.Front.{begun, whole, wrong}
 use Rattle.multibyte_ints.specs.Integer.{Spells}
 use Rattle.multibyte_ints.specs.Laws.{FifthIsAbove}
 use Rattle.nmf_records.specs.declared.frame.Frame.{Frame}

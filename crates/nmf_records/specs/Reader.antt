@@ -1,6 +1,6 @@
 -- What a reader of records stands for, and what it answers. It keeps of the bytes that it used no more than a text.
 use Rattle.std.specs.Prelude.{◌≡◌, ℕ, ◌+◌, List, [], ◌++◌, length, drop, if◌then◌else◌, Option, Some, None, Result, Ok, Err}
-use Rattle.multibyte_ints.specs.Front.{Front, begun, whole, wrong}
+use Rattle.unit_streams.specs.Front.{Front, begun, whole, wrong}
 use Rattle.multibyte_ints.specs.declared.text.StringReader.{StringReader}
 use Rattle.multibyte_ints.specs.Text.{string_at}
 use Rattle.multibyte_ints.specs.Reader.{StandsFor as IntStandsFor}

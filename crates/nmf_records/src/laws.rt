@@ -2,7 +2,7 @@
 //! law, which a caller has where it calls the function.
 
 ghost use Rattle.std.specs.Prelude.{ℕ};
-ghost use Rattle.multibyte_ints.specs.Front.{ReadsFront};
+ghost use Rattle.unit_streams.specs.Front.{ReadsFront};
 ghost use Rattle.nmf_records.specs.declared.frame.Expect.{Expect};
 ghost use Rattle.nmf_records.specs.Reading.{frame_at};
 ghost use Rattle.nmf_records.specs.Laws.{RecordsAreRead, NoRecordGoesOn, BegunIsShort, WholeIsShort, WrongIsShort, UnknownByType, UnexpectedByType, BadByInteger, BadByLength, BadByText};

@@ -7,7 +7,7 @@ ghost use Rattle.nmf_records.specs.Reading.{frame_at};
 ghost use Rattle.nmf_records.specs.Steps.{is_text_start};
 ghost use Rattle.nmf_records.specs.Reader.{StandsFor, ShowsText, FrameAnswers, AfterPiece, limit_of, held_of, pending_of, failure_of, text_after};
 ghost use Rattle.nmf_records.specs.Advancing.{SizeAnswers, TextAnswers, Leads, ReadsBytes, BeginsAnew, Steps, Moves, Keeps, stage_after, pending_after};
-ghost use Rattle.multibyte_ints.specs.Front.{begun};
+ghost use Rattle.unit_streams.specs.Front.{begun};
 ghost use Rattle.multibyte_ints.specs.Text.{string_at};
 ghost use Rattle.multibyte_ints.specs.TextReader.{StringStandsFor};
 

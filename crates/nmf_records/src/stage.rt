@@ -1,7 +1,7 @@
 //! The stages of a reader, and what a byte of a type or of a fixed field leads to.
 
 ghost use Rattle.std.specs.Prelude.{◌≡◌, ℕ, List, [], ◌∷◌, ◌++◌, ◌+◌, ◌≤◌, length, ◌==◌, ◌||◌};
-ghost use Rattle.multibyte_ints.specs.Front.{begun};
+ghost use Rattle.unit_streams.specs.Front.{begun};
 ghost use Rattle.nmf_records.specs.declared.frame.Expect.{Expect};
 ghost use Rattle.nmf_records.specs.declared.frame.Expect.TheVariants.{Types};
 ghost use Rattle.nmf_records.specs.Reading.{frame_at, record_at, typed_at, allows};

@@ -1,6 +1,7 @@
 mod Worked
 pub mod Peeling
 pub mod Fronts
+pub mod Taken
 pub mod Standing
 pub mod Answers
 pub mod Cuts

@@ -1,5 +1,5 @@
 use Rattle.std.proofs.Common.{◌≡◌, ℕ, suc, ◌+◌, List, [], ◌∷◌, ◌++◌, length, refl, sym, ap, ◌∙◌, arith, length-append}
-use Rattle.multibyte_ints.specs.Front.{Front, whole}
+use Rattle.unit_streams.specs.Front.{Front, whole}
 use Rattle.nmf_records.proofs.Peeling.{IsPeeling, extent, goes_on}
 use Rattle.dump_replay.proofs.Units.{unit_peels}
 use Rattle.dump_replay.proofs.laws.units.Goals as goal

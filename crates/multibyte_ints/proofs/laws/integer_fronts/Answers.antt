@@ -1,4 +1,4 @@
-use Rattle.multibyte_ints.proofs.IntegerLaws.{int_reads_front}
+use Rattle.multibyte_ints.proofs.IntegerBytes.{int_reads_front}
 use Rattle.multibyte_ints.proofs.laws.integer_fronts.Goals as goal
 
 pub returns : goal.returns

@@ -1,5 +1,6 @@
 use Rattle.multibyte_ints.proofs.IntegerFacts.{wrong_is}
-use Rattle.multibyte_ints.proofs.IntegerLaws.{spells_from_whole, whole_from_spells, no_longer_spelling, goes_on_from_begun, begun_from_spells, passes_from}
+use Rattle.multibyte_ints.proofs.IntegerBytes.{above_from}
+use Rattle.multibyte_ints.proofs.IntegerLaws.{spells_from_whole, whole_from_spells, no_longer_spelling, goes_on_from_begun, begun_from_spells}
 use Rattle.multibyte_ints.proofs.laws.integer_spellings.Goals as goal
 
 pub returns-clause-read : goal.returns-clause-read
@@ -9,10 +10,7 @@ pub returns-clause-begun : goal.returns-clause-begun
 returns-clause-begun c b = (goes_on_from_begun b, λ h. begun_from_spells b h.0 h.1 h.2 h.3)
 
 pub returns-clause-wrong : goal.returns-clause-wrong
-returns-clause-wrong c b k = (
-  λ e. let w = passes_from b tt k e in (w.1, (w.0.within, w.0.continued, w.0.above)),
-  λ h. rw h.0 (wrong_is b (record { within = h.1.0; continued = h.1.1; above = h.1.2 })),
-)
+returns-clause-wrong c b k = (above_from b tt k, λ h. rw h.0 (wrong_is b h.1))
 
 pub returns-clause-none_goes_on : goal.returns-clause-none_goes_on
 returns-clause-none_goes_on c = no_longer_spelling

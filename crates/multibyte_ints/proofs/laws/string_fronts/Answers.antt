@@ -1,4 +1,4 @@
-use Rattle.multibyte_ints.proofs.TextLaws.{string_reads_front}
+use Rattle.multibyte_ints.proofs.TextBytes.{string_reads_front}
 use Rattle.multibyte_ints.proofs.laws.string_fronts.Goals as goal
 
 pub returns : goal.returns

@@ -23,18 +23,11 @@ loop-rest-preserved c =
       kept = rest_kept c.loop-rest.out c.args.out.now c.loop-rest.count (c.loop-rest.rest % 128 + 128) so_far.kept;
     }
 
-pub returns-clause-len : goal.returns-clause-len
-returns-clause-len c =
+pub returns : goal.returns
+returns c =
     let so_far = c.loop-rest.invariant in
     let size = c.told-out in
     let few = so_far.few in
     let within = still_within c.loop-rest.out c.args.out.now c.loop-rest.count so_far.kept (omega arith) in
-    (last_written _ _ c.args.out.now _ _ within c.loop-rest-test.false so_far.so_far so_far.kept).0
-
-pub returns-clause-written : goal.returns-clause-written
-returns-clause-written c =
-    let so_far = c.loop-rest.invariant in
-    let size = c.told-out in
-    let few = so_far.few in
-    let within = still_within c.loop-rest.out c.args.out.now c.loop-rest.count so_far.kept (omega arith) in
-    (last_written _ _ c.args.out.now _ _ within c.loop-rest-test.false so_far.so_far so_far.kept).1
+    let last = last_written _ _ c.args.out.now _ _ within c.loop-rest-test.false so_far.so_far so_far.kept in
+    record { len = last.0; written = last.1 }

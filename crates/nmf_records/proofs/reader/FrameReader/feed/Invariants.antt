@@ -1,5 +1,5 @@
 use Rattle.std.proofs.Common.{◌≡◌, ℕ, ◌≤◌, ◌-◌, List, ◌++◌, length, take}
-use Rattle.multibyte_ints.specs.Front.{begun}
+use Rattle.unit_streams.specs.Front.{begun}
 use Rattle.nmf_records.specs.Reader.{StandsFor, ShowsText, text_after, limit_of}
 use Rattle.nmf_records.proofs.reader.FrameReader.feed.Given as goal
 

@@ -1,5 +1,5 @@
 use Rattle.std.proofs.Common.{◌≡◌, ℕ, List, [], ◌∷◌, ◌++◌, take, drop, sym, ap, ◌∙◌}
-use Rattle.multibyte_ints.specs.Front.{begun}
+use Rattle.unit_streams.specs.Front.{begun}
 use Rattle.multibyte_ints.specs.Reader.{StandsFor as IntStandsFor}
 use Rattle.multibyte_ints.specs.TextReader.{StringStandsFor}
 use Rattle.nmf_records.specs.declared.stage.Stage.TheVariants as stages
