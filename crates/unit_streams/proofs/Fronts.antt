@@ -1,24 +1,44 @@
 -- What follows for a front that rests on its own bytes.
-use Rattle.std.proofs.Common.{◌≡◌, ℕ, ◌+◌, ◌-◌, ◌<◌, ◌≤◌, ◌⊎◌, inl, inr, List, [], ◌++◌, length, take, drop, refl, sym, ap, ◌∙◌, arith, append_assoc, length-append}
+use Rattle.std.proofs.Common.{◌≡◌, ℕ, ◌+◌, ◌-◌, ◌<◌, ◌≤◌, ◌⊎◌, inl, inr, List, [], ◌++◌, length, take, drop, refl, sym, ap, ◌∙◌, subst, arith, append_assoc, length-append}
 use Rattle.std.proofs.lemmas.Bool.{cases_lt}
 use Rattle.std.proofs.Math.Seq.{take-append-add}
 use Rattle.std.proofs.lemmas.List.{take-append-le, take-append-drop}
 use Rattle.unit_streams.specs.Front.{Front, begun, whole, wrong, IsOpen, ReadsFront}
 use Rattle.unit_streams.proofs.Peeling.{extent, Decides, Leaves}
 
-module _ {A R : Type 0} (f : List ℕ → Front A R) (reads : ReadsFront f) where
-  -- a front that is decided is so by its first bytes, whatever follows
-  record IsDecided (b : List ℕ) (n : ℕ) : Type 0 where
-    pub said : f b ≡ begun → ⊥
-    pub within : n ≤ length b
-    pub alone : f (take n b) ≡ f b
-    pub first : (j : ℕ) → j < n → f (take j b) ≡ begun
-    pub stays : (more : List ℕ) → f (b ++ more) ≡ f b
+-- a front that is decided is so by its first bytes, whatever follows
+pub record IsDecided {A R : Type 0} (f : List ℕ → Front A R) (b : List ℕ) (n : ℕ) : Type 0 where
+  pub said : f b ≡ begun → ⊥
+  pub within : n ≤ length b
+  pub alone : f (take n b) ≡ f b
+  pub first : (j : ℕ) → j < n → f (take j b) ≡ begun
+  pub stays : (more : List ℕ) → f (b ++ more) ≡ f b
 
-  decided : (b : List ℕ) → (f b ≡ begun) ⊎ IsDecided b (extent (f b))
+module _ {A R : Type 0} (f : List ℕ → Front A R) where
+  -- where each front has begun or is decided so, what is said rests on its own bytes
+  pub reads_by : ((b : List ℕ) → (f b ≡ begun) ⊎ IsDecided f b (extent (f b))) → ReadsFront f
+  reads_by cases = record {
+    whole_within = λ b a k e. let d = at b (whole a k) e (λ h. cc) in d.within;
+    wrong_within = λ b r k e. let d = at b (wrong r k) e (λ h. cc) in d.within;
+    whole_alone = λ b a k e. let d = at b (whole a k) e (λ h. cc) in d.alone ∙ e;
+    wrong_alone = λ b r k e. let d = at b (wrong r k) e (λ h. cc) in d.alone ∙ e;
+    whole_stays = λ b more a k e. let d = at b (whole a k) e (λ h. cc) in d.stays more ∙ e;
+    wrong_stays = λ b more r k e. let d = at b (wrong r k) e (λ h. cc) in d.stays more ∙ e;
+    whole_first = λ b a k j e lt. let d = at b (whole a k) e (λ h. cc) in d.first j lt;
+    wrong_first = λ b r k j e lt. let d = at b (wrong r k) e (λ h. cc) in d.first j lt;
+  } where
+    at : (b : List ℕ) (v : Front A R) → f b ≡ v → (v ≡ begun → ⊥) → IsDecided f b (extent v)
+    at b v e said =
+        elim (cases b) [
+          | inl h ↦ absurd (said (sym e ∙ h))
+          | inr d ↦ subst (λ (n : ℕ). IsDecided f b n) (ap extent e) d
+        ]
+
+module _ {A R : Type 0} (f : List ℕ → Front A R) (reads : ReadsFront f) where
+  pub decided : (b : List ℕ) → (f b ≡ begun) ⊎ IsDecided f b (extent (f b))
   decided b = go (f b) refl
     where
-      go : (v : Front A R) → f b ≡ v → (f b ≡ begun) ⊎ IsDecided b (extent v)
+      go : (v : Front A R) → f b ≡ v → (f b ≡ begun) ⊎ IsDecided f b (extent v)
       go begun e = inl e
       go (whole a k) e = inr (record {
         said = λ h. cc;
@@ -40,7 +60,7 @@ module _ {A R : Type 0} (f : List ℕ → Front A R) (reads : ReadsFront f) wher
   begun_before b c e = elim (decided b) [ inl h ↦ h | inr d ↦ sym (d.stays c) ∙ e ]
 
   -- what decides it has more bytes than what is begun
-  decided_later : (b c : List ℕ) (n : ℕ) → f b ≡ begun → IsDecided (b ++ c) n → length b < n
+  decided_later : (b c : List ℕ) (n : ℕ) → f b ≡ begun → IsDecided f (b ++ c) n → length b < n
   decided_later b c n h d =
       elim (cases_lt (length b) n) [
         | inl lt ↦ lt
@@ -58,7 +78,7 @@ module _ {A R : Type 0} (f : List ℕ → Front A R) (reads : ReadsFront f) wher
       along : f (b ++ c) ≡ begun → (j : ℕ) → f (b ++ take j c) ≡ begun
       along e j = begun_before (b ++ take j c) (drop j c) (ap f (append_assoc b (take j c) (drop j c) ∙ ap (λ y. b ++ y) (take-append-drop j c)) ∙ e)
 
-      at : (n : ℕ) → n ≡ extent (f (b ++ c)) → IsDecided (b ++ c) n → length b < n → Decides f b c (n - length b)
+      at : (n : ℕ) → n ≡ extent (f (b ++ c)) → IsDecided f (b ++ c) n → length b < n → Decides f b c (n - length b)
       at n e d lt =
           let size : length b + (n - length b) ≡ n = omega (arith, lt) in
           let front : (j : ℕ) → take (length b + j) (b ++ c) ≡ b ++ take j c = λ j. take-append-add b c j in
@@ -70,7 +90,7 @@ module _ {A R : Type 0} (f : List ℕ → Front A R) (reads : ReadsFront f) wher
             before = λ j less. ap f (sym (front j)) ∙ d.first (length b + j) (omega (arith, less, lt));
           }
 
-      go : (f (b ++ c) ≡ begun) ⊎ IsDecided (b ++ c) (extent (f (b ++ c))) → Leaves f b c ⊎ ((n : ℕ) × Decides f b c n)
+      go : (f (b ++ c) ≡ begun) ⊎ IsDecided f (b ++ c) (extent (f (b ++ c))) → Leaves f b c ⊎ ((n : ℕ) × Decides f b c n)
       go (inl e) = inl (record { along = along e; at_end = e })
       go (inr d) = let lt = decided_later b c (extent (f (b ++ c))) h d in inr (extent (f (b ++ c)) - length b, at (extent (f (b ++ c))) refl d lt)
 

@@ -2,6 +2,9 @@ mod Worked
 pub mod Peeling
 pub mod Fronts
 pub mod Taken
+pub mod Parts
+pub mod Spelled
+pub mod Repeated
 pub mod Standing
 pub mod Answers
 pub mod Cuts

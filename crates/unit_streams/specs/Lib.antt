@@ -1,4 +1,5 @@
 pub mod Front
+pub mod Parts
 pub mod Grammar
 pub mod Judging
 pub mod Going
