@@ -1,4 +1,4 @@
--- Facts about lists of entries.
+-- What one more entry changes in a list of entries.
 use Rattle.std.proofs.Common.{◌≡◌, ℕ, ◌+◌, ◌<◌, ◌≤◌, Bool, true, false, List, [], ◌∷◌, ◌++◌, Option, Some, None, Ordering, refl, sym, ap, ◌∙◌, arith, inl, inr}
 use Rattle.std.specs.Prelude.{◌==◌, if◌then◌else◌}
 use Rattle.std.specs.Cmp.{ranks, unsigned_tied}
@@ -7,7 +7,7 @@ use Rattle.std.specs.Ordering.{MatchOrdering, is_eq, match_ordering, nat_cmp}
 use Rattle.std.specs.Str.{bytes_eq}
 use Rattle.std.specs.declared.cmp.Ordering.TheVariants.{Less, Equal, Greater}
 use Rattle.std.proofs.lemmas.Bool.{cases_Bool, eq-eqb, eqb-true, false≢true}
-use Rattle.static_dictionary.specs.Entries.{Entry, IsStaticId, RisesFrom, least_id, least_with, text_at, with_entry}
+use Rattle.string_tables.specs.StaticStrings.{Entry, IsStaticId, RisesFrom, least_static_id, least_with, static_text, with_entry}
 
 -- two choices that exclude each other, in either order
 choices : {A : Type 0} (a b : Bool) (x y z : A) → (a ≡ true → b ≡ true → ⊥) → (if a then x else if b then y else z) ≡ (if b then y else if a then x else z)
@@ -34,47 +34,47 @@ leasts false b m n least = refl
 
 module _ (id : ℕ) (text : List ℕ) where
   -- the text of an identifier, with one more entry
-  pub text_at-with : (entries : List Entry) (q : ℕ) → text_at (with_entry entries (id, text)) q ≡ (if q == id then Some text else text_at entries q)
-  text_at-with [] q = refl
-  text_at-with (entry ∷ entries) q = go (text_at-with entries q) (nat_cmp id entry.0) refl
+  pub static_text-with : (entries : List Entry) (q : ℕ) → static_text (with_entry entries (id, text)) q ≡ (if q == id then Some text else static_text entries q)
+  static_text-with [] q = refl
+  static_text-with (entry ∷ entries) q = go (static_text-with entries q) (nat_cmp id entry.0) refl
     where
-      go : text_at (with_entry entries (id, text)) q ≡ (if q == id then Some text else text_at entries q) → (o : Ordering) → nat_cmp id entry.0 ≡ o
-          → text_at (match_ordering o ((id, text) ∷ entry ∷ entries) ((entry.0, text) ∷ entries) (entry ∷ with_entry entries (id, text))) q
-          ≡ (if q == id then Some text else if q == entry.0 then Some entry.1 else text_at entries q)
+      go : static_text (with_entry entries (id, text)) q ≡ (if q == id then Some text else static_text entries q) → (o : Ordering) → nat_cmp id entry.0 ≡ o
+          → static_text (match_ordering o ((id, text) ∷ entry ∷ entries) ((entry.0, text) ∷ entries) (entry ∷ with_entry entries (id, text))) q
+          ≡ (if q == id then Some text else if q == entry.0 then Some entry.1 else static_text entries q)
       go rest Less is = refl
       go rest Equal is =
           let same : id ≡ entry.0 = eqb-true id entry.0 (sym (unsigned_tied id entry.0) ∙ ap is_eq is) in
-          rw (← same) (again (q == id) (Some text) (Some entry.1) (text_at entries q))
+          rw (← same) (again (q == id) (Some text) (Some entry.1) (static_text entries q))
       go rest Greater is =
           let differ : (id == entry.0) ≡ false = sym (unsigned_tied id entry.0) ∙ ap is_eq is in
           ap (λ texts. if q == entry.0 then Some entry.1 else texts) rest
-          ∙ choices (q == entry.0) (q == id) (Some entry.1) (Some text) (text_at entries q)
+          ∙ choices (q == entry.0) (q == id) (Some entry.1) (Some text) (static_text entries q)
           (λ here there. false≢true (sym differ ∙ eq-eqb id entry.0 (sym (eqb-true q id there) ∙ eqb-true q entry.0 here)))
 
   -- the least identifier of a text, with one more entry under a new identifier
-  pub least_id-with : (entries : List Entry) (q : List ℕ) → text_at entries id ≡ None
-      → least_id (with_entry entries (id, text)) q ≡ (if bytes_eq text q then Some (least_with id (least_id entries q)) else least_id entries q)
-  least_id-with [] q fresh = refl
-  least_id-with (entry ∷ entries) q fresh = go (least_id-with entries q) (nat_cmp id entry.0) refl
+  pub least_static_id-with : (entries : List Entry) (q : List ℕ) → static_text entries id ≡ None
+      → least_static_id (with_entry entries (id, text)) q ≡ (if bytes_eq text q then Some (least_with id (least_static_id entries q)) else least_static_id entries q)
+  least_static_id-with [] q fresh = refl
+  least_static_id-with (entry ∷ entries) q fresh = go (least_static_id-with entries q) (nat_cmp id entry.0) refl
     where
-      go : (text_at entries id ≡ None → least_id (with_entry entries (id, text)) q ≡ (if bytes_eq text q then Some (least_with id (least_id entries q)) else least_id entries q))
+      go : (static_text entries id ≡ None → least_static_id (with_entry entries (id, text)) q ≡ (if bytes_eq text q then Some (least_with id (least_static_id entries q)) else least_static_id entries q))
           → (o : Ordering) → nat_cmp id entry.0 ≡ o
-          → least_id (match_ordering o ((id, text) ∷ entry ∷ entries) ((entry.0, text) ∷ entries) (entry ∷ with_entry entries (id, text))) q
-          ≡ (if bytes_eq text q then Some (least_with id (least_id (entry ∷ entries) q)) else least_id (entry ∷ entries) q)
+          → least_static_id (match_ordering o ((id, text) ∷ entry ∷ entries) ((entry.0, text) ∷ entries) (entry ∷ with_entry entries (id, text))) q
+          ≡ (if bytes_eq text q then Some (least_with id (least_static_id (entry ∷ entries) q)) else least_static_id (entry ∷ entries) q)
       go rest Less is = refl
       go rest Equal is = cc (rw (sym (unsigned_tied id entry.0) ∙ ap is_eq is) at fresh)
       go rest Greater is =
-          let later : text_at entries id ≡ None = rw (sym (unsigned_tied id entry.0) ∙ ap is_eq is) at fresh in
+          let later : static_text entries id ≡ None = rw (sym (unsigned_tied id entry.0) ∙ ap is_eq is) at fresh in
           ap (λ least. if bytes_eq entry.1 q then Some (least_with entry.0 least) else least) (rest later)
-          ∙ leasts (bytes_eq entry.1 q) (bytes_eq text q) entry.0 id (least_id entries q)
+          ∙ leasts (bytes_eq entry.1 q) (bytes_eq text q) entry.0 id (least_static_id entries q)
 
   -- the text of an identifier, with one more entry at the end
-  text_at-push : (entries : List Entry) (q : ℕ) → text_at (entries ++ (id, text) ∷ []) q ≡ option_or (text_at entries q) (if q == id then Some text else None)
-  text_at-push [] q = refl
-  text_at-push (entry ∷ entries) q =
+  static_text-push : (entries : List Entry) (q : ℕ) → static_text (entries ++ (id, text) ∷ []) q ≡ option_or (static_text entries q) (if q == id then Some text else None)
+  static_text-push [] q = refl
+  static_text-push (entry ∷ entries) q =
       elim (cases_Bool (q == entry.0)) [
         | inl here ↦ rw here refl
-        | inr other ↦ rw other (text_at-push entries q)
+        | inr other ↦ rw other (static_text-push entries q)
       ]
 
   -- entries in rising order, with one more
@@ -89,14 +89,14 @@ module _ (id : ℕ) (text : List ℕ) where
       ] (ranks id entry.0)
 
   -- two lists that give the same texts still do, with one more entry under a new identifier
-  pub same-with : (sorted listed : List Entry) → ((q : ℕ) → text_at sorted q ≡ text_at listed q) → text_at listed id ≡ None
-      → (q : ℕ) → text_at (with_entry sorted (id, text)) q ≡ text_at (listed ++ (id, text) ∷ []) q
+  pub same-with : (sorted listed : List Entry) → ((q : ℕ) → static_text sorted q ≡ static_text listed q) → static_text listed id ≡ None
+      → (q : ℕ) → static_text (with_entry sorted (id, text)) q ≡ static_text (listed ++ (id, text) ∷ []) q
   same-with sorted listed same fresh q =
       elim (cases_Bool (q == id)) [
         | inl here ↦
-            let absent : text_at listed q ≡ None = ap (text_at listed) (eqb-true q id here) ∙ fresh in
-            rw (text_at-with sorted q, text_at-push listed q, here, absent) refl
-        | inr other ↦ rw (text_at-with sorted q, text_at-push listed q, other) (same q ∙ sym (or_none (text_at listed q)))
+            let absent : static_text listed q ≡ None = ap (static_text listed) (eqb-true q id here) ∙ fresh in
+            rw (static_text-with sorted q, static_text-push listed q, here, absent) refl
+        | inr other ↦ rw (static_text-with sorted q, static_text-push listed q, other) (same q ∙ sym (or_none (static_text listed q)))
       ]
     where
       or_none : (o : Option (List ℕ)) → option_or o None ≡ o
