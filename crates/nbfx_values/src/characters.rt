@@ -4,10 +4,11 @@ ghost use Rattle.uuid.specs.Text.{hyphenated_text, lower, urn_text};
 ghost use Rattle.nbfx_values.specs.Characters.{scalar_characters, value_characters};
 ghost use Rattle.nbfx_values.specs.Scalars.{is_valid_scalar, is_valid_value};
 
-use crate::copies::{Copied, Memory};
+use crate::copies::Copied;
 use crate::scalars::{Scalar, Value};
 use crate::texts::Txt;
 use std::alloc::Global;
+use unit_streams::Memory;
 use uuid::Uuid;
 
 fn hyphenated(alloc: Global, bytes: &[u8; 16]) -> Result<Txt, Memory>

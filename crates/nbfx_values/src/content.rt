@@ -3,10 +3,11 @@ ghost use Rattle.std.specs.List.{list_all};
 ghost use Rattle.nbfx_values.specs.Items as spec;
 ghost use Rattle.nbfx_values.specs.Items.{fits_kind, is_valid_array, is_valid_attribute, is_valid_item};
 
-use crate::copies::{Copied, Memory};
+use crate::copies::Copied;
 use crate::lists::Sequence;
 use crate::scalars::{Scalar, Value, Values};
 use crate::texts::Txt;
+use unit_streams::Memory;
 
 /// One item of a document, in the order in which a payload's records give them. The empty prefix
 /// means none.

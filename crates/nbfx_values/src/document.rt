@@ -3,9 +3,10 @@ ghost use Rattle.nbfx_values.specs.Documents.{IsDocument, IsRefusedAt};
 ghost use Rattle.nbfx_values.specs.Standings.{StopsAt, has_room, stands, step};
 
 use crate::content::{Item, Items};
-use crate::copies::{Copied, Memory};
+use crate::copies::Copied;
 use crate::lists::Sequence;
 use std::marker::Model;
+use unit_streams::Memory;
 
 // Where a list of items stands that may be the front of a document.
 #[derive(Clone, Copy)]

@@ -28,7 +28,7 @@ mod texts;
 mod threads;
 
 pub use content::{ArrayItem, ArrayKind, AttrItem, Attrs, Item, Items};
-pub use copies::{Copied, Memory};
+pub use copies::Copied;
 pub use document::{Doc, Docs, NotADoc};
 pub use limits::{Kept, Quotas};
 pub use lists::Sequence;
@@ -36,6 +36,7 @@ pub use refusals::{Offence, Place, Reason};
 pub use scalars::{Dec, Scalar, Value, Values};
 pub use session::{Kind, Mode};
 pub use texts::{Blob, Txt};
+pub use unit_streams::Memory;
 
 #[cfg(test)]
 mod tests;

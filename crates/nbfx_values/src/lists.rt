@@ -1,9 +1,10 @@
 ghost use Rattle.std.specs.Prelude.{◌≡◌, [], ◌∷◌, ◌++◌, OnErr, OnOk, length, slice_get};
 ghost use Rattle.std.specs.Option.{option_copied};
 
-use crate::copies::{Copied, Memory};
+use crate::copies::Copied;
 use std::alloc::Global;
 use std::marker::Model;
+use unit_streams::Memory;
 
 /// A list that grows at its end, which contracts see as the list of its values.
 #[derive(Debug, Drop)]

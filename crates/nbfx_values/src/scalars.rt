@@ -3,9 +3,10 @@ ghost use Rattle.std.specs.List.{list_all};
 ghost use Rattle.nbfx_values.specs.Scalars as spec;
 ghost use Rattle.nbfx_values.specs.Scalars.{is_valid_scalar, is_valid_value};
 
-use crate::copies::{Copied, Memory};
+use crate::copies::Copied;
 use crate::lists::Sequence;
 use crate::texts::{Blob, Txt};
+use unit_streams::Memory;
 
 /// A decimal number: its magnitude, divided by 10 to the power of its scale.
 #[derive(Clone, Copy, Debug, PartialEq, Eq)]

@@ -1,9 +1,10 @@
 ghost use Rattle.std.specs.Prelude.{◌≡◌, IfOk, string_bytes};
 ghost use Rattle.std.specs.Str.{is_utf8};
 
-use crate::copies::{Copied, Memory};
+use crate::copies::Copied;
 use std::alloc::Global;
 use std::marker::Model;
+use unit_streams::Memory;
 
 /// A text, which contracts see as the list of its UTF-8 bytes.
 #[derive(Debug, Drop)]
