@@ -36,7 +36,7 @@ fn prefixed(alloc: Global, letter: u8, name: &Txt) -> Result<Txt, Memory>
     text.push((b'a' + letter) as char)?;
     text.push(':')?;
     text.push_str(name.as_str())?;
-    Ok(Txt::from_string(text))
+    Ok(Txt::from(text))
 }
 
 fn of_scalar(alloc: Global, scalar: &Scalar) -> Result<Option<Txt>, Memory>
@@ -45,7 +45,7 @@ fn of_scalar(alloc: Global, scalar: &Scalar) -> Result<Option<Txt>, Memory>
 {
     Ok(match scalar {
         Scalar::Text(text) => Some(text.copy()?),
-        Scalar::Number(number) => Some(Txt::from_string(number.to_string(alloc)?)),
+        Scalar::Number(number) => Some(Txt::from(number.to_string(alloc)?)),
         Scalar::Truth(true) => Some(Txt::of(alloc, "true")?),
         Scalar::Truth(false) => Some(Txt::of(alloc, "false")?),
         Scalar::UniqueId(bytes) => Some(urn(alloc, bytes)?),

@@ -2,6 +2,7 @@
 ghost use Rattle.std.specs.Prelude.{◌≡◌, ◌++◌, ◌↔◌, [], IsSome, List, ℕ};
 ghost use Rattle.nbfx_values.specs.declared.content.Item.{Item};
 ghost use Rattle.nbfx_values.specs.Documents.{Children, IsDocument, IsFront, IsRefusedAt, height, walk};
+ghost use Rattle.nbfx_values.specs.Limits.{IsGood, usual_limits};
 ghost use Rattle.nbfx_values.specs.Measures.{depth_of};
 ghost use Rattle.nbfx_values.specs.Refusals.{reason_number};
 ghost use Rattle.nbfx_values.specs.Standings.{at_begin, at_end, stands};
@@ -12,6 +13,11 @@ use crate::refusals::Reason;
 pub fn one_number_one_reason(first: &Reason, second: &Reason)
     requires { reason_number first.now ≡ reason_number second.now }
     ensures { first.now ≡ second.now }
+{}
+
+/// The usual limits are good ones.
+pub fn usual_limits_are_good()
+    ensures { IsGood usual_limits }
 {}
 
 /// The depth of a document is the height of the elements that stand in one another.
