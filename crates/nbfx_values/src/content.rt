@@ -88,11 +88,9 @@ impl ArrayKind {
     {
         match (self, scalar) {
             (ArrayKind::Bool, Scalar::Truth(_)) => true,
-            (ArrayKind::Int16, Scalar::Number(n)) => -32_768 <= *n && *n <= 32_767,
-            (ArrayKind::Int32, Scalar::Number(n)) => -2_147_483_648 <= *n && *n <= 2_147_483_647,
-            (ArrayKind::Int64, Scalar::Number(n)) => {
-                -9_223_372_036_854_775_808 <= *n && *n <= 9_223_372_036_854_775_807
-            }
+            (ArrayKind::Int16, Scalar::Number(n)) => i16::try_from(*n).is_ok(),
+            (ArrayKind::Int32, Scalar::Number(n)) => i32::try_from(*n).is_ok(),
+            (ArrayKind::Int64, Scalar::Number(n)) => i64::try_from(*n).is_ok(),
             (ArrayKind::Float, Scalar::Float(_))
             | (ArrayKind::Double, Scalar::Double(_))
             | (ArrayKind::Decimal, Scalar::Decimal(_))
