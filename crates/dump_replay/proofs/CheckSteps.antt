@@ -1,11 +1,12 @@
 -- What a check that reads a stream piece by piece knows between two pieces, and where it ends.
-use Rattle.std.proofs.Common.{◌≡◌, ℕ, ◌-◌, ◌^◌, ◌≤◌, ◌<◌, ◌⊎◌, inl, inr, List, [], ◌++◌, length, take, drop, Option, Some, None, Result, Ok, Err, IfOk, IfErr, OnOk, OnErr, ◌↔◌, refl, sym, ap, ◌∙◌, subst, arith, append_assoc, length-append}
+use Rattle.std.proofs.Common.{◌≡◌, ℕ, ◌-◌, ◌≤◌, ◌<◌, ◌⊎◌, inl, inr, List, [], ◌++◌, length, take, drop, Option, Some, None, Result, Ok, Err, IfOk, IfErr, OnOk, OnErr, ◌↔◌, refl, sym, ap, ◌∙◌, subst, arith, append_assoc, length-append}
 use Rattle.std.proofs.lemmas.List.{append-nil, length-take-le, take-append-le, take-append-drop, take_all}
 use Rattle.io_edges.specs.Faults.{Rose}
 use Rattle.io_edges.specs.Flow.{Told, Moves, GrowsByPrefix}
 use Rattle.io_edges.specs.declared.SinkFault.{SinkFault}
 use Rattle.io_edges.specs.declared.SinkFault.TheVariants as faults
-use Rattle.nbfx_values.specs.QuotasOf.{Holds}
+use Rattle.nbfx_values.specs.Limits.{Limits as Held, usual_limits}
+use Rattle.nbfx_values.specs.QuotasOf.{limits_of as held_by}
 use Rattle.nbfx_values.specs.declared.limits.Quotas.{Quotas}
 use Rattle.nbfx_values.specs.declared.refusals.Offence.{Offence}
 use Rattle.dump_replay.specs.declared.receiver.Receiver.{Receiver}
@@ -43,9 +44,18 @@ pub room_is : (items new : List ℕ) (len : ℕ) → len ≡ length items → le
 room_is items new len e h = take-append-le len new (drop (length new) items) (omega arith) ∙ take_all len new (omega arith)
 
 -- the quotas where none is said are the usual limits
-pub usual_is : (q : Quotas) → Holds q 65536 32 2048 262144 2048 (2 ^ 48) → ◌≡◌ {A = Settings} (record { limits = limits_of q }) usual
+pub usual_is : (q : Quotas) → held_by q ≡ usual_limits → ◌≡◌ {A = Settings} (record { limits = limits_of q }) usual
 unfolding usual
-usual_is q h = rw (h.payload_is, h.depth_is, h.dictionary_is, h.content_is, h.via_is, h.session_is) refl
+usual_is q h =
+    rw (
+      ap (λ (l : Held). l.payload) h,
+      ap (λ (l : Held). l.depth) h,
+      ap (λ (l : Held). l.dictionary) h,
+      ap (λ (l : Held). l.content) h,
+      ap (λ (l : Held). l.via) h,
+      ap (λ (l : Held). l.session) h,
+    )
+    refl
 
 -- no bytes are refused, and none end the session
 pub usual_nothing : IsPending usual []

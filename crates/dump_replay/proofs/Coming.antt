@@ -12,7 +12,7 @@ use Rattle.nmf_records.specs.declared.frame.Frame.TheVariants.{Version, Mode, Vi
 use Rattle.nmf_records.specs.declared.frame.FrameFault.{FrameFault}
 use Rattle.nmf_records.specs.Records.{Read}
 use Rattle.nmf_records.specs.Reading.{version_at, byte_at, typed_at, allows, record_at}
-use Rattle.unit_streams.specs.Front.{behind}
+use Rattle.unit_streams.specs.Parts.{further, seen}
 use Rattle.dump_replay.specs.Stream.{Settings, Stage, at_version, at_mode, at_via, at_encoding, at_preamble_end, at_message, in_payload, after_end, StreamUnit, frame, payload_byte, types_of, unless_refused, as_unit, payload_at, refused, unit_at}
 
 -- of a whole thing
@@ -40,7 +40,7 @@ type_of PreambleAck = 11
 type_of PreambleEnd = 12
 
 -- what is read behind other bytes
-behind_of : {A B R S : Type 0} (P : B → Type 0) (n : ℕ) (f : A → B) (g : R → S) (v : Front A R) → ((a : A) → P (f a)) → Of P (behind n f g v)
+behind_of : {A B R S : Type 0} (P : B → Type 0) (n : ℕ) (f : A → B) (g : R → S) (v : Front A R) → ((a : A) → P (f a)) → Of P (further n (seen f g v))
 behind_of P n f g begun h = tt
 behind_of P n f g (whole a k) h = h a
 behind_of P n f g (wrong r k) h = tt

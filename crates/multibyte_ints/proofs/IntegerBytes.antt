@@ -7,7 +7,7 @@ use Rattle.std.proofs.lemmas.List.{take_all, take-append-le}
 use Rattle.std.proofs.lemmas.Bool.Decides.{leb_tells}
 use Rattle.unit_streams.specs.Front.{begun, whole, wrong, ReadsFront}
 use Rattle.unit_streams.proofs.Peeling.{extent, IsPeeling, peels_front}
-use Rattle.unit_streams.proofs.Fronts.{at_last}
+use Rattle.unit_streams.proofs.Taken.{at_last}
 use Rattle.multibyte_ints.specs.Integer.{value_of, int_at}
 use Rattle.multibyte_ints.specs.Laws.{FifthIsAbove}
 use Rattle.multibyte_ints.proofs.Values.{value_of_more}

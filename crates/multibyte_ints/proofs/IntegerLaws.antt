@@ -4,7 +4,7 @@ use Rattle.std.proofs.lemmas.List.{length-take-le, take_all, take-append-drop}
 use Rattle.std.proofs.Math.Seq.{take-append_seam}
 use Rattle.std.proofs.lemmas.Bool.Decides.{leb_tells}
 use Rattle.unit_streams.specs.Front.{begun, whole}
-use Rattle.unit_streams.proofs.Fronts.{none_goes_on}
+use Rattle.unit_streams.proofs.Taken.{none_goes_on}
 use Rattle.multibyte_ints.specs.Integer.{value_of, int_at, Spells}
 use Rattle.multibyte_ints.proofs.Values.{value_of_five, value_of_fifth, value_of_four}
 use Rattle.multibyte_ints.proofs.IntegerFacts.{EndsAt, whole_is}

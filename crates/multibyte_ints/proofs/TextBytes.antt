@@ -6,7 +6,7 @@ use Rattle.std.proofs.lemmas.Bool.Decides.{leb_tells}
 use Rattle.std.proofs.lemmas.List.{take-append-le, drop-append-le}
 use Rattle.unit_streams.specs.Front.{begun, whole, ReadsFront}
 use Rattle.unit_streams.proofs.Peeling.{extent, IsPeeling, peels_front}
-use Rattle.unit_streams.proofs.Fronts.{at_last}
+use Rattle.unit_streams.proofs.Taken.{at_last}
 use Rattle.multibyte_ints.specs.Integer.{int_at}
 use Rattle.multibyte_ints.specs.Text.{string_at}
 use Rattle.multibyte_ints.proofs.IntegerBytes.{int_peels, int_reads_front}

@@ -6,7 +6,7 @@ use Rattle.std.proofs.lemmas.Str.{IsUtf8-from_is_utf8, is_utf8-from_IsUtf8}
 use Rattle.std.proofs.lemmas.List.{length-take-le, take-append-drop}
 use Rattle.std.proofs.Math.Seq.{take-add, drop-append_seam, take-length}
 use Rattle.unit_streams.specs.Front.{whole}
-use Rattle.unit_streams.proofs.Fronts.{none_goes_on}
+use Rattle.unit_streams.proofs.Taken.{none_goes_on}
 use Rattle.multibyte_ints.specs.Integer.{Spells, shortest, int_at}
 use Rattle.multibyte_ints.specs.Text.{IsString, string_at, string_bytes_of}
 use Rattle.multibyte_ints.proofs.IntegerLaws.{spells_from_whole, whole_then}

@@ -17,7 +17,7 @@ use Rattle.multibyte_ints.specs.Text.{bad_int, too_long, bad_utf8, string_at}
 use Rattle.multibyte_ints.specs.Reader.{StandsFor}
 use Rattle.multibyte_ints.specs.TextPart.{Waits, InLengthAllUsed, InTextAllUsed, step_of, is_settled}
 use Rattle.multibyte_ints.specs.TextReader.{StringStandsFor, StringAnswersAt, Reached, Rests, InLength, InText, EndsAtInt, text_of}
-use Rattle.unit_streams.proofs.Fronts.{all_taken, whole_then, wrong_then}
+use Rattle.unit_streams.proofs.Taken.{all_taken, whole_then, wrong_then}
 use Rattle.multibyte_ints.proofs.IntegerBytes.{int_peels, int_reads_front, wrong_at_last}
 use Rattle.multibyte_ints.proofs.TextFacts.{int_begun_is, int_wrong_is, waiting_is, text_is, no_text_is}
 use Rattle.multibyte_ints.proofs.TextBytes.{string_reads_front}

@@ -3,15 +3,9 @@ use Rattle.std.proofs.Common.{◌≡◌, ◌∙◌, ◌+◌, ◌-◌, ◌≤◌,
 use Rattle.nbfx_values.specs.declared.content.AttrItem.{AttrItem}
 use Rattle.nbfx_values.specs.declared.content.AttrItem.TheVariants.{Xmlns as DeclaresOn, Attr as AttrOn}
 use Rattle.nbfx_values.specs.declared.content.Item.{Item}
-use Rattle.nbfx_values.specs.declared.content.Item.TheVariants.{Start, Xmlns, Attr, Array, Close}
+use Rattle.nbfx_values.specs.declared.content.Item.TheVariants.{Array, Close}
 use Rattle.nbfx_values.specs.Documents.{Children, no_more, text, comment, array, element, item_of, walk, height}
 use Rattle.nbfx_values.specs.Measures.{open_at, opened, opened_by, most_open, depth_of}
-use Rattle.nbfx_values.specs.declared.document.Standing.{Standing}
-use Rattle.nbfx_values.specs.declared.document.Standing.TheVariants.{Before, Within, After}
-use Rattle.nbfx_values.specs.Items.{is_valid_item}
-use Rattle.nbfx_values.specs.Standings.{moved, stands, open_in}
-use Rattle.nbfx_values.proofs.Walks.{led, passed}
-use Rattle.std.proofs.Common.{true, false, zero, suc, Some, subst}
 
 open_at-least : (n : ℕ) (x : Item) → n ≤ open_at n x
 open_at-least n (Array a) = omega arith
@@ -52,28 +46,3 @@ depth-walk c =
 pub most_open-append : (n : ℕ) (xs ys : List Item) → most_open n (xs ++ ys) ≡ max (most_open n xs) (most_open (opened_by n xs) ys)
 most_open-append n [] ys = let l = most_open-least n ys in omega (arith, l)
 most_open-append n (x ∷ xs) ys = let e = most_open-append (opened n x) xs ys in omega (arith, e)
-
-pub opened_by-append : (n : ℕ) (xs ys : List Item) → opened_by n (xs ++ ys) ≡ opened_by (opened_by n xs) ys
-opened_by-append n [] ys = refl
-opened_by-append n (x ∷ xs) ys = opened_by-append (opened n x) xs ys
-
--- what an item opens is open where it leads
-moved-opened : (s t : Standing) (x : Item) → moved s x ≡ Some t → opened (open_in s) x ≡ open_in t
-moved-opened Before t (Start p l) h = let e : Within 0 true ≡ t = cc in ap open_in e
-moved-opened Before t x h = absurd cc
-moved-opened (Within n a) t (Start p l) h = let e : Within (suc n) true ≡ t = cc in subst (λ v. n + 1 + 1 ≡ open_in v) e (omega arith)
-moved-opened (Within n true) t (Xmlns p u) h = let e : Within n true ≡ t = cc in ap open_in e
-moved-opened (Within n false) t (Xmlns p u) h = absurd cc
-moved-opened (Within n true) t (Attr p l v) h = let e : Within n true ≡ t = cc in ap open_in e
-moved-opened (Within n false) t (Attr p l v) h = absurd cc
-moved-opened (Within zero a) t Close h = let e : After ≡ t = cc in subst (λ v. 0 + 1 - 1 ≡ open_in v) e refl
-moved-opened (Within (suc n) a) t Close h = let e : Within n false ≡ t = cc in subst (λ v. suc n + 1 - 1 ≡ open_in v) e (omega arith)
-moved-opened (Within n a) t x h = let e : Within n false ≡ t = cc in ap open_in e
-moved-opened After t x h = absurd cc
-
--- what items open is open where they lead
-pub stands-opened : (s : Standing) (xs : List Item) (t : Standing) → stands (Some s) xs ≡ Some t → opened_by (open_in s) xs ≡ open_in t
-stands-opened s [] t h = let e : s ≡ t = cc in ap open_in e
-stands-opened s (x ∷ xs) t h =
-    let (u, e, g) = led (moved s x) s x xs t refl (passed (is_valid_item x) (moved s x) xs t h).1 in
-    ap (λ n. opened_by n xs) (moved-opened s u x e) ∙ stands-opened u xs t g

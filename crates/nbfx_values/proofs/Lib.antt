@@ -1,4 +1,5 @@
 pub mod Heights
 pub mod OnLiterals
+pub mod Positions
 pub mod Worked
 pub mod Walks

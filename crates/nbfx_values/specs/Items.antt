@@ -1,5 +1,5 @@
 -- Which items a document can hold.
-use Rattle.std.specs.Prelude.{ℕ, List, ◌^◌, ◌-◌, pos, negsuc, Bool, true, false, ◌&&◌, nat_lt, length}
+use Rattle.std.specs.Prelude.{ℕ, List, Bool, true, false, ◌&&◌, nat_lt, length}
 use Rattle.std.specs.List.{list_all}
 use Rattle.std.specs.Str.{is_utf8}
 use Rattle.nbfx_values.specs.declared.content.ArrayItem.{ArrayItem}
@@ -11,14 +11,14 @@ use Rattle.nbfx_values.specs.declared.content.Item.{Item}
 use Rattle.nbfx_values.specs.declared.content.Item.TheVariants.{Start, Xmlns, Attr, Text, Comment, Array, Close}
 use Rattle.nbfx_values.specs.declared.scalars.Scalar.{Scalar}
 use Rattle.nbfx_values.specs.declared.scalars.Scalar.TheVariants.{Number, Truth, Float, Double, Decimal, DateTime, TimeSpan, Uuid}
-use Rattle.nbfx_values.specs.Scalars.{is_between, is_valid_scalar, is_valid_value}
+use Rattle.nbfx_values.specs.Scalars.{is_signed, is_valid_scalar, is_valid_value}
 
 -- whether a value is of an array's kind, and in its range
 abbrev pub fits_kind : ArrayKind → Scalar → Bool
 fits_kind Bools (Truth truth) = true
-fits_kind Int16 (Number n) = is_between (negsuc (2 ^ 15 - 1)) (pos (2 ^ 15 - 1)) n
-fits_kind Int32 (Number n) = is_between (negsuc (2 ^ 31 - 1)) (pos (2 ^ 31 - 1)) n
-fits_kind Int64 (Number n) = is_between (negsuc (2 ^ 63 - 1)) (pos (2 ^ 63 - 1)) n
+fits_kind Int16 (Number n) = is_signed 16 n
+fits_kind Int32 (Number n) = is_signed 32 n
+fits_kind Int64 (Number n) = is_signed 64 n
 fits_kind Floats (Float bits) = is_valid_scalar (Float bits)
 fits_kind Doubles (Double bits) = is_valid_scalar (Double bits)
 fits_kind Decimals (Decimal d) = is_valid_scalar (Decimal d)

@@ -2,9 +2,10 @@ pub mod Characters
 pub mod Documents
 pub mod Items
 pub mod Limits
+pub mod Measured
 pub mod Measures
+pub mod Positions
 pub mod QuotasOf
 pub mod Refusals
 pub mod Scalars
 pub mod Session
-pub mod Standings

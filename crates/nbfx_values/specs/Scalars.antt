@@ -12,13 +12,27 @@ use Rattle.nbfx_values.specs.declared.scalars.Value.TheVariants.{One, List as Li
 abbrev pub is_between : ℤ → ℤ → ℤ → Bool
 is_between first last n = not (int_lt n first) && not (int_lt last n)
 
--- whether a number has a record: those with a sign reach down to -2^63, that without a sign up to 2^64 - 1
+-- the least and the greatest number of so many bits, one of which is the sign
+abbrev pub least_signed : ℕ → ℤ
+least_signed bits = negsuc (2 ^ (bits - 1) - 1)
+
+abbrev pub greatest_signed : ℕ → ℤ
+greatest_signed bits = pos (2 ^ (bits - 1) - 1)
+
+abbrev pub is_signed : ℕ → ℤ → Bool
+is_signed bits = is_between (least_signed bits) (greatest_signed bits)
+
+-- whether a number has so many bits, none of which is a sign
+abbrev pub is_unsigned : ℕ → ℕ → Bool
+is_unsigned bits n = nat_lt n (2 ^ bits)
+
+-- whether a number has a record: the widest with a sign has 64 bits, and so has the one without
 abbrev pub is_number : ℤ → Bool
-is_number = is_between (negsuc (2 ^ 63 - 1)) (pos (2 ^ 64 - 1))
+is_number = is_between (least_signed 64) (pos (2 ^ 64 - 1))
 
 -- whether all are bytes, and whether they are an identifier
 abbrev pub are_bytes : List ℕ → Bool
-are_bytes = list_all (λ byte. nat_le byte 255)
+are_bytes = list_all (is_unsigned 8)
 
 abbrev pub is_identifier : List ℕ → Bool
 is_identifier bytes = length bytes == 16 && are_bytes bytes
@@ -26,11 +40,11 @@ is_identifier bytes = length bytes == 16 && are_bytes bytes
 abbrev pub is_valid_scalar : Scalar → Bool
 is_valid_scalar (Number n) = is_number n
 is_valid_scalar (Truth truth) = true
-is_valid_scalar (Float bits) = nat_le bits (2 ^ 32 - 1)
-is_valid_scalar (Double bits) = nat_le bits (2 ^ 64 - 1)
-is_valid_scalar (Decimal d) = nat_le d.scale 28 && nat_lt d.magnitude (2 ^ 96)
-is_valid_scalar (DateTime pattern) = nat_le pattern (2 ^ 64 - 1)
-is_valid_scalar (TimeSpan span) = is_between (negsuc (2 ^ 63 - 1)) (pos (2 ^ 63 - 1)) span
+is_valid_scalar (Float bits) = is_unsigned 32 bits
+is_valid_scalar (Double bits) = is_unsigned 64 bits
+is_valid_scalar (Decimal d) = nat_le d.scale 28 && is_unsigned 96 d.magnitude
+is_valid_scalar (DateTime pattern) = is_unsigned 64 pattern
+is_valid_scalar (TimeSpan span) = is_signed 64 span
 is_valid_scalar (Text bytes) = is_utf8 bytes
 is_valid_scalar (Bytes bytes) = are_bytes bytes
 is_valid_scalar (UniqueId bytes) = is_identifier bytes

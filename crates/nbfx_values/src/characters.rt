@@ -4,10 +4,11 @@ ghost use Rattle.uuid.specs.Text.{hyphenated_text, lower, urn_text};
 ghost use Rattle.nbfx_values.specs.Characters.{scalar_characters, value_characters};
 ghost use Rattle.nbfx_values.specs.Scalars.{is_valid_scalar, is_valid_value};
 
-use crate::copies::{Copied, Memory};
+use crate::copies::Copied;
 use crate::scalars::{Scalar, Value};
 use crate::texts::Txt;
 use std::alloc::Global;
+use unit_streams::Memory;
 use uuid::Uuid;
 
 fn hyphenated(alloc: Global, bytes: &[u8; 16]) -> Result<Txt, Memory>
@@ -35,7 +36,7 @@ fn prefixed(alloc: Global, letter: u8, name: &Txt) -> Result<Txt, Memory>
     text.push((b'a' + letter) as char)?;
     text.push(':')?;
     text.push_str(name.as_str())?;
-    Ok(Txt::from_string(text))
+    Ok(Txt::from(text))
 }
 
 fn of_scalar(alloc: Global, scalar: &Scalar) -> Result<Option<Txt>, Memory>
@@ -44,7 +45,7 @@ fn of_scalar(alloc: Global, scalar: &Scalar) -> Result<Option<Txt>, Memory>
 {
     Ok(match scalar {
         Scalar::Text(text) => Some(text.copy()?),
-        Scalar::Number(number) => Some(Txt::from_string(number.to_string(alloc)?)),
+        Scalar::Number(number) => Some(Txt::from(number.to_string(alloc)?)),
         Scalar::Truth(true) => Some(Txt::of(alloc, "true")?),
         Scalar::Truth(false) => Some(Txt::of(alloc, "false")?),
         Scalar::UniqueId(bytes) => Some(urn(alloc, bytes)?),

@@ -3,10 +3,11 @@ ghost use Rattle.std.specs.List.{list_all};
 ghost use Rattle.nbfx_values.specs.Items as spec;
 ghost use Rattle.nbfx_values.specs.Items.{fits_kind, is_valid_array, is_valid_attribute, is_valid_item};
 
-use crate::copies::{Copied, Memory};
+use crate::copies::Copied;
 use crate::lists::Sequence;
 use crate::scalars::{Scalar, Value, Values};
 use crate::texts::Txt;
+use unit_streams::Memory;
 
 /// One item of a document, in the order in which a payload's records give them. The empty prefix
 /// means none.
@@ -87,11 +88,9 @@ impl ArrayKind {
     {
         match (self, scalar) {
             (ArrayKind::Bool, Scalar::Truth(_)) => true,
-            (ArrayKind::Int16, Scalar::Number(n)) => -32_768 <= *n && *n <= 32_767,
-            (ArrayKind::Int32, Scalar::Number(n)) => -2_147_483_648 <= *n && *n <= 2_147_483_647,
-            (ArrayKind::Int64, Scalar::Number(n)) => {
-                -9_223_372_036_854_775_808 <= *n && *n <= 9_223_372_036_854_775_807
-            }
+            (ArrayKind::Int16, Scalar::Number(n)) => i16::try_from(*n).is_ok(),
+            (ArrayKind::Int32, Scalar::Number(n)) => i32::try_from(*n).is_ok(),
+            (ArrayKind::Int64, Scalar::Number(n)) => i64::try_from(*n).is_ok(),
             (ArrayKind::Float, Scalar::Float(_))
             | (ArrayKind::Double, Scalar::Double(_))
             | (ArrayKind::Decimal, Scalar::Decimal(_))

@@ -1,72 +1,37 @@
-ghost use Rattle.std.specs.Prelude.{◌≡◌, ◌<◌, ◌^◌, ◌↔◌, IfErr, IfNone, IfOk, IfSome, IsOk, Some};
+// Documents.
+ghost use Rattle.std.specs.Prelude.{◌≡◌, ◌↔◌, IfErr, IfOk, IsOk, OnOk, Some};
 ghost use Rattle.nbfx_values.specs.Documents.{IsDocument, IsRefusedAt};
-ghost use Rattle.nbfx_values.specs.Standings.{StopsAt, has_room, stands, step};
+ghost use Rattle.nbfx_values.specs.Measured.{AreMeasuresOf, IsMeasuredDocument};
+ghost use Rattle.nbfx_values.specs.Measures.{capped, content_of, depth_of};
+ghost use Rattle.nbfx_values.specs.Positions.{StopsAt, position_of};
 
 use crate::content::{Item, Items};
-use crate::copies::{Copied, Memory};
+use crate::copies::Copied;
 use crate::lists::Sequence;
+use crate::measures::Measures;
+use crate::position::Position;
 use std::marker::Model;
+use unit_streams::Memory;
 
-// Where a list of items stands that may be the front of a document.
-#[derive(Clone, Copy)]
-enum Standing {
-    // Nothing has begun.
-    Before,
-    // So many elements are open besides the root. An attribute may stand next, or may not.
-    Within { inner: usize, attributes: bool },
-    // The root has ended.
-    After,
-}
-
-impl Standing {
-    fn after(self, item: &Item) -> Option<Standing>
-        requires { has_room self }
-        ensures { result ≡ step self item.now }
-    {
-        if !item.check() {
-            return None;
-        }
-        match (self, item) {
-            (Standing::Before, Item::Start { .. }) => Some(Standing::Within {
-                inner: 0,
-                attributes: true,
-            }),
-            (Standing::Within { inner, .. }, Item::Start { .. }) => Some(Standing::Within {
-                inner: inner + 1,
-                attributes: true,
-            }),
-            (Standing::Within { inner, attributes }, Item::Xmlns { .. } | Item::Attr { .. }) => {
-                attributes.then_some(Standing::Within { inner, attributes })
-            }
-            (Standing::Within { inner: 0, .. }, Item::Close) => Some(Standing::After),
-            (Standing::Within { inner, .. }, Item::Close) => Some(Standing::Within {
-                inner: inner - 1,
-                attributes: false,
-            }),
-            (Standing::Within { inner, .. }, _) => Some(Standing::Within {
-                inner,
-                attributes: false,
-            }),
-            _ => None,
-        }
-    }
-}
-
-// Where a list of items is refused, if it isn't a document.
-fn refused_at(items: &[Item]) -> Option<usize>
-    ensures document { IfNone result (stands (Some Standing.Before) items.now ≡ Some Standing.After) }
-    ensures refused { IfSome result (StopsAt items.now) }
+// The measures of a document's items, or where the items are refused.
+fn measures_of(items: &[Item]) -> Result<Measures, usize>
+    ensures document { OnOk result (position_of items.now ≡ Some Position.After) }
+    ensures measures { IfOk result (AreMeasuresOf items.now) }
+    ensures refused { IfErr result (StopsAt items.now) }
 {
-    let mut standing = Standing::Before;
+    let mut position = Position::start();
+    let mut measures = Measures::none();
     for (at, item) in items.iter().enumerate() {
-        match standing.after(item) {
-            Some(next) => standing = next,
-            None => return Some(at),
-        }
+        let Some(next) = position.after(item) else {
+            return Err(at);
+        };
+        measures = measures.with(position.open_count(), item);
+        position = next;
     }
-    match standing {
-        Standing::After => None,
-        _ => Some(items.len()),
+    if position.has_ended() {
+        Ok(measures)
+    } else {
+        Err(items.len())
     }
 }
 
@@ -75,18 +40,19 @@ fn refused_at(items: &[Item]) -> Option<usize>
 #[derive(Debug, Drop)]
 pub struct Doc {
     items: Items,
+    measures: Measures,
 }
 
 impl Model for Doc {
     ghost use Rattle.std.specs.Prelude.{List};
     ghost use Rattle.nbfx_values.specs.declared.content.Item.{Item};
-    ghost use Rattle.nbfx_values.specs.Documents.{IsDocument};
+    ghost use Rattle.nbfx_values.specs.Measured.{IsMeasuredDocument};
 
     ghost Value = { List Item };
 
     ghost view = { λ d. d.items };
 
-    ghost invariant = { λ d. IsDocument d.items };
+    ghost invariant = { λ d. IsMeasuredDocument d.items d.measures };
 }
 
 /// A list of items that isn't a document.
@@ -100,6 +66,14 @@ pub struct NotADoc {
 }
 
 impl Doc {
+    // The document with these items, which have these measures.
+    pub(crate) fn with_measures(items: Items, measures: Measures) -> Doc
+        requires { IsMeasuredDocument items measures }
+        ensures { result ≡ items }
+    {
+        Doc { items, measures }
+    }
+
     /// The document with these items.
     pub fn of(items: Items) -> Result<Doc, NotADoc>
         ensures ok { IsOk result ↔ IsDocument items }
@@ -107,9 +81,9 @@ impl Doc {
         ensures at { IfErr result (λ refusal. IsRefusedAt items refusal.at) }
         ensures handed_back { IfErr result (λ refusal. refusal.items ≡ items) }
     {
-        match refused_at(items.as_slice()) {
-            None => Ok(Doc { items }),
-            Some(at) => Err(NotADoc { at, items }),
+        match measures_of(items.as_slice()) {
+            Ok(measures) => Ok(Doc { items, measures }),
+            Err(at) => Err(NotADoc { at, items }),
         }
     }
 
@@ -120,12 +94,36 @@ impl Doc {
     {
         &self.items
     }
+
+    /// The items, taken out.
+    pub fn into_items(self) -> Items
+        ensures same { result ≡ self }
+        ensures document { IsDocument self }
+    {
+        let Doc { items, .. } = self;
+        items
+    }
+
+    /// The greatest number of elements that are open at one moment, an array's element included.
+    pub fn depth(&self) -> u64
+        ensures { result ≡ depth_of self.now }
+    {
+        self.measures.depth
+    }
+
+    /// The document's content: the bytes of its texts and values, up to 2^64 - 1.
+    pub fn content(&self) -> u64
+        ensures { result ≡ capped (content_of self.now) }
+    {
+        self.measures.content
+    }
 }
 
 impl Copied for Doc {
     fn copy(&self) -> Result<Doc, Memory> {
         Ok(Doc {
             items: self.items.copy()?,
+            measures: self.measures,
         })
     }
 }

@@ -1,10 +1,13 @@
 //! Laws over the definitions alone. Each is the contract of a function that does nothing.
-ghost use Rattle.std.specs.Prelude.{◌≡◌, ◌++◌, ◌↔◌, [], IsSome, List, ℕ};
+ghost use Rattle.std.specs.Prelude.{◌≡◌, ◌++◌, ◌↔◌, [], IsSome, List, Some, ℕ};
 ghost use Rattle.nbfx_values.specs.declared.content.Item.{Item};
+ghost use Rattle.nbfx_values.specs.declared.position.Position.{Position};
+ghost use Rattle.nbfx_values.specs.declared.position.Position.TheVariants.{After};
 ghost use Rattle.nbfx_values.specs.Documents.{Children, IsDocument, IsFront, IsRefusedAt, height, walk};
-ghost use Rattle.nbfx_values.specs.Measures.{depth_of};
+ghost use Rattle.nbfx_values.specs.Limits.{IsGood, usual_limits};
+ghost use Rattle.nbfx_values.specs.Measures.{depth_of, opened_by};
+ghost use Rattle.nbfx_values.specs.Positions.{open_count, position_of};
 ghost use Rattle.nbfx_values.specs.Refusals.{reason_number};
-ghost use Rattle.nbfx_values.specs.Standings.{at_begin, at_end, stands};
 
 use crate::refusals::Reason;
 
@@ -12,6 +15,11 @@ use crate::refusals::Reason;
 pub fn one_number_one_reason(first: &Reason, second: &Reason)
     requires { reason_number first.now ≡ reason_number second.now }
     ensures { first.now ≡ second.now }
+{}
+
+/// The usual limits are good ones.
+pub fn usual_limits_are_good()
+    ensures { IsGood usual_limits }
 {}
 
 /// The depth of a document is the height of the elements that stand in one another.
@@ -22,13 +30,19 @@ pub fn depth_is_height()
 /// A list is a document exactly where its items, each allowed behind those before it, lead from
 /// before the root to behind it.
 pub fn a_document_leads_to_its_end()
-    ensures { (items : List Item) → IsDocument items ↔ (stands at_begin items ≡ at_end) }
+    ensures { (items : List Item) → IsDocument items ↔ (position_of items ≡ Some After) }
 {}
 
 /// A list is a front of a document exactly where each of its items is allowed behind those before
 /// it.
 pub fn a_front_leads_on()
-    ensures { (items : List Item) → IsFront items ↔ IsSome (stands at_begin items) }
+    ensures { (items : List Item) → IsFront items ↔ IsSome (position_of items) }
+{}
+
+/// As many elements are open where items lead as they opened and didn't close.
+pub fn a_position_counts_the_open()
+    ensures { (items : List Item) (position : Position) → position_of items ≡ Some position
+        → open_count position ≡ opened_by 0 items }
 {}
 
 /// No document goes on as another one.

@@ -13,6 +13,7 @@
 //! and encodings) and `Refusals` (reasons). The laws that tie them are in `laws`.
 #![tactic(auto)]
 
+mod builder;
 mod characters;
 mod content;
 mod copies;
@@ -21,21 +22,25 @@ pub mod laws;
 mod limits;
 mod lists;
 mod measures;
+mod position;
 mod refusals;
 mod scalars;
 mod session;
 mod texts;
 mod threads;
 
+pub use builder::{DocBuilder, PushFault};
 pub use content::{ArrayItem, ArrayKind, AttrItem, Attrs, Item, Items};
-pub use copies::{Copied, Memory};
+pub use copies::Copied;
 pub use document::{Doc, Docs, NotADoc};
 pub use limits::{Kept, Quotas};
 pub use lists::Sequence;
+pub use position::Position;
 pub use refusals::{Offence, Place, Reason};
 pub use scalars::{Dec, Scalar, Value, Values};
 pub use session::{Kind, Mode};
 pub use texts::{Blob, Txt};
+pub use unit_streams::Memory;
 
 #[cfg(test)]
 mod tests;

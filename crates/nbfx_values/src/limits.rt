@@ -1,4 +1,4 @@
-ghost use Rattle.nbfx_values.specs.Limits.{Good};
+ghost use Rattle.nbfx_values.specs.Limits.{IsGood, limits};
 
 /// What a reader or writer of sessions admits. Sizes are in bytes.
 #[derive(Clone, Copy, Debug, PartialEq, Eq)]
@@ -15,17 +15,17 @@ pub struct Quotas {
     pub via: u32,
     /// Bytes read in one session.
     pub session: u64,
-    pub ghost good: { Good payload depth dictionary content via session },
+    pub ghost good: { IsGood (limits payload depth dictionary content via session) },
 }
 
 impl Quotas {
     ghost use Rattle.std.specs.Prelude.{◌^◌, ◌↔◌, ◌≡◌, IfSome, IsSome};
-    ghost use Rattle.nbfx_values.specs.Limits.{Good};
-    ghost use Rattle.nbfx_values.specs.QuotasOf.{Holds};
+    ghost use Rattle.nbfx_values.specs.Limits.{IsGood, limits, usual_limits};
+    ghost use Rattle.nbfx_values.specs.QuotasOf.{limits_of};
 
     /// The quotas of a stack that nobody has set otherwise.
     pub fn usual() -> Quotas
-        ensures { Holds result 65536 32 2048 262144 2048 (2 ^ 48) }
+        ensures { limits_of result ≡ usual_limits }
     {
         Quotas {
             payload: 65_536,
@@ -46,8 +46,10 @@ impl Quotas {
         via: u32,
         session: u64,
     ) -> Option<Quotas>
-        ensures good { IsSome result ↔ Good payload depth dictionary content via session }
-        ensures values { IfSome result (λ q. Holds q payload depth dictionary content via session) }
+        ensures good { IsSome result
+            ↔ IsGood (limits payload depth dictionary content via session) }
+        ensures limits { IfSome result (λ quotas.
+            limits_of quotas ≡ limits payload depth dictionary content via session) }
     {
         let good = (4_096..=1_048_576).contains(&payload)
             && (4..=128).contains(&depth)

@@ -1,9 +1,11 @@
 ghost use Rattle.std.specs.Prelude.{◌≡◌, [], ◌∷◌, ◌++◌, OnErr, OnOk, length, slice_get};
 ghost use Rattle.std.specs.Option.{option_copied};
 
-use crate::copies::{Copied, Memory};
+use crate::copies::Copied;
 use std::alloc::Global;
 use std::marker::Model;
+use std::mem;
+use unit_streams::Memory;
 
 /// A list that grows at its end, which contracts see as the list of its values.
 #[derive(Debug, Drop)]
@@ -49,9 +51,27 @@ impl<T> Sequence<T> {
     {
         self.items.as_slice()
     }
+
+    // The values, which leave the list without any.
+    pub(crate) fn take(&mut self) -> Sequence<T>
+        ensures values { result ≡ self.old }
+        ensures none { self.new ≡ [] }
+    {
+        let alloc = *self.items.allocator();
+        Sequence {
+            items: mem::replace(&mut self.items, Vec::new(alloc)),
+        }
+    }
 }
 
 impl<T: Drop> Sequence<T> {
+    /// Takes all values out. The room stays.
+    pub fn clear(&mut self)
+        ensures { self.new ≡ [] }
+    {
+        self.items.clear();
+    }
+
     /// Puts one more value at the end. Want of memory drops it and leaves the list.
     pub fn push(&mut self, one: T) -> Result<(), Memory>
         ensures pushed { OnOk result (self.new ≡ self.old ++ one ∷ []) }

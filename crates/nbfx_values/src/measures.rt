@@ -1,9 +1,10 @@
-ghost use Rattle.std.specs.Prelude.{◌≡◌, ◌+◌, ◌<◌, ◌^◌, length, sum_by};
+// How deep and how large values and items are.
+ghost use Rattle.std.specs.Prelude.{◌≡◌, ◌+◌, ◌<◌, ◌^◌, List, [], ◌∷◌, ◌++◌, length, sum_by};
 ghost use Rattle.nbfx_values.specs.Measures as spec;
-ghost use Rattle.nbfx_values.specs.Measures.{array_content, attribute_content, capped, content_of, depth_of, item_content, scalar_content, value_content};
+ghost use Rattle.nbfx_values.specs.Measures.{array_content, attribute_content, capped, item_content, opened_by, scalar_content, value_content};
+ghost use Rattle.nbfx_values.specs.Measured.{AreMeasuresOf};
 
 use crate::content::{ArrayItem, AttrItem, Item};
-use crate::document::Doc;
 use crate::scalars::{Scalar, Value};
 use crate::texts::Txt;
 
@@ -109,64 +110,44 @@ impl Item {
     }
 }
 
-fn content_of_items(items: &[Item]) -> u64
-    ensures { result ≡ capped (content_of items.now) }
-{
-    let mut content: u64 = 0;
-    for item in items {
-        content = content.saturating_add(item.content());
-    }
-    content
-}
-
-// The elements that are open behind an item.
-fn opened(count: u64, item: &Item) -> u64
-    requires { count < 2 ^ 63 }
-    ensures { result ≡ spec.opened count item.now }
+// The most elements that are open while an item stands and behind it.
+fn most_open(before: usize, item: &Item) -> usize
+    requires { before < 2 ^ 63 }
+    ensures { result ≡ spec.most_open before (item.now ∷ []) }
 {
     match item {
-        Item::Start { .. } => count + 1,
-        Item::Close => count.saturating_sub(1),
-        _ => count,
+        Item::Start { .. } | Item::Array(_) => before + 1,
+        _ => before,
     }
 }
 
-// The elements that are open while an item stands.
-fn open_at(count: u64, item: &Item) -> u64
-    requires { count < 2 ^ 63 }
-    ensures { result ≡ spec.open_at count item.now }
-{
-    match item {
-        Item::Array(_) => count + 1,
-        _ => count,
-    }
+/// The depth and the content of items, which more are put behind.
+#[derive(Clone, Copy, Debug)]
+pub(crate) struct Measures {
+    pub(crate) depth: u64,
+    pub(crate) content: u64,
 }
 
-// The greatest number of elements that are open at one moment.
-fn most_open(items: &[Item]) -> u64
-    ensures { result ≡ depth_of items.now }
-{
-    let mut count = 0;
-    let mut most = 0;
-    for item in items {
-        most = open_at(count, item).max(most);
-        count = opened(count, item);
-    }
-    most.max(count)
-}
-
-impl Doc {
-    /// The greatest number of elements that are open at one moment, an array's element included.
-    pub fn depth(&self) -> u64
-        ensures { result ≡ depth_of self.now }
+impl Measures {
+    /// Those of no items.
+    pub(crate) fn none() -> Measures
+        ensures { AreMeasuresOf [] result }
     {
-        most_open(self.items().as_slice())
+        Measures {
+            depth: 0,
+            content: 0,
+        }
     }
 
-    /// The document's content: the bytes of its texts and values, up to 2^64 - 1.
-    pub fn content(&self) -> u64
-        ensures { result ≡ capped (content_of self.now) }
+    /// Those with one item more, before which so many elements are open.
+    pub(crate) fn with(self, before: usize, item: &Item) -> Measures
+        requires { before < 2 ^ 63 }
+        ensures { (items : List Item) → opened_by 0 items ≡ before → AreMeasuresOf items self
+            → AreMeasuresOf (items ++ item.now ∷ []) result }
     {
-        content_of_items(self.items().as_slice())
+        Measures {
+            depth: self.depth.max(most_open(before, item) as u64),
+            content: self.content.saturating_add(item.content()),
+        }
     }
 }

@@ -3,9 +3,10 @@ ghost use Rattle.std.specs.List.{list_all};
 ghost use Rattle.nbfx_values.specs.Scalars as spec;
 ghost use Rattle.nbfx_values.specs.Scalars.{is_valid_scalar, is_valid_value};
 
-use crate::copies::{Copied, Memory};
+use crate::copies::Copied;
 use crate::lists::Sequence;
 use crate::texts::{Blob, Txt};
+use unit_streams::Memory;
 
 /// A decimal number: its magnitude, divided by 10 to the power of its scale.
 #[derive(Clone, Copy, Debug, PartialEq, Eq)]
@@ -71,9 +72,7 @@ impl Scalar {
         ensures { result ≡ is_valid_scalar self.now }
     {
         match self {
-            Scalar::Number(number) => {
-                -9_223_372_036_854_775_808 <= *number && *number <= 18_446_744_073_709_551_615
-            }
+            Scalar::Number(number) => { (i64::MIN as i128..=u64::MAX as i128).contains(number) }
             Scalar::Truth(_) => true,
             Scalar::Float(bits) => *bits <= u32::MAX,
             Scalar::Double(bits) => *bits <= u64::MAX,

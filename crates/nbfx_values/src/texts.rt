@@ -1,9 +1,10 @@
-ghost use Rattle.std.specs.Prelude.{◌≡◌, IfOk, string_bytes};
+ghost use Rattle.std.specs.Prelude.{◌≡◌, IfOk, IsTrue, string_bytes};
 ghost use Rattle.std.specs.Str.{is_utf8};
 
-use crate::copies::{Copied, Memory};
+use crate::copies::Copied;
 use std::alloc::Global;
 use std::marker::Model;
+use unit_streams::Memory;
 
 /// A text, which contracts see as the list of its UTF-8 bytes.
 #[derive(Debug, Drop)]
@@ -29,26 +30,28 @@ impl Txt {
         })
     }
 
-    // The text that a string holds.
-    pub(crate) fn from_string(text: String) -> Txt
-        ensures { result ≡ string_bytes text }
-    {
-        Txt { text }
-    }
-
     // Whether the bytes are UTF-8, as those of every text are.
     pub(crate) fn check(&self) -> bool
         ensures { result ≡ is_utf8 self.now }
     {
-        let _text = self.text.as_str();
+        let _text = self.as_str();
         true
     }
 
     /// The characters.
     pub fn as_str(&self) -> &str
-        ensures { result.now ≡ self.now }
+        ensures same { result.now ≡ self.now }
+        ensures utf8 { IsTrue (is_utf8 self.now) }
     {
         self.text.as_str()
+    }
+}
+
+impl From<String> for Txt {
+    ghost from_gives = { λ text t. t ≡ string_bytes text };
+
+    fn from(text: String) -> Txt {
+        Txt { text }
     }
 }
 
@@ -89,6 +92,14 @@ impl Blob {
         ensures { result.now ≡ self.now }
     {
         self.bytes.as_slice()
+    }
+}
+
+impl From<Vec<u8>> for Blob {
+    ghost from_gives = { λ bytes b. b ≡ bytes.items };
+
+    fn from(bytes: Vec<u8>) -> Blob {
+        Blob { bytes }
     }
 }
 

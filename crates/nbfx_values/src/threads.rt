@@ -1,3 +1,4 @@
+use crate::builder::DocBuilder;
 use crate::content::Items;
 use crate::document::{Doc, Docs};
 use crate::limits::Quotas;
@@ -11,6 +12,7 @@ fn is_shared<T: Sync>() {}
 fn move_and_share() {
     moves::<Doc>();
     moves::<Docs>();
+    moves::<DocBuilder>();
     moves::<Items>();
     moves::<Quotas>();
     is_shared::<Docs>();

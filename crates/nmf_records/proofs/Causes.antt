@@ -4,7 +4,7 @@ use Rattle.std.specs.Prelude.{nat_lt, ◌==◌, ◌||◌, ⊤}
 use Rattle.std.proofs.lemmas.Bool.{cond_both}
 use Rattle.std.proofs.lemmas.Bool.Decides.{nat_tests}
 use Rattle.std.proofs.lemmas.List.{length-take-le, take-append-drop, length-drop}
-use Rattle.unit_streams.specs.Front.{Front, begun, whole, wrong, behind}
+use Rattle.unit_streams.specs.Front.{Front, begun, whole, wrong}
 use Rattle.multibyte_ints.specs.Integer.{int_at}
 use Rattle.multibyte_ints.specs.Text.{string_at, StringFault, bad_int, too_long, bad_utf8}
 use Rattle.multibyte_ints.specs.Laws.{FifthIsAbove}
@@ -19,7 +19,7 @@ use Rattle.nmf_records.specs.declared.frame.Expect.TheVariants.{Types, Chunk}
 use Rattle.nmf_records.specs.declared.frame.FrameFault.{FrameFault}
 use Rattle.nmf_records.specs.declared.frame.FrameFault.TheVariants as faults
 use Rattle.nmf_records.specs.Records.{Read}
-use Rattle.nmf_records.specs.Reading.{with_text, bare, fault_of, size_at, text_at, version_at, byte_at, typed_at, allows, frame_at}
+use Rattle.nmf_records.specs.Reading.{size_at, text_at, version_at, byte_at, typed_at, allows, frame_at, as_size, as_text}
 use Rattle.nmf_records.specs.Laws.{BeginsUnknown, BeginsUnexpected, has_integer, IntegerComes, HasLongText, HasBadText}
 use Rattle.nmf_records.proofs.Typed.{type_known}
 use Rattle.nmf_records.proofs.TypeCases.{by_type}
@@ -88,7 +88,7 @@ module _ (limit types kind : ℕ) (bytes : List ℕ) (may : allows types kind �
   text_causes : (frame : Frame) → ((kind == VIA) || (kind == FAULT)) ≡ true → has_integer kind ≡ true → Of (text_at limit frame bytes)
   text_causes frame text has = by_string (string_at limit bytes) refl
     where
-      by_string : (y : Front (List ℕ) StringFault) → string_at limit bytes ≡ y → Of (behind 1 (with_text frame) fault_of y)
+      by_string : (y : Front (List ℕ) StringFault) → string_at limit bytes ≡ y → Of (as_text frame y)
       by_string begun h = tt
       by_string (whole s k) h = tt
       by_string (wrong bad_int k) h = int_causes k has (bad_int_cause limit bytes k h)
@@ -99,7 +99,7 @@ module _ (limit types kind : ℕ) (bytes : List ℕ) (may : allows types kind �
   size_causes : has_integer kind ≡ true → Of (size_at 1 frames.SizedEnvelope bytes)
   size_causes has = by_int (int_at bytes) refl
     where
-      by_int : (y : Front ℕ ⊤) → int_at bytes ≡ y → Of (behind 1 (λ size. bare (frames.SizedEnvelope size)) (λ _. faults.BadInt) y)
+      by_int : (y : Front ℕ ⊤) → int_at bytes ≡ y → Of (as_size 1 frames.SizedEnvelope y)
       by_int begun h = tt
       by_int (whole n k) h = tt
       by_int (wrong r k) h = int_causes k has h
@@ -146,7 +146,7 @@ front_causes limit (Types types) (kind ∷ bytes) =
     (λ known. cond_both (allows types kind) _ _ P (λ may. typed_causes limit types kind bytes may (type_known kind known)) (λ not_due. (refl, (refl, type_known kind known, inl not_due))))
 front_causes limit Chunk bytes = by_int (int_at bytes) refl
   where
-    by_int : (y : Front ℕ ⊤) → int_at bytes ≡ y → OfWrong (HasCause limit Chunk bytes) (behind 0 (λ size. bare (frames.Chunk size)) (λ _. faults.BadInt) y)
+    by_int : (y : Front ℕ ⊤) → int_at bytes ≡ y → OfWrong (HasCause limit Chunk bytes) (as_size 0 frames.Chunk y)
     by_int begun h = tt
     by_int (whole n k) h = tt
     by_int (wrong r k) h = let c = above_from bytes tt k h in (0, refl, ap (λ j. 0 + j) c.0, c.1)

@@ -4,7 +4,7 @@ use Rattle.std.specs.Prelude.{nat_lt, ◌==◌, ◌||◌}
 use Rattle.std.proofs.lemmas.Bool.{eqb-true, cases_Bool, and_parts, or_cases}
 use Rattle.std.proofs.lemmas.Bool.Decides.{nat_tests}
 use Rattle.std.proofs.Math.Seq.{take-append_seam, drop-append_seam}
-use Rattle.unit_streams.specs.Front.{wrong, behind}
+use Rattle.unit_streams.specs.Front.{wrong}
 use Rattle.multibyte_ints.specs.Integer.{int_at}
 use Rattle.multibyte_ints.specs.Text.{string_at, too_long, bad_utf8}
 use Rattle.multibyte_ints.specs.Laws.{FifthIsAbove}
@@ -18,7 +18,7 @@ use Rattle.nmf_records.specs.declared.frame.Expect.{Expect}
 use Rattle.nmf_records.specs.declared.frame.Expect.TheVariants.{Types, Chunk}
 use Rattle.nmf_records.specs.declared.frame.FrameFault.{FrameFault}
 use Rattle.nmf_records.specs.declared.frame.FrameFault.TheVariants as faults
-use Rattle.nmf_records.specs.Reading.{with_text, fault_of, text_at, typed_at, allows, record_at, frame_at}
+use Rattle.nmf_records.specs.Reading.{text_at, typed_at, allows, record_at, frame_at, as_text}
 use Rattle.nmf_records.specs.Steps.{begins_text}
 use Rattle.nmf_records.specs.Laws.{BeginsUnknown, BeginsUnexpected, has_no_frame, has_integer, IntegerComes, HasLongText, HasBadText}
 use Rattle.nmf_records.proofs.Typed.{allowed_reads}
@@ -117,7 +117,7 @@ long_text_comes limit expect bytes n h =
     let text = text_comes limit expect h.kind (h.spelling ++ h.rest) begins in
     let long : string_at limit (h.spelling ++ h.rest) ≡ wrong too_long (length h.spelling)
     = too_long_comes limit (h.spelling ++ h.rest) (length h.spelling) h.size (whole_then h.spelling h.rest h.size h.spelled) h.above in
-    rw (h.joined, h.place) (text.1 ∙ ap (behind 1 (with_text text.0) fault_of) long)
+    rw (h.joined, h.place) (text.1 ∙ ap (as_text text.0) long)
 
 -- a text that isn't UTF-8 is wrong at its last byte
 bad_text_comes_at : (limit : ℕ) (expect : Expect) (bytes : List ℕ) (n : ℕ) → HasBadText limit expect bytes n → frame_at limit expect bytes ≡ wrong faults.TextNotUtf8 n
@@ -139,7 +139,7 @@ bad_text_comes_at limit expect bytes n h =
       bad = rw same h.bad;
     }) in
     let place : n ≡ 1 + (length h.spelling + length h.text) = omega (arith, h.place) in
-    rw (h.joined, place) (text.1 ∙ ap (behind 1 (with_text text.0) fault_of) bad)
+    rw (h.joined, place) (text.1 ∙ ap (as_text text.0) bad)
 
 -- bytes that have the cause of a fault are wrong by it
 pub fault_comes : (limit : ℕ) (expect : Expect) (bytes : List ℕ) (fault : FrameFault) (n : ℕ) → HasCause limit expect bytes fault n → frame_at limit expect bytes ≡ wrong fault n

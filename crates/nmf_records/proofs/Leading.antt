@@ -1,6 +1,6 @@
 -- What a byte of a type, a field or a size led to.
 use Rattle.std.proofs.Common.{◌≡◌, ℕ, suc, ◌+◌, ◌≤◌, List, [], ◌∷◌, ◌++◌, length, drop, refl, sym, ap, ◌∙◌, subst, arith, length-append}
-use Rattle.unit_streams.specs.Front.{begun, behind}
+use Rattle.unit_streams.specs.Front.{begun}
 use Rattle.multibyte_ints.specs.Integer.{int_at}
 use Rattle.multibyte_ints.specs.Reader.{StandsFor as IntStandsFor}
 use Rattle.multibyte_ints.proofs.IntegerBytes.{wrong_at_last}
@@ -19,7 +19,7 @@ use Rattle.nmf_records.specs.declared.stage.Stage.TheVariants as stages
 use Rattle.nmf_records.specs.declared.stage.Progress.{Progress}
 use Rattle.nmf_records.specs.declared.stage.Progress.TheVariants.{Going, Done, Wrong}
 use Rattle.nmf_records.specs.declared.reader.FrameReader.{FrameReader}
-use Rattle.nmf_records.specs.Reading.{bare, size_at, frame_at}
+use Rattle.nmf_records.specs.Reading.{bare, size_at, frame_at, as_size}
 use Rattle.nmf_records.specs.Steps.{HasShape, HasNoText, Meets, GoesTo, size_bytes, sized}
 use Rattle.nmf_records.specs.Reader.{HoldsText}
 use Rattle.nmf_records.specs.Advancing.{Leads, BeginsAnew, ReadsBytes, SizeAnswers}
@@ -63,12 +63,12 @@ module _ (limit n : ℕ) (expect : Expect) (size : SizeRecord) (q : List ℕ) (b
       → HasShape expect (stages.Size size) p → size_bytes (stages.Size size) p ≡ q ++ byte ∷ [] → int_at q ≡ begun
       → SizeAnswers size (q ++ byte ∷ []) mid.size progress → Leads limit expect p mid progress
   size_leads mid (Going stage) reads len shape bytes so_far answers =
-      rw answers.0 (reads ∙ ap (behind n (λ m. bare (sized size m)) (λ _. faults.BadInt)) answers.1, shape, rw bytes answers.2, tt)
+      rw answers.0 (reads ∙ ap (as_size n (sized size)) answers.1, shape, rw bytes answers.2, tt)
   size_leads mid (Done frame) reads len shape bytes so_far answers =
-      ([], reads ∙ ap (behind n (λ m. bare (sized size m)) (λ _. faults.BadInt)) answers.2 ∙ rw (answers.1, len) refl, answers.3)
+      ([], reads ∙ ap (as_size n (sized size)) answers.2 ∙ rw (answers.1, len) refl, answers.3)
   size_leads mid (Wrong fault) reads len shape bytes so_far answers =
       let fifth = wrong_at_last q byte so_far answers.1 in
-      reads ∙ ap (behind n (λ m. bare (sized size m)) (λ _. faults.BadInt)) answers.1 ∙ rw (answers.0, len, ← fifth) refl
+      reads ∙ ap (as_size n (sized size)) answers.1 ∙ rw (answers.0, len, ← fifth) refl
 
 -- a fixed field has a byte before it
 pub field_some : (expect : Expect) (field : Field) (p : List ℕ) → HasShape expect (stages.Field field) p → 1 ≤ length p

@@ -3,8 +3,8 @@ use Rattle.std.proofs.Common.{◌≡◌, ℕ, suc, ◌+◌, ◌≤◌, List, [],
 use Rattle.std.specs.Prelude.{nat_lt, ⊤, Some}
 use Rattle.std.proofs.lemmas.Bool.{cond_both}
 use Rattle.std.proofs.lemmas.List.{length-take-le, take-append-drop}
-use Rattle.unit_streams.specs.Front.{Front, begun, whole, wrong, behind}
-use Rattle.unit_streams.proofs.Fronts.{none_goes_on}
+use Rattle.unit_streams.specs.Front.{Front, begun, whole, wrong}
+use Rattle.unit_streams.proofs.Taken.{none_goes_on}
 use Rattle.multibyte_ints.specs.Integer.{int_at}
 use Rattle.multibyte_ints.specs.Text.{string_at, StringFault}
 use Rattle.multibyte_ints.proofs.IntegerLaws.{spells_from_whole, whole_from_all}
@@ -15,9 +15,8 @@ use Rattle.nmf_records.specs.declared.frame.Frame.TheVariants as frames
 use Rattle.nmf_records.specs.declared.frame.Expect.{Expect}
 use Rattle.nmf_records.specs.declared.frame.Expect.TheVariants.{Types, Chunk}
 use Rattle.nmf_records.specs.declared.frame.FrameFault.{FrameFault}
-use Rattle.nmf_records.specs.declared.frame.FrameFault.TheVariants as faults
 use Rattle.nmf_records.specs.Records.{Read, type_of, IsTextRecord, IsRecordOf, IsRecord}
-use Rattle.nmf_records.specs.Reading.{with_text, bare, fault_of, size_at, text_at, version_at, byte_at, lone, typed_at, allows, allows_type, MayCome, frame_at}
+use Rattle.nmf_records.specs.Reading.{with_text, size_at, text_at, version_at, byte_at, lone, typed_at, allows, allows_type, MayCome, frame_at, as_size, as_text}
 use Rattle.nmf_records.proofs.Frames.{frames_front}
 use Rattle.nmf_records.proofs.Typed.{type_known}
 use Rattle.nmf_records.proofs.TypeCases.{by_type, read_by_type}
@@ -54,7 +53,7 @@ module _ (limit types kind : ℕ) (bytes : List ℕ) (may : allows types kind �
   read_text : (frame : Frame) (n : ℕ) → kind ≡ n → type_of frame ≡ Some n → ((text b : List ℕ) → IsTextRecord n text b → IsRecordOf frame text b) → Of (text_at limit frame bytes)
   read_text frame n e is record_of = by_string (string_at limit bytes) refl
     where
-      by_string : (y : Front (List ℕ) StringFault) → string_at limit bytes ≡ y → Of (behind 1 (with_text frame) fault_of y)
+      by_string : (y : Front (List ℕ) StringFault) → string_at limit bytes ≡ y → Of (as_text frame y)
       by_string begun h = tt
       by_string (whole s k) h =
           let w = string_from_whole limit bytes s k h in
@@ -65,7 +64,7 @@ module _ (limit types kind : ℕ) (bytes : List ℕ) (may : allows types kind �
   read_size : kind ≡ SIZED_ENVELOPE → Of (size_at 1 frames.SizedEnvelope bytes)
   read_size e = by_int (int_at bytes) refl
     where
-      by_int : (y : Front ℕ ⊤) → int_at bytes ≡ y → Of (behind 1 (λ size. bare (frames.SizedEnvelope size)) (λ _. faults.BadInt) y)
+      by_int : (y : Front ℕ ⊤) → int_at bytes ≡ y → Of (as_size 1 frames.SizedEnvelope y)
       by_int begun h = tt
       by_int (whole n k) h = ((refl, take k bytes, (spells_from_whole bytes n k h).1, first_more SIZED_ENVELOPE k e), type_may (frames.SizedEnvelope n) SIZED_ENVELOPE e refl, omega arith)
       by_int (wrong r k) h = tt
@@ -109,7 +108,7 @@ read_front limit (Types types) (kind ∷ bytes) =
     (λ known. cond_both (allows types kind) _ _ P (λ may. read_typed limit types kind bytes may (type_known kind known)) (λ _. tt))
 read_front limit Chunk bytes = by_int (int_at bytes) refl
   where
-    by_int : (y : Front ℕ ⊤) → int_at bytes ≡ y → OfWhole (IsReadOf limit Chunk bytes) (behind 0 (λ size. bare (frames.Chunk size)) (λ _. faults.BadInt) y)
+    by_int : (y : Front ℕ ⊤) → int_at bytes ≡ y → OfWhole (IsReadOf limit Chunk bytes) (as_size 0 frames.Chunk y)
     by_int begun h = tt
     by_int (whole n k) h = let z : 0 + k ≡ k = omega arith in ((refl, rw z (spells_from_whole bytes n k h).1), refl, omega arith)
     by_int (wrong r k) h = tt

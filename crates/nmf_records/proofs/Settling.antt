@@ -9,7 +9,7 @@ use Rattle.nmf_records.specs.Reading.{frame_at}
 use Rattle.nmf_records.specs.Reader.{StandsFor, limit_of, pending_of, failure_of}
 use Rattle.nmf_records.specs.Advancing.{Leads, Steps, Keeps, stage_after, pending_after}
 use Rattle.unit_streams.proofs.Peeling.{extent}
-use Rattle.unit_streams.proofs.Fronts.{taken_len}
+use Rattle.unit_streams.proofs.Taken.{taken_len}
 use Rattle.nmf_records.proofs.Frames.{frame_peels}
 use Rattle.nmf_records.proofs.Short.{begun_short, decided_short}
 

@@ -2,7 +2,7 @@
 use Rattle.std.proofs.Common.{◌≡◌, ℕ, Bool, true, false, List, [], ◌∷◌, ◌++◌, drop, refl, sym, ap, ◌∙◌, arith}
 use Rattle.std.specs.Prelude.{◌==◌, ◌&&◌, ◌||◌}
 use Rattle.std.proofs.Math.Bool.{and-false}
-use Rattle.unit_streams.specs.Front.{Front, begun, whole, wrong, behind}
+use Rattle.unit_streams.specs.Front.{Front, begun, whole, wrong}
 use Rattle.multibyte_ints.specs.Text.{StringFault, string_at}
 use Rattle.multibyte_ints.specs.Reader.{StandsFor as IntStandsFor}
 use Rattle.multibyte_ints.specs.TextReader.{StringStandsFor, text_of, limit_of as text_limit_of}
@@ -22,7 +22,7 @@ use Rattle.nmf_records.specs.declared.stage.Progress.{Progress}
 use Rattle.nmf_records.specs.declared.stage.Progress.TheVariants.{Going, Done, Wrong}
 use Rattle.nmf_records.specs.declared.reader.FrameReader.{FrameReader}
 use Rattle.nmf_records.specs.Records.{Read}
-use Rattle.nmf_records.specs.Reading.{with_text, allows, fault_of, text_at, frame_at}
+use Rattle.nmf_records.specs.Reading.{with_text, allows, fault_of, text_at, frame_at, as_text}
 use Rattle.nmf_records.specs.Steps.{HasShape, Meets, begins_text, is_text_start, kind_of_text, texted}
 use Rattle.nmf_records.specs.Reader.{ShowsText, text_after, text_read, limit_of}
 use Rattle.nmf_records.specs.Advancing.{BeginsAnew, TextAnswers, Leads}
@@ -92,7 +92,7 @@ text_head limit expect texts.Via q c h = let m = begun_may_come limit expect VIA
 text_head limit expect texts.Fault q c h = let m = begun_may_come limit expect FAULT q (omega arith) h in rw (m.1, m.2) refl
 
 -- the text that is read of a record is that of its string
-read_text : (frame : Frame) (y : Front (List ℕ) StringFault) → text_read (behind 1 (with_text frame) fault_of y) ≡ text_of y
+read_text : (frame : Frame) (y : Front (List ℕ) StringFault) → text_read (as_text frame y) ≡ text_of y
 read_text frame begun = refl
 read_text frame (whole s k) = refl
 read_text frame (wrong r k) = refl
@@ -126,11 +126,11 @@ text_leads limit expect text p c mid progress h shape int answers =
     by_progress : (q : List ℕ) (progress : Progress) → frame_at limit expect (kind_of_text text ∷ q) ≡ text_at limit (texted text) q
         → TextAnswers limit text q mid.text progress → Leads limit expect (kind_of_text text ∷ q) mid progress
     by_progress q (Going stage) reads answers =
-        rw answers.0 (reads ∙ ap (behind 1 (with_text (texted text)) fault_of) answers.1, refl, int, answers.2)
+        rw answers.0 (reads ∙ ap (as_text (texted text)) answers.1, refl, int, answers.2)
     by_progress q (Done frame) reads answers =
-        (answers.1, reads ∙ ap (behind 1 (with_text (texted text)) fault_of) answers.2 ∙ rw answers.0 (ap (whole (with_text (texted text) answers.1)) (omega arith)), int)
+        (answers.1, reads ∙ ap (as_text (texted text)) answers.2 ∙ rw answers.0 (ap (whole (with_text (texted text) answers.1)) (omega arith)), int)
     by_progress q (Wrong fault) reads answers =
-        reads ∙ ap (behind 1 (with_text (texted text)) fault_of) answers.2 ∙ rw answers.1 (ap (wrong (fault_of answers.0)) (omega arith))
+        reads ∙ ap (as_text (texted text)) answers.2 ∙ rw answers.1 (ap (wrong (fault_of answers.0)) (omega arith))
 
 -- the string of a text that has begun
 pub text_begun : (limit : ℕ) (expect : Expect) (text : TextRecord) (p : List ℕ) → frame_at limit expect p ≡ begun → HasShape expect (stages.Text text) p → string_at limit (drop 1 p) ≡ begun

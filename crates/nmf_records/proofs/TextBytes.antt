@@ -6,7 +6,7 @@ use Rattle.multibyte_ints.specs.declared.text.StringStep.TheVariants as steps
 use Rattle.multibyte_ints.specs.Text.{string_at, bad_int, too_long, bad_utf8}
 use Rattle.multibyte_ints.specs.TextReader.{StringStandsFor, StringAnswersAt}
 use Rattle.multibyte_ints.proofs.TextBytes.{string_reads_front}
-use Rattle.unit_streams.proofs.Fronts.{all_taken, whole_of_taken, wrong_of_taken}
+use Rattle.unit_streams.proofs.Taken.{all_taken, whole_of_taken, wrong_of_taken}
 use Rattle.nmf_records.specs.declared.stage.TextRecord.{TextRecord}
 use Rattle.nmf_records.specs.Steps.{progress_of}
 use Rattle.nmf_records.specs.Advancing.{TextAnswers}

@@ -1,7 +1,8 @@
 -- What the front of some bytes is, where a record or a chunk's size is to come.
-use Rattle.std.specs.Prelude.{◌≡◌, ℕ, List, [], ◌∷◌, Bool, true, false, Option, Some, None, is_none, nat_lt, ◌==◌, if◌then◌else◌}
+use Rattle.std.specs.Prelude.{◌≡◌, ℕ, List, [], ◌∷◌, Bool, true, false, Option, Some, None, is_none, nat_lt, ◌==◌, if◌then◌else◌, ⊤}
 use Rattle.std.specs.Int.{bit_at}
-use Rattle.unit_streams.specs.Front.{Front, begun, whole, wrong, behind}
+use Rattle.unit_streams.specs.Front.{Front, begun, whole, wrong}
+use Rattle.unit_streams.specs.Parts.{further, seen}
 use Rattle.multibyte_ints.specs.Integer.{int_at}
 use Rattle.multibyte_ints.specs.Text.{string_at, StringFault, bad_int, too_long, bad_utf8}
 use Rattle.nmf_records.specs.declared.record_types.TheConstants.{VERSION, MODE, VIA, KNOWN_ENCODING, UNSIZED_ENVELOPE, SIZED_ENVELOPE, END, FAULT, PREAMBLE_ACK, PREAMBLE_END, GREATEST}
@@ -27,13 +28,21 @@ fault_of bad_int = faults.BadInt
 fault_of too_long = faults.TextTooLong
 fault_of bad_utf8 = faults.TextNotUtf8
 
+-- an integer behind so many bytes, as a size
+abbrev pub as_size : ℕ → (ℕ → Frame) → Front ℕ ⊤ → Front Read FrameFault
+as_size n frame int = further n (seen (λ size. bare (frame size)) (λ _. faults.BadInt) int)
+
 -- a size, behind a type byte or as a chunk has it
 abbrev pub size_at : ℕ → (ℕ → Frame) → List ℕ → Front Read FrameFault
-size_at n frame bytes = behind n (λ size. bare (frame size)) (λ _. faults.BadInt) (int_at bytes)
+size_at n frame bytes = as_size n frame (int_at bytes)
+
+-- a string behind a type byte, as a text
+abbrev pub as_text : Frame → Front (List ℕ) StringFault → Front Read FrameFault
+as_text frame string = further 1 (seen (with_text frame) fault_of string)
 
 -- a text behind a type byte
 abbrev pub text_at : ℕ → Frame → List ℕ → Front Read FrameFault
-text_at limit frame bytes = behind 1 (with_text frame) fault_of (string_at limit bytes)
+text_at limit frame bytes = as_text frame (string_at limit bytes)
 
 -- two bytes behind a type byte
 abbrev pub version_at : List ℕ → Front Read FrameFault

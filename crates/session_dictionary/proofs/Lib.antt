@@ -1,4 +1,2 @@
-pub mod Laws
 pub mod StringFacts
 pub mod TableFacts
-mod Worked

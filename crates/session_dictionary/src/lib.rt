@@ -2,8 +2,9 @@
 //! direction brought along, in the order in which they came. String i has the identifier 2i + 1, and
 //! the strings' cost together stays within a limit.
 //!
-//! A contract sees a `SessionTable` as the list of its strings and its limit. `specs/Strings.antt` has
-//! the cost of strings, the string that an identifier names and the least identifier of a text.
+//! A contract sees a `SessionTable` as the list of its strings and its limit. The cost of strings, the
+//! text of an identifier and the least identifier of a text are words of `string_tables`
+//! (`SessionStrings`).
 #![tactic(auto)]
 
 mod table;

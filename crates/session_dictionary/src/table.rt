@@ -2,12 +2,14 @@
 ghost use Rattle.std.specs.Prelude.{◌≡◌, ◌≢◌, ℕ, ◌+◌, ◌*◌, ◌^◌, ◌<◌, ◌≤◌, ◌↔◌, [], ◌∷◌, ◌++◌, length, map, take, drop, option_map, string_bytes, Some, IfOk, IfNone, IfSome, IsErrOf, IsTrue, OnOk, OnErr};
 ghost use Rattle.std.specs.List.{flat_map};
 ghost use Rattle.multibyte_ints.specs.Text.{string_bytes_of};
-ghost use Rattle.session_dictionary.specs.Strings.{IsLeastName, cost, least_id, text_at, used};
+ghost use Rattle.string_tables.specs.SessionStrings.{cost, least_session_id, session_text, used_cost};
+ghost use Rattle.string_tables.specs.StringTable.{IsLeastName};
 ghost use Rattle.session_dictionary.specs.Marks.{IsMarkOf};
 
-use multibyte_ints::{Memory, put_string};
+use multibyte_ints::put_string;
 use std::alloc::{AllocError, Global};
 use std::marker::Model;
+use unit_streams::Memory;
 
 /// Why a string was not added.
 #[derive(Clone, Copy, Debug, PartialEq, Eq)]
@@ -35,13 +37,13 @@ pub struct SessionTable {
 }
 
 impl Model for SessionTable {
-    ghost use Rattle.session_dictionary.specs.Strings.{Table};
+    ghost use Rattle.session_dictionary.specs.Strings.{LimitedStrings};
 
-    ghost Value = { Table };
+    ghost Value = { LimitedStrings };
 
-    ghost use Rattle.session_dictionary.specs.Inside.{table_of, IsTable};
+    ghost use Rattle.session_dictionary.specs.Inside.{strings_in, IsTable};
 
-    ghost view = { table_of };
+    ghost view = { strings_in };
 
     ghost invariant = { IsTable };
 }
@@ -62,7 +64,7 @@ impl SessionTable {
 
     /// The string that an identifier names.
     pub fn text(&self, id: u32) -> Option<&str>
-        ensures { option_map (λ s. s.now) result ≡ text_at self.now.strings id }
+        ensures { option_map (λ s. s.now) result ≡ session_text self.now.strings id }
     {
         if id % 2 == 0 {
             return None;
@@ -73,9 +75,9 @@ impl SessionTable {
 
     /// The least identifier of a text.
     pub fn id(&self, text: &str) -> Option<u32>
-        ensures least { result ≡ least_id self.now.strings text.now }
-        ensures found { IfSome result (IsLeastName self.now.strings text.now) }
-        ensures none { IfNone result ((id : ℕ) → text_at self.now.strings id ≢ Some text.now) }
+        ensures least { result ≡ least_session_id self.now.strings text.now }
+        ensures found { IfSome result (IsLeastName (session_text self.now.strings) text.now) }
+        ensures none { IfNone result ((id : ℕ) → session_text self.now.strings id ≢ Some text.now) }
         ensures small { IfSome result (λ id. id < 2 ^ 31) }
     {
         let place = place_of(&self.texts, text)?;
@@ -84,7 +86,7 @@ impl SessionTable {
 
     /// What the strings cost together, in bytes.
     pub fn used(&self) -> u32
-        ensures cost { result ≡ used self.now.strings }
+        ensures cost { result ≡ used_cost self.now.strings }
         ensures within { result ≤ self.now.limit }
         ensures limited { self.now.limit ≤ 2 ^ 30 }
     {
@@ -94,7 +96,7 @@ impl SessionTable {
     /// How many strings there are.
     pub fn len(&self) -> u32
         ensures count { result ≡ length self.now.strings }
-        ensures within { result ≤ used self.now.strings }
+        ensures within { result ≤ used_cost self.now.strings }
     {
         self.texts.len() as u32
     }
@@ -112,8 +114,8 @@ impl SessionTable {
         ensures id { IfOk result (λ id. id ≡ 2 * length self.old.strings + 1) }
         ensures small { IfOk result (λ id. id < 2 ^ 31) }
         ensures added { OnOk result (self.new ≡ record self.old { strings = self.old.strings ++ text.now ∷ [] }) }
-        ensures within { OnOk result (used self.new.strings ≤ self.new.limit) }
-        ensures full { IsErrOf result AddFault.Full ↔ (self.old.limit < used self.old.strings + cost text.now) }
+        ensures within { OnOk result (used_cost self.new.strings ≤ self.new.limit) }
+        ensures full { IsErrOf result AddFault.Full ↔ (self.old.limit < used_cost self.old.strings + cost text.now) }
         ensures err { OnErr result (self.new ≡ self.old) }
     {
         let cost = text.len().max(1);
@@ -132,7 +134,7 @@ impl SessionTable {
 
     /// The place that the table has come to.
     pub fn mark(&self) -> Mark
-        ensures { result ≡ record { count = length self.now.strings; used = used self.now.strings } }
+        ensures { result ≡ record { count = length self.now.strings; used = used_cost self.now.strings } }
     {
         Mark {
             count: self.len(),
@@ -162,7 +164,7 @@ impl SessionTable {
 
 // Appends texts as Strings.
 fn put_texts(texts: &[String], out: &mut Vec<u8>) -> Result<(), Memory>
-    requires { used (map string_bytes texts.now) ≤ 2 ^ 30 }
+    requires { used_cost (map string_bytes texts.now) ≤ 2 ^ 30 }
     ensures written { OnOk result (out.new.items ≡ out.old.items ++ flat_map string_bytes_of (map string_bytes texts.now)) }
     ensures unchanged { OnErr result (out.new.items ≡ out.old.items) }
 {
@@ -188,7 +190,7 @@ fn push_text(alloc: Global, texts: &mut Vec<String>, text: &str) -> Result<(), A
 
 // The first place that holds the text.
 fn place_of(texts: &[String], text: &str) -> Option<usize>
-    ensures least { option_map (λ place. 2 * place + 1) result ≡ least_id (map string_bytes texts.now) text.now }
+    ensures least { option_map (λ place. 2 * place + 1) result ≡ least_session_id (map string_bytes texts.now) text.now }
     ensures within { IfSome result (λ place. place < length texts.now) }
 {
     for (place, held) in texts.iter().enumerate() {

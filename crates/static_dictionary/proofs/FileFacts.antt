@@ -8,7 +8,7 @@ use Rattle.std.proofs.lemmas.List.Elements.{filter_map-append}
 use Rattle.std.proofs.lemmas.List.Sums.{fold-append}
 use Rattle.csv.specs.Reading.{default_config, reader_state, strip_bom}
 use Rattle.csv.specs.declared.reader.Reader.{Reader}
-use Rattle.static_dictionary.specs.Entries.{Entry, in_order, text_at, with_entry}
+use Rattle.string_tables.specs.StaticStrings.{Entry, in_order, static_text, with_entry}
 use Rattle.static_dictionary.specs.Faults.{AddsEntryOf, Tells}
 use Rattle.static_dictionary.specs.Given.{HasGiven, NextRow}
 use Rattle.static_dictionary.specs.Inside.{AreMapsOfTable, entries_in}
@@ -17,7 +17,7 @@ use Rattle.static_dictionary.specs.declared.fault.TableFault.{TableFault}
 use Rattle.static_dictionary.specs.declared.fault.TableFault.TheVariants.{Bad, Memory}
 use Rattle.static_dictionary.specs.declared.fault.TableKind.{TableKind}
 use Rattle.static_dictionary.specs.declared.fault.TableKind.TheVariants as kind
-use Rattle.static_dictionary.proofs.EntryFacts.{same-with}
+use Rattle.string_tables.proofs.EntryFacts.{same-with}
 use Rattle.static_dictionary.proofs.RecordFacts.{records_begin}
 
 -- the file's rows begin with those that were given
@@ -33,16 +33,16 @@ in_order-push entries entry = fold-append with_entry [] entries (entry ∷ [])
 
 -- a row that fails does, whatever comes behind it, and behind any entries that give the same texts
 fault_or-same : (behind : ℕ → List Entry → Option Fault) (n : ℕ) (sorted listed : List Entry) (read : Result Entry TableKind) (fault : Fault)
-    → ((id : ℕ) → text_at sorted id ≡ text_at listed id) → fault_or (λ _ _. None) n sorted read ≡ Some fault → fault_or behind n listed read ≡ Some fault
+    → ((id : ℕ) → static_text sorted id ≡ static_text listed id) → fault_or (λ _ _. None) n sorted read ≡ Some fault → fault_or behind n listed read ≡ Some fault
 fault_or-same behind n sorted listed (Err wrong) fault same e = e
 fault_or-same behind n sorted listed (Ok entry) fault same e =
-    elim (cases_Bool (is_some (text_at sorted entry.0))) [
+    elim (cases_Bool (is_some (static_text sorted entry.0))) [
       | inl seen ↦ rw (← same entry.0, seen) (rw seen at e)
       | inr fresh ↦ cc (rw fresh at e)
     ]
 
 -- a row with a new entry does not fail
-fault_or-passed : (behind : ℕ → List Entry → Option Fault) (n : ℕ) (listed : List Entry) (entry : Entry) → text_at listed entry.0 ≡ None
+fault_or-passed : (behind : ℕ → List Entry → Option Fault) (n : ℕ) (listed : List Entry) (entry : Entry) → static_text listed entry.0 ≡ None
     → fault_or behind n listed (Ok entry) ≡ behind (n + 1) (listed ++ entry ∷ [])
 fault_or-passed behind n listed entry fresh = rw fresh refl
 
@@ -54,7 +54,7 @@ pub record ReadSoFar {A : Type 0} (bytes : List ℕ) (number : ℕ) (reader : Re
   pub headed : is_header header ≡ true
   pub maps : AreMapsOfTable by_id by_text
   pub sorted : entries_in by_id ≡ in_order (entries_of rows)
-  pub same : (id : ℕ) → text_at (entries_in by_id) id ≡ text_at (entries_of rows) id
+  pub same : (id : ℕ) → static_text (entries_in by_id) id ≡ static_text (entries_of rows) id
   pub faultless : (more : List Row) → fault_from (rows ++ more) 1 [] ≡ fault_from more number (entries_of rows)
 
 -- the fault of a file whose first row is right
@@ -67,7 +67,7 @@ module _ {A : Type 0} (bytes : List ℕ) (number : ℕ) (reader next : Reader (B
       → AddsEntryOf row (entries_in by_id) (entries_in by_id2) → AreMapsOfTable by_id2 by_text2 → ReadSoFar bytes (number + 1) next by_id2 by_text2
   read_more row by_id2 by_text2 given adds maps =
       let pushed = entries_of-push so_far.rows row adds.entry adds.written in
-      let fresh : text_at (entries_of so_far.rows) adds.entry.0 ≡ None = sym (so_far.same adds.entry.0) ∙ adds.fresh in
+      let fresh : static_text (entries_of so_far.rows) adds.entry.0 ≡ None = sym (so_far.same adds.entry.0) ∙ adds.fresh in
       record {
         header = so_far.header;
         rows = so_far.rows ++ row ∷ [];
@@ -83,11 +83,11 @@ module _ {A : Type 0} (bytes : List ℕ) (number : ℕ) (reader next : Reader (B
 
   -- there is no further row
   pub read_all : rows_of bytes ≡ so_far.header ∷ so_far.rows → (entries_in by_id ≡ table_of (rows_of bytes)) × (fault_of (rows_of bytes) ≡ None)
-      × ((id : ℕ) → text_at (entries_in by_id) id ≡ text_at (entries_of (drop 1 (rows_of bytes))) id)
+      × ((id : ℕ) → static_text (entries_in by_id) id ≡ static_text (entries_of (drop 1 (rows_of bytes))) id)
   read_all all = (
     so_far.sorted ∙ ap table_of (sym all),
     ap fault_of all ∙ fault_of-headed so_far.header so_far.rows so_far.headed ∙ ap (λ rows. fault_from rows 1 []) (sym (append-nil so_far.rows)) ∙ so_far.faultless [],
-    λ id. so_far.same id ∙ ap (λ rows. text_at (entries_of (drop 1 rows)) id) (sym all),
+    λ id. so_far.same id ∙ ap (λ rows. static_text (entries_of (drop 1 rows)) id) (sym all),
   )
 
   -- the row read next fails

@@ -1,6 +1,4 @@
-pub mod EntryFacts
 pub mod FileFacts
-pub mod Laws
 pub mod MapFacts
 pub mod RecordFacts
 pub mod RowFacts

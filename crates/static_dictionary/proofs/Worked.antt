@@ -3,7 +3,7 @@ use Rattle.std.specs.Prelude.{◌≡◌, ℕ, List, [], ◌∷◌, Some, None, c
 use Rattle.std.specs.Str.{chars, is_utf8}
 use lib.Utf8.{encode}
 use Rattle.csv.proofs.OnLiterals.{csv_on_literals}
-use Rattle.static_dictionary.specs.Entries.{least_id, text_at}
+use Rattle.string_tables.specs.StaticStrings.{least_static_id, static_text}
 use Rattle.static_dictionary.specs.Rows.{fault_of, id_of, rows_of, table_of}
 use Rattle.static_dictionary.specs.declared.fault.TableKind.TheVariants as kind
 
@@ -57,9 +57,6 @@ repeated_file : fault_of (rows_of (codes "id,string\n2,a\n0,b\n2,c\n1,d\n")) ≡
 unfolding csv_on_literals is_utf8 chars encode
 repeated_file = refl
 
-two_ids : least_id ((2, codes "a") ∷ (4, codes "b") ∷ (6, codes "b") ∷ []) (codes "b") ≡ Some 4
-two_ids = refl
-
 -- the texts that an addressed envelope uses
 envelope_file : List ℕ
 envelope_file =
@@ -69,10 +66,10 @@ envelope_sound : fault_of (rows_of envelope_file) ≡ None
 unfolding envelope_file csv_on_literals is_utf8 chars encode
 envelope_sound = refl
 
-envelope_id : least_id (table_of (rows_of envelope_file)) (codes "ReplyTo") ≡ Some 44
+envelope_id : least_static_id (table_of (rows_of envelope_file)) (codes "ReplyTo") ≡ Some 44
 unfolding envelope_file csv_on_literals is_utf8 chars encode
 envelope_id = refl
 
-envelope_text : text_at (table_of (rows_of envelope_file)) 6 ≡ Some (codes "http://www.w3.org/2005/08/addressing")
+envelope_text : static_text (table_of (rows_of envelope_file)) 6 ≡ Some (codes "http://www.w3.org/2005/08/addressing")
 unfolding envelope_file csv_on_literals is_utf8 chars encode
 envelope_text = refl

@@ -1,6 +1,6 @@
 -- What a refusal tells, and what a row adds.
 use Rattle.std.specs.Prelude.{◌≡◌, ⊤, List, Option, Some, None, Ok}
-use Rattle.static_dictionary.specs.Entries.{Entry, text_at, with_entry}
+use Rattle.string_tables.specs.StaticStrings.{Entry, static_text, with_entry}
 use Rattle.static_dictionary.specs.Rows.{Fault, Row, entry_of}
 use Rattle.static_dictionary.specs.declared.fault.TableFault.{TableFault}
 use Rattle.static_dictionary.specs.declared.fault.TableFault.TheVariants.{Bad, Memory}
@@ -14,5 +14,5 @@ Tells first Memory = ⊤
 pub record AddsEntryOf (row : Row) (before after : List Entry) : Type 0 where
   pub entry : Entry
   pub written : entry_of row ≡ Ok entry
-  pub fresh : text_at before entry.0 ≡ None
+  pub fresh : static_text before entry.0 ≡ None
   pub entries : after ≡ with_entry before entry

@@ -1,7 +1,7 @@
 -- A table's two maps, as the entries that a contract sees.
 use Rattle.std.specs.Prelude.{◌≡◌, ℕ, List, map, string_bytes, String}
 use Rattle.std.specs.BTreeMap.{BTreeMap, get_by_text}
-use Rattle.static_dictionary.specs.Entries.{Entry, IsStaticMap, least_id}
+use Rattle.string_tables.specs.StaticStrings.{Entry, IsStaticMap, least_static_id}
 
 module _ {A : Type 0} where
   -- the entries of a map from identifiers to texts
@@ -11,4 +11,4 @@ module _ {A : Type 0} where
   -- the first map is that of a static table, and the second has the least identifier of each text
   pub record AreMapsOfTable (by_id : BTreeMap ℕ (String A)) (by_text : BTreeMap (String A) ℕ) : Type 0 where
     pub rises : IsStaticMap (entries_in by_id)
-    pub least : (text : List ℕ) → get_by_text by_text text ≡ least_id (entries_in by_id) text
+    pub least : (text : List ℕ) → get_by_text by_text text ≡ least_static_id (entries_in by_id) text

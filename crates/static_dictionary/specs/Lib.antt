@@ -1,4 +1,3 @@
-pub mod Entries
 pub mod Rows
 pub mod Faults
 pub mod Given

@@ -7,7 +7,7 @@ use Rattle.std.specs.Result.{result_ok}
 use Rattle.std.specs.Str.{all_ascii_digits, bytes_eq, is_utf8}
 use Rattle.std.specs.Str.Parse.{digits_value}
 use Rattle.csv.specs.Reading.{default_config, records, strip_bom}
-use Rattle.static_dictionary.specs.Entries.{Entry, in_order, text_at}
+use Rattle.string_tables.specs.StaticStrings.{Entry, in_order, static_text}
 use Rattle.static_dictionary.specs.declared.fault.TableKind.{TableKind}
 use Rattle.static_dictionary.specs.declared.fault.TableKind.TheVariants as kind
 
@@ -67,7 +67,7 @@ Fault = ℕ × TableKind
 abbrev pub fault_or : (ℕ → List Entry → Option Fault) → ℕ → List Entry → Result Entry TableKind → Option Fault
 fault_or behind n before (Err wrong) = Some (n, wrong)
 fault_or behind n before (Ok entry) =
-    if is_some (text_at before entry.0) then Some (n, kind.Repeated) else behind (n + 1) (before ++ entry ∷ [])
+    if is_some (static_text before entry.0) then Some (n, kind.Repeated) else behind (n + 1) (before ++ entry ∷ [])
 
 -- the first fault of the rows from row n on, behind these entries
 abbrev pub fault_from : List Row → ℕ → List Entry → Option Fault

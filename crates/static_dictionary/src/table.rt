@@ -1,7 +1,8 @@
 // The table of the static strings.
 ghost use Rattle.std.specs.Prelude.{◌≡◌, ◌≢◌, Some, None, ℕ, drop, option_map, OnOk, OnSome, IfErr, IfNone, IfOk, IfSome};
 ghost use Rattle.csv.specs.Records.{fields_of};
-ghost use Rattle.static_dictionary.specs.Entries.{IsLeastName, IsStaticId, IsStaticMap, least_id, least_with, text_at, with_entry};
+ghost use Rattle.string_tables.specs.StaticStrings.{IsStaticId, IsStaticMap, least_static_id, least_with, static_text, with_entry};
+ghost use Rattle.string_tables.specs.StringTable.{IsLeastName};
 ghost use Rattle.static_dictionary.specs.Faults.{AddsEntryOf, Tells};
 ghost use Rattle.static_dictionary.specs.Inside.{AreMapsOfTable, entries_in};
 ghost use Rattle.static_dictionary.specs.Rows.{entries_of, entry_of, fault_of, fault_or, rows_of, table_of};
@@ -23,7 +24,7 @@ pub struct StaticTable {
 
 impl Model for StaticTable {
     ghost use Rattle.std.specs.Prelude.{List};
-    ghost use Rattle.static_dictionary.specs.Entries.{Entry};
+    ghost use Rattle.string_tables.specs.StaticStrings.{Entry};
     ghost use Rattle.static_dictionary.specs.Inside.{AreMapsOfTable, entries_in};
 
     ghost Value = { List Entry };
@@ -38,7 +39,8 @@ impl StaticTable {
     pub fn read(alloc: Global, bytes: &[u8]) -> Result<StaticTable, TableFault>
         ensures table { IfOk result (λ table. table ≡ table_of (rows_of bytes.now)) }
         ensures map { IfOk result IsStaticMap }
-        ensures texts { IfOk result (λ table. (id : ℕ) → text_at table id ≡ text_at (entries_of (drop 1 (rows_of bytes.now))) id) }
+        ensures texts { let entries = entries_of (drop 1 (rows_of bytes.now)) in
+            IfOk result (λ table. (id : ℕ) → static_text table id ≡ static_text entries id) }
         ensures sound { OnOk result (fault_of (rows_of bytes.now) ≡ None) }
         ensures bad { IfErr result (Tells (fault_of (rows_of bytes.now))) }
     {
@@ -60,7 +62,7 @@ impl StaticTable {
 
     /// The text of an identifier.
     pub fn text(&self, id: u32) -> Option<&str>
-        ensures text { option_map (λ text. text.now) result ≡ text_at self.now id }
+        ensures text { option_map (λ text. text.now) result ≡ static_text self.now id }
         ensures static_id { OnSome result (IsStaticId id) }
         ensures map { IsStaticMap self.now }
     {
@@ -70,9 +72,9 @@ impl StaticTable {
 
     /// The least identifier of a text.
     pub fn id(&self, text: &str) -> Option<u32>
-        ensures least { result ≡ least_id self.now text.now }
-        ensures found { IfSome result (IsLeastName self.now text.now) }
-        ensures none { IfNone result ((id : ℕ) → text_at self.now id ≢ Some text.now) }
+        ensures least { result ≡ least_static_id self.now text.now }
+        ensures found { IfSome result (IsLeastName (static_text self.now) text.now) }
+        ensures none { IfNone result ((id : ℕ) → static_text self.now id ≢ Some text.now) }
         ensures static_id { IfSome result (λ id. IsStaticId id) }
         ensures map { IsStaticMap self.now }
     {
@@ -100,7 +102,7 @@ fn put_entry(
 ) -> Result<(), AllocError>
     requires maps { AreMapsOfTable by_id.old by_text.old }
     requires static_id { IsStaticId id }
-    requires fresh { text_at (entries_in by_id.old) id ≡ None }
+    requires fresh { static_text (entries_in by_id.old) id ≡ None }
     ensures maps { OnOk result (AreMapsOfTable by_id.new by_text.new) }
     ensures entries { OnOk result (entries_in by_id.new ≡ with_entry (entries_in by_id.old) (id, text.now)) }
 {

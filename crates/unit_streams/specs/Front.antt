@@ -1,5 +1,5 @@
 -- What stands at the front of some bytes, where things of one kind are read from them.
-use Rattle.std.specs.Prelude.{◌≡◌, ℕ, ◌+◌, ◌<◌, ◌≤◌, List, ◌++◌, length, take}
+use Rattle.std.specs.Prelude.{◌≡◌, ℕ, ◌<◌, ◌≤◌, List, ◌++◌, length, take, Option, Some, None}
 
 -- of things in A, with what can be wrong with one in R
 pub data Front (A R : Type 0) : Type 0 where
@@ -10,11 +10,23 @@ pub data Front (A R : Type 0) : Type 0 where
   -- no such thing, however it goes on, which the first so many bytes show and fewer do not
   wrong : R → ℕ → Front A R
 
--- what is read behind so many bytes, seen as f and g see it
-abbrev pub behind : {A B R S : Type 0} → ℕ → (A → B) → (R → S) → Front A R → Front B S
-behind n f g begun = begun
-behind n f g (whole a k) = whole (f a) (n + k)
-behind n f g (wrong r k) = wrong (g r) (n + k)
+-- what f makes of a whole thing and its length, or the other
+abbrev pub on_whole : {A R B : Type 0} → Front A R → (A → ℕ → B) → B → B
+on_whole begun f other = other
+on_whole (whole a n) f other = f a n
+on_whole (wrong r n) f other = other
+
+-- what is wrong with it
+abbrev pub wrong_of : {A R : Type 0} → Front A R → Option R
+wrong_of begun = None
+wrong_of (whole a n) = None
+wrong_of (wrong r n) = Some r
+
+-- it isn't whole
+abbrev pub IsOpen : {A R : Type 0} → Front A R → Type 0
+IsOpen begun = Unit {0}
+IsOpen (whole a n) = ⊥
+IsOpen (wrong r n) = Unit {0}
 
 -- what is said of a front rests on its own bytes: it is said of them alone and however they go on,
 -- and of fewer of them it is only said that something has begun

@@ -1,1 +1,7 @@
 pub mod Front
+pub mod Parts
+pub mod Grammar
+pub mod Judging
+pub mod Going
+pub mod Units
+pub mod Laws

@@ -2,10 +2,10 @@ use Rattle.std.proofs.Common.{arith, ◌≡◌, ◌∙◌, sym, ap, string_bytes
 use Rattle.std.specs.BTreeMap.{get_by_text}
 use Rattle.std.proofs.lemmas.Map.Text.{btree_map_updates_text}
 use Rattle.std.proofs.lemmas.Result.{IfOk-at_ok}
-use Rattle.static_dictionary.specs.Entries.{least_id, least_with, with_entry}
+use Rattle.string_tables.specs.StaticStrings.{least_static_id, least_with, with_entry}
 use Rattle.static_dictionary.specs.Inside.{entries_in}
-use Rattle.static_dictionary.proofs.EntryFacts.{rises-with}
-use Rattle.static_dictionary.proofs.MapFacts.{least_id-updated, shown, shown-insert}
+use Rattle.string_tables.proofs.EntryFacts.{rises-with}
+use Rattle.static_dictionary.proofs.MapFacts.{least_static_id-updated, shown, shown-insert}
 use Rattle.static_dictionary.proofs.table.put_entry.Goals as goal
 
 pub returns-clause-entries : goal.returns-clause-entries
@@ -24,6 +24,6 @@ returns-clause-maps c =
     record {
       rises = rw (entries c) (rises-with c.args.id c.args.text.now 0 (entries_in c.args.by_id.now) c.requires.maps.rises (omega arith) c.requires.static_id);
       least = λ q. rw key at (sets q)
-          ∙ least_id-updated (entries_in c.args.by_id.now) c.args.id c.least_with-least.result c.args.text.now q (get_by_text c.args.by_text.now q) c.requires.fresh (c.requires.maps.least q) least
-          ∙ sym (ap (λ es. least_id es q) (entries c));
+          ∙ least_static_id-updated (entries_in c.args.by_id.now) c.args.id c.least_with-least.result c.args.text.now q (get_by_text c.args.by_text.now q) c.requires.fresh (c.requires.maps.least q) least
+          ∙ sym (ap (λ es. least_static_id es q) (entries c));
     }

@@ -1,7 +1,7 @@
 use Rattle.std.proofs.Common.{◌≡◌, ℕ, ◌-◌, List, ◌++◌, length, take, drop, Some, refl, sym, ap, ◌∙◌, subst, arith, length-drop}
 use Rattle.std.proofs.lemmas.List.{append-nil, take_rest}
 use Rattle.unit_streams.specs.Front.{begun, whole, wrong}
-use Rattle.unit_streams.proofs.Fronts.{all_taken}
+use Rattle.unit_streams.proofs.Taken.{all_taken}
 use Rattle.nmf_records.specs.declared.frame.FrameRefusal.{FrameRefusal}
 use Rattle.nmf_records.specs.Reading.{with_text, frame_at}
 use Rattle.nmf_records.specs.Reader.{StandsFor, ShowsText, text_after, limit_of}

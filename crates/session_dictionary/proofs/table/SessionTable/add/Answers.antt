@@ -1,6 +1,6 @@
 use Rattle.std.proofs.Common.{arith, map, string_bytes}
 use Rattle.std.proofs.lemmas.List.{length-map}
-use Rattle.session_dictionary.proofs.StringFacts.{length_le_used}
+use Rattle.string_tables.proofs.SessionFacts.{length-le-used_cost}
 use Rattle.session_dictionary.proofs.TableFacts.{texts_few}
 use Rattle.session_dictionary.proofs.table.SessionTable.add.Goals as goal
 
@@ -14,4 +14,4 @@ pub overflow_add-id : goal.overflow_add-id
 overflow_add-id c = omega (arith, texts_few c.self.inside c.self.invariant)
 
 pub returns-in-Ok-clause-small : goal.returns-in-Ok-clause-small
-returns-in-Ok-clause-small c = omega (arith, length_le_used (map string_bytes c.self.inside.texts.items), length-map c.self.inside.texts.items string_bytes)
+returns-in-Ok-clause-small c = omega (arith, length-le-used_cost (map string_bytes c.self.inside.texts.items), length-map c.self.inside.texts.items string_bytes)

@@ -1,5 +1,7 @@
-use Rattle.std.proofs.Common.{length, map, string_bytes, ◌+◌, ◌*◌, sym, ap, arith}
-use Rattle.session_dictionary.proofs.Laws.{least_id-is_lowest, least_id-named, least_id-none}
+use Rattle.std.proofs.Common.{length, map, string_bytes, ap, arith}
+use Rattle.string_tables.proofs.LeastFacts.{found_least, found_none}
+use Rattle.string_tables.proofs.SessionFacts.{gives_least_session}
+use Rattle.string_tables.specs.SessionStrings.{least_session_id, session_text}
 use Rattle.session_dictionary.proofs.TableFacts.{texts_few}
 use Rattle.session_dictionary.proofs.table.SessionTable.id.Goals as goal
 
@@ -18,14 +20,11 @@ returns-clause-small c = omega (arith, texts_few c.self.inside c.self.invariant,
 pub returns-clause-found : goal.returns-clause-found
 returns-clause-found c =
     let strings = map string_bytes c.self.inside.texts.items in
-    let least = sym (rw c.deref.ensures.value at c.in_ok-place.ensures.least) in
-    rw (← c.self.view_is) (record {
-      names = least_id-named strings c.args.text.now (2 * c.in_ok-place.place + 1) least;
-      lowest = λ other. least_id-is_lowest strings c.args.text.now (2 * c.in_ok-place.place + 1) other least;
-    })
+    let least = rw c.deref.ensures.value at c.in_ok-place.ensures.least in
+    rw (← c.self.view_is) (found_least (session_text strings) (least_session_id strings) (gives_least_session strings) c.args.text.now _ least)
 
 pub returns-in_err-place-clause-none : goal.returns-in_err-place-clause-none
 returns-in_err-place-clause-none c =
     let strings = map string_bytes c.self.inside.texts.items in
-    let none = sym (rw c.deref.ensures.value at c.in_err-place.ensures.least) in
-    rw (c.from_residual.ensures, ← c.self.view_is) (λ other. least_id-none strings c.args.text.now other none)
+    let none = rw c.deref.ensures.value at c.in_err-place.ensures.least in
+    rw (c.from_residual.ensures, ← c.self.view_is) (found_none (session_text strings) (least_session_id strings) (gives_least_session strings) c.args.text.now _ none)

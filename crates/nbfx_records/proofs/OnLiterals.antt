@@ -1,0 +1,15 @@
+-- What a proof unfolds to compute the definitions on literal bytes.
+use Rattle.std.specs.Prelude.{⊤}
+use Rattle.std.specs.Char.{encode_utf8}
+use Rattle.std.specs.Char.Utf16.{utf16_chars}
+use Rattle.std.specs.Str.{chars, is_utf8}
+use Rattle.unit_streams.specs.Parts.{◌>>=◌, many, repeated}
+use Rattle.multibyte_ints.specs.Integer.{int_at, int_ending_at, value_of}
+use Rattle.nbfx_records.specs.Kinds.{record_kind}
+use Rattle.nbfx_records.specs.Shapes.{array_at, record_at, shape_at}
+use Rattle.nbfx_records.specs.Contents.{scalar_of, contents}
+use Rattle.nbfx_records.specs.Reading.{node_at}
+
+unfoldable pub records_on_literals : ⊤
+unfolding encode_utf8 utf16_chars chars is_utf8 ◌>>=◌ many repeated int_at int_ending_at value_of record_kind array_at record_at shape_at scalar_of contents node_at
+records_on_literals = tt

@@ -1,0 +1,162 @@
+-- What a whole shape says: its node, unless one of its texts isn't UTF-8 or one of its values is none of its kind.
+use Rattle.std.specs.Prelude.{ℕ, zero, suc, ◌+◌, ◌*◌, ◌%◌, ◌^◌, pos, List, [], ◌∷◌, length, take, drop, slice_index, Bool, true, false, Option, Some, None, ok_or, Result, Err, nat_le, ◌==◌, ◌&&◌, ◌||◌, not, if◌then◌else◌, encode_utf8_all}
+use Rattle.std.specs.Int.{Width, w8, w16, w32, w64, from_le_bytes, cast_signed}
+use Rattle.std.specs.Char.Utf16.{has_unpaired_surrogate, utf16_lossy_chars}
+use Rattle.std.specs.List.{list_all}
+use Rattle.std.specs.Option.{option_map, option_and_then}
+use Rattle.std.specs.Str.{is_utf8}
+use Rattle.nbfx_values.specs.declared.scalars.Scalar.{Scalar}
+use Rattle.nbfx_values.specs.declared.scalars.Scalar.TheVariants as scalars
+use Rattle.nbfx_records.specs.declared.kinds.TextKind.{TextKind}
+use Rattle.nbfx_records.specs.declared.kinds.TextKind.TheVariants as texts
+use Rattle.nbfx_records.specs.declared.nodes.NameRef.{NameRef}
+use Rattle.nbfx_records.specs.declared.nodes.NameRef.TheVariants.{Inline, Id}
+use Rattle.nbfx_records.specs.declared.nodes.RawScalar.{RawScalar}
+use Rattle.nbfx_records.specs.declared.nodes.RawScalar.TheVariants.{Known, Dictionary, QName}
+use Rattle.nbfx_records.specs.declared.nodes.RawValue.{RawValue}
+use Rattle.nbfx_records.specs.declared.nodes.RawValue.TheVariants.{One, List as ListOf}
+use Rattle.nbfx_records.specs.declared.nodes.AttrNode.{AttrNode}
+use Rattle.nbfx_records.specs.declared.nodes.AttrNode.TheVariants as attribute_nodes
+use Rattle.nbfx_records.specs.declared.nodes.ArrayNode.{ArrayNode}
+use Rattle.nbfx_records.specs.declared.nodes.Node.{Node}
+use Rattle.nbfx_records.specs.declared.nodes.Node.TheVariants as nodes
+use Rattle.nbfx_records.specs.declared.nodes.NodeFault.{NodeFault}
+use Rattle.nbfx_records.specs.declared.nodes.NodeFault.TheVariants as faults
+use Rattle.nbfx_records.specs.Kinds.{text_kind_in, width_of}
+use Rattle.nbfx_records.specs.Shapes.{ScalarShape, bytes_of, named_by, qualified_by, ValueShape, one, several, AttributeShape, attributes, declares, ArrayShape, Shape, ends_element, comments, begins_element, adds, has_text, repeats}
+
+-- two bytes a unit, the lower first, as far as there are two
+abbrev pub units_of : List ℕ → List ℕ
+units_of [] = []
+units_of (low ∷ []) = []
+units_of (low ∷ high ∷ bytes) = (low + 256 * high) ∷ units_of bytes
+
+-- the text that UTF-16 spells
+abbrev pub utf16_text : List ℕ → Option (List ℕ)
+utf16_text bytes = if (length bytes % 2 == 1) || has_unpaired_surrogate (units_of bytes) then None else Some (encode_utf8_all (utf16_lossy_chars (units_of bytes)))
+
+abbrev pub truth_of : ℕ → Option Scalar
+truth_of byte = if byte == 0 then Some (scalars.Truth false) else if byte == 1 then Some (scalars.Truth true) else None
+
+-- two bytes that say nothing, the scale, the sign, the upper 32 bits, the lower 64
+abbrev pub decimal_of : List ℕ → Option Scalar
+decimal_of bytes =
+    let scale = slice_index bytes 2 in
+    let sign = slice_index bytes 3 in
+    if nat_le scale 28 && ((sign == 0) || (sign == 128))
+    then Some (scalars.Decimal (record { scale = scale; negative = (sign == 128); magnitude = from_le_bytes w32 (take 4 (drop 4 bytes)) * 2 ^ 64 + from_le_bytes w64 (drop 8 bytes) }))
+    else None
+
+abbrev pub signed_of : Width → List ℕ → Option Scalar
+signed_of w bytes = Some (scalars.Number (cast_signed w (from_le_bytes w bytes)))
+
+-- the value of such bytes, if they are one of its kind; that a text is UTF-8 is judged before
+unfoldable pub scalar_of : TextKind → List ℕ → Option Scalar
+scalar_of texts.Zero bytes = Some (scalars.Number (pos 0))
+scalar_of texts.One bytes = Some (scalars.Number (pos 1))
+scalar_of texts.False bytes = Some (scalars.Truth false)
+scalar_of texts.True bytes = Some (scalars.Truth true)
+scalar_of texts.Int8 bytes = signed_of w8 bytes
+scalar_of texts.Int16 bytes = signed_of w16 bytes
+scalar_of texts.Int32 bytes = signed_of w32 bytes
+scalar_of texts.Int64 bytes = signed_of w64 bytes
+scalar_of texts.Float bytes = Some (scalars.Float (from_le_bytes w32 bytes))
+scalar_of texts.Double bytes = Some (scalars.Double (from_le_bytes w64 bytes))
+scalar_of texts.Decimal bytes = decimal_of bytes
+scalar_of texts.DateTime bytes = Some (scalars.DateTime (from_le_bytes w64 bytes))
+scalar_of texts.Chars8 bytes = Some (scalars.Text bytes)
+scalar_of texts.Chars16 bytes = Some (scalars.Text bytes)
+scalar_of texts.Chars32 bytes = Some (scalars.Text bytes)
+scalar_of texts.Bytes8 bytes = Some (scalars.Bytes bytes)
+scalar_of texts.Bytes16 bytes = Some (scalars.Bytes bytes)
+scalar_of texts.Bytes32 bytes = Some (scalars.Bytes bytes)
+scalar_of texts.StartList bytes = None
+scalar_of texts.EndList bytes = None
+scalar_of texts.Empty bytes = Some (scalars.Text [])
+scalar_of texts.Dictionary bytes = None
+scalar_of texts.UniqueId bytes = Some (scalars.UniqueId bytes)
+scalar_of texts.TimeSpan bytes = Some (scalars.TimeSpan (cast_signed w64 (from_le_bytes w64 bytes)))
+scalar_of texts.Uuid bytes = Some (scalars.Uuid bytes)
+scalar_of texts.UInt64 bytes = Some (scalars.Number (pos (from_le_bytes w64 bytes)))
+scalar_of texts.Bool bytes = truth_of (slice_index bytes 0)
+scalar_of texts.UnicodeChars8 bytes = option_map scalars.Text (utf16_text bytes)
+scalar_of texts.UnicodeChars16 bytes = option_map scalars.Text (utf16_text bytes)
+scalar_of texts.UnicodeChars32 bytes = option_map scalars.Text (utf16_text bytes)
+scalar_of texts.QNameDictionary bytes = None
+
+-- the kinds whose bytes are UTF-8
+abbrev pub has_characters : TextKind → Bool
+has_characters texts.Chars8 = true
+has_characters texts.Chars16 = true
+has_characters texts.Chars32 = true
+has_characters _ = false
+
+-- whether each text of a shape is UTF-8
+abbrev pub scalar_is_text : ScalarShape → Bool
+scalar_is_text (bytes_of kind bytes) = not (has_characters kind) || is_utf8 bytes
+scalar_is_text _ = true
+
+abbrev pub value_is_text : ValueShape → Bool
+value_is_text (one scalar) = scalar_is_text scalar
+value_is_text (several values) = list_all scalar_is_text values
+
+abbrev pub name_is_text : NameRef → Bool
+name_is_text (Inline bytes) = is_utf8 bytes
+name_is_text (Id id) = true
+
+abbrev pub attribute_is_text : AttributeShape → Bool
+attribute_is_text (attributes prefix name value) = is_utf8 prefix && (name_is_text name && value_is_text value)
+attribute_is_text (declares prefix uri) = is_utf8 prefix && name_is_text uri
+
+abbrev pub is_text : Shape → Bool
+is_text ends_element = true
+is_text (comments bytes) = is_utf8 bytes
+is_text (begins_element prefix name) = is_utf8 prefix && name_is_text name
+is_text (adds attribute) = attribute_is_text attribute
+is_text (has_text value ends) = value_is_text value
+is_text (repeats array) = is_utf8 array.prefix && (name_is_text array.name && list_all attribute_is_text array.attributes)
+
+-- the value of a shape, if its bytes are of its kind
+abbrev pub scalar_value : ScalarShape → Option RawScalar
+scalar_value (bytes_of kind bytes) = option_map Known (scalar_of kind bytes)
+scalar_value (named_by id) = Some (Dictionary id)
+scalar_value (qualified_by letter id) = if nat_le letter 25 then Some (QName letter id) else None
+
+-- each of a list, if each is there
+abbrev pub each : {A B : Type 0} → (A → Option B) → List A → Option (List B)
+each f [] = Some []
+each f (x ∷ xs) = option_and_then (λ y. option_map (λ ys. y ∷ ys) (each f xs)) (f x)
+
+abbrev pub value_of : ValueShape → Option RawValue
+value_of (one scalar) = option_map One (scalar_value scalar)
+value_of (several values) = option_map ListOf (each scalar_value values)
+
+abbrev pub attribute_value : AttributeShape → Option AttrNode
+attribute_value (attributes prefix name value) = option_map (attribute_nodes.Attribute prefix name) (value_of value)
+attribute_value (declares prefix uri) = Some (attribute_nodes.Xmlns prefix uri)
+
+-- so many values of so many bytes each
+abbrev pub cells : ℕ → ℕ → List ℕ → List (List ℕ)
+cells zero width bytes = []
+cells (suc count) width bytes = take width bytes ∷ cells count width (drop width bytes)
+
+abbrev pub array_of : ArrayShape → Option ArrayNode
+array_of a =
+    option_and_then (λ attrs. option_map (λ values. record { prefix = a.prefix; name = a.name; attrs = attrs; kind = a.kind; values = values })
+    (each (scalar_of (text_kind_in a.kind)) (cells a.count (width_of a.kind) a.bytes))) (each attribute_value a.attributes)
+
+abbrev pub attribute_node : AttrNode → Node
+attribute_node (attribute_nodes.Attribute prefix name value) = nodes.Attribute prefix name value
+attribute_node (attribute_nodes.Xmlns prefix uri) = nodes.Xmlns prefix uri
+
+abbrev pub node_of : Shape → Option Node
+node_of ends_element = Some nodes.EndElement
+node_of (comments bytes) = Some (nodes.Comment bytes)
+node_of (begins_element prefix name) = Some (nodes.Element prefix name)
+node_of (adds attribute) = option_map attribute_node (attribute_value attribute)
+node_of (has_text value ends) = option_map (λ v. nodes.Text v ends) (value_of value)
+node_of (repeats array) = option_map nodes.Array (array_of array)
+
+-- what a whole shape says: texts are judged before values
+unfoldable pub contents : Shape → Result Node NodeFault
+contents shape = if is_text shape then ok_or (node_of shape) faults.BadValue else Err faults.BadUtf8

@@ -1,0 +1,173 @@
+-- What begins with which type byte.
+use Rattle.std.specs.Prelude.{ℕ, ◌-◌, ◌/◌, ◌%◌, Bool, true, false, Option, Some, None, nat_lt, ◌==◌, if◌then◌else◌, slice_get}
+use Rattle.std.specs.Option.{option_and_then}
+use Rattle.nbfx_values.specs.declared.content.ArrayKind.{ArrayKind}
+use Rattle.nbfx_values.specs.declared.content.ArrayKind.TheVariants as arrays
+use Rattle.nbfx_records.specs.declared.kinds.TextKind.{TextKind}
+use Rattle.nbfx_records.specs.declared.kinds.TextKind.TheVariants as texts
+use Rattle.nbfx_records.specs.declared.kinds.TheConstants.{TEXT_KINDS}
+
+-- how a record tells a prefix
+pub data PrefixForm : Type 0 where
+  -- none
+  unprefixed : PrefixForm
+  -- one letter, of which 0 is a
+  lettered : ℕ → PrefixForm
+  -- a string
+  prefixed : PrefixForm
+
+-- how it tells a name
+pub data NameForm : Type 0 where
+  -- a string
+  inline : NameForm
+  -- an identifier
+  identified : NameForm
+
+-- what a record is
+pub data RecordKind : Type 0 where
+  end_element : RecordKind
+  comment : RecordKind
+  array : RecordKind
+  attribute : PrefixForm → NameForm → RecordKind
+  declaration : PrefixForm → NameForm → RecordKind
+  element : PrefixForm → NameForm → RecordKind
+  -- of this kind, and whether it ends the element that holds it
+  text : TextKind → Bool → RecordKind
+
+-- a name's form, by whether its type byte is the string's
+abbrev pub named : Bool → NameForm
+named true = inline
+named false = identified
+
+-- the lettered forms that begin at a byte
+abbrev pub letter_from : ℕ → ℕ → PrefixForm
+letter_from first byte = lettered (byte - first)
+
+-- 04 to 07 and 40 to 43, as 0 to 3: with a string without and with a prefix, and with an identifier so
+abbrev pub prefix_of : ℕ → PrefixForm
+prefix_of n = if n % 2 == 0 then unprefixed else prefixed
+
+abbrev pub name_of : ℕ → NameForm
+name_of n = named (nat_lt n 2)
+
+-- a text's kind: those from 80 on, two bytes each, of which the odd one ends the element
+abbrev pub text_kind : ℕ → Option TextKind
+text_kind byte = if nat_lt byte 128 then None else slice_get TEXT_KINDS ((byte - 128) / 2)
+
+-- an odd start of a list is no record
+abbrev pub text_record : ℕ → TextKind → Option RecordKind
+text_record byte texts.StartList = if byte % 2 == 0 then Some (text texts.StartList false) else None
+text_record byte kind = Some (text kind (byte % 2 == 1))
+
+-- the record that a type byte begins
+unfoldable pub record_kind : ℕ → Option RecordKind
+record_kind byte =
+    if byte == 0 then None
+    else if byte == 1 then Some end_element
+    else if byte == 2 then Some comment
+    else if byte == 3 then Some array
+    else if nat_lt byte 8 then Some (attribute (prefix_of (byte - 4)) (name_of (byte - 4)))
+    else if nat_lt byte 12 then Some (declaration (prefix_of (byte - 8)) (name_of (byte - 8)))
+    else if nat_lt byte 38 then Some (attribute (letter_from 12 byte) identified)
+    else if nat_lt byte 64 then Some (attribute (letter_from 38 byte) inline)
+    else if nat_lt byte 68 then Some (element (prefix_of (byte - 64)) (name_of (byte - 64)))
+    else if nat_lt byte 94 then Some (element (letter_from 68 byte) identified)
+    else if nat_lt byte 120 then Some (element (letter_from 94 byte) inline)
+    else option_and_then (text_record byte) (text_kind byte)
+
+-- how many bytes a length has
+pub data LengthForm : Type 0 where
+  in_one : LengthForm
+  in_two : LengthForm
+  in_four : LengthForm
+
+-- what follows the type byte of a text
+pub data Body : Type 0 where
+  -- so many bytes
+  fixed : ℕ → Body
+  -- a length, and as many bytes as it says
+  counted : LengthForm → Body
+  -- an identifier
+  naming : Body
+  -- a letter and an identifier
+  qualified : Body
+  -- texts, and an end
+  listed : Body
+  -- nothing: it ends a list
+  ending : Body
+
+abbrev pub body_of : TextKind → Body
+body_of texts.Zero = fixed 0
+body_of texts.One = fixed 0
+body_of texts.False = fixed 0
+body_of texts.True = fixed 0
+body_of texts.Int8 = fixed 1
+body_of texts.Int16 = fixed 2
+body_of texts.Int32 = fixed 4
+body_of texts.Int64 = fixed 8
+body_of texts.Float = fixed 4
+body_of texts.Double = fixed 8
+body_of texts.Decimal = fixed 16
+body_of texts.DateTime = fixed 8
+body_of texts.Chars8 = counted in_one
+body_of texts.Chars16 = counted in_two
+body_of texts.Chars32 = counted in_four
+body_of texts.Bytes8 = counted in_one
+body_of texts.Bytes16 = counted in_two
+body_of texts.Bytes32 = counted in_four
+body_of texts.StartList = listed
+body_of texts.EndList = ending
+body_of texts.Empty = fixed 0
+body_of texts.Dictionary = naming
+body_of texts.UniqueId = fixed 16
+body_of texts.TimeSpan = fixed 8
+body_of texts.Uuid = fixed 16
+body_of texts.UInt64 = fixed 8
+body_of texts.Bool = fixed 1
+body_of texts.UnicodeChars8 = counted in_one
+body_of texts.UnicodeChars16 = counted in_two
+body_of texts.UnicodeChars32 = counted in_four
+body_of texts.QNameDictionary = qualified
+
+-- the kind of an array's values, by the type byte that an array tells it with, which is the odd one
+abbrev pub array_kind_of : TextKind → Option ArrayKind
+array_kind_of texts.Bool = Some arrays.Bool
+array_kind_of texts.Int16 = Some arrays.Int16
+array_kind_of texts.Int32 = Some arrays.Int32
+array_kind_of texts.Int64 = Some arrays.Int64
+array_kind_of texts.Float = Some arrays.Float
+array_kind_of texts.Double = Some arrays.Double
+array_kind_of texts.Decimal = Some arrays.Decimal
+array_kind_of texts.DateTime = Some arrays.DateTime
+array_kind_of texts.TimeSpan = Some arrays.TimeSpan
+array_kind_of texts.Uuid = Some arrays.Uuid
+array_kind_of _ = None
+
+abbrev pub array_kind : ℕ → Option ArrayKind
+array_kind byte = if byte % 2 == 1 then option_and_then array_kind_of (text_kind byte) else None
+
+-- the text record that has one of its values
+abbrev pub text_kind_in : ArrayKind → TextKind
+text_kind_in arrays.Bool = texts.Bool
+text_kind_in arrays.Int16 = texts.Int16
+text_kind_in arrays.Int32 = texts.Int32
+text_kind_in arrays.Int64 = texts.Int64
+text_kind_in arrays.Float = texts.Float
+text_kind_in arrays.Double = texts.Double
+text_kind_in arrays.Decimal = texts.Decimal
+text_kind_in arrays.DateTime = texts.DateTime
+text_kind_in arrays.TimeSpan = texts.TimeSpan
+text_kind_in arrays.Uuid = texts.Uuid
+
+-- how many bytes a value of an array has
+abbrev pub width_of : ArrayKind → ℕ
+width_of arrays.Bool = 1
+width_of arrays.Int16 = 2
+width_of arrays.Int32 = 4
+width_of arrays.Int64 = 8
+width_of arrays.Float = 4
+width_of arrays.Double = 8
+width_of arrays.Decimal = 16
+width_of arrays.DateTime = 8
+width_of arrays.TimeSpan = 8
+width_of arrays.Uuid = 16

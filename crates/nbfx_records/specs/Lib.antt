@@ -1,0 +1,5 @@
+pub mod Kinds
+pub mod Shapes
+pub mod Contents
+pub mod Reading
+pub mod Records

@@ -1,0 +1,116 @@
+//! What records say, with each identifier as its number.
+
+use nbfx_values::{ArrayKind, Scalar, Sequence, Txt, Values};
+
+/// A name or a URI, as a record has it.
+#[derive(Debug, Drop)]
+pub enum NameRef {
+    /// Its characters stand in the record.
+    Inline(Txt),
+    /// It is the string that this identifier names.
+    Id(u32),
+}
+
+/// One value of a text record.
+#[derive(Debug, Drop)]
+pub enum RawScalar {
+    /// A value that names no string; it is no QName.
+    Known(Scalar),
+    /// The text that this identifier names.
+    Dictionary(u32),
+    /// A QName: the number of its prefix's letter, of which 0 is a, and the identifier of its name.
+    QName(u8, u32),
+}
+
+/// Values of a list.
+pub type RawValues = Sequence<RawScalar>;
+
+/// The value of a text record.
+#[derive(Debug, Drop)]
+pub enum RawValue {
+    One(RawScalar),
+    List(RawValues),
+}
+
+/// A declaration or an attribute of an array's element.
+#[derive(Debug, Drop)]
+pub enum AttrNode {
+    Attribute {
+        prefix: Txt,
+        name: NameRef,
+        value: RawValue,
+    },
+    Xmlns {
+        prefix: Txt,
+        uri: NameRef,
+    },
+}
+
+/// Those of one array.
+pub type AttrNodes = Sequence<AttrNode>;
+
+/// An element that stands once for each value.
+#[derive(Debug, Drop)]
+pub struct ArrayNode {
+    pub prefix: Txt,
+    pub name: NameRef,
+    pub attrs: AttrNodes,
+    pub kind: ArrayKind,
+    pub values: Values,
+}
+
+/// A record. The empty prefix means none.
+#[derive(Debug, Drop)]
+pub enum Node {
+    EndElement,
+    Comment(Txt),
+    Array(ArrayNode),
+    Attribute {
+        prefix: Txt,
+        name: NameRef,
+        value: RawValue,
+    },
+    Xmlns {
+        prefix: Txt,
+        uri: NameRef,
+    },
+    Element {
+        prefix: Txt,
+        name: NameRef,
+    },
+    /// A text, and whether the element that holds it ends with it.
+    Text {
+        value: RawValue,
+        ends: bool,
+    },
+}
+
+/// Where in a document a record stands.
+#[derive(Clone, Copy, Debug, PartialEq, Eq)]
+pub enum NodePlace {
+    BeforeRoot,
+    /// Within the root: whether an attribute may stand here, and whether one more element may be opened.
+    Within { attributes: bool, deeper: bool },
+    AfterRoot,
+}
+
+/// What is wrong with a record.
+#[derive(Clone, Copy, Debug, PartialEq, Eq)]
+pub enum NodeFault {
+    /// No record begins with its type byte.
+    UnknownNode,
+    /// Its record may not stand here.
+    OutOfPlace,
+    /// The document has ended.
+    TrailingBytes,
+    /// As many elements are open as may be.
+    TooDeep,
+    /// An integer's fifth byte is above 7, or a length of four bytes is negative.
+    BadInt,
+    /// An array isn't made of an element, its attributes, a listed type and one value or more.
+    BadArray,
+    /// A text isn't UTF-8.
+    BadUtf8,
+    /// A value's bytes are none of its kind.
+    BadValue,
+}

@@ -1,0 +1,153 @@
+// Documents that grow item by item.
+ghost use Rattle.std.specs.Prelude.{◌≡◌, ◌+◌, ◌^◌, ◌<◌, ◌↔◌, [], ◌∷◌, ◌++◌, None, Some, IfSome, IfNone, IsErrOf, IsSome, IsTrue, OnErr, OnOk, OnSome};
+ghost use Rattle.nbfx_values.specs.Documents.{IsDocument};
+ghost use Rattle.nbfx_values.specs.Items.{is_valid_item};
+ghost use Rattle.nbfx_values.specs.Measures.{capped, content_of, depth_of, opened_by};
+ghost use Rattle.nbfx_values.specs.Positions.{position_of};
+
+use crate::content::{Item, Items};
+use crate::document::Doc;
+use crate::measures::Measures;
+use crate::position::Position;
+use std::alloc::Global;
+use std::marker::Model;
+use unit_streams::Memory;
+
+/// Why an item wasn't put behind those before it.
+#[derive(Clone, Copy, Debug, PartialEq, Eq)]
+pub enum PushFault {
+    /// The item may not stand there.
+    OutOfPlace,
+    /// Memory ran out.
+    Memory,
+}
+
+impl From<Memory> for PushFault {
+    ghost use Rattle.std.specs.Prelude.{◌≡◌};
+    ghost use Rattle.nbfx_values.specs.declared.builder.PushFault.TheVariants as faults;
+
+    ghost from_gives = { λ _ fault. fault ≡ faults.Memory };
+
+    fn from(_memory: Memory) -> PushFault {
+        PushFault::Memory
+    }
+}
+
+/// A document that grows item by item, and is never walked over. Contracts see the list of its
+/// items, which is the front of a document.
+#[derive(Debug, Drop)]
+pub struct DocBuilder {
+    items: Items,
+    position: Position,
+    measures: Measures,
+}
+
+impl Model for DocBuilder {
+    ghost use Rattle.std.specs.Prelude.{List};
+    ghost use Rattle.nbfx_values.specs.declared.content.Item.{Item};
+    ghost use Rattle.nbfx_values.specs.Measured.{IsMeasuredFront};
+
+    ghost Value = { List Item };
+
+    ghost view = { λ b. b.items };
+
+    ghost invariant = { λ b. IsMeasuredFront b.items b.position b.measures };
+}
+
+impl DocBuilder {
+    /// A document of which nothing has come.
+    pub fn new(alloc: Global) -> DocBuilder
+        ensures { result ≡ [] }
+    {
+        DocBuilder {
+            items: Items::new(alloc),
+            position: Position::start(),
+            measures: Measures::none(),
+        }
+    }
+
+    /// The items so far.
+    pub fn items(&self) -> &Items
+        ensures { result.now ≡ self.now }
+    {
+        &self.items
+    }
+
+    /// Where the items end in the document.
+    pub fn position(&self) -> Position
+        ensures { position_of self.now ≡ Some result }
+    {
+        self.position
+    }
+
+    /// How many elements are open.
+    pub fn open_count(&self) -> usize
+        ensures opened { result ≡ opened_by 0 self.now }
+        ensures few { result < 2 ^ 63 }
+    {
+        // No slice holds as many items as would make the count overflow.
+        let _items = self.items.as_slice();
+        self.position.open_count()
+    }
+
+    /// The greatest number of elements that were open at one moment, an array's element included.
+    pub fn depth(&self) -> u64
+        ensures { result ≡ depth_of self.now }
+    {
+        self.measures.depth
+    }
+
+    /// The content of the items, up to 2^64 - 1.
+    pub fn content(&self) -> u64
+        ensures { result ≡ capped (content_of self.now) }
+    {
+        self.measures.content
+    }
+
+    /// Puts one more item behind the others. A fault drops it and leaves the others.
+    pub fn push(&mut self, item: Item) -> Result<(), PushFault>
+        requires { IsTrue (is_valid_item item) }
+        ensures pushed { OnOk result (self.new ≡ self.old ++ item ∷ []) }
+        ensures out_of_place { IsErrOf result PushFault.OutOfPlace
+            ↔ (position_of (self.old ++ item ∷ []) ≡ None) }
+        ensures unchanged { OnErr result (self.new ≡ self.old) }
+    {
+        let count = self.open_count();
+        let Some(position) = self.position.moved(&item) else {
+            return Err(PushFault::OutOfPlace);
+        };
+        let measures = self.measures.with(count, &item);
+        self.items.push(item)?;
+        self.position = position;
+        self.measures = measures;
+        Ok(())
+    }
+
+    /// The document, if the root has ended. Then nothing of another one has come; else all stays.
+    pub fn finish(&mut self) -> Option<Doc>
+        ensures document { IsSome result ↔ IsDocument self.old }
+        ensures same { IfSome result (λ doc. doc ≡ self.old) }
+        ensures anew { OnSome result (self.new ≡ []) }
+        ensures unchanged { IfNone result (self.new ≡ self.old) }
+    {
+        if !self.position.has_ended() {
+            return None;
+        }
+        let doc = Doc::with_measures(self.items.take(), self.measures);
+        self.position = Position::start();
+        self.measures = Measures::none();
+        Some(doc)
+    }
+
+    /// Begins another document, in the room of one that is done with. What the builder had is
+    /// dropped.
+    pub fn begin_in(&mut self, doc: Doc)
+        ensures { self.new ≡ [] }
+    {
+        let mut items = doc.into_items();
+        items.clear();
+        self.items = items;
+        self.position = Position::start();
+        self.measures = Measures::none();
+    }
+}

@@ -1,0 +1,37 @@
+//! What holds of string tables by their definitions alone. Each function does nothing: its contract is
+//! a law, which a caller has where it calls the function.
+
+ghost use Rattle.string_tables.specs.Laws.{FindsNamed, FindsEntries, FindsStrings, HasStaticIds, NamesOneText, FindsLeast, FindsLeastStatic, FindsLeastSession, KeepsNames, NamesOneMore, KeepsLeast, NamesFirst, AddsCosts, CountsWithin};
+
+/// A look-up of an identifier finds the text that it names, in each half and in both, and an identifier
+/// names one text at most. A static identifier is even and below 2^31.
+pub fn names()
+    ensures both { FindsNamed }
+    ensures entries { FindsEntries }
+    ensures strings { FindsStrings }
+    ensures one_text { NamesOneText }
+    ensures static_ids { HasStaticIds }
+{}
+
+/// The least identifier of a text names it, and none below it does. Where there is none, no identifier
+/// names the text.
+pub fn least_identifiers()
+    ensures both { FindsLeast }
+    ensures entries { FindsLeastStatic }
+    ensures strings { FindsLeastSession }
+{}
+
+/// A string that is appended changes no name. It is named by 2i + 1 where i strings were before it,
+/// which is its least session identifier where it had none.
+pub fn appended_strings()
+    ensures kept { KeepsNames }
+    ensures named { NamesOneMore }
+    ensures least_kept { KeepsLeast }
+    ensures least { NamesFirst }
+{}
+
+/// Lists that are joined cost what each costs, and there are at most as many strings as they cost.
+pub fn costs()
+    ensures added { AddsCosts }
+    ensures count { CountsWithin }
+{}

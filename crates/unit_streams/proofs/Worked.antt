@@ -1,0 +1,92 @@
+-- A small grammar, and what it says of a few streams, by computation alone.
+use Rattle.std.proofs.Common.{◌≡◌, ℕ, ◌+◌, List, [], ◌∷◌, length, take, Bool, true, false, Option, Some, None, refl}
+use Rattle.std.specs.Prelude.{nat_lt, nat_le, ◌==◌, not, ◌&&◌, if◌then◌else◌}
+use Rattle.unit_streams.specs.Front.{Front, begun, whole, wrong}
+use Rattle.unit_streams.specs.Grammar.{Grammar, peeled, peel, standing}
+use Rattle.unit_streams.specs.Judging.{event_at, refusal_at, ending_at, history_from, history, goes_on, completes, offends, answer_from, answer}
+
+data Why : Type 0 where
+  too_long : Why
+  all_zero : Why
+  too_many : Why
+  cut_off : Why
+
+-- a refusal and its place
+record Refusal : Type 0 where
+  pub place : ℕ
+  pub why : Why
+
+abbrev at : ℕ → Why → Refusal
+at place why = record { place = place; why = why }
+
+-- Texts of at most nine bytes behind their length, until one is empty.
+abbrev text_at : ℕ → List ℕ → Front (List ℕ) Refusal
+text_at from [] = begun
+text_at from (n ∷ bytes) = if nat_lt 9 n then wrong (at from too_long) 1 else if nat_lt (length bytes) n then begun else whole (take n bytes) (n + 1)
+
+abbrev unit_at : Bool → ℕ → List ℕ → Front (List ℕ) Refusal
+unit_at false from bytes = text_at from bytes
+unit_at true from bytes = begun
+
+-- One that is the byte 0 alone is refused, and so is a stream of ten bytes that hasn't ended.
+abbrev texts : Grammar Bool (List ℕ) (List ℕ) Refusal
+texts = record {
+  start = false;
+  unit_at = unit_at;
+  after = λ over from text. length text == 0;
+  refused = refused;
+  completed = λ over from text. Some text;
+  is_over = λ over. over;
+  at_length = λ over from n. if nat_le 10 n && not over then Some (at from too_many) else None;
+  at_end = λ over from n. if over then None else Some (at from cut_off);
+} where
+  refused : Bool → ℕ → List ℕ → Option Refusal
+  refused over from (byte ∷ []) = if byte == 0 then Some (at from all_zero) else None
+  refused over from _ = None
+
+-- two texts and the end, with something behind it
+ends : history texts (2 ∷ 7 ∷ 8 ∷ 1 ∷ 5 ∷ 0 ∷ 99 ∷ []) ≡ record { events = (7 ∷ 8 ∷ []) ∷ (5 ∷ []) ∷ [] ∷ []; offence = None }
+unfolding history history_from event_at refusal_at ending_at standing peel peeled
+ends = refl
+
+-- a length above nine, at its byte
+length_refused : history texts (1 ∷ 5 ∷ 10 ∷ []) ≡ record { events = (5 ∷ []) ∷ []; offence = Some (at 2 too_long) }
+unfolding history history_from event_at refusal_at ending_at standing peel peeled
+length_refused = refl
+
+-- the byte 0 alone, whose event goes before its refusal
+zero_refused : history texts (1 ∷ 0 ∷ 0 ∷ []) ≡ record { events = (0 ∷ []) ∷ []; offence = Some (at 0 all_zero) }
+unfolding history history_from event_at refusal_at ending_at standing peel peeled
+zero_refused = refl
+
+-- ten bytes, where a text is begun
+too_many_bytes : history texts (3 ∷ 1 ∷ 2 ∷ 3 ∷ 9 ∷ 1 ∷ 2 ∷ 3 ∷ 4 ∷ 5 ∷ 6 ∷ []) ≡ record { events = (1 ∷ 2 ∷ 3 ∷ []) ∷ []; offence = Some (at 4 too_many) }
+unfolding history history_from event_at refusal_at ending_at standing peel peeled
+too_many_bytes = refl
+
+-- the end of the input within a text, and before any
+cut_in_text : history texts (3 ∷ 1 ∷ 2 ∷ []) ≡ record { events = []; offence = Some (at 0 cut_off) }
+unfolding history history_from event_at refusal_at ending_at standing peel peeled
+cut_in_text = refl
+
+nothing_at_all : history texts [] ≡ record { events = []; offence = Some (at 0 cut_off) }
+unfolding history history_from event_at refusal_at ending_at standing peel peeled
+nothing_at_all = refl
+
+-- pieces: an event at the byte that completes it, a piece that decides nothing, a refusal at its byte
+piece_completes : answer texts (2 ∷ 7 ∷ []) (8 ∷ 1 ∷ 5 ∷ []) ≡ completes 1 (7 ∷ 8 ∷ [])
+unfolding answer answer_from event_at refusal_at standing peel peeled
+piece_completes = refl
+
+piece_goes_on : answer texts (2 ∷ 7 ∷ 8 ∷ []) (3 ∷ 5 ∷ 6 ∷ []) ≡ goes_on
+unfolding answer answer_from event_at refusal_at standing peel peeled
+piece_goes_on = refl
+
+piece_offends : answer texts (2 ∷ 7 ∷ 8 ∷ []) (77 ∷ 5 ∷ 6 ∷ []) ≡ offends 1 (at 3 too_long)
+unfolding answer answer_from event_at refusal_at standing peel peeled
+piece_offends = refl
+
+-- what an event was answered before is refused by the next piece, the empty one too
+empty_offends : answer texts (1 ∷ 0 ∷ []) [] ≡ offends 0 (at 0 all_zero)
+unfolding answer answer_from event_at refusal_at standing peel peeled
+empty_offends = refl

@@ -1,0 +1,44 @@
+-- What holds of every grammar whose units are known by their own bytes.
+use Rattle.std.specs.Prelude.{◌≡◌, ℕ, ◌+◌, List, [], ◌++◌, length, true, None, ◌↔◌}
+use Rattle.unit_streams.specs.Front.{whole}
+use Rattle.unit_streams.specs.Grammar.{Grammar, standing, resumed}
+use Rattle.unit_streams.specs.Judging.{Answer, goes_on, completes, offends, answer, history_from, only, refusal_at, is_over_at}
+use Rattle.unit_streams.specs.Going.{Means, history_by}
+
+-- an answer, its bytes counted with so many before them
+abbrev pub raised : {E R : Type 0} → ℕ → Answer E R → Answer E R
+raised k goes_on = goes_on
+raised k (completes n e) = completes (k + n) e
+raised k (offends n r) = offends (k + n) r
+
+-- an answer, or the next where it decides nothing
+abbrev pub unless_decided : {E R : Type 0} → Answer E R → Answer E R → Answer E R
+unless_decided goes_on next = next
+unless_decided (completes n e) next = completes n e
+unless_decided (offends n r) next = offends n r
+
+module _ {Z U E R : Type 0} (g : Grammar Z U E R) where
+  -- a stream stands where it stood before some bytes and went on by them
+  abbrev pub StandingsGoOn : Type 0
+  StandingsGoOn = (p c : List ℕ) → standing g (p ++ c) ≡ resumed g (standing g p) c
+
+  -- the answer to two pieces as one is the first's, or else the second's
+  abbrev pub CutsChangeNothing : Type 0
+  CutsChangeNothing = (p y z : List ℕ) → answer g p (y ++ z) ≡ unless_decided (answer g p y) (raised (length y) (answer g (p ++ y) z))
+
+  -- an answer is the first decision, or that there is none
+  abbrev pub AnswersAreFirst : Type 0
+  AnswersAreFirst = (p y : List ℕ) (a : Answer E R) → (answer g p y ≡ a) ↔ Means g p y a
+
+  -- what comes behind a prefix is what a reader is answered, piece by piece
+  abbrev pub HistoryIsAnswers : Type 0
+  HistoryIsAnswers = (p y : List ℕ) → history_from g p y ≡ history_by g p y (answer g p y)
+
+  -- where a unit may come, none begins a longer one
+  abbrev pub NoUnitGoesOn : Type 0
+  NoUnitGoesOn = (z : Z) (from : ℕ) (b c : List ℕ) (u v : U)
+      → g.unit_at z from b ≡ whole u (length b) → g.unit_at z from (b ++ c) ≡ whole v (length (b ++ c)) → c ≡ []
+
+  -- behind a prefix that ends the stream and isn't refused, nothing comes
+  abbrev pub EndsAreClosed : Type 0
+  EndsAreClosed = (p y : List ℕ) → is_over_at g p ≡ true → refusal_at g p ≡ None → history_from g p y ≡ only None

@@ -1,0 +1,40 @@
+//! What holds of every grammar whose units are known by their own bytes. Each function does nothing:
+//! its contract is a law. A contract can't range over types, so each law is said here of the grammars
+//! whose situations, units, events and refusals are numbers, by a proof that holds at any types; a crate
+//! with a grammar of its own says it of that.
+
+ghost use Rattle.std.specs.Prelude.{ℕ, List, ◌≡◌, length, OnSome, Some, None, Bool, true};
+ghost use Rattle.unit_streams.specs.Grammar.{Grammar, IsReadable, IsQuietWhenOver, TellsItsEnd};
+ghost use Rattle.unit_streams.specs.Judging.{History, only, history_from, refusal_at, is_over_at};
+ghost use Rattle.unit_streams.specs.Laws.{StandingsGoOn, AnswersAreFirst, CutsChangeNothing, HistoryIsAnswers, NoUnitGoesOn, EndsAreClosed};
+
+/// A stream stands where it stood before some bytes and went on by them.
+pub fn standings_go_on()
+    ensures { (g : Grammar ℕ ℕ ℕ ℕ) → IsReadable g → StandingsGoOn g }
+{}
+
+/// The answer to a piece is the first event or refusal that a byte of it brings, or that there is none.
+pub fn answers_are_first()
+    ensures { (g : Grammar ℕ ℕ ℕ ℕ) → AnswersAreFirst g }
+{}
+
+/// Where pieces are cut changes nothing: two as one are answered as the first is, or, where that
+/// decides nothing, as the second is behind it, counted from the beginning of the first.
+pub fn cuts_change_nothing()
+    ensures { (g : Grammar ℕ ℕ ℕ ℕ) → CutsChangeNothing g }
+{}
+
+/// A stream's events and then its offence are what a reader is answered, piece by piece.
+pub fn history_is_answers()
+    ensures { (g : Grammar ℕ ℕ ℕ ℕ) → HistoryIsAnswers g }
+{}
+
+/// No unit begins a longer one that may come in its place.
+pub fn no_unit_goes_on()
+    ensures { (g : Grammar ℕ ℕ ℕ ℕ) → IsReadable g → NoUnitGoesOn g }
+{}
+
+/// What follows a stream's end brings nothing.
+pub fn ends_are_closed()
+    ensures { (g : Grammar ℕ ℕ ℕ ℕ) → IsReadable g → IsQuietWhenOver g → EndsAreClosed g }
+{}
