@@ -2,7 +2,7 @@
 use Rattle.std.proofs.Common.{◌≡◌, ℕ, zero, suc, ◌<◌, ◌≤◌, ◌⊎◌, inl, inr, List, [], ◌∷◌, ◌++◌, length, take, Bool, true, false, Some, None, refl, sym, ap, ◌∙◌, subst, arith, append_assoc, length-append}
 use Rattle.std.proofs.lemmas.List.{append-nil}
 use Rattle.unit_streams.specs.Front.{Front, begun, whole, wrong}
-use Rattle.unit_streams.specs.Grammar.{Grammar, Standing, next_unit, behind, standing, resumed, with_more, IsReadable, IsQuietWhenOver, TellsItsEnd}
+use Rattle.unit_streams.specs.Grammar.{Grammar, Standing, next_unit, behind_unit, standing, resumed, with_more, IsReadable, IsQuietWhenOver, TellsItsEnd}
 use Rattle.unit_streams.specs.Judging.{event_at, refusal_at, is_over_at, ending_at, only, history_from}
 use Rattle.unit_streams.specs.Going.{IsGoing}
 use Rattle.unit_streams.specs.Laws.{EndsAreClosed}
@@ -16,7 +16,7 @@ module _ {Z U E R : Type 0} (g : Grammar Z U E R) (readable : IsReadable g) wher
   -- one byte more leaves the situation, or completes a unit behind which it stands
   data ByteLeads (p : List ℕ) (b : ℕ) : Type 0 where
     stays : (standing g (p ++ b ∷ []) ≡ with_more (standing g p) (b ∷ [])) → ByteLeads p b
-    closes : (u : U) (k : ℕ) → (standing g (p ++ b ∷ []) ≡ record (behind g (standing g p) u k) { begun = [] }) → ByteLeads p b
+    closes : (u : U) (k : ℕ) → next_unit g (with_more (standing g p) (b ∷ [])) ≡ whole u k → (standing g (p ++ b ∷ []) ≡ record (behind_unit g (standing g p) u k) { begun = [] }) → ByteLeads p b
 
   byte_leads : (p : List ℕ) (b : ℕ) → ByteLeads p b
   unfolding resumed
@@ -29,7 +29,7 @@ module _ {Z U E R : Type 0} (g : Grammar Z U E R) (readable : IsReadable g) wher
           → (v : Front U R) → g.unit_at (standing g p).situation (standing g p).from ((standing g p).begun ++ b ∷ []) ≡ v → ByteLeads p b
       by_front n one d begun e = stays (on (with_more (standing g p) (b ∷ [])) (peel_open g readable (with_more (standing g p) (b ∷ [])) (begun_open _ e)))
       by_front n one d (whole u k) e =
-          closes u k (on (record (behind g (standing g p) u k) { begun = [] })
+          closes u k e (on (record (behind_unit g (standing g p) u k) { begun = [] })
           (ap (λ m. resumed g (standing g p) (take m (b ∷ []))) (sym one) ∙ (whole_at g readable (standing g p) (b ∷ []) n d u k e).1))
       by_front n one d (wrong r k) e = stays (on (with_more (standing g p) (b ∷ [])) (peel_open g readable (with_more (standing g p) (b ∷ [])) (wrong_open _ r k e)))
 
@@ -58,7 +58,7 @@ module _ {Z U E R : Type 0} (g : Grammar Z U E R) (readable : IsReadable g) wher
     not_over_more p b o none =
         elim (byte_leads p b) [
           | stays e ↦ ap (λ (s : Standing Z E R). g.is_over s.situation) e ∙ o
-          | closes u k e ↦ ap (λ (s : Standing Z E R). g.is_over s.situation) e ∙ tells.untold (standing g p).situation (standing g p).from u o (sym (event_from g (p ++ b ∷ []) _ e) ∙ none)
+          | closes u k w e ↦ ap (λ (s : Standing Z E R). g.is_over s.situation) e ∙ tells.untold (standing g p).situation (standing g p).from _ u k w o (sym (event_from g (p ++ b ∷ []) _ e) ∙ none)
         ]
 
     -- one that completes an event ends it where the event does
@@ -67,7 +67,7 @@ module _ {Z U E R : Type 0} (g : Grammar Z U E R) (readable : IsReadable g) wher
     over_at_event p b v o some =
         elim (byte_leads p b) [
           | stays e ↦ absurd (let none = event_from g (p ++ b ∷ []) _ e ∙ given_none ((standing g p).begun ++ b ∷ []) (standing g p).event (grown_begun p b) in cc)
-          | closes u k e ↦ ap (λ (s : Standing Z E R). g.is_over s.situation) e ∙ tells.told (standing g p).situation (standing g p).from u v o (sym (event_from g (p ++ b ∷ []) _ e) ∙ some)
+          | closes u k w e ↦ ap (λ (s : Standing Z E R). g.is_over s.situation) e ∙ tells.told (standing g p).situation (standing g p).from _ u k v w o (sym (event_from g (p ++ b ∷ []) _ e) ∙ some)
         ]
 
     -- the same of more bytes, of which those before the last complete no event

@@ -14,3 +14,4 @@ pub mod Passing
 pub mod Ends
 pub mod Pending
 pub mod Units
+pub mod Quiet

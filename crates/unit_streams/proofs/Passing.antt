@@ -4,7 +4,7 @@ use Rattle.std.proofs.Math.Nat.{eq-or-lt_of_le}
 use Rattle.std.proofs.lemmas.List.{append-nil, length-take-le}
 use Rattle.std.specs.Option.{option_or}
 use Rattle.unit_streams.specs.Front.{Front, begun, whole, wrong, wrong_of, IsOpen}
-use Rattle.unit_streams.specs.Grammar.{Grammar, Standing, next_unit, behind, standing, resumed, with_more, IsReadable}
+use Rattle.unit_streams.specs.Grammar.{Grammar, Standing, next_unit, behind_unit, standing, resumed, with_more, IsReadable}
 use Rattle.unit_streams.specs.Judging.{given_at, event_of, refusal_of, event_at, refusal_at}
 use Rattle.unit_streams.specs.Going.{IsGoing, IsQuietBefore, IsQuiet}
 use Rattle.unit_streams.proofs.Peeling.{Decides, Leaves}
@@ -120,7 +120,7 @@ module _ {Z U E R : Type 0} (g : Grammar Z U E R) (readable : IsReadable g) (p :
         -- and make it whole
         module _ (u : U) (k : ℕ) (e : front (here.begun ++ c) ≡ whole u k) where
           abbrev closed : Standing Z E R
-          closed = record (behind g here u k) { begun = [] }
+          closed = record (behind_unit g here u k) { begun = [] }
 
           pub whole_size : k ≡ length here.begun + n
           whole_size = (whole_at g readable here c n d u k e).0

@@ -1,8 +1,8 @@
 -- How the standing of a stream grows with its bytes.
-use Rattle.std.proofs.Common.{◌≡◌, ℕ, zero, suc, ◌+◌, ◌<◌, ◌≤◌, ◌⊎◌, inl, inr, List, [], ◌++◌, length, take, drop, refl, sym, ap, ◌∙◌, arith, append_assoc, length-append, length-drop}
+use Rattle.std.proofs.Common.{◌≡◌, ℕ, zero, suc, ◌+◌, ◌<◌, ◌≤◌, ◌⊎◌, inl, inr, List, [], ◌++◌, length, take, drop, Option, None, refl, sym, ap, ◌∙◌, arith, append_assoc, length-append, length-drop}
 use Rattle.std.proofs.lemmas.List.{drop-append-le, drop_all, drop-drop, length-take-le}
 use Rattle.unit_streams.specs.Front.{Front, begun, whole, wrong, on_whole, IsOpen}
-use Rattle.unit_streams.specs.Grammar.{Grammar, Standing, next_unit, behind, peeled, peel, at_start, standing, with_more, resumed, IsReadable}
+use Rattle.unit_streams.specs.Grammar.{Grammar, Standing, next_unit, behind_unit, peeled, peel, at_start, standing, with_more, resumed, IsReadable}
 use Rattle.unit_streams.proofs.Peeling.{extent, Decides, Leaves}
 use Rattle.unit_streams.proofs.Fronts.{whole_some, begun_open, wrong_open}
 
@@ -16,10 +16,10 @@ module _ {Z U E R : Type 0} (g : Grammar Z U E R) where
   peeled_open : (n : ℕ) (s : Standing Z E R) → IsOpen (next_unit g s) → peeled g n s ≡ s
   unfolding peeled
   peeled_open zero s o = refl
-  peeled_open (suc n) s o = unpeeled (next_unit g s) (λ u k. peeled g n (behind g s u k)) s o
+  peeled_open (suc n) s o = unpeeled (next_unit g s) (λ u k. peeled g n (behind_unit g s u k)) s o
 
   -- a whole one is peeled off
-  peeled_whole : (n : ℕ) (s : Standing Z E R) (u : U) (k : ℕ) → next_unit g s ≡ whole u k → peeled g (suc n) s ≡ peeled g n (behind g s u k)
+  peeled_whole : (n : ℕ) (s : Standing Z E R) (u : U) (k : ℕ) → next_unit g s ≡ whole u k → peeled g (suc n) s ≡ peeled g n (behind_unit g s u k)
   unfolding peeled
   peeled_whole n s u k e = rw e
 
@@ -48,7 +48,7 @@ module _ {Z U E R : Type 0} (g : Grammar Z U E R) (readable : IsReadable g) wher
         | inl o ↦ peeled_open g (suc m) s o ∙ sym (peeled_open g (suc n) s o)
         | inr p ↦
             peeled_whole g m s p.0 p.1 p.2
-            ∙ fuel m n (behind g s p.0 p.1) (simp length-drop (omega (arith, p.3))) (simp length-drop (omega (arith, p.3)))
+            ∙ fuel m n (behind_unit g s p.0 p.1) (simp length-drop (omega (arith, p.3))) (simp length-drop (omega (arith, p.3)))
             ∙ sym (peeled_whole g n s p.0 p.1 p.2)
       ]
 
@@ -58,17 +58,17 @@ module _ {Z U E R : Type 0} (g : Grammar Z U E R) (readable : IsReadable g) wher
   peel_open s o = peeled_open g (length s.begun) s o
 
   -- a whole unit is peeled off
-  pub peel_whole : (s : Standing Z E R) (u : U) (k : ℕ) → next_unit g s ≡ whole u k → peel g s ≡ peel g (behind g s u k)
+  pub peel_whole : (s : Standing Z E R) (u : U) (k : ℕ) → next_unit g s ≡ whole u k → peel g s ≡ peel g (behind_unit g s u k)
   unfolding peel
   peel_whole s u k e =
       fuel (length s.begun) (suc (length s.begun)) s (omega arith) (omega arith)
       ∙ peeled_whole g (length s.begun) s u k e
-      ∙ fuel (length s.begun) (length (drop k s.begun)) (behind g s u k) (simp length-drop (omega arith)) (omega arith)
+      ∙ fuel (length s.begun) (length (drop k s.begun)) (behind_unit g s u k) (simp length-drop (omega arith)) (omega arith)
 
   -- what holds where nothing more is peeled, and before a unit where it holds behind it, holds of each peeling
   peel_by_length : (P : Standing Z E R → Standing Z E R → Type 0)
       → ((s : Standing Z E R) → IsOpen (next_unit g s) → P s s)
-      → ((s : Standing Z E R) (u : U) (k : ℕ) (t : Standing Z E R) → next_unit g s ≡ whole u k → 0 < k → k ≤ length s.begun → P (behind g s u k) t → P s t)
+      → ((s : Standing Z E R) (u : U) (k : ℕ) (t : Standing Z E R) → next_unit g s ≡ whole u k → 0 < k → k ≤ length s.begun → P (behind_unit g s u k) t → P s t)
       → (n : ℕ) (s : Standing Z E R) → length s.begun ≤ n → P s (peel g s)
   peel_by_length P stop more zero s h = let o = small_open s h in rw (peel_open s o) (stop s o)
   peel_by_length P stop more (suc n) s h =
@@ -76,12 +76,12 @@ module _ {Z U E R : Type 0} (g : Grammar Z U E R) (readable : IsReadable g) wher
         | inl o ↦ rw (peel_open s o) (stop s o)
         | inr p ↦
             rw (peel_whole s p.0 p.1 p.2)
-            (more s p.0 p.1 (peel g (behind g s p.0 p.1)) p.2 p.3 p.4 (peel_by_length P stop more n (behind g s p.0 p.1) (simp length-drop (omega (arith, p.3)))))
+            (more s p.0 p.1 (peel g (behind_unit g s p.0 p.1)) p.2 p.3 p.4 (peel_by_length P stop more n (behind_unit g s p.0 p.1) (simp length-drop (omega (arith, p.3)))))
       ]
 
   pub peel_by : (P : Standing Z E R → Standing Z E R → Type 0)
       → ((s : Standing Z E R) → IsOpen (next_unit g s) → P s s)
-      → ((s : Standing Z E R) (u : U) (k : ℕ) (t : Standing Z E R) → next_unit g s ≡ whole u k → 0 < k → k ≤ length s.begun → P (behind g s u k) t → P s t)
+      → ((s : Standing Z E R) (u : U) (k : ℕ) (t : Standing Z E R) → next_unit g s ≡ whole u k → 0 < k → k ≤ length s.begun → P (behind_unit g s u k) t → P s t)
       → (s : Standing Z E R) → P s (peel g s)
   peel_by P stop more s = peel_by_length P stop more (length s.begun) s (omega arith)
 
@@ -108,7 +108,7 @@ module _ {Z U E R : Type 0} (g : Grammar Z U E R) (readable : IsReadable g) wher
       peel_by (λ s t. peel g (with_more s c) ≡ peel g (with_more t c)) (λ s o. refl)
       (λ s u k t e some within h.
       let grown : next_unit g (with_more s c) ≡ whole u k = (readable.reads s.situation s.from).whole_stays s.begun c u k e in
-      peel_whole (with_more s c) u k grown ∙ ap (λ b. peel g (record (behind g s u k) { begun = b })) (drop-append-le k s.begun c within) ∙ h)
+      peel_whole (with_more s c) u k grown ∙ ap (λ b. peel g (record (behind_unit g s u k) { begun = b })) (drop-append-le k s.begun c within) ∙ h)
 
   -- no bytes
   pub standing_nothing : standing g [] ≡ at_start g []
@@ -144,12 +144,21 @@ module _ {Z U E R : Type 0} (g : Grammar Z U E R) (readable : IsReadable g) wher
       peel_by (λ s t. P s.situation s.from → P t.situation t.from) (λ s o h. h)
       (λ s u k t e some within rest h. rest (more s.situation s.from s.begun u k e some h)) (at_start g p) first
 
+  -- what holds before the first unit, and behind each, holds of what the last one left and gave
+  pub standing_last : (P : Z → ℕ → Option E → Option R → Type 0) → P g.start 0 None None
+      → ((z : Z) (from : ℕ) (b : List ℕ) (u : U) (k : ℕ) → g.unit_at z from b ≡ whole u k → P (g.after z from u) (from + k) (g.completed z from u) (g.refused z from u))
+      → (p : List ℕ) → P (standing g p).situation (standing g p).from (standing g p).event (standing g p).refusal
+  unfolding standing
+  standing_last P first behind p =
+      peel_by (λ s t. P s.situation s.from s.event s.refusal → P t.situation t.from t.event t.refusal) (λ s o h. h)
+      (λ s u k t e some within rest h. rest (behind s.situation s.from s.begun u k e)) (at_start g p) first
+
   -- a unit that has all the bytes
-  pub peel_all : (s : Standing Z E R) (u : U) (k : ℕ) → next_unit g s ≡ whole u k → k ≡ length s.begun → peel g s ≡ record (behind g s u k) { begun = [] }
+  pub peel_all : (s : Standing Z E R) (u : U) (k : ℕ) → next_unit g s ≡ whole u k → k ≡ length s.begun → peel g s ≡ record (behind_unit g s u k) { begun = [] }
   peel_all s u k e h =
       let none : drop k s.begun ≡ [] = drop_all k s.begun (omega arith) in
-      peel_whole s u k e ∙ ap (λ b. peel g (record (behind g s u k) { begun = b })) none
-      ∙ peel_open (record (behind g s u k) { begun = [] }) (small_open (record (behind g s u k) { begun = [] }) (omega arith))
+      peel_whole s u k e ∙ ap (λ b. peel g (record (behind_unit g s u k) { begun = b })) none
+      ∙ peel_open (record (behind_unit g s u k) { begun = [] }) (small_open (record (behind_unit g s u k) { begun = [] }) (omega arith))
 
   -- where c leaves the unit begun
   module _ (s : Standing Z E R) (c : List ℕ) where
@@ -169,7 +178,7 @@ module _ {Z U E R : Type 0} (g : Grammar Z U E R) (readable : IsReadable g) wher
 
       -- where c makes it whole
       pub whole_at : (u : U) (k : ℕ) → g.unit_at s.situation s.from (s.begun ++ c) ≡ whole u k
-          → (k ≡ length s.begun + n) × (resumed g s (take n c) ≡ record (behind g s u k) { begun = [] })
+          → (k ≡ length s.begun + n) × (resumed g s (take n c) ≡ record (behind_unit g s u k) { begun = [] })
       unfolding resumed
       whole_at u k e =
           let size : k ≡ length s.begun + n = sym (ap extent e) ∙ d.extent_is in

@@ -5,8 +5,8 @@ use Rattle.std.proofs.lemmas.List.{append-nil, drop-drop, take-append-drop, leng
 use Rattle.std.specs.Option.{option_or, option_to_list}
 use Rattle.unit_streams.specs.Front.{Front, begun, whole, wrong}
 use Rattle.unit_streams.specs.Grammar.{Grammar, Standing, standing, resumed, with_more, IsReadable}
-use Rattle.unit_streams.specs.Judging.{given_at, refusal_at, led_by, history_from}
-use Rattle.unit_streams.specs.Going.{IsGoing}
+use Rattle.unit_streams.specs.Judging.{given_at, event_at, refusal_at, History, led_by, history_from}
+use Rattle.unit_streams.specs.Going.{IsGoing, IsQuietBefore, IsQuiet}
 use Rattle.unit_streams.specs.Units.{Counted, Leads, events_along, size_of}
 use Rattle.unit_streams.specs.Laws.{NoUnitGoesOn}
 use Rattle.unit_streams.proofs.Peeling.{extent, Decides, Leaves}
@@ -66,14 +66,24 @@ module _ {Z U E R : Type 0} (g : Grammar Z U E R) (readable : IsReadable g) wher
             refusal = ap (λ (t : Standing Z E R). t.refusal) s ∙ rw (at.situation, at.place) none;
           }
 
+      -- what it decides
+      pub unit_before : IsQuietBefore g p bytes n
+      unit_before = decides_quiet g readable p bytes (between_going p z from at) n unit_decides short
+
+      pub unit_event : event_at g (p ++ take n bytes) ≡ g.completed z from u
+      unit_event = whole_event g readable p bytes (between_going p z from at) n unit_decides short u n unit_here ∙ rw (at.situation, at.place) refl
+
+      pub unit_quiet : g.completed z from u ≡ None → IsQuiet g p bytes n
+      unit_quiet none = whole_quiet g readable p bytes (between_going p z from at) n unit_decides short u n unit_here (rw (at.situation, at.place) none)
+
       -- and what it brings
       unit_events : (v : Option E) → g.completed z from u ≡ v → history_from g p bytes ≡ led_by (option_to_list v) (history_from g (p ++ take n bytes) (drop n bytes))
       unit_events (Some v) c =
-          let q = decides_quiet g readable p bytes (between_going p z from at) n unit_decides short in
-          let told = whole_event g readable p bytes (between_going p z from at) n unit_decides short u n unit_here ∙ rw (at.situation, at.place) c in
+          let q = unit_before in
+          let told = unit_event ∙ c in
           history_behind g p bytes n q.within q.unrefused ∙ ap (λ es. led_by es (history_from g (p ++ take n bytes) (drop n bytes))) (completed_events g p bytes n v q unit_some told)
       unit_events None c =
-          let q = whole_quiet g readable p bytes (between_going p z from at) n unit_decides short u n unit_here (rw (at.situation, at.place) c) in
+          let q = unit_quiet c in
           history_behind g p bytes n q.within q.unrefused ∙ ap (λ es. led_by es (history_from g (p ++ take n bytes) (drop n bytes))) (quiet_events g p bytes n q)
 
       pub unit_brings : history_from g p bytes ≡ led_by (option_to_list (g.completed z from u)) (history_from g (p ++ take n bytes) (drop n bytes))

@@ -1,7 +1,7 @@
 -- What a stream is read by: units, one behind the other, and what they mean. Where a stream stands: its whole units peeled off the front,
 -- the situation behind them, and the bytes of the unit that is begun.
 use Rattle.std.specs.Prelude.{◌≡◌, ℕ, zero, suc, ◌+◌, List, [], ◌++◌, length, drop, Bool, true, false, Option, Some, None}
-use Rattle.unit_streams.specs.Front.{Front, begun, on_whole, ReadsFront}
+use Rattle.unit_streams.specs.Front.{Front, begun, whole, on_whole, ReadsFront}
 
 -- Situations are in Z, units in U, events in E and refusals in R. A unit is read at the offset at which it begins, since a refusal tells its place.
 pub record Grammar (Z U E R : Type 0) : Type 0 where
@@ -41,8 +41,8 @@ module _ {Z U E R : Type 0} (g : Grammar Z U E R) where
   next_unit s = g.unit_at s.situation s.from s.begun
 
   -- behind a whole unit of so many bytes
-  abbrev pub behind : Standing Z E R → U → ℕ → Standing Z E R
-  behind s unit n = record {
+  abbrev pub behind_unit : Standing Z E R → U → ℕ → Standing Z E R
+  behind_unit s unit n = record {
     situation = g.after s.situation s.from unit;
     from = s.from + n;
     begun = drop n s.begun;
@@ -53,7 +53,7 @@ module _ {Z U E R : Type 0} (g : Grammar Z U E R) where
   -- at most so many units peeled off
   unfoldable pub peeled : ℕ → Standing Z E R → Standing Z E R
   peeled zero s = s
-  peeled (suc more) s = on_whole (next_unit s) (λ unit n. peeled more (behind s unit n)) s
+  peeled (suc more) s = on_whole (next_unit s) (λ unit n. peeled more (behind_unit s unit n)) s
 
   -- all whole units peeled off; a unit has at least one byte
   unfoldable pub peel : Standing Z E R → Standing Z E R
@@ -89,5 +89,7 @@ pub record IsQuietWhenOver {Z U E R : Type 0} (g : Grammar Z U E R) : Type 0 whe
 -- the stream ends with the events that end it, and with nothing else
 pub record TellsItsEnd {Z U E R : Type 0} (g : Grammar Z U E R) (ends : E → Bool) : Type 0 where
   pub start : g.is_over g.start ≡ false
-  pub told : (z : Z) (from : ℕ) (u : U) (e : E) → g.is_over z ≡ false → g.completed z from u ≡ Some e → g.is_over (g.after z from u) ≡ ends e
-  pub untold : (z : Z) (from : ℕ) (u : U) → g.is_over z ≡ false → g.completed z from u ≡ None → g.is_over (g.after z from u) ≡ false
+  pub told : (z : Z) (from : ℕ) (b : List ℕ) (u : U) (k : ℕ) (e : E)
+      → g.unit_at z from b ≡ whole u k → g.is_over z ≡ false → g.completed z from u ≡ Some e → g.is_over (g.after z from u) ≡ ends e
+  pub untold : (z : Z) (from : ℕ) (b : List ℕ) (u : U) (k : ℕ)
+      → g.unit_at z from b ≡ whole u k → g.is_over z ≡ false → g.completed z from u ≡ None → g.is_over (g.after z from u) ≡ false

@@ -1,0 +1,43 @@
+-- Bytes that decide nothing, in two parts.
+use Rattle.std.proofs.Common.{◌≡◌, ℕ, ◌+◌, ◌-◌, ◌<◌, ◌≤◌, ◌⊎◌, inl, inr, List, ◌++◌, length, take, drop, None, sym, ap, ◌∙◌, arith, append_assoc, length-drop}
+use Rattle.std.proofs.Math.Seq.{take-add}
+use Rattle.std.proofs.lemmas.Bool.{cases_lt}
+use Rattle.unit_streams.specs.Grammar.{Grammar}
+use Rattle.unit_streams.specs.Judging.{event_at, refusal_at}
+use Rattle.unit_streams.specs.Going.{IsQuietBefore, IsQuiet}
+
+module _ {Z U E R : Type 0} (g : Grammar Z U E R) (p y : List ℕ) (k m : ℕ) (first : IsQuiet g p y k) where
+  -- more bytes behind the first part
+  joined : (i : ℕ) → (p ++ take k y) ++ take i (drop k y) ≡ p ++ take (k + i) y
+  joined i = append_assoc p (take k y) (take i (drop k y)) ∙ ap (λ c. p ++ c) (sym (take-add k i y))
+
+  behind : (i : ℕ) → k ≤ i → p ++ take i y ≡ (p ++ take k y) ++ take (i - k) (drop k y)
+  behind i le = let sum : i ≡ k + (i - k) = omega arith in ap (λ n. p ++ take n y) sum ∙ sym (joined (i - k))
+
+  all_within : m ≤ length (drop k y) → k + m ≤ length y
+  all_within le = let size = length-drop k y in let w = first.within in omega (arith, size, le, w)
+
+  unrefused : ((i : ℕ) → i < m → refusal_at g ((p ++ take k y) ++ take i (drop k y)) ≡ None) → (i : ℕ) → i < k + m → refusal_at g (p ++ take i y) ≡ None
+  unrefused rest i lt =
+      elim (cases_lt i k) [
+        | inl less ↦ first.unrefused i less
+        | inr le ↦ ap (refusal_at g) (behind i le) ∙ rest (i - k) (omega arith)
+      ]
+
+  pub quiet_joined : IsQuiet g (p ++ take k y) (drop k y) m → IsQuiet g p y (k + m)
+  quiet_joined rest = record { within = all_within rest.within; unrefused = unrefused rest.unrefused; eventless = eventless } where
+    eventless : (i : ℕ) → 0 < i → i ≤ k + m → event_at g (p ++ take i y) ≡ None
+    eventless i some le =
+        elim (cases_lt k i) [
+          | inl more ↦ ap (event_at g) (behind i (omega arith)) ∙ rest.eventless (i - k) (omega arith) (omega arith)
+          | inr few ↦ first.eventless i some few
+        ]
+
+  pub quiet_before_joined : IsQuietBefore g (p ++ take k y) (drop k y) m → IsQuietBefore g p y (k + m)
+  quiet_before_joined rest = record { within = all_within rest.within; unrefused = unrefused rest.unrefused; eventless = eventless } where
+    eventless : (i : ℕ) → 0 < i → i < k + m → event_at g (p ++ take i y) ≡ None
+    eventless i some lt =
+        elim (cases_lt k i) [
+          | inl more ↦ ap (event_at g) (behind i (omega arith)) ∙ rest.eventless (i - k) (omega arith) (omega arith)
+          | inr few ↦ first.eventless i some few
+        ]
