@@ -3,6 +3,7 @@ ghost use Rattle.std.specs.Prelude.{◌≡◌, ◌+◌, ◌^◌, ◌<◌, ◌↔
 ghost use Rattle.nbfx_values.specs.Documents.{IsDocument};
 ghost use Rattle.nbfx_values.specs.Items.{is_valid_item};
 ghost use Rattle.nbfx_values.specs.Measures.{capped, content_of, depth_of, opened_by};
+ghost use Rattle.nbfx_values.specs.Positions as spec;
 ghost use Rattle.nbfx_values.specs.Positions.{position_of};
 
 use crate::content::{Item, Items};
@@ -75,8 +76,11 @@ impl DocBuilder {
 
     /// Where the items end in the document.
     pub fn position(&self) -> Position
-        ensures { position_of self.now ≡ Some result }
+        ensures ends { position_of self.now ≡ Some result }
+        ensures few { spec.open_count result < 2 ^ 63 }
     {
+        // No slice holds as many items as would make the count of open ones overflow.
+        let _items = self.items.as_slice();
         self.position
     }
 
@@ -85,9 +89,7 @@ impl DocBuilder {
         ensures opened { result ≡ opened_by 0 self.now }
         ensures few { result < 2 ^ 63 }
     {
-        // No slice holds as many items as would make the count overflow.
-        let _items = self.items.as_slice();
-        self.position.open_count()
+        self.position().open_count()
     }
 
     /// The greatest number of elements that were open at one moment, an array's element included.
@@ -112,11 +114,11 @@ impl DocBuilder {
             ↔ (position_of (self.old ++ item ∷ []) ≡ None) }
         ensures unchanged { OnErr result (self.new ≡ self.old) }
     {
-        let count = self.open_count();
-        let Some(position) = self.position.moved(&item) else {
+        let before = self.position();
+        let Some(position) = before.moved(&item) else {
             return Err(PushFault::OutOfPlace);
         };
-        let measures = self.measures.with(count, &item);
+        let measures = self.measures.with(before.open_count(), &item);
         self.items.push(item)?;
         self.position = position;
         self.measures = measures;

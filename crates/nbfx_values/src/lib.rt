@@ -3,13 +3,13 @@
 //! A document is what the binary XML of MC-NBFX spells, whichever of its many spellings was chosen: a
 //! list of items in document order. A `Doc` is a document by its type: `Doc::of` takes exactly the
 //! lists that are the walk over one element whose values records can hold, and says of any other
-//! list at which item it stops being the front of a document. The numbers of modes and encodings are
-//! those of MC-NMF; the quotas and the refusals are this stack's own, and `Quotas` are Good by their
-//! type.
+//! list at which item it stops being the front of a document. A `DocBuilder` is such a front by its
+//! type, and grows item by item to a `Doc`. The numbers of modes and encodings are those of MC-NMF;
+//! the quotas and the refusals are this stack's own, and `Quotas` are good by their type.
 //!
 //! The definitions are in `specs/`: `Documents` (the walk, a document, a front, the height),
-//! `Standings` (the same item by item), `Measures` (depth and content), `Items` and `Scalars` (which
-//! values records can hold), `Characters`, `Limits` and `QuotasOf` (Good quotas), `Session` (modes
+//! `Positions` (the same item by item), `Measures` (depth and content), `Items` and `Scalars` (which
+//! values records can hold), `Characters`, `Limits` and `QuotasOf` (good quotas), `Session` (modes
 //! and encodings) and `Refusals` (reasons). The laws that tie them are in `laws`.
 #![tactic(auto)]
 

@@ -127,6 +127,52 @@ fn a_document(rt: HostRuntime) -> Result<(), Fail> {
     Ok(())
 }
 
+// Puts the items behind those of the builder, up to the first that may not stand there, and answers
+// which one that is.
+fn put(alloc: Global, builder: &mut DocBuilder, pieces: &[Piece]) -> Result<Option<usize>, Memory> {
+    for (at, piece) in pieces.iter().enumerate() {
+        let item = item(alloc, *piece)?;
+        if !item.check() {
+            return Ok(Some(at));
+        }
+        match builder.push(item) {
+            Ok(()) => {}
+            Err(PushFault::OutOfPlace) => return Ok(Some(at)),
+            Err(PushFault::Memory) => return Err(Memory),
+        }
+    }
+    Ok(None)
+}
+
+#[test]
+fn a_front_item_by_item(rt: HostRuntime) -> Result<(), Fail> {
+    let alloc = rt.alloc();
+    let mut builder = DocBuilder::new(alloc);
+    assert_eq!(rt; builder.position(), Position::start());
+    assert_eq!(rt; put(alloc, &mut builder, &[S, A, T, S])?, None);
+    assert!(rt; builder.position().takes_attributes());
+    assert_eq!(rt; put(alloc, &mut builder, &[C, A])?, Some(1));
+    assert_eq!(rt; (builder.items().len(), builder.open_count()), (5, 2));
+    assert_eq!(rt; (builder.depth(), builder.content()), (2, 17));
+    assert!(rt; builder.finish().is_none());
+    Ok(())
+}
+
+#[test]
+fn documents_item_by_item(rt: HostRuntime) -> Result<(), Fail> {
+    let alloc = rt.alloc();
+    let mut builder = DocBuilder::new(alloc);
+    assert_eq!(rt; put(alloc, &mut builder, &[S, E, S])?, Some(2));
+    assert!(rt; builder.position().has_ended());
+    let doc = builder.finish().ok_or("the root has ended")?;
+    builder.begin_in(doc);
+    assert_eq!(rt; put(alloc, &mut builder, &[S, N, E])?, None);
+    let doc = builder.finish().ok_or("the root has ended")?;
+    assert_eq!(rt; (doc.depth(), doc.content()), (2, 26));
+    assert_eq!(rt; doc.into_items().len(), 3);
+    Ok(())
+}
+
 #[test]
 fn attributes_of_an_array(rt: HostRuntime) -> Result<(), Fail> {
     let alloc = rt.alloc();
@@ -270,6 +316,10 @@ fn texts_and_bytes(rt: HostRuntime) -> Result<(), Fail> {
     assert_eq!(rt; text.copy()?.as_str(), "grüß");
     let bytes = Blob::of(rt.alloc(), &[0, 255])?;
     assert_eq!(rt; bytes.copy()?.as_slice(), [0, 255].as_slice());
+    let text: Txt = String::from_str(rt.alloc(), "hi")?.into();
+    assert_eq!(rt; text.as_str(), "hi");
+    let bytes: Blob = vec![in rt.alloc(); 7, 8]?.into();
+    assert_eq!(rt; bytes.as_slice(), [7, 8].as_slice());
     let value = Value::List(Values::new(rt.alloc())).copy()?;
     assert_eq!(rt; value.content(), 0);
     Ok(())

@@ -24,6 +24,7 @@ impl Txt {
     /// The text with these characters.
     pub fn of(alloc: Global, text: &str) -> Result<Txt, Memory>
         ensures same { IfOk result (λ t. t ≡ text.now) }
+        ensures utf8 { IfOk result (λ t. IsTrue (is_utf8 t)) }
     {
         Ok(Txt {
             text: String::from_str(alloc, text)?,
