@@ -190,14 +190,14 @@ record_at (text kind ends) = text_at kind ends
 
 -- a record that opens an element
 abbrev pub opens : RecordKind → Bool
-opens (element prefix name) = true
+opens (element _ _) = true
 opens array = true
 opens _ = false
 
 -- one that stands right behind the start of an element
 abbrev pub is_attribute : RecordKind → Bool
-is_attribute (attribute prefix name) = true
-is_attribute (declaration prefix uri) = true
+is_attribute (attribute _ _) = true
+is_attribute (declaration _ _) = true
 is_attribute _ = false
 
 -- the end of a list, outside one
@@ -206,7 +206,7 @@ ends_list (text texts.EndList ends) = true
 ends_list _ = false
 
 abbrev pub is_element : RecordKind → Bool
-is_element (element prefix name) = true
+is_element (element _ _) = true
 is_element _ = false
 
 -- why a record may not come at a place, by its type byte; in an array's element the depth isn't judged again
