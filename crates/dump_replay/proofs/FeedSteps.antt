@@ -1,128 +1,128 @@
--- A receiver comes along a piece.
-use Rattle.std.proofs.Common.{◌≡◌, ℕ, inl, inr, ◌+◌, ◌≤◌, ◌<◌, false, List, [], ◌++◌, length, take, drop, Some, Result, Ok, Err, refl, sym, ap, ◌∙◌, subst, arith, append_assoc, length-append}
-use Rattle.std.proofs.Math.Nat.{eq-or-lt_of_le}
-use Rattle.std.proofs.Math.Seq.{take-add}
-use Rattle.std.proofs.lemmas.List.{append-nil, take-append-le, drop-append-le, drop-drop, drop_all, length-take-le}
+-- A receiver takes a piece, unit by unit.
+use Rattle.std.proofs.Common.{◌≡◌, ℕ, ◌+◌, ◌<◌, ◌≤◌, List, ◌++◌, length, take, drop, false, Some, None, Ok, Err, refl, sym, ap, ◌∙◌, subst, arith, append_assoc}
+use Rattle.std.proofs.Math.Seq.{take-add, take-length}
+use Rattle.std.proofs.lemmas.Bool.{le-leb}
+use Rattle.std.proofs.lemmas.List.{append-nil, take-append-le, take-take, length-take-le}
+use Rattle.unit_streams.specs.Grammar.{standing}
+use Rattle.unit_streams.specs.Judging.{event_at, refusal_at, is_over_at, Answer, goes_on, completes, offends, answer, used}
+use Rattle.unit_streams.specs.Going.{IsQuiet, IsQuietBefore}
+use Rattle.unit_streams.proofs.Answers.{answers_are_first, quiet_none}
+use Rattle.unit_streams.proofs.Ends.{not_over_along}
+use Rattle.unit_streams.proofs.Passing.{refusal_from, going_refusal}
+use Rattle.unit_streams.proofs.Quiet.{quiet_joined, quiet_before_joined, quiet_behind, quiet_before_behind}
 use Rattle.nbfx_values.specs.declared.refusals.Offence.{Offence}
 use Rattle.nbfx_values.specs.declared.refusals.Reason.TheVariants.{SessionTooLong}
 use Rattle.dump_replay.specs.declared.receiver.Receiver.{Receiver}
 use Rattle.dump_replay.specs.declared.receiver.Step.{Step}
 use Rattle.dump_replay.specs.declared.receiver.Step.TheVariants as steps
-use Rattle.dump_replay.specs.Stream.{Settings, standing}
-use Rattle.dump_replay.specs.Judging.{is_over_at, open_offence, goes_on, completes, offends, answer, answer_from, said, used}
-use Rattle.dump_replay.specs.Going.{GoesOn}
-use Rattle.dump_replay.specs.Receiving.{Reached, UnitAnswers, ShowsVia, taken_of, failure_of}
-use Rattle.dump_replay.proofs.Steps.{goes_on_before, piece_ends, too_long}
+use Rattle.dump_replay.specs.declared.stage.Stage.{Stage}
+use Rattle.dump_replay.specs.Stream.{Settings, StreamEvent, ends, open_from, offence_at, is_over_in, too_long, stream}
+use Rattle.dump_replay.specs.Saying.{step_for, said}
+use Rattle.dump_replay.specs.Receiving.{Reached, Failed}
+use Rattle.dump_replay.specs.Stepping.{UnitAnswers}
+use Rattle.dump_replay.proofs.Grammar.{readable, short_enough}
+use Rattle.dump_replay.proofs.Ending.{tells}
 
--- so many bytes of the piece behind p are used, and nothing is decided
-pub record Along (r : Receiver) (x : Settings) (p piece : List ℕ) (used : ℕ) : Type 0 where
-  pub reached : Reached r x (p ++ take used piece)
-  pub on : GoesOn x (p ++ take used piece) used
-  pub same : answer x p piece ≡ answer_from x (p ++ take used piece) used (drop used piece)
+-- it has come k bytes of y behind p, which decided nothing
+pub record Along (r : Receiver) (x : Settings) (p y : List ℕ) (k : ℕ) : Type 0 where
+  pub reached : Reached r x (p ++ take k y)
+  pub quiet : IsQuiet (stream x) p y k
+  pub on : is_over_at (stream x) (p ++ take k y) ≡ false
 
-module _ (x : Settings) (p piece : List ℕ) where
-  -- before its first byte
-  pub along_start : (r : Receiver) → Reached r x p → is_over_at x p ≡ false → Along r x p piece 0
-  unfolding is_over_at answer
-  along_start r reached not_over =
-      let e : p ≡ p ++ [] = sym (append-nil p) in
-      record {
-        reached = subst (Reached r x) e reached;
-        on = subst (λ q. GoesOn x q 0) e (goes_on_before x p reached.is_begun not_over);
-        same = ap (λ q. answer_from x q 0 piece) e;
-      }
+-- a session that isn't over, of as many bytes as its quota
+long_enough : (x : Settings) (stage : Stage) (from n : ℕ) → x.limits.session ≤ n → is_over_in stage ≡ false → too_long x stage from n ≡ Some (offence_at (open_from stage from) SessionTooLong)
+unfolding too_long
+long_enough x stage from n le on = rw (le-leb x.limits.session n le, on) refl
 
-  module _ (used : ℕ) (bytes rest : List ℕ) (split : drop used piece ≡ bytes ++ rest) where
-    further : (k : ℕ) → k ≤ length bytes → (p ++ take used piece) ++ take k bytes ≡ p ++ take (used + k) piece
-    further k le =
-        append_assoc p (take used piece) (take k bytes)
-        ∙ ap (λ y. p ++ y) (ap (λ y. take used piece ++ y) (sym (take-append-le k bytes rest le) ∙ ap (take k) (sym split)) ∙ sym (take-add used k piece))
+-- what a piece is answered with, and what the receiver is then
+abbrev pub Fed : Receiver → Settings → List ℕ → List ℕ → ℕ → Step → Type 0
+Fed new x p y k step = (said (length y) (answer (stream x) p y) ≡ Ok (k, step)) × Reached new x (p ++ take k y)
 
-    left_over : (k : ℕ) → k ≤ length bytes → drop k bytes ++ rest ≡ drop (used + k) piece
-    left_over k le = sym (drop-append-le k bytes rest le) ∙ ap (drop k) (sym split) ∙ drop-drop k used piece
+abbrev pub FedRefused : Receiver → Settings → List ℕ → List ℕ → Offence → Type 0
+FedRefused new x p y o = (said (length y) (answer (stream x) p y) ≡ Err o) × Failed new x o (p ++ take (used (length y) (answer (stream x) p y)) y)
 
-    -- k bytes on
-    pub along_more : (old new : Receiver) (k : ℕ) → Along old x p piece used → UnitAnswers x (p ++ take used piece) used bytes new (Ok (k, steps.More)) → Along new x p piece (used + k)
-    along_more old new k a u = record {
-      reached = subst (Reached new x) (further k u.1) u.2;
-      on = subst (λ q. GoesOn x q (used + k)) (further k u.1) u.3;
-      same =
-          a.same ∙ ap (answer_from x (p ++ take used piece) used) split ∙ u.4 rest
-          ∙ ap (λ y. answer_from x ((p ++ take used piece) ++ take k bytes) (used + k) y) (left_over k u.1) ∙ ap (λ q. answer_from x q (used + k) (drop (used + k) piece)) (further k u.1);
-    }
-
-    -- an event
-    pub along_event : (old new : Receiver) (k : ℕ) (step : Step) → (step ≡ steps.More → ⊥) → Along old x p piece used → UnitAnswers x (p ++ take used piece) used bytes new (Ok (k, step))
-        → (answer x p piece ≡ completes (used + k) step) × Reached new x (p ++ take (used + k) piece)
-    along_event old new k step never a u = by_step step never u where
-      decided : (s : Step) → (0 < k) × (k ≤ length bytes) × Reached new x ((p ++ take used piece) ++ take k bytes) × ((d : List ℕ) → answer_from x (p ++ take used piece) used (bytes ++ d) ≡ completes (used + k) s)
-          → (answer x p piece ≡ completes (used + k) s) × Reached new x (p ++ take (used + k) piece)
-      decided s u = (a.same ∙ ap (answer_from x (p ++ take used piece) used) split ∙ u.3 rest, subst (Reached new x) (further k u.1) u.2)
-
-      by_step : (s : Step) → (s ≡ steps.More → ⊥) → UnitAnswers x (p ++ take used piece) used bytes new (Ok (k, s)) → (answer x p piece ≡ completes (used + k) s) × Reached new x (p ++ take (used + k) piece)
-      by_step steps.More never u = absurd (never refl)
-      by_step (steps.Opened mode kind) never u = decided (steps.Opened mode kind) u
-      by_step (steps.Envelope size) never u = decided (steps.Envelope size) u
-      by_step steps.Ended never u = decided steps.Ended u
-
-    -- a refusal, which k bytes show
-    pub along_refused : (old new : Receiver) (o : Offence) → Along old x p piece used → UnitAnswers x (p ++ take used piece) used bytes new (Err o)
-        → (k : ℕ) × (answer x p piece ≡ offends (used + k) o) × (taken_of new ≡ length (p ++ take used piece) + k) × (failure_of new ≡ Some o) × ShowsVia new (standing x (p ++ take (used + k) piece)).situation.via
-    along_refused old new o a u =
-        (u.0, a.same ∙ ap (answer_from x (p ++ take used piece) used) split ∙ u.5 rest, u.2, u.3, subst (λ q. ShowsVia new (standing x q).situation.via) (further u.0 u.1) u.4)
-
-  -- the session quota is reached
-  pub along_too_long : (r : Receiver) (used : ℕ) → Along r x p piece used → x.limits.session ≤ length (p ++ take used piece) → answer x p piece ≡ offends used (open_offence (standing x (p ++ take used piece)) SessionTooLong)
-  along_too_long r used a le = a.same ∙ too_long x (p ++ take used piece) used a.on (drop used piece) le
-
-  -- the piece is used up
-  pub along_end : (r : Receiver) (used : ℕ) → Along r x p piece used → length piece ≤ used → length (p ++ take used piece) < x.limits.session → answer x p piece ≡ goes_on
-  along_end r used a le lt = a.same ∙ ap (answer_from x (p ++ take used piece) used) (drop_all used piece le) ∙ piece_ends x (p ++ take used piece) used a.on lt
-
--- what is promised of an answer to a piece
-pub record Said (new : Receiver) (x : Settings) (p piece : List ℕ) (result : Result (ℕ × Step) Offence) : Type 0 where
-  pub answers : result ≡ said (length piece) (answer x p piece)
-  pub taken : taken_of new ≡ length p + used (length piece) (answer x p piece)
-  pub via : ShowsVia new (standing x (p ++ take (used (length piece) (answer x p piece)) piece)).situation.via
-
-module _ (new : Receiver) (x : Settings) (p piece : List ℕ) where
-  pub so_many : (k : ℕ) → k ≤ length piece → length (p ++ take k piece) ≡ length p + k
-  so_many k le = length-append p (take k piece) ∙ ap (λ n. length p + n) (length-take-le k piece le)
-
-  pub said_event : (k : ℕ) (step : Step) → k ≤ length piece → answer x p piece ≡ completes k step → Reached new x (p ++ take k piece) → Said new x p piece (Ok (k, step))
-  unfolding taken_of ShowsVia
-  said_event k step le e reached = record {
-    answers = rw e refl;
-    taken = rw e (reached.taken ∙ so_many k le);
-    via = rw e reached.text;
+module _ (x : Settings) (p y : List ℕ) where
+  pub along_none : (r : Receiver) → Reached r x p → is_over_at (stream x) p ≡ false → Along r x p y 0
+  along_none r h on = record {
+    reached = subst (Reached r x) (sym (append-nil p)) h;
+    quiet = quiet_none (stream x) p y;
+    on = ap (is_over_at (stream x)) (append-nil p) ∙ on;
   }
 
-  pub said_more : (k : ℕ) → k ≡ length piece → answer x p piece ≡ goes_on → Reached new x (p ++ take k piece) → Said new x p piece (Ok (k, steps.More))
-  unfolding taken_of ShowsVia
-  said_more k all e reached = record {
-    answers = rw e (rw all refl);
-    taken = rw (e, sym all) (reached.taken ∙ so_many k (omega (arith, all)));
-    via = rw (e, sym all) reached.text;
-  }
+  -- a refusal behind k bytes is answered
+  fed_refused : (new : Receiver) (k : ℕ) (o : Offence) → IsQuiet (stream x) p y k → refusal_at (stream x) (p ++ take k y) ≡ Some o → Failed new x o (p ++ take k y) → FedRefused new x p y o
+  fed_refused new k o quiet refused failed =
+      let e : answer (stream x) p y ≡ offends k o = (answers_are_first (stream x) p y (offends k o)).1 (quiet, refused) in
+      (ap (said (length y)) e, subst (λ (a : Answer StreamEvent Offence). Failed new x o (p ++ take (used (length y) a) y)) (sym e) failed)
 
-  pub said_refused : (k : ℕ) (o : Offence) → answer x p piece ≡ offends k o → taken_of new ≡ length p + k → ShowsVia new (standing x (p ++ take k piece)).situation.via → Said new x p piece (Err o)
-  said_refused k o e taken via = record {
-    answers = rw e refl;
-    taken = rw e taken;
-    via = rw e via;
-  }
+  module _ (old : Receiver) (k : ℕ) (a : Along old x p y k) where
+    -- nothing more is asked of as many bytes as the session quota
+    pub along_too_long : (new : Receiver) (o : Offence) → x.limits.session ≤ length (p ++ take k y)
+        → o ≡ offence_at (open_from (standing (stream x) (p ++ take k y)).situation.stage (standing (stream x) (p ++ take k y)).from) SessionTooLong → Failed new x o (p ++ take k y) → FedRefused new x p y o
+    unfolding is_over_at
+    along_too_long new o long told failed = fed_refused new k o a.quiet refused failed
+      where
+        refused : refusal_at (stream x) (p ++ take k y) ≡ Some o
+        refused = refusal_from (stream x) (p ++ take k y) (standing (stream x) (p ++ take k y)) refl ∙ going_refusal (stream x) (standing (stream x) (p ++ take k y)) (length (p ++ take k y)) a.reached.going ∙ long_enough x _ _ (length (p ++ take k y)) long a.on ∙ ap Some (sym told)
 
--- a piece within the session quota is used up
-pub all_used : (room len session taken : ℕ) → room ≤ len → (room < len → session ≤ taken + room) → taken + room < session → room ≡ len
-all_used room len session taken le full lt =
-    elim (eq-or-lt_of_le le) [
-      | inl same ↦ same
-      | inr less ↦ let h = full less in omega (arith, h, lt)
-    ]
+    -- the piece is used up
+    pub along_end : (step : Step) → k ≡ length y → length (p ++ take k y) < x.limits.session → step ≡ steps.More → Fed old x p y k step
+    along_end step all short more = (ap (said (length y)) e ∙ ap (λ n. Ok (n, steps.More)) (sym all) ∙ ap (λ s. Ok (k, s)) (sym more), a.reached)
+      where
+        unrefused : refusal_at (stream x) (p ++ take k y) ≡ None
+        unrefused = refusal_from (stream x) (p ++ take k y) (standing (stream x) (p ++ take k y)) refl ∙ going_refusal (stream x) (standing (stream x) (p ++ take k y)) (length (p ++ take k y)) a.reached.going ∙ short_enough x _ _ (length (p ++ take k y)) short
 
--- a unit uses some byte
-pub some_used : (x : Settings) (q : List ℕ) (n : ℕ) (bytes : List ℕ) (new : Receiver) (k : ℕ) (step : Step) → UnitAnswers x q n bytes new (Ok (k, step)) → 0 < k
-some_used x q n bytes new k steps.More u = u.0
-some_used x q n bytes new k (steps.Opened mode kind) u = u.0
-some_used x q n bytes new k (steps.Envelope size) u = u.0
-some_used x q n bytes new k steps.Ended u = u.0
+        whole : p ++ take k y ≡ p ++ y
+        whole = ap (λ c. p ++ c) (ap (λ n. take n y) all ∙ take-length y)
+
+        e : answer (stream x) p y ≡ goes_on
+        e = (answers_are_first (stream x) p y goes_on).1 (subst (λ (n : ℕ). IsQuiet (stream x) p y n) all a.quiet, ap (refusal_at (stream x)) (sym whole) ∙ unrefused)
+
+    -- some bytes of what is left
+    module _ (c more : List ℕ) (split : drop k y ≡ c ++ more) (new : Receiver) where
+      taken_so : (n : ℕ) → n ≤ length c → (p ++ take k y) ++ take n c ≡ p ++ take (k + n) y
+      taken_so n le = append_assoc p (take k y) (take n c) ∙ ap (λ d. p ++ (take k y ++ d)) (sym (ap (take n) split ∙ take-append-le n c more le)) ∙ ap (λ d. p ++ d) (sym (take-add k n y))
+
+      quiet_so : (n : ℕ) → IsQuiet (stream x) (p ++ take k y) c n → IsQuiet (stream x) p y (k + n)
+      quiet_so n q = quiet_joined (stream x) p y k n a.quiet (subst (λ (d : List ℕ). IsQuiet (stream x) (p ++ take k y) d n) (sym split) (quiet_behind (stream x) (p ++ take k y) c more n q))
+
+      quiet_before_so : (n : ℕ) → IsQuietBefore (stream x) (p ++ take k y) c n → IsQuietBefore (stream x) p y (k + n)
+      quiet_before_so n q = quiet_before_joined (stream x) p y k n a.quiet (subst (λ (d : List ℕ). IsQuietBefore (stream x) (p ++ take k y) d n) (sym split) (quiet_before_behind (stream x) (p ++ take k y) c more n q))
+
+      pub along_more : (n : ℕ) → UnitAnswers x (p ++ take k y) c new (Ok (n, steps.More)) → Along new x p y (k + n)
+      along_more n u = record {
+        reached = subst (Reached new x) (taken_so n u.1.within) u.2;
+        quiet = quiet_so n u.1;
+        on = ap (is_over_at (stream x)) (sym (taken_so n u.1.within)) ∙ on_still n u.1;
+      } where
+        on_still : (n : ℕ) → IsQuiet (stream x) (p ++ take k y) c n → is_over_at (stream x) ((p ++ take k y) ++ take n c) ≡ false
+        on_still n q =
+            let len = length-take-le n c q.within in
+            ap (λ d. is_over_at (stream x) ((p ++ take k y) ++ d)) (sym (take-length (take n c)))
+            ∙ not_over_along (stream x) (readable x) ends (tells x) (take n c) (p ++ take k y) a.on
+            (λ i some le. ap (λ d. event_at (stream x) ((p ++ take k y) ++ d)) (take-take i n c (omega (arith, len, le))) ∙ q.eventless i some (omega (arith, len, le))) (length (take n c)) (omega arith)
+
+      pub along_refused : (o : Offence) → UnitAnswers x (p ++ take k y) c new (Err o) → FedRefused new x p y o
+      along_refused o u =
+          fed_refused new (k + u.0) o (quiet_so u.0 u.1) (ap (refusal_at (stream x)) (sym (taken_so u.0 u.1.within)) ∙ u.2) (subst (Failed new x o) (taken_so u.0 u.1.within) u.3)
+
+      -- an event
+      fed_event : (n : ℕ) (step : Step) (event : StreamEvent) → 0 < n → IsQuietBefore (stream x) (p ++ take k y) c n → event_at (stream x) ((p ++ take k y) ++ take n c) ≡ Some event → step ≡ step_for event
+          → Reached new x ((p ++ take k y) ++ take n c) → Fed new x p y (k + n) step
+      fed_event n step event some before at is reached =
+          let e : answer (stream x) p y ≡ completes (k + n) event
+          = (answers_are_first (stream x) p y (completes (k + n) event)).1 (quiet_before_so n before, omega (arith, some), ap (event_at (stream x)) (sym (taken_so n before.within)) ∙ at) in
+          (ap (said (length y)) e ∙ ap (λ s. Ok (k + n, s)) (sym is), subst (Reached new x) (taken_so n before.within) reached)
+
+      pub along_event : (n : ℕ) (step : Step) → (step ≡ steps.More → ⊥) → UnitAnswers x (p ++ take k y) c new (Ok (n, step)) → Fed new x p y (k + n) step
+      along_event n steps.More other u = absurd (other refl)
+      along_event n (steps.Opened mode kind) other u = fed_event n (steps.Opened mode kind) u.0 u.1 u.2 u.3 u.4 u.5
+      along_event n (steps.Envelope size) other u = fed_event n (steps.Envelope size) u.0 u.1 u.2 u.3 u.4 u.5
+      along_event n steps.Ended other u = fed_event n steps.Ended u.0 u.1 u.2 u.3 u.4 u.5
+
+      -- a unit takes some byte
+      pub some_taken : (n : ℕ) (step : Step) → UnitAnswers x (p ++ take k y) c new (Ok (n, step)) → 0 < n
+      some_taken n steps.More u = u.0
+      some_taken n (steps.Opened mode kind) u = u.1
+      some_taken n (steps.Envelope size) u = u.1
+      some_taken n steps.Ended u = u.1

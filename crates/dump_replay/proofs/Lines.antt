@@ -1,69 +1,117 @@
--- The report of a stream as the lines of its events.
-use Rattle.std.proofs.Common.{◌≡◌, ℕ, List, [], ◌∷◌, ◌++◌, length, Bool, true, false, Option, Some, None, refl, sym, ap, ◌∙◌, append_assoc}
+-- The lines of a report, of bytes so far and of what comes behind them.
+use Rattle.std.proofs.Common.{◌≡◌, ℕ, ◌<◌, ◌≤◌, List, [], ◌∷◌, ◌++◌, length, take, drop, true, false, Some, None, refl, ap, ◌∙◌, append_assoc}
 use Rattle.std.specs.List.{flat_map}
 use Rattle.std.proofs.lemmas.Grind.{flat_map-append}
 use Rattle.std.proofs.lemmas.List.{append-nil}
+use Rattle.unit_streams.specs.Judging.{event_at, ending_at, History, only, led_by, history_from, offence as offence_by, events_in, events_of, goes_on, completes, offends, answer}
+use Rattle.unit_streams.specs.Going.{Means, IsPending, IsOpenAt, history_by}
+use Rattle.unit_streams.specs.Laws.{raised, unless_decided}
+use Rattle.unit_streams.proofs.Answers.{answers_are_first}
+use Rattle.unit_streams.proofs.Cuts.{cuts_change_nothing}
+use Rattle.unit_streams.proofs.Histories.{events_in_none, completed_events, history_is_answers}
+use Rattle.unit_streams.proofs.Pending.{open_history, pending_history, events_of_append, open_goes_on, open_completes, over_behind}
 use Rattle.nbfx_values.specs.declared.refusals.Offence.{Offence}
-use Rattle.dump_replay.specs.declared.receiver.Step.{Step}
-use Rattle.dump_replay.specs.Stream.{Settings, standing}
-use Rattle.dump_replay.specs.Judging.{Event, event_of, unless_last, events_from, events, refusal_at, completed_at, is_over_at, ending_at, offence_from, offence}
-use Rattle.dump_replay.specs.Report.{event_line, line_at, offence_line_of, report_from, report}
-use Rattle.dump_replay.specs.Laws.{ReportsEvents}
-use Rattle.dump_replay.proofs.Reports.{after_report, report_from_is, no_line, a_line, closed_by, closed_over, offence_by, offence_next, offence_over}
+use Rattle.dump_replay.specs.Stream.{Settings, StreamEvent, ends, stream}
+use Rattle.dump_replay.specs.Judging.{offence}
+use Rattle.dump_replay.specs.Report.{offence_line, offence_line_of, event_line, history_lines, report, event_lines}
+use Rattle.dump_replay.proofs.Grammar.{readable}
+use Rattle.dump_replay.proofs.Ending.{tells}
+use Rattle.dump_replay.proofs.Closing.{closed_behind}
+
+-- the lines of events before others
+led_lines : (before : List StreamEvent) (h : History StreamEvent Offence) → history_lines (led_by before h) ≡ flat_map event_line before ++ history_lines h
+led_lines before h = ap (λ l. l ++ offence_line_of h.offence) (flat_map-append event_line before h.events) ∙ append_assoc (flat_map event_line before) (flat_map event_line h.events) (offence_line_of h.offence)
+
+-- one event's line
+one_line : (event : StreamEvent) → flat_map event_line (event ∷ []) ≡ event_line event
+one_line event = append-nil (event_line event)
 
 module _ (x : Settings) where
-  abbrev line_of : Event → List ℕ
-  line_of event = event_line (standing x event.prefix).situation (length event.prefix) event.step
+  -- no bytes have no lines
+  pub nothing_lines : event_lines x [] ≡ []
+  unfolding event_lines events_of events_in
+  nothing_lines = refl
 
-  abbrev lines : List Event → List ℕ
-  lines = flat_map line_of
+  lines_more : (p c : List ℕ) → event_lines x (p ++ c) ≡ event_lines x p ++ flat_map event_line (events_in (stream x) p c)
+  unfolding event_lines
+  lines_more p c = ap (flat_map event_line) (events_of_append (stream x) p c) ∙ flat_map-append event_line (events_of (stream x) p) (events_in (stream x) p c)
 
-  -- the events past the prefix p, as y goes on
-  abbrev after_events : List ℕ → List ℕ → List Event
-  after_events p [] = []
-  after_events p (b ∷ y) = unless_last (refusal_at x p) (is_over_at x p) (events_from x (p ++ b ∷ []) y)
+  -- the input ends
+  module _ (p : List ℕ) (pending : IsPending (stream x) p) where
+    pub pending_offence : offence x p ≡ ending_at (stream x) p
+    unfolding offence_by
+    pending_offence = ap (λ (h : History StreamEvent Offence). h.offence) (pending_history (stream x) p pending)
 
-  events_from_are : (p y : List ℕ) → events_from x p y ≡ event_of p (completed_at x p) ++ after_events p y
-  unfolding events_from
-  events_from_are p [] = sym (append-nil (event_of p (completed_at x p)))
-  events_from_are p (b ∷ y) = refl
+    pub pending_report : report x p ≡ event_lines x p ++ offence_line_of (ending_at (stream x) p)
+    unfolding report event_lines
+    pending_report = ap history_lines (pending_history (stream x) p pending) ∙ led_lines (events_of (stream x) p) (only (ending_at (stream x) p))
 
-  -- a prefix's line is that of its event
-  line_is : (p : List ℕ) (completed : Option Step) → completed_at x p ≡ completed → lines (event_of p completed) ≡ line_at x p
-  line_is p None e = sym (no_line x p e)
-  line_is p (Some step) e = append-nil (event_line (standing x p).situation (length p) step) ∙ sym (a_line x p step e)
+  module _ (p : List ℕ) (on : IsOpenAt (stream x) p) where
+    -- a report is the lines of the events so far, and those of what comes behind them
+    pub open_report : (z : List ℕ) → report x (p ++ z) ≡ event_lines x p ++ history_lines (history_from (stream x) p z)
+    unfolding report event_lines
+    open_report z = ap history_lines (open_history (stream x) p z on) ∙ led_lines (events_of (stream x) p) (history_from (stream x) p z)
 
-  -- past a prefix that is refused, or at which the session ends, nothing more is an event
-  after_refused : (p y : List ℕ) (o : Offence) → refusal_at x p ≡ Some o → after_events p y ≡ []
-  after_refused p [] o e = refl
-  after_refused p (b ∷ y) o e = rw e refl
+    open_offence : (z : List ℕ) → offence x (p ++ z) ≡ (history_from (stream x) p z).offence
+    unfolding offence_by
+    open_offence z = ap (λ (h : History StreamEvent Offence). h.offence) (open_history (stream x) p z on)
 
-  after_over : (p y : List ℕ) → refusal_at x p ≡ None → is_over_at x p ≡ true → after_events p y ≡ []
-  after_over p [] r o = refl
-  after_over p (b ∷ y) r o = rw (r, o) refl
+    module _ (y : List ℕ) where
+      -- a piece that decides nothing
+      pub goes_on_lines : answer (stream x) p y ≡ goes_on → IsPending (stream x) (p ++ y) × (event_lines x (p ++ y) ≡ event_lines x p)
+      goes_on_lines e =
+          let m = (answers_are_first (stream x) p y goes_on).0 e in
+          let none : events_in (stream x) p y ≡ [] = events_in_none (stream x) y p m.0.eventless in (
+            open_goes_on (stream x) (readable x) ends (tells x) p y on m.0 m.1,
+            lines_more p y ∙ ap (λ es. event_lines x p ++ flat_map event_line es) none ∙ append-nil (event_lines x p),
+          )
 
-  offence_at_end : (p : List ℕ) → refusal_at x p ≡ None → offence_from x p [] ≡ ending_at x p
-  unfolding offence_from
-  offence_at_end p e = rw e refl
+      -- a piece that completes an event
+      module _ (k : ℕ) (event : StreamEvent) (e : answer (stream x) p y ≡ completes k event) where
+        completes_means : Means (stream x) p y (completes k event)
+        completes_means = (answers_are_first (stream x) p y (completes k event)).0 e
 
-  -- a prefix's line goes before those past it
-  whole_of : (p y : List ℕ) → after_report x p y ≡ lines (after_events p y) ++ offence_line_of (offence_from x p y) → report_from x p y ≡ lines (events_from x p y) ++ offence_line_of (offence_from x p y)
-  whole_of p y h =
-      report_from_is x p y
-      ∙ ap (λ l. line_at x p ++ l) h
-      ∙ sym (append_assoc (line_at x p) (lines (after_events p y)) (offence_line_of (offence_from x p y)))
-      ∙ ap (λ l. l ++ offence_line_of (offence_from x p y))
-      (ap (λ l. l ++ lines (after_events p y)) (sym (line_is p (completed_at x p) refl)) ∙ sym (flat_map-append line_of (event_of p (completed_at x p)) (after_events p y)) ∙ ap lines (sym (events_from_are p y)))
+        pub completes_within : (0 < k) × (k ≤ length y)
+        completes_within = (completes_means.1, completes_means.0.within)
 
-  past : (p y : List ℕ) (r : Option Offence) (o : Bool) → refusal_at x p ≡ r → is_over_at x p ≡ o → after_report x p y ≡ lines (after_events p y) ++ offence_line_of (offence_from x p y)
-  past p y (Some offence) o e e' = rw (after_refused p y offence e, offence_by x p y offence e) (closed_by x p y offence e)
-  past p y None true e e' = rw (after_over p y e e', offence_over x p y e') (closed_over x p y e e')
-  past p [] None false e e' = rw (e, e', offence_at_end p e) refl
-  past p (b ∷ y) None false e e' =
-      rw (e, e', offence_next x p b y e)
-      (whole_of (p ++ b ∷ []) y (past (p ++ b ∷ []) y (refusal_at x (p ++ b ∷ [])) (is_over_at x (p ++ b ∷ [])) refl refl))
+        pub completes_event : event_at (stream x) (p ++ take k y) ≡ Some event
+        completes_event = completes_means.2
 
--- of a stream
-pub reports_events : ReportsEvents
-unfolding events offence report
-reports_events x stream = whole_of x [] stream (past x [] stream (refusal_at x []) (is_over_at x []) refl refl)
+        pub completes_lines : event_lines x (p ++ take k y) ≡ event_lines x p ++ event_line event
+        completes_lines =
+            lines_more p (take k y)
+            ∙ ap (λ es. event_lines x p ++ flat_map event_line es) (completed_events (stream x) p y k event completes_means.0 completes_means.1 completes_means.2)
+            ∙ ap (λ l. event_lines x p ++ l) (one_line event)
+
+        pub completes_open : ends event ≡ false → IsOpenAt (stream x) (p ++ take k y)
+        completes_open going = open_completes (stream x) (readable x) ends (tells x) p y on k event completes_means.0 completes_means.1 completes_means.2 going
+
+        -- the last event of all
+        closing : ends event ≡ true → history_from (stream x) p y ≡ led_by (event ∷ []) (only None)
+        closing is_end =
+            history_is_answers (stream x) p y
+            ∙ ap (history_by (stream x) p y) e
+            ∙ ap (led_by (event ∷ [])) (closed_behind x (p ++ take k y) event completes_means.2 is_end (over_behind (stream x) (readable x) ends (tells x) p y on k event completes_means.0 completes_means.1 completes_means.2 ∙ is_end) (drop k y))
+
+        closes : ends event ≡ true → (report x (p ++ y) ≡ event_lines x p ++ event_line event) × (offence x (p ++ y) ≡ None)
+        closes is_end = (
+          open_report y ∙ ap (λ h. event_lines x p ++ history_lines h) (closing is_end) ∙ ap (λ l. event_lines x p ++ l) (append-nil (flat_map event_line (event ∷ [])) ∙ one_line event),
+          open_offence y ∙ ap (λ (h : History StreamEvent Offence). h.offence) (closing is_end),
+        )
+
+      -- a piece that shows a refusal
+      refuses : (k : ℕ) (o : Offence) → answer (stream x) p y ≡ offends k o → (report x (p ++ y) ≡ event_lines x p ++ offence_line o) × (offence x (p ++ y) ≡ Some o)
+      refuses k o e =
+          let h = history_is_answers (stream x) p y ∙ ap (history_by (stream x) p y) e in (
+            open_report y ∙ ap (λ h. event_lines x p ++ history_lines h) h,
+            open_offence y ∙ ap (λ (h : History StreamEvent Offence). h.offence) h,
+          )
+
+    -- whatever follows the piece
+    module _ (y more : List ℕ) where
+      pub closes_for_good : (k : ℕ) (event : StreamEvent) → answer (stream x) p y ≡ completes k event → ends event ≡ true
+          → (report x (p ++ (y ++ more)) ≡ event_lines x p ++ event_line event) × (offence x (p ++ (y ++ more)) ≡ None)
+      closes_for_good k event e is_end = closes (y ++ more) k event (cuts_change_nothing (stream x) p y more ∙ ap (λ a. unless_decided a (raised (length y) (answer (stream x) (p ++ y) more))) e) is_end
+
+      pub refuses_for_good : (k : ℕ) (o : Offence) → answer (stream x) p y ≡ offends k o → (report x (p ++ (y ++ more)) ≡ event_lines x p ++ offence_line o) × (offence x (p ++ (y ++ more)) ≡ Some o)
+      refuses_for_good k o e = refuses (y ++ more) k o (cuts_change_nothing (stream x) p y more ∙ ap (λ a. unless_decided a (raised (length y) (answer (stream x) (p ++ y) more))) e)

@@ -1,27 +1,80 @@
 -- How a stream that is read piece by piece is reported: an event, the end, an offence, or nothing yet.
-use Rattle.std.proofs.Common.{◌≡◌, ℕ, ◌+◌, ◌-◌, ◌≤◌, ◌<◌, List, ◌++◌, length, take, drop, false, Some, None, Ok, Err, sym, ap, ◌∙◌, subst, arith, append_assoc, length-append}
+use Rattle.std.proofs.Common.{◌≡◌, ℕ, ◌+◌, ◌-◌, ◌≤◌, ◌<◌, List, ◌++◌, length, take, drop, true, false, Option, Some, None, Result, Ok, Err, refl, sym, ap, ◌∙◌, subst, arith, append_assoc}
 use Rattle.std.proofs.Math.Seq.{take-add}
-use Rattle.std.proofs.lemmas.List.{take_rest, take-append-drop, length-take-le, take_all}
+use Rattle.std.specs.Prelude.{⊤}
+use Rattle.std.proofs.lemmas.List.{append-nil, take_rest, take-append-drop, take_all}
 use Rattle.io_edges.specs.Flow.{GrowsByPrefix}
+use Rattle.unit_streams.specs.Judging.{event_at, is_over_at, ending_at, history_from, Answer, goes_on, completes, offends, answer}
+use Rattle.unit_streams.specs.Going.{IsPending, IsOpenAt}
+use Rattle.unit_streams.proofs.Pending.{open_going_on}
 use Rattle.nbfx_values.specs.declared.refusals.Offence.{Offence}
 use Rattle.dump_replay.specs.declared.receiver.Step.{Step}
 use Rattle.dump_replay.specs.declared.receiver.Step.TheVariants.{More, Ended}
-use Rattle.dump_replay.specs.declared.receiver.Receiver.{Receiver}
-use Rattle.dump_replay.specs.declared.check.Reading.{Reading}
-use Rattle.dump_replay.specs.Stream.{Settings, standing}
-use Rattle.dump_replay.specs.Judging.{is_over_at, offence, completes, answer, said}
-use Rattle.dump_replay.specs.Report.{offence_line, event_line, report, event_lines}
-use Rattle.dump_replay.specs.Running.{IsPending, IsOpenAt, counted}
-use Rattle.dump_replay.specs.Receiving.{StandsFor, settings_of}
-use Rattle.dump_replay.specs.Checking.{set_to, HasRead}
-use Rattle.dump_replay.proofs.Meaning.{completes_means, completes_messages, goes_on_messages}
-use Rattle.dump_replay.proofs.Pending.{open_not_over, open_goes_on, open_completes, open_ends, open_offends, lines_begin}
-use Rattle.dump_replay.proofs.Said.{said_more, said_step, said_offence}
+use Rattle.dump_replay.specs.Stream.{Settings, StreamEvent, opened, message, ended, ends, stream}
+use Rattle.dump_replay.specs.Judging.{offence}
+use Rattle.dump_replay.specs.Report.{offence_line, offence_line_of, event_line, history_lines, report, event_lines}
+use Rattle.dump_replay.specs.Reading.{HasRead}
+use Rattle.dump_replay.specs.Saying.{step_for, said, said_at_end}
+use Rattle.dump_replay.proofs.Lines.{pending_offence, pending_report, open_report, goes_on_lines, completes_within, completes_event, completes_lines, completes_open, closes_for_good, refuses_for_good}
 use Rattle.dump_replay.proofs.Writing.{grown_behind, grown_within}
+
+-- the parts of what is said
+ok_parts : (m n : ℕ) (a b : Step) → ◌≡◌ {A = Result (ℕ × Step) Offence} (Ok (m, a)) (Ok (n, b)) → (m ≡ n) × (a ≡ b)
+ok_parts m n a b e = let pair : ◌≡◌ {A = ℕ × Step} (m, a) (n, b) = cc in (ap (λ (q : ℕ × Step). q.0) pair, ap (λ (q : ℕ × Step). q.1) pair)
+
+-- an event is said by a step of its own
+event_not_more : (event : StreamEvent) → step_for event ≡ More → ⊥
+event_not_more (opened mode kind via) e = cc
+event_not_more (message number size) e = cc
+event_not_more (ended n) e = cc
+
+event_going : (event : StreamEvent) → (step_for event ≡ Ended → ⊥) → ends event ≡ false
+event_going (opened mode kind via) other = refl
+event_going (message number size) other = refl
+event_going (ended n) other = absurd (other refl)
+
+event_ends : (event : StreamEvent) → step_for event ≡ Ended → ends event ≡ true
+event_ends (opened mode kind via) e = cc
+event_ends (message number size) e = cc
+event_ends (ended n) e = refl
+
+-- More is said where nothing is decided, and of all of the piece
+said_more : (len n : ℕ) (a : Answer StreamEvent Offence) → Ok (n, More) ≡ said len a → (n ≡ len) × (a ≡ goes_on)
+said_more len n goes_on e = ((ok_parts n len More More e).0, refl)
+said_more len n (completes k event) e = absurd (event_not_more event (sym (ok_parts n k More (step_for event) e).1))
+said_more len n (offends k o) e = cc
+
+-- another step is said where an event is completed
+said_step : (len n : ℕ) (step : Step) (a : Answer StreamEvent Offence) → (step ≡ More → ⊥) → Ok (n, step) ≡ said len a → (event : StreamEvent) × (a ≡ completes n event) × (step ≡ step_for event)
+said_step len n step goes_on other e = absurd (other (ok_parts n len step More e).1)
+said_step len n step (completes k event) other e = let parts = ok_parts n k step (step_for event) e in (event, ap (λ m. completes m event) (sym parts.0), parts.1)
+said_step len n step (offends k o) other e = cc
+
+-- an error is said where an offence is known
+said_offence : (len : ℕ) (o : Offence) (a : Answer StreamEvent Offence) → Err o ≡ said len a → (k : ℕ) × (a ≡ offends k o)
+said_offence len o goes_on e = cc
+said_offence len o (completes k event) e = cc
+said_offence len o (offends k given) e = (k, cc)
 
 -- the rest of a piece, of which so many bytes are used
 abbrev pub rest_of : List ℕ → ℕ → List ℕ
 rest_of piece used = take (length piece - used) (drop used piece)
+
+-- an event that n more bytes of a piece complete, of which so many were used
+pub record ReadsEvent (x : Settings) (p piece : List ℕ) (used n : ℕ) (step : Step) : Type 0 where
+  pub event : StreamEvent
+  pub is : step ≡ step_for event
+  pub some : 0 < n
+  pub within : n ≤ length (rest_of piece used)
+  pub here : event_at (stream x) ((p ++ take used piece) ++ take n (rest_of piece used)) ≡ Some event
+  -- its line is behind those before
+  pub lines : event_lines x ((p ++ take used piece) ++ take n (rest_of piece used)) ≡ event_lines x (p ++ take used piece) ++ event_line event
+  -- where it isn't the end the stream is open
+  pub stays_open : (step ≡ Ended → ⊥) → IsOpenAt (stream x) ((p ++ take used piece) ++ take n (rest_of piece used))
+  -- and where its line can't be written, what is written begins the report
+  pub cut : (step ≡ Ended → ⊥) → (w w' more : List ℕ) → GrowsByPrefix (w ++ event_lines x (p ++ take used piece)) w' (event_line event) → GrowsByPrefix w w' (report x (p ++ piece ++ more))
+  -- the end is the last line
+  pub last : step ≡ Ended → (more : List ℕ) → (report x (p ++ piece ++ more) ≡ event_lines x (p ++ take used piece) ++ event_line event) × (offence x (p ++ piece ++ more) ≡ None)
 
 module _ (x : Settings) (p piece : List ℕ) (used : ℕ) where
   abbrev q : List ℕ
@@ -31,117 +84,104 @@ module _ (x : Settings) (p piece : List ℕ) (used : ℕ) where
   y = rest_of piece used
 
   -- what is used and the rest are the piece
-  pub all_of : q ++ y ≡ p ++ piece
+  all_of : q ++ y ≡ p ++ piece
   all_of = append_assoc p (take used piece) y ∙ ap (λ l. p ++ l) (ap (λ l. take used piece ++ l) (take_rest piece used) ∙ take-append-drop used piece)
 
   -- whatever follows
-  pub stream_of : (more : List ℕ) → q ++ y ++ more ≡ p ++ piece ++ more
-  stream_of more = ap (λ l. l ++ more) all_of
+  stream_of : (more : List ℕ) → q ++ (y ++ more) ≡ p ++ piece ++ more
+  stream_of more = sym (append_assoc q y more) ∙ ap (λ l. l ++ more) all_of
 
   -- some bytes of the rest more
   pub further : (n : ℕ) → n ≤ length y → q ++ take n y ≡ p ++ take (used + n) piece
   further n le = append_assoc p (take used piece) (take n y) ∙ ap (λ l. p ++ l) (ap (λ l. take used piece ++ take n l) (take_rest piece used) ∙ sym (take-add used n piece))
 
-  module _ (on : IsOpenAt x q) where
+  module _ (on : IsOpenAt (stream x) q) where
     -- nothing more
-    pub read_more : (n : ℕ) → Ok (n, More) ≡ said (length y) (answer x q y)
-        → (q ++ take n y ≡ p ++ piece) × IsPending x (p ++ piece) × (event_lines x (p ++ piece) ≡ event_lines x q)
-        × ((standing x (p ++ piece)).situation.messages ≡ (standing x q).situation.messages)
+    pub read_more : (n : ℕ) → Ok (n, More) ≡ said (length y) (answer (stream x) q y)
+        → (q ++ take n y ≡ p ++ piece) × IsPending (stream x) (p ++ piece) × (event_lines x (p ++ piece) ≡ event_lines x q)
     read_more n e =
-        let s = said_more x q y n e in
-        let on' = open_goes_on x q on y s.1 in
+        let s = said_more (length y) n (answer (stream x) q y) e in
+        let on' = goes_on_lines x q on y s.1 in
         let whole : take n y ≡ y = take_all n y (omega (arith, s.0)) in (
           ap (λ l. q ++ l) whole ∙ all_of,
-          subst (IsPending x) all_of on'.0,
+          subst (IsPending (stream x)) all_of on'.0,
           ap (event_lines x) (sym all_of) ∙ on'.1,
-          ap (λ l. (standing x l).situation.messages) (sym all_of) ∙ goes_on_messages x q y s.1,
         )
 
-    -- an event other than the end
-    module _ (n : ℕ) (step : Step) (not_more : step ≡ More → ⊥) (e : Ok (n, step) ≡ said (length y) (answer x q y)) where
-      event : answer x q y ≡ completes n step
-      event = said_step x q y n step not_more e
+    -- an event
+    module _ (n : ℕ) (step : Step) (event : StreamEvent) (told : answer (stream x) q y ≡ completes n event) (is : step ≡ step_for event) where
+      -- where it isn't the end the stream is open
+      event_open : (step ≡ Ended → ⊥) → IsOpenAt (stream x) (q ++ take n y)
+      event_open not_end = completes_open x q on y n event told (event_going event (λ is_end. not_end (is ∙ is_end)))
 
-      -- within the rest, and not nothing
-      pub event_within : (0 < n) × (n ≤ length y)
-      event_within = ((completes_means x q y n step event).some, (completes_means x q y n step event).within)
-
-      event_length : length q + n ≡ length (q ++ take n y)
-      event_length = sym (length-append q (take n y) ∙ ap (λ k. length q + k) (length-take-le n y event_within.1))
-
-      -- it counts what it brings
-      pub event_counts : (standing x q).situation.messages + counted (Some step) ≡ (standing x (q ++ take n y)).situation.messages
-      event_counts = sym (completes_messages x q y n step event)
-
-      -- its line is behind those before
-      pub event_read : (step ≡ Ended → ⊥) → IsOpenAt x (q ++ take n y) × (event_lines x (q ++ take n y) ≡ event_lines x q ++ event_line (standing x (q ++ take n y)).situation (length (q ++ take n y)) step)
-      event_read not_end =
-          let c = open_completes x q on y n step event not_end in
-          (c.0, c.1 ∙ ap (λ k. event_lines x q ++ event_line (standing x (q ++ take n y)).situation k step) event_length)
-
-      -- where it can't be written, what is written begins the report
-      pub event_cut : (step ≡ Ended → ⊥) → (w w' more : List ℕ) → GrowsByPrefix (w ++ event_lines x q) w' (event_line (standing x (q ++ take n y)).situation (length (q ++ take n y)) step)
-          → GrowsByPrefix w w' (report x (p ++ piece ++ more))
+      event_cut : (step ≡ Ended → ⊥) → (w w' more : List ℕ) → GrowsByPrefix (w ++ event_lines x q) w' (event_line event) → GrowsByPrefix w w' (report x (p ++ piece ++ more))
       event_cut not_end w w' more h =
-          let r = event_read not_end in
-          let b = lines_begin x (q ++ take n y) r.0 (drop n y ++ more) in
-          let same : (q ++ take n y) ++ (drop n y ++ more) ≡ p ++ piece ++ more
-          = append_assoc q (take n y) (drop n y ++ more) ∙ ap (λ l. q ++ l) (sym (append_assoc (take n y) (drop n y) more) ∙ ap (λ l. l ++ more) (take-append-drop n y)) ∙ sym (append_assoc q y more) ∙ stream_of more in
-          let lines : event_lines x (q ++ take n y) ++ b.0 ≡ report x (p ++ piece ++ more) = sym b.1 ∙ ap (report x) same in
+          let q' : List ℕ = q ++ take n y in
+          let z : List ℕ = drop n y ++ more in
+          let same : q' ++ z ≡ p ++ piece ++ more
+          = append_assoc q (take n y) z ∙ ap (λ l. q ++ l) (sym (append_assoc (take n y) (drop n y) more) ∙ ap (λ l. l ++ more) (take-append-drop n y)) ∙ stream_of more in
+          let lines : event_lines x q' ++ history_lines (history_from (stream x) q' z) ≡ report x (p ++ piece ++ more) = sym (open_report x q' (event_open not_end) z) ∙ ap (report x) same in
           subst (GrowsByPrefix w w') lines
-          (grown_within w w' (event_lines x (q ++ take n y)) b.0 (subst (GrowsByPrefix w w') (sym r.1) (grown_behind w w' (event_lines x q) _ h)))
+          (grown_within w w' (event_lines x q') (history_lines (history_from (stream x) q' z))
+          (subst (GrowsByPrefix w w') (sym (completes_lines x q on y n event told)) (grown_behind w w' (event_lines x q) (event_line event) h)))
 
-      -- the end is the last line
-      pub end_read : step ≡ Ended → (more : List ℕ)
-          → (report x (p ++ piece ++ more) ≡ event_lines x q ++ event_line (standing x (q ++ take n y)).situation (length (q ++ take n y)) step) × (offence x (p ++ piece ++ more) ≡ None)
-      end_read is_end more =
-          let ends = open_ends x q on y n (event ∙ ap (completes n) is_end) more in
-          let same = stream_of more in (
-            ap (report x) (sym same) ∙ ends.0 ∙ ap (λ k. event_lines x q ++ event_line (standing x (q ++ take n y)).situation k Ended) event_length ∙ ap (λ s. event_lines x q ++ event_line (standing x (q ++ take n y)).situation (length (q ++ take n y)) s) (sym is_end),
-            ap (offence x) (sym same) ∙ ends.1,
-          )
+      event_last : step ≡ Ended → (more : List ℕ) → (report x (p ++ piece ++ more) ≡ event_lines x q ++ event_line event) × (offence x (p ++ piece ++ more) ≡ None)
+      event_last is_end more =
+          let c = closes_for_good x q on y more n event told (event_ends event (sym is ∙ is_end)) in
+          (ap (report x) (sym (stream_of more)) ∙ c.0, ap (offence x) (sym (stream_of more)) ∙ c.1)
+
+    event_read : (n : ℕ) (step : Step) → (step ≡ More → ⊥) → Ok (n, step) ≡ said (length y) (answer (stream x) q y) → ReadsEvent x p piece used n step
+    event_read n step not_more e =
+        let s = said_step (length y) n step (answer (stream x) q y) not_more e in
+        record {
+          event = s.0;
+          is = s.2;
+          some = (completes_within x q on y n s.0 s.1).0;
+          within = (completes_within x q on y n s.0 s.1).1;
+          here = completes_event x q on y n s.0 s.1;
+          lines = completes_lines x q on y n s.0 s.1;
+          stays_open = event_open n step s.0 s.1 s.2;
+          cut = event_cut n step s.0 s.1 s.2;
+          last = event_last n step s.0 s.1 s.2;
+        }
 
     -- an offence is the last line
-    pub offence_read : (o : Offence) → Err o ≡ said (length y) (answer x q y) → (more : List ℕ)
+    pub offence_read : (o : Offence) → Err o ≡ said (length y) (answer (stream x) q y) → (more : List ℕ)
         → (report x (p ++ piece ++ more) ≡ event_lines x q ++ offence_line o) × (offence x (p ++ piece ++ more) ≡ Some o)
     offence_read o e more =
-        let s = said_offence x q y o e in
-        let offends' = open_offends x q on y s.0 o s.1 more in
-        (ap (report x) (sym (stream_of more)) ∙ offends'.0, ap (offence x) (sym (stream_of more)) ∙ offends'.1)
+        let s = said_offence (length y) o (answer (stream x) q y) e in
+        let c = refuses_for_good x q on y more s.0 o s.1 in
+        (ap (report x) (sym (stream_of more)) ∙ c.0, ap (offence x) (sym (stream_of more)) ∙ c.1)
 
--- what a reading has read, said of the settings that it had at first
-module _ (old : Reading) (x : Settings) (same : set_to old ≡ x) (p : List ℕ) (h : HasRead old p) where
-  pub on_here : IsOpenAt x p
-  on_here = subst (λ s. IsOpenAt s p) same h.on
+-- an answer, said by the settings that the end had at first
+pub told_at : (now x : Settings) → now ≡ x → (q y : List ℕ) (r : Result (ℕ × Step) Offence) → IsOpenAt (stream x) q
+    → (is_over_at (stream now) q ≡ false → r ≡ said (length y) (answer (stream now) q y)) → r ≡ said (length y) (answer (stream x) q y)
+told_at now x same q y r on told =
+    subst (λ s. r ≡ said (length y) (answer (stream s) q y)) same (told (subst (λ s. is_over_at (stream s) q ≡ false) (sym same) (open_going_on (stream x) q on)))
 
-  pub not_over_here : is_over_at (settings_of old.receiver) p ≡ false
-  not_over_here = open_not_over (set_to old) p h.on
+-- an event that is answered to an end which has read so far
+pub event_answered : (now x : Settings) → now ≡ x → (stands : List ℕ → Type 0) (p piece : List ℕ) (used : ℕ) → HasRead stands x (p ++ take used piece) → (n : ℕ) (step : Step) → (step ≡ More → ⊥)
+    → ((q : List ℕ) → stands q → is_over_at (stream now) q ≡ false → Ok (n, step) ≡ said (length (rest_of piece used)) (answer (stream now) q (rest_of piece used))) → ReadsEvent x p piece used n step
+event_answered now x same stands p piece used h n step not_more answers =
+    let q : List ℕ = p ++ take used piece in
+    event_read x p piece used h.on n step not_more (told_at now x same q (rest_of piece used) (Ok (n, step)) h.on (answers q h.stands_for))
 
-  pub counted_here : old.messages ≡ (standing x p).situation.messages
-  counted_here = subst (λ s. old.messages ≡ (standing s p).situation.messages) same h.counted
+-- what the end of the input is answered with is the stream's offence, and the last line of its report
+module _ (x : Settings) (p : List ℕ) (pending : IsPending (stream x) p) where
+  pub end_well : (u : ⊤) → ◌≡◌ {A = Result ⊤ Offence} (Ok u) (said_at_end (ending_at (stream x) p)) → (offence x p ≡ None) × (report x p ≡ event_lines x p)
+  end_well u e =
+      let none = well (ending_at (stream x) p) e in
+      (pending_offence x p pending ∙ none, pending_report x p pending ∙ ap (λ o. event_lines x p ++ offence_line_of o) none ∙ append-nil (event_lines x p))
+    where
+      well : (v : Option Offence) → ◌≡◌ {A = Result ⊤ Offence} (Ok u) (said_at_end v) → v ≡ None
+      well None e = refl
+      well (Some o) e = cc
 
--- a reading that has read so far
-pub has_read : (new : Reading) (x : Settings) → set_to new ≡ x → (p : List ℕ) → StandsFor new.receiver p → IsOpenAt x p → new.messages ≡ (standing x p).situation.messages → HasRead new p
-has_read new x same p stands on counts = record {
-  stands = stands;
-  on = subst (λ s. IsOpenAt s p) (sym same) on;
-  counted = subst (λ s. new.messages ≡ (standing s p).situation.messages) (sym same) counts;
-}
-
--- an event that is read, said of the receiver that read it
-module _ (old : Reading) (r : Receiver) (x : Settings) (same : set_to old ≡ x) (fed : settings_of r ≡ settings_of old.receiver) (p piece : List ℕ) (used n : ℕ) (step : Step)
-    (h : HasRead old (p ++ take used piece)) (not_more : step ≡ More → ⊥)
-    (told : Ok (n, step) ≡ said (length (rest_of piece used)) (answer (settings_of old.receiver) (p ++ take used piece) (rest_of piece used))) where
-  abbrev behind : List ℕ
-  behind = (p ++ take used piece) ++ take n (rest_of piece used)
-
-  pub told_here : Ok (n, step) ≡ said (length (rest_of piece used)) (answer x (p ++ take used piece) (rest_of piece used))
-  told_here = subst (λ s. Ok (n, step) ≡ said (length (rest_of piece used)) (answer s (p ++ take used piece) (rest_of piece used))) same told
-
-  pub due : old.messages + counted (Some step) ≡ (standing (settings_of r) behind).situation.messages
-  due =
-      subst (λ s. old.messages + counted (Some step) ≡ (standing s behind).situation.messages) (sym (fed ∙ same))
-      (ap (λ m. m + counted (Some step)) (counted_here old x same (p ++ take used piece) h) ∙ event_counts x p piece used (on_here old x same (p ++ take used piece) h) n step not_more told_here)
-
-  pub line_here : event_line (standing (settings_of r) behind).situation (length behind) step ≡ event_line (standing x behind).situation (length behind) step
-  line_here = ap (λ s. event_line (standing s behind).situation (length behind) step) (fed ∙ same)
+  pub end_says : (o : Offence) → ◌≡◌ {A = Result ⊤ Offence} (Err o) (said_at_end (ending_at (stream x) p)) → (offence x p ≡ Some o) × (report x p ≡ event_lines x p ++ offence_line o)
+  end_says o e =
+      let some = refused (ending_at (stream x) p) e in
+      (pending_offence x p pending ∙ some, pending_report x p pending ∙ ap (λ v. event_lines x p ++ offence_line_of v) some)
+    where
+      refused : (v : Option Offence) → ◌≡◌ {A = Result ⊤ Offence} (Err o) (said_at_end v) → v ≡ Some o
+      refused None e = cc
+      refused (Some given) e = cc

@@ -1,160 +1,402 @@
--- Which reasons a refusal has, and which the end of the input.
-use Rattle.std.proofs.Common.{◌≡◌, ℕ, ◌<◌, ◌≤◌, ◌⊎◌, inl, inr, List, [], ◌∷◌, ◌++◌, length, take, Bool, true, false, Option, Some, None, refl, ap, arith}
+-- Which reasons a prefix is refused for, and which bytes show each.
+use Rattle.std.proofs.Common.{◌≡◌, ◌≢◌, ℕ, ◌+◌, ◌<◌, ◌≤◌, ◌⊎◌, inl, inr, List, [], ◌∷◌, ◌++◌, length, Bool, true, false, Option, Some, None, refl, sym, ap, ◌∙◌, subst, arith, ◌↔◌}
 use Rattle.std.specs.Prelude.{nat_lt, nat_le, ◌==◌, ◌&&◌, ◌||◌, not, if◌then◌else◌}
-use Rattle.std.proofs.lemmas.Bool.{cond_both, leb-true}
+use Rattle.std.specs.Option.{option_map}
+use Rattle.std.proofs.Math.Bool.{and-false}
+use Rattle.std.proofs.lemmas.Bool.{cond_both, cases_Bool, eqb-false, ne_eqb, ltb-true, ltb-false, leb-true}
+use Rattle.std.proofs.lemmas.Bool.Decides.{nat_tests}
+use Rattle.std.proofs.lemmas.List.{take_all}
 use Rattle.unit_streams.specs.Front.{Front, begun, whole, wrong}
-use Rattle.nbfx_values.specs.declared.refusals.Place.TheVariants.{Frame}
+use Rattle.unit_streams.specs.Parts.{seen}
+use Rattle.unit_streams.specs.Grammar.{standing}
+use Rattle.unit_streams.specs.Judging.{refusal_at, is_over_at}
+use Rattle.unit_streams.specs.Refusals.{AreUnits, IsRefusedByUnit, IsRefusedByBytes, IsRefusedByLength}
+use Rattle.unit_streams.proofs.Standing.{standing_length}
+use Rattle.unit_streams.proofs.Refusals.{refusals_are_three}
 use Rattle.nbfx_values.specs.declared.refusals.Offence.{Offence}
 use Rattle.nbfx_values.specs.declared.refusals.Reason.{Reason}
-use Rattle.nbfx_values.specs.declared.refusals.Reason.TheVariants.{Unbuilt, BadInt, UnknownRecord, OutOfOrder, BadVersion, BadMode, TextTooLong, TextNotUtf8, BadEncoding, UpgradeRefused, MessageTooLarge, Truncated, SessionTooLong}
+use Rattle.nbfx_values.specs.declared.refusals.Reason.TheVariants as reasons
+use Rattle.nbfx_values.specs.declared.refusals.Place.TheVariants.{Frame as InFrame}
 use Rattle.nbfx_values.specs.Refusals.{reason_number}
-use Rattle.nmf_records.specs.declared.frame.Frame.{Frame as Record}
-use Rattle.nmf_records.specs.declared.frame.Frame.TheVariants.{Version, Mode, KnownEncoding, SizedEnvelope}
+use Rattle.nmf_records.specs.declared.frame.Frame.{Frame}
+use Rattle.nmf_records.specs.declared.frame.Frame.TheVariants as frames
 use Rattle.nmf_records.specs.declared.frame.FrameFault.{FrameFault}
 use Rattle.nmf_records.specs.declared.frame.FrameFault.TheVariants as faults
-use Rattle.nmf_records.specs.Records.{Read}
-use Rattle.nmf_records.specs.Reading.{record_at}
-use Rattle.dump_replay.specs.Stream.{Settings, Stage, at_version, at_mode, at_via, at_encoding, at_preamble_end, at_message, in_payload, after_end, StreamUnit, Standing, types_of, reason_of, unexpected, refused, built, unless_refused, as_unit, payload_at, unit_at, standing}
-use Rattle.dump_replay.specs.Judging.{is_over, offence_at, open_offence, length_refusal, unit_refusal, refusal_at, is_over_at, ending_at, offends, answer}
-use Rattle.dump_replay.proofs.Meaning.{offends_means}
+use Rattle.nmf_records.specs.declared.script.Direction.TheVariants.{Initiator}
+use Rattle.nmf_records.specs.declared.script.Due.{Due}
+use Rattle.nmf_records.specs.declared.script.Due.TheVariants as dues
+use Rattle.nmf_records.specs.declared.record_types.TheConstants.{EXTENSIBLE_ENCODING, UPGRADE_REQUEST}
+use Rattle.nmf_records.specs.Records.{Read, IsRecord, IsRecordOf}
+use Rattle.nmf_records.specs.Reading.{bare, MayCome, frame_at}
+use Rattle.nmf_records.specs.Script.{may_come}
+use Rattle.nmf_records.specs.Laws.{BeginsUnexpected}
+use Rattle.nmf_records.proofs.Causes.{HasCause, fault_cause}
+use Rattle.nmf_records.proofs.Faults.{fault_comes}
+use Rattle.dump_replay.specs.declared.stage.Stage.{Stage}
+use Rattle.dump_replay.specs.declared.stage.Stage.TheVariants as stages
+use Rattle.dump_replay.specs.Stream.{Settings, StreamUnit, frame, unexpected, reason_of, reason_in, built, offence_at, payload_at, unit_in, refused, is_over_in, open_from, too_long, stream}
+use Rattle.dump_replay.specs.Reasons.{IsOtherVersion, IsOtherMode, IsOtherEncoding, IsLargeHead, Shows, ShowsFrom, ShowsUnbuilt, IsTooLong}
+use Rattle.dump_replay.proofs.Grammar.{readable, quiet_over}
+use Rattle.dump_replay.proofs.Coming.{unit_of_record, unit_of_payload}
+use Rattle.dump_replay.proofs.DueRecords.{version_due, mode_due, encoding_due, envelope_due, refusing, reads_due, record_unit}
 
--- a reason for refusing a unit: neither the end of the input nor the session quota
-pub record IsOfUnit (reason : Reason) : Type 0 where
-  pub not_truncated : reason ≡ Truncated → ⊥
-  pub not_too_long : reason ≡ SessionTooLong → ⊥
+-- bytes that are wrong by a fault which is answered so
+abbrev IsFaulty : Settings → Due → List ℕ → Reason → Type 0
+IsFaulty x due bytes reason = (fault : FrameFault) × (n : ℕ) × HasCause x.limits.via (may_come Initiator due) bytes fault n × (reason_of due fault ≡ reason)
 
--- a reason among the first ones
-of_number : (reason : Reason) (n : ℕ) → reason_number reason ≡ n → n < 24 → IsOfUnit reason
-of_number reason n e lt = record {
-  not_truncated = λ h. let k : reason_number reason ≡ 24 = ap reason_number h in omega (arith, k);
-  not_too_long = λ h. let k : reason_number reason ≡ 25 = ap reason_number h in omega (arith, k);
-}
+-- a whole record that is refused so by what it says
+record IsSaid (x : Settings) (due : Due) (bytes : List ℕ) (reason : Reason) : Type 0 where
+  read : Read
+  bytes_are : IsRecord read bytes
+  may : MayCome (may_come Initiator due) read.frame
+  low : length read.text ≤ x.limits.via
+  refused : reason_in x read.frame ≡ Some reason
 
--- a reason is answered as itself, or as none that is told apart
-built_of_unit : (reason : Reason) → IsOfUnit reason → IsOfUnit (built reason)
-built_of_unit reason h = cond_both (nat_lt (reason_number reason) 11) Unbuilt reason IsOfUnit (λ _. of_number Unbuilt 0 refl (omega arith)) (λ _. h)
+-- a type byte that may not come is answered in one of three ways
+abbrev IsOfThree : Reason → Type 0
+IsOfThree reason = (reason ≡ reasons.OutOfOrder) ⊎ (reason ≡ reasons.BadEncoding) ⊎ (reason ≡ reasons.UpgradeRefused)
 
--- a type byte that may not come
-unexpected_of_unit : (stage : Stage) (kind : ℕ) → IsOfUnit (unexpected stage kind)
-unexpected_of_unit at_encoding kind = cond_both (kind == 4) BadEncoding OutOfOrder IsOfUnit (λ _. of_number BadEncoding 9 refl (omega arith)) (λ _. of_number OutOfOrder 3 refl (omega arith))
-unexpected_of_unit at_preamble_end kind = cond_both (kind == 9) UpgradeRefused OutOfOrder IsOfUnit (λ _. of_number UpgradeRefused 10 refl (omega arith)) (λ _. of_number OutOfOrder 3 refl (omega arith))
-unexpected_of_unit _ kind = of_number OutOfOrder 3 refl (omega arith)
+unexpected_is : (due : Due) (t : ℕ) → IsOfThree (unexpected due t)
+unexpected_is dues.Encoding t = cond_both (t == EXTENSIBLE_ENCODING) reasons.BadEncoding reasons.OutOfOrder IsOfThree (λ _. inr (inl refl)) (λ _. inl refl)
+unexpected_is dues.PreambleEnd t = cond_both (t == UPGRADE_REQUEST) reasons.UpgradeRefused reasons.OutOfOrder IsOfThree (λ _. inr (inr refl)) (λ _. inl refl)
+unexpected_is _ t = inl refl
 
--- a framing's fault
-fault_of_unit : (stage : Stage) (fault : FrameFault) → IsOfUnit (reason_of stage fault)
-fault_of_unit stage faults.UnknownRecord = of_number UnknownRecord 2 refl (omega arith)
-fault_of_unit stage (faults.Unexpected kind) = unexpected_of_unit stage kind
-fault_of_unit stage faults.BadInt = of_number BadInt 1 refl (omega arith)
-fault_of_unit stage faults.TextTooLong = of_number TextTooLong 6 refl (omega arith)
-fault_of_unit stage faults.TextNotUtf8 = of_number TextNotUtf8 7 refl (omega arith)
+module _ (x : Settings) (due : Due) (bytes : List ℕ) where
+  -- what shows each fault
+  shows_otherwise : (t : ℕ) → BeginsUnexpected (may_come Initiator due) bytes t → IsOfThree (unexpected due t) → Shows x due bytes (unexpected due t)
+  shows_otherwise t h (inl e) = subst (λ (r : Reason). Shows x due bytes r) (sym e) (t, h, e)
+  shows_otherwise t h (inr (inl e)) = subst (λ (r : Reason). Shows x due bytes r) (sym e) (inr (t, h, e))
+  shows_otherwise t h (inr (inr e)) = subst (λ (r : Reason). Shows x due bytes r) (sym e) (t, h, e)
 
--- the one reason of a test, where it isn't met
-unless_one : (t : Bool) (given reason : Reason) → IsOfUnit given → (if t then None else Some given) ≡ Some reason → IsOfUnit reason
-unless_one true given reason h e = cc
-unless_one false given reason h e = let same : given ≡ reason = cc in rw same at h
+  shows_fault : (fault : FrameFault) (n : ℕ) → HasCause x.limits.via (may_come Initiator due) bytes fault n → Shows x due bytes (reason_of due fault)
+  shows_fault faults.UnknownRecord n h = h.1
+  shows_fault (faults.Unexpected t) n h = shows_otherwise t h.1 (unexpected_is due t)
+  shows_fault faults.BadInt n h = (h.0, h.1, h.3)
+  shows_fault faults.TextTooLong n h = (n, h)
+  shows_fault faults.TextNotUtf8 n h = (n, h)
 
--- the one reason of a test, where it is met
-where_one : (t : Bool) (given reason : Reason) → IsOfUnit given → (if t then Some given else None) ≡ Some reason → IsOfUnit reason
-where_one true given reason h e = let same : given ≡ reason = cc in rw same at h
-where_one false given reason h e = cc
+  -- what a whole record says
+  other_version : (major minor : ℕ) (reason : Reason) (b : Bool) → ((major == 1) && (minor == 0)) ≡ b → (if b then None else Some reasons.BadVersion) ≡ Some reason
+      → (reasons.BadVersion ≡ reason) × ((major ≢ 1) ⊎ (minor ≢ 0))
+  other_version major minor reason true e some = cc
+  other_version major minor reason false e some = (cc, parts (major == 1) refl) where
+    parts : (c : Bool) → (major == 1) ≡ c → (major ≢ 1) ⊎ (minor ≢ 0)
+    parts true one = inr (eqb-false minor 0 (sym (ap (λ c. c && (minor == 0)) one) ∙ e))
+    parts false none = inl (eqb-false major 1 none)
 
--- a record's content
-content_of_unit : (x : Settings) (f : Record) (reason : Reason) → refused x f ≡ Some reason → IsOfUnit reason
-content_of_unit x (Version major minor) reason e = unless_one ((major == 1) && (minor == 0)) BadVersion reason (of_number BadVersion 4 refl (omega arith)) e
-content_of_unit x (Mode mode) reason e = unless_one (mode == 2) BadMode reason (of_number BadMode 5 refl (omega arith)) e
-content_of_unit x (KnownEncoding encoding) reason e = unless_one ((encoding == 7) || (encoding == 8)) BadEncoding reason (of_number BadEncoding 9 refl (omega arith)) e
-content_of_unit x (SizedEnvelope size) reason e = where_one (nat_lt x.limits.payload size) MessageTooLarge reason (of_number MessageTooLarge 11 refl (omega arith)) e
-content_of_unit x _ reason e = cc
+  other_mode : (mode : ℕ) (reason : Reason) (b : Bool) → (mode == 2) ≡ b → (if b then None else Some reasons.BadMode) ≡ Some reason → (reasons.BadMode ≡ reason) × (mode ≢ 2)
+  other_mode mode reason true e some = cc
+  other_mode mode reason false e some = (cc, eqb-false mode 2 e)
 
--- a whole record
-whole_of_unit : (o : Option Reason) (read : Read) (n : ℕ) (reason : Reason) (k : ℕ) → ((given : Reason) → o ≡ Some given → IsOfUnit given) → unless_refused o read n ≡ wrong reason k → IsOfUnit reason
-whole_of_unit None read n reason k h e = cc
-whole_of_unit (Some given) read n reason k h e = let same : built given ≡ reason = cc in rw same at (built_of_unit given (h given refl))
+  other_encoding : (encoding : ℕ) (reason : Reason) (b : Bool) → ((encoding == 7) || (encoding == 8)) ≡ b → (if b then None else Some reasons.BadEncoding) ≡ Some reason
+      → (reasons.BadEncoding ≡ reason) × (encoding ≢ 7) × (encoding ≢ 8)
+  other_encoding encoding reason true e some = cc
+  other_encoding encoding reason false e some =
+      (cc, (λ is. let t : ((encoding == 7) || (encoding == 8)) ≡ true = rw is refl in cc), (λ is. let t : ((encoding == 7) || (encoding == 8)) ≡ true = rw is refl in cc))
 
--- what is read of a record
-read_of_unit : (x : Settings) (stage : Stage) (v : Front Read FrameFault) (reason : Reason) (k : ℕ) → as_unit x stage v ≡ wrong reason k → IsOfUnit reason
-read_of_unit x stage begun reason k e = cc
-read_of_unit x stage (whole read n) reason k e = whole_of_unit (refused x read.frame) read n reason k (content_of_unit x read.frame) e
-read_of_unit x stage (wrong fault n) reason k e = let same : built (reason_of stage fault) ≡ reason = cc in rw same at (built_of_unit (reason_of stage fault) (fault_of_unit stage fault))
+  large : (size : ℕ) (reason : Reason) (b : Bool) → nat_lt x.limits.payload size ≡ b → (if b then Some reasons.MessageTooLarge else None) ≡ Some reason
+      → (reasons.MessageTooLarge ≡ reason) × (x.limits.payload < size)
+  large size reason true e some = (cc, ltb-true x.limits.payload size e)
+  large size reason false e some = cc
 
--- a byte of a payload is never wrong
-byte_not_wrong : (b : List ℕ) (reason : Reason) (k : ℕ) → payload_at b ≡ wrong reason k → ⊥
-byte_not_wrong [] reason k e = cc
-byte_not_wrong (y ∷ b) reason k e = cc
+  said : (read : Frame) (text : List ℕ) (reason : Reason) → IsRecordOf read text bytes → MayCome (may_come Initiator due) read → reason_in x read ≡ Some reason → Shows x due bytes reason
+  said (frames.Version major minor) text reason is may some =
+      let h = other_version major minor reason _ refl some in
+      subst (λ (r : Reason). Shows x due bytes r) h.0 (major, minor, version_due due major minor may, is.1, h.1)
+  said (frames.Mode mode) text reason is may some =
+      let h = other_mode mode reason _ refl some in subst (λ (r : Reason). Shows x due bytes r) h.0 (mode, mode_due due mode may, is.1, h.1)
+  said (frames.KnownEncoding encoding) text reason is may some =
+      let h = other_encoding encoding reason _ refl some in
+      subst (λ (r : Reason). Shows x due bytes r) h.0 (inl (encoding, encoding_due due encoding may, is.1, h.1, h.2))
+  said (frames.SizedEnvelope size) text reason is may some =
+      let h = large size reason _ refl some in
+      subst (λ (r : Reason). Shows x due bytes r) h.0 (size, is.1, envelope_due due size may, is.3, is.2, h.1)
+  said _ text reason is may some = cc
 
--- a unit that is wrong
-pub wrong_of_unit : (x : Settings) (stage : Stage) (b : List ℕ) (reason : Reason) (k : ℕ) → unit_at x stage b ≡ wrong reason k → IsOfUnit reason
-unfolding unit_at
-wrong_of_unit x in_payload b reason k e = absurd (byte_not_wrong b reason k e)
-wrong_of_unit x after_end b reason k e = cc
-wrong_of_unit x at_version b reason k e = read_of_unit x at_version (record_at x.limits.via (types_of at_version) b) reason k e
-wrong_of_unit x at_mode b reason k e = read_of_unit x at_mode (record_at x.limits.via (types_of at_mode) b) reason k e
-wrong_of_unit x at_via b reason k e = read_of_unit x at_via (record_at x.limits.via (types_of at_via) b) reason k e
-wrong_of_unit x at_encoding b reason k e = read_of_unit x at_encoding (record_at x.limits.via (types_of at_encoding) b) reason k e
-wrong_of_unit x at_preamble_end b reason k e = read_of_unit x at_preamble_end (record_at x.limits.via (types_of at_preamble_end) b) reason k e
-wrong_of_unit x at_message b reason k e = read_of_unit x at_message (record_at x.limits.via (types_of at_message) b) reason k e
+  -- and the other way
+  is_version : IsOtherVersion due bytes → IsSaid x due bytes reasons.BadVersion
+  is_version (major, minor, is_due, bytes_are, other) = record {
+    read = bare (frames.Version major minor);
+    bytes_are = (refl, bytes_are);
+    may = rw is_due refl;
+    low = omega arith;
+    refused = ap (λ (b : Bool). if b then None else Some reasons.BadVersion) (test other);
+  } where
+    test : (major ≢ 1) ⊎ (minor ≢ 0) → ((major == 1) && (minor == 0)) ≡ false
+    test (inl ne) = rw (ne_eqb major 1 ne) refl
+    test (inr ne) = ap (λ c. (major == 1) && c) (ne_eqb minor 0 ne) ∙ and-false (major == 1)
 
--- a refusal of so many bytes for their number, of a session that isn't over
-pub record IsOfLength (x : Settings) (q : List ℕ) (o : Offence) : Type 0 where
-  pub is : o ≡ open_offence (standing x q) SessionTooLong
-  pub reached : x.limits.session ≤ length q
-  pub not_over : is_over_at x q ≡ false
+  is_mode : IsOtherMode due bytes → IsSaid x due bytes reasons.BadMode
+  is_mode (mode, is_due, bytes_are, ne) =
+      record { read = bare (frames.Mode mode); bytes_are = (refl, bytes_are); may = rw is_due refl; low = omega arith; refused = rw (ne_eqb mode 2 ne) refl }
 
--- a refusal of the unit that is begun
-pub record IsOfBegun (x : Settings) (q : List ℕ) (o : Offence) : Type 0 where
-  pub place : o.place ≡ Frame (standing x q).from
-  pub reason : IsOfUnit o.reason
+  is_encoding : IsOtherEncoding due bytes → IsSaid x due bytes reasons.BadEncoding
+  is_encoding (encoding, is_due, bytes_are, seven, eight) =
+      record { read = bare (frames.KnownEncoding encoding); bytes_are = (refl, bytes_are); may = rw is_due refl; low = omega arith; refused = rw (ne_eqb encoding 7 seven, ne_eqb encoding 8 eight) refl }
 
--- what the refusal of a length says
-length_of : (x : Settings) (s : Standing) (n : ℕ) (o : Offence) → length_refusal x s n ≡ Some o → (o ≡ open_offence s SessionTooLong) × (x.limits.session ≤ n) × (is_over s.situation.stage ≡ false)
-length_of x s n o e = go (nat_le x.limits.session n) (is_over s.situation.stage) refl e
-  where
-    go : (t over : Bool) → nat_le x.limits.session n ≡ t → (if t && not over then Some (open_offence s SessionTooLong) else None) ≡ Some o → (o ≡ open_offence s SessionTooLong) × (x.limits.session ≤ n) × (over ≡ false)
-    go true true h f = cc
-    go true false h f = (cc, leb-true x.limits.session n h, refl)
-    go false over h f = cc
+  is_large : IsLargeHead x due bytes → IsSaid x due bytes reasons.MessageTooLarge
+  is_large (size, spelling, is_due, bytes_are, spelled, above) =
+      let test : nat_lt x.limits.payload size ≡ true = grind (arith, nat_tests) in
+      record { read = bare (frames.SizedEnvelope size); bytes_are = (refl, spelling, spelled, bytes_are); may = rw is_due refl; low = omega arith; refused = rw test refl }
 
-module _ (x : Settings) where
-  -- a refusal is of a unit or of a length
-  pub refusal_means : (q : List ℕ) (o : Offence) → refusal_at x q ≡ Some o → IsOfLength x q o ⊎ IsOfBegun x q o
-  unfolding refusal_at is_over_at
-  refusal_means q o e = go (unit_at x (standing x q).situation.stage (standing x q).begun) refl e
-    where
-      of_length : length_refusal x (standing x q) (length q) ≡ Some o → IsOfLength x q o
-      of_length f = let h = length_of x (standing x q) (length q) o f in record { is = h.0; reached = h.1; not_over = h.2 }
+  shown : (reason : Reason) → Shows x due bytes reason → IsFaulty x due bytes reason ⊎ IsSaid x due bytes reason
+  shown reasons.BadInt (k, comes, fifth) = inl (faults.BadInt, k + 5, (k, comes, refl, fifth), refl)
+  shown reasons.UnknownRecord h = inl (faults.UnknownRecord, 1, (refl, h), refl)
+  shown reasons.OutOfOrder (t, h, e) = inl (faults.Unexpected t, 1, (refl, h), e)
+  shown reasons.BadVersion h = inr (is_version h)
+  shown reasons.BadMode h = inr (is_mode h)
+  shown reasons.TextTooLong (n, h) = inl (faults.TextTooLong, n, h, refl)
+  shown reasons.TextNotUtf8 (n, h) = inl (faults.TextNotUtf8, n, h, refl)
+  shown reasons.BadEncoding (inl h) = inr (is_encoding h)
+  shown reasons.BadEncoding (inr (t, h, e)) = inl (faults.Unexpected t, 1, (refl, h), e)
+  shown reasons.UpgradeRefused (t, h, e) = inl (faults.Unexpected t, 1, (refl, h), e)
+  shown reasons.MessageTooLarge h = inr (is_large h)
+  shown _ h = absurd h
 
-      go : (v : Front StreamUnit Reason) → unit_at x (standing x q).situation.stage (standing x q).begun ≡ v → unit_refusal x (standing x q) (length q) v ≡ Some o → IsOfLength x q o ⊎ IsOfBegun x q o
-      go begun h f = inl (of_length f)
-      go (whole u k) h f = inl (of_length f)
-      go (wrong reason k) h f =
-          let same : o ≡ offence_at (standing x q).from reason = cc in
-          rw same (inr (record { place = refl; reason = wrong_of_unit x (standing x q).situation.stage (standing x q).begun reason k h }))
+-- a mapped option
+some_mapped : {A B : Type 0} (f : A → B) (v : Option A) (b : B) → option_map f v ≡ Some b → (a : A) × (v ≡ Some a) × (b ≡ f a)
+some_mapped f None b e = cc
+some_mapped f (Some a) b e = (a, refl, cc)
 
-  -- a refusal isn't of the end of the input
-  pub refusal_not_truncated : (q : List ℕ) (o : Offence) → refusal_at x q ≡ Some o → o.reason ≡ Truncated → ⊥
-  refusal_not_truncated q o e t =
-      elim (refusal_means q o e) [
-        | inl h ↦ let same : o.reason ≡ SessionTooLong = ap (λ (o : Offence). o.reason) h.is in cc
-        | inr h ↦ h.reason.not_truncated t
+seen_wrong : (due : Due) (from : ℕ) (v : Front Read FrameFault) (o : Offence) (n : ℕ) → seen frame (refusing from due) v ≡ wrong o n → (fault : FrameFault) × (v ≡ wrong fault n) × (o ≡ refusing from due fault)
+seen_wrong due from begun o n e = cc
+seen_wrong due from (whole read k) o n e = cc
+seen_wrong due from (wrong fault k) o n e = let size : k ≡ n = cc in (fault, ap (wrong fault) size, cc)
+
+-- a prefix that is refused so
+abbrev pub IsShown : Settings → List ℕ → Offence → Type 0
+IsShown x p o = (from : ℕ) × (reason : Reason) × ShowsFrom x p from reason × (o ≡ offence_at from (built reason))
+
+module _ (x : Settings) (p before bytes : List ℕ) (joined : p ≡ before ++ bytes) (units : AreUnits (stream x) before) where
+  place : (standing (stream x) before).from ≡ length before
+  place = let n = standing_length (stream x) (readable x) before in let none = ap length units in omega (arith, n, none)
+
+  not_over : (v : Front StreamUnit Offence) → unit_in x (standing (stream x) before).situation.stage (standing (stream x) before).from bytes ≡ v → (v ≡ begun → ⊥) → is_over_at (stream x) before ≡ false
+  unfolding is_over_at
+  not_over v e read =
+      elim (cases_Bool (is_over_in (standing (stream x) before).situation.stage)) [
+        | inl over ↦ absurd (read (sym e ∙ (quiet_over x).unread (standing (stream x) before).situation (standing (stream x) before).from bytes over))
+        | inr on ↦ on
       ]
 
-  -- only a length is refused as too long
-  pub too_long_means : (q : List ℕ) (o : Offence) → refusal_at x q ≡ Some o → o.reason ≡ SessionTooLong → IsOfLength x q o
-  too_long_means q o e t =
-      elim (refusal_means q o e) [
-        | inl h ↦ h
-        | inr h ↦ absurd (h.reason.not_too_long t)
+  over_stage : is_over_at (stream x) before ≡ false → is_over_in (standing (stream x) before).situation.stage ≡ false
+  unfolding is_over_at
+  over_stage o = o
+
+  by_record : (o : Offence) (due : Due) (reason : Reason) → (standing (stream x) before).situation.stage ≡ stages.Record due → is_over_at (stream x) before ≡ false → Shows x due bytes reason
+      → o ≡ offence_at (standing (stream x) before).from (built reason) → IsShown x p o
+  by_record o due reason is_due on shows e = (
+    length before,
+    reason,
+    record { before = before; bytes = bytes; due = due; joined = joined; place = refl; units = units; is_due = is_due; going_on = on; shows = shows },
+    e ∙ ap (λ from. offence_at from (built reason)) place,
+  )
+
+  -- by what its last unit says
+  of_unit : (stage : Stage) (u : StreamUnit) (o : Offence) → (standing (stream x) before).situation.stage ≡ stage
+      → unit_in x stage (standing (stream x) before).from bytes ≡ whole u (length bytes) → refused x (standing (stream x) before).from u ≡ Some o → IsShown x p o
+  unfolding refused
+  of_unit (stages.Record due) u o at e some =
+      let c = unit_of_record x (standing (stream x) before).from bytes u (length bytes) due e in
+      let some' : option_map (λ reason. offence_at (standing (stream x) before).from (built reason)) (reason_in x c.0.frame) ≡ Some o = ap (refused x (standing (stream x) before).from) (sym c.1) ∙ some in
+      let m = some_mapped (λ (reason : Reason). offence_at (standing (stream x) before).from (built reason)) (reason_in x c.0.frame) o some' in
+      let is : IsRecordOf c.0.frame c.0.text bytes = subst (λ (b : List ℕ). IsRecordOf c.0.frame c.0.text b) (take_all (length bytes) bytes (omega arith)) c.2.bytes_are in
+      by_record o due m.0 at (not_over (whole u (length bytes)) (ap (λ s. unit_in x s (standing (stream x) before).from bytes) at ∙ e) (λ h. cc))
+      (said x due bytes c.0.frame c.0.text m.0 is c.2.may m.1) m.2
+  of_unit (stages.Payload payload) u o at e some =
+      let c = unit_of_payload x (standing (stream x) before).from bytes u (length bytes) payload e in
+      let none : Some o ≡ None = sym some ∙ ap (refused x (standing (stream x) before).from) c.3 in cc
+
+  -- by its bytes
+  of_bytes : (stage : Stage) (o : Offence) (n : ℕ) → (standing (stream x) before).situation.stage ≡ stage → unit_in x stage (standing (stream x) before).from bytes ≡ wrong o n → IsShown x p o
+  unfolding unit_in
+  of_bytes (stages.Record due) o n at e =
+      let on : is_over_at (stream x) before ≡ false = not_over (wrong o n) (ap (λ s. unit_in x s (standing (stream x) before).from bytes) at ∙ e) (λ h. cc) in
+      let reads : is_over_in (stages.Record due) ≡ false = sym (ap is_over_in at) ∙ over_stage on in
+      let w = seen_wrong due (standing (stream x) before).from (frame_at x.limits.via (may_come Initiator due) bytes) o n (sym (reads_due x due bytes (standing (stream x) before).from reads) ∙ e) in
+      by_record o due (reason_of due w.0) at on (shows_fault x due bytes w.0 n (fault_cause x.limits.via (may_come Initiator due) bytes w.0 n w.1)) w.2
+  of_bytes (stages.Payload payload) o n at e = absurd (never bytes e) where
+    never : (b : List ℕ) → payload_at b ≡ wrong o n → ⊥
+    never [] e = cc
+    never (y ∷ b) e = cc
+
+  -- and the other way
+  of_fault : (due : Due) (reason : Reason) → (standing (stream x) before).situation.stage ≡ stages.Record due → is_over_at (stream x) before ≡ false → IsFaulty x due bytes reason
+      → IsRefusedByBytes (stream x) p (offence_at (standing (stream x) before).from (built reason))
+  of_fault due reason at on (fault, n, cause, is) = record {
+    before = before;
+    bytes = bytes;
+    size = n;
+    joined = joined;
+    units = units;
+    reads = ap (λ s. unit_in x s (standing (stream x) before).from bytes) at
+        ∙ reads_due x due bytes (standing (stream x) before).from (sym (ap is_over_in at) ∙ over_stage on)
+        ∙ ap (seen frame (refusing (standing (stream x) before).from due)) (fault_comes x.limits.via (may_come Initiator due) bytes fault n cause)
+        ∙ ap (λ r. wrong (offence_at (standing (stream x) before).from (built r)) n) is;
+  }
+
+  of_said : (due : Due) (reason : Reason) → (standing (stream x) before).situation.stage ≡ stages.Record due → is_over_at (stream x) before ≡ false → IsSaid x due bytes reason
+      → IsRefusedByUnit (stream x) p (offence_at (standing (stream x) before).from (built reason))
+  unfolding refused
+  of_said due reason at on h = record {
+    before = before;
+    bytes = bytes;
+    unit = frame h.read;
+    joined = joined;
+    units = units;
+    reads = ap (λ s. unit_in x s (standing (stream x) before).from bytes) at
+        ∙ record_unit x due bytes (standing (stream x) before).from h.read (sym (ap is_over_in at) ∙ over_stage on) h.bytes_are h.may h.low;
+    refused = ap (option_map (λ reason. offence_at (standing (stream x) before).from (built reason))) h.refused;
+  }
+
+module _ (x : Settings) (p : List ℕ) where
+  -- a prefix is refused as shown, or as too long
+  abbrev IsTooLongAs : Offence → Type 0
+  IsTooLongAs o = (from : ℕ) × IsTooLong x p from × (o ≡ offence_at from reasons.SessionTooLong)
+
+  length_is : (o : Offence) → IsRefusedByLength (stream x) p o → IsTooLongAs o
+  unfolding too_long is_over_at
+  length_is o h = go (nat_le x.limits.session (length p)) (is_over_in (standing (stream x) p).situation.stage) refl refl h.refused where
+    go : (t over : Bool) → nat_le x.limits.session (length p) ≡ t → is_over_in (standing (stream x) p).situation.stage ≡ over
+        → (if t && not over then Some (offence_at (open_from (standing (stream x) p).situation.stage (standing (stream x) p).from) reasons.SessionTooLong) else None) ≡ Some o → IsTooLongAs o
+    go true true le o' some = cc
+    go false over le o' some = cc
+    go true false le o' some = (_, record { reached = leb-true x.limits.session (length p) le; going_on = o'; going = h.going; place = refl }, cc)
+
+  is_length : (from : ℕ) → IsTooLong x p from → IsRefusedByLength (stream x) p (offence_at from reasons.SessionTooLong)
+  unfolding too_long is_over_at
+  is_length from h =
+      let enough : nat_le x.limits.session (length p) ≡ true = let le = h.reached in grind (arith, nat_tests) in
+      record { going = h.going; refused = rw (enough, h.going_on) (ap (λ from. Some (offence_at from reasons.SessionTooLong)) (sym h.place)) }
+
+  pub refusal_is : (o : Offence) → refusal_at (stream x) p ≡ Some o → IsShown x p o ⊎ IsTooLongAs o
+  refusal_is o e =
+      elim ((refusals_are_three (stream x) (readable x) p o).0 e) [
+        | inl h ↦ inl (of_unit x p h.before h.bytes h.joined h.units _ h.unit o refl h.reads h.refused)
+        | inr (inl h) ↦ inl (of_bytes x p h.before h.bytes h.joined h.units _ o h.size refl h.reads)
+        | inr (inr h) ↦ inr (length_is o h)
       ]
 
-  -- the end of the input is refused as that alone
-  pub ending_means : (q : List ℕ) (o : Offence) → ending_at x q ≡ Some o → (o ≡ open_offence (standing x q) Truncated) × (is_over_at x q ≡ false)
-  unfolding ending_at is_over_at
-  ending_means q o e = go (is_over (standing x q).situation.stage) e
-    where
-      go : (over : Bool) → (if over then None else Some (open_offence (standing x q) Truncated)) ≡ Some o → (o ≡ open_offence (standing x q) Truncated) × (over ≡ false)
-      go true f = cc
-      go false f = (cc, refl)
+  pub shown_refused : (from : ℕ) (reason : Reason) → ShowsFrom x p from reason → refusal_at (stream x) p ≡ Some (offence_at from (built reason))
+  shown_refused from reason h =
+      let at : (standing (stream x) h.before).from ≡ from = place x p h.before h.bytes h.joined h.units ∙ sym h.place in
+      elim (shown x h.due h.bytes reason h.shows) [
+        | inl f ↦ (refusals_are_three (stream x) (readable x) p _).1 (inr (inl (of_fault x p h.before h.bytes h.joined h.units h.due reason h.is_due h.going_on f))) ∙ ap (λ n. Some (offence_at n (built reason))) at
+        | inr s ↦ (refusals_are_three (stream x) (readable x) p _).1 (inl (of_said x p h.before h.bytes h.joined h.units h.due reason h.is_due h.going_on s)) ∙ ap (λ n. Some (offence_at n (built reason))) at
+      ]
 
-  -- a piece never shows the end of the input
-  pub offends_not_truncated : (p y : List ℕ) (n : ℕ) (o : Offence) → answer x p y ≡ offends n o → o.reason ≡ Truncated → ⊥
-  offends_not_truncated p y n o e = refusal_not_truncated (p ++ take n y) o (offends_means x p y n o e).refusal
+  pub long_refused : (from : ℕ) → IsTooLong x p from → refusal_at (stream x) p ≡ Some (offence_at from reasons.SessionTooLong)
+  long_refused from h = (refusals_are_three (stream x) (readable x) p _).1 (inr (inr (is_length from h)))
+
+-- a reason is answered as one of those that aren't told apart, or as itself
+built_is : (reason : Reason) → ((reason_number reason < 11) × (built reason ≡ reasons.Unbuilt)) ⊎ ((11 ≤ reason_number reason) × (built reason ≡ reason))
+built_is reason =
+    elim (cases_Bool (nat_lt (reason_number reason) 11)) [
+      | inl few ↦ inl (ltb-true (reason_number reason) 11 few, rw few refl)
+      | inr more ↦ inr (ltb-false (reason_number reason) 11 more, rw more refl)
+    ]
+
+-- two offences that are one
+pub same_place : (m n : ℕ) (r s : Reason) → offence_at m r ≡ offence_at n s → m ≡ n
+same_place m n r s e = let h : InFrame m ≡ InFrame n = ap (λ (o : Offence). o.place) e in cc
+
+same_reason : (m n : ℕ) (r s : Reason) → offence_at m r ≡ offence_at n s → r ≡ s
+same_reason m n r s e = ap (λ (o : Offence). o.reason) e
+
+-- of a reason that is told apart
+told_apart : (reason told : Reason) → 11 ≤ reason_number told → told ≡ built reason → reason ≡ told
+told_apart reason told big e =
+    elim (built_is reason) [
+      | inl h ↦ absurd (let n : reason_number told ≡ 0 = ap reason_number (e ∙ h.1) in omega (arith, big, n))
+      | inr h ↦ sym h.1 ∙ sym e
+    ]
+
+module _ (x : Settings) (p : List ℕ) where
+  -- a refusal for this reason
+  refused_for : (from : ℕ) (told : Reason) → 11 ≤ reason_number told → (told ≡ reasons.SessionTooLong → ⊥) → refusal_at (stream x) p ≡ Some (offence_at from told) → ShowsFrom x p from told
+  refused_for from told big isnt e =
+      elim (refusal_is x p (offence_at from told) e) [
+        | inl (n, reason, shows, is) ↦
+            let r = told_apart reason told big (same_reason from n told (built reason) is) in
+            subst (λ (m : ℕ). ShowsFrom x p m told) (sym (same_place from n told (built reason) is)) (subst (λ (r : Reason). ShowsFrom x p n r) r shows)
+        | inr (n, long, is) ↦ absurd (isnt (same_reason from n told reasons.SessionTooLong is))
+      ]
+
+  pub too_large_is : (from : ℕ) → (refusal_at (stream x) p ≡ Some (offence_at from reasons.MessageTooLarge)) ↔ ShowsFrom x p from reasons.MessageTooLarge
+  too_large_is from = (refused_for from reasons.MessageTooLarge (omega arith) (λ e. cc), shown_refused x p from reasons.MessageTooLarge)
+
+  unbuilt_for : (from : ℕ) → refusal_at (stream x) p ≡ Some (offence_at from reasons.Unbuilt) → ShowsUnbuilt x p from
+  unbuilt_for from e =
+      elim (refusal_is x p (offence_at from reasons.Unbuilt) e) [
+        | inl (n, reason, shows, is) ↦
+            (reason, few reason (same_reason from n reasons.Unbuilt (built reason) is), subst (λ (m : ℕ). ShowsFrom x p m reason) (sym (same_place from n reasons.Unbuilt (built reason) is)) shows)
+        | inr (n, long, is) ↦ absurd (let other = same_reason from n reasons.Unbuilt reasons.SessionTooLong is in cc)
+      ]
+    where
+      few : (reason : Reason) → reasons.Unbuilt ≡ built reason → reason_number reason < 11
+      few reason e =
+          elim (built_is reason) [
+            | inl h ↦ h.0
+            | inr h ↦ let n : 0 ≡ reason_number reason = ap reason_number (e ∙ h.1) in omega (arith, n)
+          ]
+
+  for_unbuilt : (from : ℕ) → ShowsUnbuilt x p from → refusal_at (stream x) p ≡ Some (offence_at from reasons.Unbuilt)
+  for_unbuilt from (reason, few, shows) =
+      elim (built_is reason) [
+        | inl h ↦ shown_refused x p from reason shows ∙ ap (λ r. Some (offence_at from r)) h.1
+        | inr h ↦ absurd (let more = h.0 in omega arith)
+      ]
+
+  pub unbuilt_is : (from : ℕ) → (refusal_at (stream x) p ≡ Some (offence_at from reasons.Unbuilt)) ↔ ShowsUnbuilt x p from
+  unbuilt_is from = (unbuilt_for from, for_unbuilt from)
+
+  long_for : (from : ℕ) → refusal_at (stream x) p ≡ Some (offence_at from reasons.SessionTooLong) → IsTooLong x p from
+  long_for from e =
+      elim (refusal_is x p (offence_at from reasons.SessionTooLong) e) [
+        | inl (n, reason, shows, is) ↦
+            absurd (let r = told_apart reason reasons.SessionTooLong (omega arith) (same_reason from n reasons.SessionTooLong (built reason) is) in subst (λ (r : Reason). Shows x shows.due shows.bytes r) r shows.shows)
+        | inr (n, long, is) ↦ subst (λ (m : ℕ). IsTooLong x p m) (sym (same_place from n reasons.SessionTooLong reasons.SessionTooLong is)) long
+      ]
+
+  pub too_long_is : (from : ℕ) → (refusal_at (stream x) p ≡ Some (offence_at from reasons.SessionTooLong)) ↔ IsTooLong x p from
+  too_long_is from = (long_for from, long_refused x p from)
+
+  -- of the reasons that are told apart one is shown by bytes
+  told_shown : (due : Due) (bytes : List ℕ) (reason : Reason) → 11 ≤ reason_number reason → Shows x due bytes reason → reason ≡ reasons.MessageTooLarge
+  told_shown due bytes reasons.MessageTooLarge big h = refl
+  told_shown due bytes reasons.BadInt big h = absurd (omega arith)
+  told_shown due bytes reasons.UnknownRecord big h = absurd (omega arith)
+  told_shown due bytes reasons.OutOfOrder big h = absurd (omega arith)
+  told_shown due bytes reasons.BadVersion big h = absurd (omega arith)
+  told_shown due bytes reasons.BadMode big h = absurd (omega arith)
+  told_shown due bytes reasons.TextTooLong big h = absurd (omega arith)
+  told_shown due bytes reasons.TextNotUtf8 big h = absurd (omega arith)
+  told_shown due bytes reasons.BadEncoding big h = absurd (omega arith)
+  told_shown due bytes reasons.UpgradeRefused big h = absurd (omega arith)
+  told_shown due bytes _ big h = absurd h
+
+  -- so a prefix is refused for one of three
+  pub three_reasons : (o : Offence) → refusal_at (stream x) p ≡ Some o
+      → (from : ℕ) × ((o ≡ offence_at from reasons.Unbuilt) ⊎ (o ≡ offence_at from reasons.MessageTooLarge) ⊎ (o ≡ offence_at from reasons.SessionTooLong))
+  three_reasons o e =
+      elim (refusal_is x p o e) [
+        | inl (from, reason, shows, is) ↦ (
+          from,
+          elim (built_is reason) [
+            | inl h ↦ inl (is ∙ ap (offence_at from) h.1)
+            | inr h ↦ inr (inl (is ∙ ap (offence_at from) (h.1 ∙ told_shown shows.due shows.bytes reason h.0 shows.shows)))
+          ],
+        )
+        | inr (from, long, is) ↦ (from, inr (inr is))
+      ]
+
+  -- none of which is that of the end
+  pub never_cut_off : (o : Offence) → refusal_at (stream x) p ≡ Some o → o.reason ≡ reasons.Truncated → ⊥
+  never_cut_off o e cut =
+      let h = three_reasons o e in
+      let reason : (n : ℕ) (r : Reason) → o ≡ offence_at n r → r ≡ reasons.Truncated = λ n r is. sym (ap (λ (o : Offence). o.reason) is) ∙ cut in
+      elim h.1 [
+        | inl is ↦ let other = reason h.0 reasons.Unbuilt is in cc
+        | inr (inl is) ↦ let other = reason h.0 reasons.MessageTooLarge is in cc
+        | inr (inr is) ↦ let other = reason h.0 reasons.SessionTooLong is in cc
+      ]

@@ -1,63 +1,99 @@
--- What follows of where a receiver is.
-use Rattle.std.proofs.Common.{◌≡◌, ℕ, true, false, Option, Some, None, Ok, Err, refl, ap, ◌∙◌}
+-- What follows from what a receiver stands for.
+use Rattle.std.proofs.Common.{◌≡◌, ℕ, ◌<◌, List, [], ◌∷◌, length, true, false, Some, None, refl, sym, ap, ◌∙◌, subst, arith}
+use Rattle.unit_streams.specs.Front.{begun}
+use Rattle.unit_streams.specs.Grammar.{standing, at_start}
+use Rattle.unit_streams.specs.Judging.{given_at, is_over_at, ending_at}
+use Rattle.unit_streams.proofs.Standing.{standing_nothing, standing_length}
+use Rattle.unit_streams.proofs.Units.{IsBetween}
 use Rattle.nbfx_values.specs.declared.refusals.Offence.{Offence}
-use Rattle.nbfx_values.specs.declared.refusals.Reason.{Reason}
+use Rattle.nbfx_values.specs.declared.refusals.Reason.TheVariants.{Truncated}
+use Rattle.nmf_records.specs.declared.frame.Expect.{Expect}
+use Rattle.nmf_records.specs.declared.script.Due.TheVariants as dues
+use Rattle.nmf_records.specs.Reader.{StandsFor as FrameStandsFor}
 use Rattle.dump_replay.specs.declared.receiver.Receiver.{Receiver}
+use Rattle.dump_replay.specs.declared.stage.Payload.{Payload}
 use Rattle.dump_replay.specs.declared.stage.Stage.{Stage}
 use Rattle.dump_replay.specs.declared.stage.Stage.TheVariants as stages
-use Rattle.dump_replay.specs.declared.stage.Next.{Next}
-use Rattle.dump_replay.specs.Stream.{in_payload, after_end, Situation}
-use Rattle.dump_replay.specs.Judging.{is_over, offence_at}
-use Rattle.dump_replay.specs.Receiving.{IsAt, AtPayload, RecordAnswers, BehindAnswers, failure_of, offence_in}
+use Rattle.dump_replay.specs.Stream.{Settings, offence_at, is_over_in, open_from, cut_off, unit_in, stream}
+use Rattle.dump_replay.specs.Receiving.{Reached, HasBegun}
+use Rattle.dump_replay.proofs.Grammar.{readable}
+use Rattle.dump_replay.proofs.Situations.{HasLeft, sound}
 
--- a receiver that isn't at the end is before it
-pub before_end : (stage : Stage) (z : Situation) → IsAt stage z → (stage ≡ stages.Ended → ⊥) → is_over z.stage ≡ false
-before_end stages.Version z at not_ended = ap is_over at
-before_end stages.Mode z at not_ended = ap is_over at
-before_end stages.Via z at not_ended = ap is_over at
-before_end stages.Encoding z at not_ended = ap is_over at
-before_end stages.PreambleEnd z at not_ended = ap is_over at
-before_end stages.Message z at not_ended = ap is_over at
-before_end (stages.Payload payload) z at not_ended = ap is_over at.0
-before_end stages.Ended z at not_ended = absurd (not_ended refl)
-before_end (stages.Failed o) z at not_ended = absurd at
+-- a refused one stands for nothing
+pub not_failed : (r : Receiver) (x : Settings) (p : List ℕ) (o : Offence) → Reached r x p → r.failure ≡ Some o → ⊥
+not_failed r x p o h e = let none = h.unfailed in cc
 
--- nor is it failed
-pub failed_stage : (stage : Stage) (o : Offence) → offence_in stage ≡ Some o → stage ≡ stages.Failed o
-failed_stage stages.Version o e = cc
-failed_stage stages.Mode o e = cc
-failed_stage stages.Via o e = cc
-failed_stage stages.Encoding o e = cc
-failed_stage stages.PreambleEnd o e = cc
-failed_stage stages.Message o e = cc
-failed_stage (stages.Payload payload) o e = cc
-failed_stage stages.Ended o e = cc
-failed_stage (stages.Failed other) o e = ap stages.Failed cc
+-- it is over where its stage is
+pub over_as_stage : (r : Receiver) (x : Settings) (p : List ℕ) → Reached r x p → is_over_at (stream x) p ≡ is_over_in r.stage
+unfolding is_over_at
+over_as_stage r x p h = ap is_over_in (sym h.stage)
 
--- a receiver that isn't in a payload isn't at one
-pub not_in_payload : (stage : Stage) (z : Situation) → IsAt stage z → (AtPayload stage → ⊥) → z.stage ≡ in_payload → ⊥
-not_in_payload stages.Version z at away e = cc
-not_in_payload stages.Mode z at away e = cc
-not_in_payload stages.Via z at away e = cc
-not_in_payload stages.Encoding z at away e = cc
-not_in_payload stages.PreambleEnd z at away e = cc
-not_in_payload stages.Message z at away e = cc
-not_in_payload (stages.Payload payload) z at away e = away tt
-not_in_payload stages.Ended z at away e = cc
-not_in_payload (stages.Failed o) z at away e = at
+-- where the session isn't over the end of the input cuts it off
+cut_off_open : (stage : Stage) (from : ℕ) → is_over_in stage ≡ false → cut_off stage from ≡ Some (offence_at (open_from stage from) Truncated)
+unfolding cut_off
+cut_off_open (stages.Record dues.Over) from e = cc
+cut_off_open (stages.Record dues.Version) from e = refl
+cut_off_open (stages.Record dues.Mode) from e = refl
+cut_off_open (stages.Record dues.Via) from e = refl
+cut_off_open (stages.Record dues.Encoding) from e = refl
+cut_off_open (stages.Record dues.PreambleEnd) from e = refl
+cut_off_open (stages.Record dues.Ack) from e = refl
+cut_off_open (stages.Record dues.Messages) from e = refl
+cut_off_open (stages.Record dues.Envelope) from e = refl
+cut_off_open (stages.Record dues.Reply) from e = refl
+cut_off_open (stages.Record dues.Chunk) from e = refl
+cut_off_open (stages.Record dues.End) from e = refl
+cut_off_open (stages.Payload p) from e = refl
 
--- what goes on isn't over
-pub not_after_end : (z : Situation) → is_over z.stage ≡ false → z.stage ≡ after_end → ⊥
-not_after_end z o e = let over : is_over z.stage ≡ true = ap is_over e in cc
+cut_off_over : (stage : Stage) (from : ℕ) → is_over_in stage ≡ true → cut_off stage from ≡ None
+unfolding cut_off
+cut_off_over (stages.Record dues.Over) from e = refl
+cut_off_over (stages.Record _) from e = cc
+cut_off_over (stages.Payload p) from e = cc
 
--- on behind a record
-pub behind_ok : (answer : Option Reason) (z : Situation) (next : Next) (new : Receiver) (from : ℕ) → new.stage ≡ next.stage → new.kind ≡ next.kind
-    → RecordAnswers answer z (Ok next) → BehindAnswers answer z new from (Ok next.step)
-behind_ok None z next new from stage kind h = (rw stage h.stage, kind ∙ h.kind, h.step)
-behind_ok (Some reason) z next new from stage kind h = absurd h
+-- what the end of the input says of the bytes used
+pub ending_open : (r : Receiver) (x : Settings) (p : List ℕ) → Reached r x p → is_over_in r.stage ≡ false → ending_at (stream x) p ≡ Some (offence_at (open_from r.stage r.unit_from) Truncated)
+unfolding ending_at
+ending_open r x p h e =
+    cut_off_open (standing (stream x) p).situation.stage (standing (stream x) p).from (ap is_over_in (sym h.stage) ∙ e)
+    ∙ ap (λ s. Some (offence_at (open_from s (standing (stream x) p).from) Truncated)) (sym h.stage) ∙ ap (λ n. Some (offence_at (open_from r.stage n) Truncated)) (sym h.unit_from)
 
--- a record that is refused
-pub behind_err : (answer : Option Reason) (z : Situation) (reason : Reason) (new : Receiver) (from : ℕ) (o : Offence) → o ≡ offence_at from reason → failure_of new ≡ Some o
-    → RecordAnswers answer z (Err reason) → BehindAnswers answer z new from (Err o)
-behind_err None z reason new from o e f h = absurd h
-behind_err (Some given) z reason new from o e f h = (e ∙ ap (offence_at from) h, f)
+pub ending_over : (r : Receiver) (x : Settings) (p : List ℕ) → Reached r x p → is_over_in r.stage ≡ true → ending_at (stream x) p ≡ None
+unfolding ending_at
+ending_over r x p h e = cut_off_over (standing (stream x) p).situation.stage (standing (stream x) p).from (ap is_over_in (sym h.stage) ∙ e)
+
+-- before the first byte
+pub stands_first : (x : Settings) → standing (stream x) [] ≡ at_start (stream x) []
+stands_first x = standing_nothing (stream x) (readable x)
+
+-- of a payload nothing is begun
+payload_none : (x : Settings) (stage : Stage) (p : Payload) (from : ℕ) (b : List ℕ) → stage ≡ stages.Payload p → unit_in x stage from b ≡ begun → b ≡ []
+unfolding unit_in
+payload_none x stage p from [] is e = refl
+payload_none x stage p from (y ∷ b) is e = let h : unit_in x (stages.Payload p) from (y ∷ b) ≡ begun = rw is at e in cc
+
+module _ (r : Receiver) (x : Settings) (p : List ℕ) (h : Reached r x p) (payload : Payload) (is : r.stage ≡ stages.Payload payload) where
+  pub stage_is : (standing (stream x) p).situation.stage ≡ stages.Payload payload
+  stage_is = sym h.stage ∙ is
+
+  -- at a payload the stream stands between units
+  pub payload_between : IsBetween (stream x) (readable x) p (standing (stream x) p).situation (standing (stream x) p).from
+  payload_between =
+      let none = payload_none x (standing (stream x) p).situation.stage payload (standing (stream x) p).from (standing (stream x) p).begun stage_is h.going.next in
+      record {
+        situation = refl;
+        place = refl;
+        begun = none;
+        refusal = ap (λ b. given_at b (standing (stream x) p).refusal) (sym none) ∙ h.going.last;
+      }
+
+  pub payload_left : 0 < payload.left
+  payload_left = subst HasLeft stage_is (sound x p).left
+
+  -- its reader of records has no byte of one
+  pub no_record_begun : (next : Expect) → FrameStandsFor r.frames next []
+  no_record_begun = subst (λ (s : Stage). HasBegun s r.frames (standing (stream x) p).begun) is h.frames
+
+  -- all bytes are behind it
+  pub payload_place : (standing (stream x) p).from ≡ length p
+  payload_place = let n = standing_length (stream x) (readable x) p in let none = ap length payload_between.begun in omega (arith, n, none)

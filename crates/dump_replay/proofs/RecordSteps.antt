@@ -1,272 +1,319 @@
 -- A receiver takes bytes of a record.
-use Rattle.std.proofs.Common.{◌≡◌, ℕ, ◌+◌, ◌≤◌, ◌<◌, inl, inr, Bool, true, false, List, [], ◌++◌, length, take, Option, Some, None, Ok, Err, refl, sym, ap, ◌∙◌, subst, arith, length-append}
-use Rattle.std.specs.Prelude.{◌==◌, if◌then◌else◌}
+use Rattle.std.proofs.Common.{◌≡◌, ℕ, ◌+◌, ◌-◌, ◌<◌, ◌≤◌, inl, inr, List, [], ◌++◌, length, take, Bool, true, false, Option, Some, None, Result, Ok, Err, refl, sym, ap, ◌∙◌, subst, arith, length-append}
+use Rattle.std.specs.Prelude.{nat_lt, ◌==◌, if◌then◌else◌}
+use Rattle.std.specs.Option.{option_map, option_or}
 use Rattle.std.proofs.Math.Seq.{take-length}
-use Rattle.std.proofs.lemmas.List.{length-take-le, drop_all}
+use Rattle.std.proofs.lemmas.Bool.{ltb-true, eqb-true, cases_Bool}
+use Rattle.std.proofs.lemmas.List.{length-take-le}
 use Rattle.unit_streams.specs.Front.{Front, begun, whole, wrong}
+use Rattle.unit_streams.specs.Parts.{seen}
+use Rattle.unit_streams.specs.Grammar.{standing, with_more, behind_unit}
+use Rattle.unit_streams.specs.Judging.{is_over_at, event_at, refusal_at}
+use Rattle.unit_streams.specs.Going.{IsQuiet, IsQuietBefore}
+use Rattle.unit_streams.proofs.Peeling.{extent, Decides}
+use Rattle.unit_streams.proofs.Fronts.{left_begun, decides_at, wrong_later}
+use Rattle.unit_streams.proofs.Passing.{given_none, leaves_quiet, leaves_standing, decides_quiet, whole_standing, whole_event, whole_refusal, whole_quiet, wrong_standing, wrong_quiet, wrong_refusal}
+use Rattle.unit_streams.proofs.Standing.{standing_length}
+use Rattle.unit_streams.proofs.Units.{IsBetween}
 use Rattle.nbfx_values.specs.declared.refusals.Offence.{Offence}
 use Rattle.nbfx_values.specs.declared.refusals.Reason.{Reason}
 use Rattle.nbfx_values.specs.declared.refusals.Reason.TheVariants as reasons
+use Rattle.nmf_records.specs.declared.record_types.TheConstants.{EXTENSIBLE_ENCODING, UPGRADE_REQUEST}
 use Rattle.nmf_records.specs.declared.frame.Frame.{Frame}
 use Rattle.nmf_records.specs.declared.frame.Frame.TheVariants as frames
 use Rattle.nmf_records.specs.declared.frame.FrameFault.{FrameFault}
+use Rattle.nmf_records.specs.declared.frame.FrameFault.TheVariants as faults
+use Rattle.nmf_records.specs.declared.frame.FrameRefusal.{FrameRefusal}
+use Rattle.nmf_records.specs.declared.frame.FrameStep.{FrameStep}
+use Rattle.nmf_records.specs.declared.frame.FrameStep.TheVariants.{More, Done}
+use Rattle.nmf_records.specs.declared.reader.FrameReader.{FrameReader}
 use Rattle.nmf_records.specs.declared.frame.Expect.{Expect}
-use Rattle.nmf_records.specs.declared.frame.Expect.TheVariants.{Types}
-use Rattle.nmf_records.specs.Records.{Read}
-use Rattle.nmf_records.specs.Reading.{frame_at}
-use Rattle.nmf_records.specs.Reader.{StandsFor as FrameStandsFor, ShowsText, text_after}
-use Rattle.unit_streams.proofs.Peeling.{IsPeeling, extent, Decides, Leaves, leaves_or_decides}
-use Rattle.nmf_records.proofs.Frames.{frame_peels}
+use Rattle.nmf_records.specs.declared.script.Direction.TheVariants.{Initiator}
+use Rattle.nmf_records.specs.declared.script.Due.{Due}
+use Rattle.nmf_records.specs.declared.script.Due.TheVariants as dues
+use Rattle.nmf_records.specs.Reading.{with_text, frame_at}
+use Rattle.nmf_records.specs.Reader.{StandsFor as FrameStandsFor, ShowsText, FrameAnswers, AfterPiece, text_after, shown_behind}
+use Rattle.nmf_records.specs.Script.{may_come}
 use Rattle.dump_replay.specs.declared.receiver.Receiver.{Receiver}
 use Rattle.dump_replay.specs.declared.receiver.Step.{Step}
 use Rattle.dump_replay.specs.declared.receiver.Step.TheVariants as steps
-use Rattle.dump_replay.specs.Stream.{Settings, Stage, Standing, in_payload, after_end, Situation, frame, as_unit, unless_refused, types_of, refused, built, opened, message_whole, after, after_record, unit_at, standing}
-use Rattle.dump_replay.specs.Judging.{completes, offends, answer_from, offence_at}
-use Rattle.dump_replay.specs.Going.{GoesOn}
-use Rattle.dump_replay.specs.Receiving.{IsAt, AtPayload, HasBegun, Reached, UnitAnswers, BehindAnswers, ShowsVia, taken_of, failure_of, step_of}
-use Rattle.dump_replay.proofs.After.{entered}
-use Rattle.dump_replay.proofs.Units.{unit_peels}
-use Rattle.dump_replay.proofs.Standing.{stand, standing_length, standing_sound, standing_leaves_all, standing_wrong, whole_within as decided_within}
-use Rattle.dump_replay.proofs.Vias.{via_empty, begun_text, done_text, wrong_text, record_unit, built_fault}
-use Rattle.dump_replay.proofs.ReceiverFacts.{not_in_payload, not_after_end}
-use Rattle.dump_replay.proofs.Steps.{leaves_moves, leaves_goes_on, decided_moves, wrong_offends, whole_stands, whole_completes, whole_goes_on}
+use Rattle.dump_replay.specs.declared.stage.Stage.{Stage}
+use Rattle.dump_replay.specs.declared.stage.Stage.TheVariants as stages
+use Rattle.dump_replay.specs.Stream.{Settings, Situation, StreamUnit, StreamEvent, opened, message, ended, frame, unexpected, built, reason_of, reason_in, offence_at, record_at, unit_in, after_record, completed_record, is_over_in, after, completed, refused, stream}
+use Rattle.dump_replay.specs.Receiving.{Reached, HasBegun, Failed, ShowsVia, taken_of, failure_of}
+use Rattle.dump_replay.specs.Stepping.{UnitAnswers, BehindAnswers, step_of}
+use Rattle.dump_replay.proofs.Grammar.{readable, short_enough}
+use Rattle.dump_replay.proofs.ReceiverFacts.{over_as_stage}
+use Rattle.dump_replay.proofs.PayloadSteps.{reached_between}
+use Rattle.dump_replay.proofs.Vias.{no_via, begun_text, wrong_text, whole_text}
 
--- where nothing is decided all along
-left_begun : {A R : Type 0} (f : List ℕ → Front A R) → IsPeeling f → (b c : List ℕ) → f b ≡ begun → f (b ++ c) ≡ begun → Leaves f b c
-left_begun f peels b c h e =
-    elim (leaves_or_decides f peels b c h) [
-      | inl l ↦ l
-      | inr d ↦ absurd (omega (arith, d.1.extent_is, d.1.some, ap extent e))
-    ]
+-- where the session isn't over, what is read at a record is the framing's
+read_due : (x : Settings) (due : Due) (from : ℕ) (bytes : List ℕ) → is_over_in (stages.Record due) ≡ false
+    → record_at x due from bytes ≡ seen frame (λ fault. offence_at from (built (reason_of due fault))) (frame_at x.limits.via (may_come Initiator due) bytes)
+read_due x dues.Over from bytes on = cc
+read_due x dues.Version from bytes on = refl
+read_due x dues.Mode from bytes on = refl
+read_due x dues.Via from bytes on = refl
+read_due x dues.Encoding from bytes on = refl
+read_due x dues.PreambleEnd from bytes on = refl
+read_due x dues.Ack from bytes on = refl
+read_due x dues.Messages from bytes on = refl
+read_due x dues.Envelope from bytes on = refl
+read_due x dues.Reply from bytes on = refl
+read_due x dues.Chunk from bytes on = refl
+read_due x dues.End from bytes on = refl
 
--- where something is decided, at which byte
-decided_at_last : {A R : Type 0} (f : List ℕ → Front A R) → IsPeeling f → (b c : List ℕ) (m : ℕ) → f b ≡ begun → 0 < extent (f (b ++ c)) → extent (f (b ++ c)) ≡ length b + m → Decides f b c m
-decided_at_last f peels b c m h some e =
-    elim (leaves_or_decides f peels b c h) [
-      | inl l ↦ absurd (omega (arith, ap extent l.at_end))
-      | inr d ↦ let same : d.0 ≡ m = omega (arith, d.1.extent_is, e) in subst (Decides f b c) same d.1
-    ]
+-- the faults of records are answered as one
+built_unexpected : (due : Due) (kind : ℕ) → built (unexpected due kind) ≡ reasons.Unbuilt
+built_unexpected dues.Encoding kind = go (kind == EXTENSIBLE_ENCODING) where
+  go : (b : Bool) → built (if b then reasons.BadEncoding else reasons.OutOfOrder) ≡ reasons.Unbuilt
+  go true = refl
+  go false = refl
+built_unexpected dues.PreambleEnd kind = go (kind == UPGRADE_REQUEST) where
+  go : (b : Bool) → built (if b then reasons.UpgradeRefused else reasons.OutOfOrder) ≡ reasons.Unbuilt
+  go true = refl
+  go false = refl
+built_unexpected _ kind = refl
 
--- a head of an envelope leaves the Via
-opened_via : (z : Situation) (from size : ℕ) → (opened z from size).via ≡ z.via
-opened_via z from size = by_case (size == 0) where
-  by_case : (t : Bool) → (if t then message_whole z from 0 else entered z from size).via ≡ z.via
-  by_case true = refl
-  by_case false = refl
+built_fault : (due : Due) (fault : FrameFault) → built (reason_of due fault) ≡ reasons.Unbuilt
+built_fault due (faults.Unexpected kind) = built_unexpected due kind
+built_fault due _ = refl
 
--- a record that is refused leaves the Via
-refused_via : (x : Settings) (z : Situation) (from : ℕ) (fr : Frame) (text : List ℕ) (reason : Reason) → refused x fr ≡ Some reason → (after_record z from fr text).via ≡ z.via
-refused_via x z from (frames.Version major minor) text reason e = refl
-refused_via x z from (frames.Mode mode) text reason e = refl
-refused_via x z from frames.Via text reason e = cc
-refused_via x z from (frames.KnownEncoding encoding) text reason e = refl
-refused_via x z from frames.UnsizedEnvelope text reason e = refl
-refused_via x z from (frames.Chunk size) text reason e = refl
-refused_via x z from (frames.SizedEnvelope size) text reason e = opened_via z from size
-refused_via x z from frames.End text reason e = refl
-refused_via x z from frames.Fault text reason e = refl
-refused_via x z from frames.PreambleAck text reason e = refl
-refused_via x z from frames.PreambleEnd text reason e = refl
+-- a record that is refused completes nothing
+refused_none : (x : Settings) (z : Situation) (from : ℕ) (f : Frame) (reason : Reason) → reason_in x f ≡ Some reason → completed_record z from f ≡ None
+refused_none x z from (frames.Version major minor) reason e = refl
+refused_none x z from (frames.Mode mode) reason e = refl
+refused_none x z from frames.Via reason e = refl
+refused_none x z from (frames.KnownEncoding encoding) reason e = refl
+refused_none x z from frames.UnsizedEnvelope reason e = refl
+refused_none x z from (frames.Chunk size) reason e = refl
+refused_none x z from (frames.SizedEnvelope size) reason e = large (nat_lt x.limits.payload size) refl e where
+  large : (b : Bool) → nat_lt x.limits.payload size ≡ b → (if b then Some reasons.MessageTooLarge else None) ≡ Some reason → completed_record z from (frames.SizedEnvelope size) ≡ None
+  large true lt e =
+      elim (cases_Bool (size == 0)) [
+        | inl same ↦ let l = ltb-true x.limits.payload size lt in let none = eqb-true size 0 same in absurd (omega (arith, l, none))
+        | inr other ↦ rw other refl
+      ]
+  large false lt e = cc
+refused_none x z from frames.End reason e = cc
+refused_none x z from frames.Fault reason e = refl
+refused_none x z from frames.PreambleAck reason e = refl
+refused_none x z from frames.PreambleEnd reason e = cc
 
-module _ (x : Settings) (q : List ℕ) (n : ℕ) (c : List ℕ) (old : Receiver) (away : AtPayload old.stage → ⊥) (reached : Reached old x q) (on : GoesOn x q n) (some : 0 < length c) (fits : length q + length c ≤ x.limits.session) where
-  abbrev pub z_of : Situation
-  z_of = (standing x q).situation
+-- what a reader of records answers and shows, by the limit and what may come
+module _ (limit via : ℕ) (expect : Expect) (due : Due) (l : limit ≡ via) (m : expect ≡ may_come Initiator due) (new : FrameReader) (b y : List ℕ) where
+  by_same : (P : ℕ → Expect → Type 0) → P limit expect → P via (may_come Initiator due)
+  by_same P h = subst (λ (n : ℕ). P n (may_come Initiator due)) l (subst (P limit) m h)
 
-  abbrev pub types_here : Expect
-  types_here = Types (types_of z_of.stage)
+  pub shown_so : (s : List ℕ) → ShowsText new (shown_behind limit expect (b ++ y) s) → ShowsText new (shown_behind via (may_come Initiator due) (b ++ y) s)
+  shown_so s = by_same (λ n e. ShowsText new (shown_behind n e (b ++ y) s))
 
-  not_payload : z_of.stage ≡ in_payload → ⊥
-  not_payload = not_in_payload old.stage z_of reached.stage away
+  pub more_so : (n : ℕ) (step : FrameStep) → step ≡ More → FrameAnswers limit expect b y (Ok (n, step)) → AfterPiece new expect (b ++ y) (Ok (n, step))
+      → (n ≡ length y) × (frame_at via (may_come Initiator due) (b ++ y) ≡ begun) × FrameStandsFor new (may_come Initiator due) (b ++ y)
+  more_so n step is said after =
+      let a : FrameAnswers limit expect b y (Ok (n, More)) = subst (λ (t : FrameStep). FrameAnswers limit expect b y (Ok (n, t))) is said in
+      let f : FrameStandsFor new expect (b ++ y) = subst (λ (t : FrameStep). AfterPiece new expect (b ++ y) (Ok (n, t))) is after in
+      (a.0, by_same (λ k e. frame_at k e (b ++ y) ≡ begun) a.1, subst (λ (e : Expect). FrameStandsFor new e (b ++ y)) m f)
 
-  not_end : z_of.stage ≡ after_end → ⊥
-  not_end = not_after_end z_of on.not_over
+  pub done_so : (n : ℕ) (step : FrameStep) (f : Frame) → step ≡ Done f → FrameAnswers limit expect b y (Ok (n, step)) → AfterPiece new expect (b ++ y) (Ok (n, step))
+      → (text : List ℕ) × (frame_at via (may_come Initiator due) (b ++ y) ≡ whole (with_text f text) (length b + n)) × ((next : Expect) → FrameStandsFor new next [])
+  done_so n step f is said after =
+      let a : FrameAnswers limit expect b y (Ok (n, Done f)) = subst (λ (t : FrameStep). FrameAnswers limit expect b y (Ok (n, t))) is said in
+      (a.0, by_same (λ k e. frame_at k e (b ++ y) ≡ whole (with_text f a.0) (length b + n)) a.1, subst (λ (t : FrameStep). AfterPiece new expect (b ++ y) (Ok (n, t))) is after)
 
-  pub frames_begun : FrameStandsFor old.frames types_here (standing x q).begun
-  frames_begun = has_begun z_of.stage not_payload reached.frames where
-    has_begun : (stage : Stage) → (stage ≡ in_payload → ⊥) → HasBegun stage old.frames (standing x q).begun → FrameStandsFor old.frames (Types (types_of stage)) (standing x q).begun
-    has_begun in_payload never h = absurd (never refl)
-    has_begun _ never h = h
+  pub wrong_so : (refusal : FrameRefusal) → FrameAnswers limit expect b y (Err refusal) → frame_at via (may_come Initiator due) (b ++ y) ≡ wrong refusal.fault refusal.shown_by
+  wrong_so refusal = by_same (λ k e. frame_at k e (b ++ y) ≡ wrong refusal.fault refusal.shown_by)
 
-  unit_is : (b : List ℕ) → unit_at x z_of.stage b ≡ as_unit x z_of.stage (frame_at x.limits.via types_here b)
-  unit_is b = record_unit x z_of.stage b not_payload not_end
+module _ (r : Receiver) (x : Settings) (p c : List ℕ) (due : Due) (is : r.stage ≡ stages.Record due) (h : Reached r x p) (on : is_over_at (stream x) p ≡ false) (fits : length p + length c ≤ x.limits.session) where
+  abbrev pub situation_here : Situation
+  situation_here = (standing (stream x) p).situation
 
-  all_taken : q ++ take (length c) c ≡ q ++ c
-  all_taken = ap (λ y. q ++ y) (take-length c)
+  abbrev pub from_here : ℕ
+  from_here = (standing (stream x) p).from
 
-  -- a record that is begun
-  pub record_more : (new : Receiver) (k : ℕ) → k ≡ length c → frame_at x.limits.via types_here ((standing x q).begun ++ c) ≡ begun
-      → new.stage ≡ old.stage → new.kind ≡ old.kind → new.unit_from ≡ old.unit_from → new.taken ≡ old.taken + k
-      → FrameStandsFor new.frames types_here ((standing x q).begun ++ c)
-      → ShowsText new.frames (text_after z_of.via types_here ((standing x q).begun ++ c) (frame_at x.limits.via types_here ((standing x q).begun ++ c)))
-      → UnitAnswers x q n c new (Ok (k, steps.More))
-  record_more new k all read stage kind unit_from taken frames shown =
-      let b = (standing x q).begun in
-      let still : unit_at x z_of.stage (b ++ c) ≡ begun = unit_is (b ++ c) ∙ ap (as_unit x z_of.stage) read in
-      let left = left_begun (unit_at x z_of.stage) (unit_peels x z_of.stage) b c on.is_begun still in
-      let e : standing x (q ++ c) ≡ stand z_of (standing x q).from (b ++ c) = standing_leaves_all x q c left in
-      let len : length (q ++ c) ≡ length q + length c = length-append q c in
-      let done : UnitAnswers x q n c new (Ok (length c, steps.More)) = rw all_taken (
+  abbrev pub begun_here : List ℕ
+  begun_here = (standing (stream x) p).begun
+
+  abbrev pub expected : Expect
+  expected = may_come Initiator due
+
+  pub stage_here : situation_here.stage ≡ stages.Record due
+  stage_here = sym h.stage ∙ is
+
+  due_on : is_over_in (stages.Record due) ≡ false
+  due_on = sym (ap is_over_in is) ∙ sym (over_as_stage r x p h) ∙ on
+
+  -- the reader of records has its first bytes
+  pub frames_here : FrameStandsFor r.frames expected begun_here
+  frames_here = subst (λ (s : Stage). HasBegun s r.frames begun_here) is h.frames
+
+  abbrev front : List ℕ → Front StreamUnit Offence
+  front = (stream x).unit_at situation_here from_here
+
+  front_is : (bytes : List ℕ) → front bytes ≡ seen frame (λ fault. offence_at from_here (built (reason_of due fault))) (frame_at x.limits.via expected bytes)
+  unfolding unit_in
+  front_is bytes = ap (λ s. unit_in x s from_here bytes) stage_here ∙ read_due x due from_here bytes due_on
+
+  close : (i : ℕ) → i < length c → (stream x).at_length situation_here from_here (length p + i) ≡ None
+  close i lt = short_enough x situation_here.stage from_here (length p + i) (omega (arith, fits, lt))
+
+  all_taken : (k : ℕ) → k ≡ length c → take k c ≡ c
+  all_taken k e = ap (λ n. take n c) e ∙ take-length c
+
+  -- a record that is begun still
+  pub record_more : (new : Receiver) (k : ℕ) → 0 < k → k ≡ length c → frame_at x.limits.via expected (begun_here ++ c) ≡ begun
+      → new.stage ≡ r.stage → new.kind ≡ r.kind → new.messages ≡ r.messages → new.unit_from ≡ r.unit_from → new.taken ≡ r.taken + k → new.failure ≡ r.failure
+      → FrameStandsFor new.frames expected (begun_here ++ c) → ShowsText new.frames (shown_behind x.limits.via expected (begun_here ++ c) situation_here.via)
+      → UnitAnswers x p c new (Ok (k, steps.More))
+  record_more new k some all read stage kind messages unit_from taken failure frames_stand shown =
+      let still : front (begun_here ++ c) ≡ begun = front_is (begun_here ++ c) ∙ ap (seen frame (λ fault. offence_at from_here (built (reason_of due fault)))) read in
+      let leaves = left_begun front ((readable x).reads situation_here from_here) begun_here c h.going.next still in
+      let there : standing (stream x) (p ++ take k c) ≡ with_more (standing (stream x) p) c = ap (λ d. standing (stream x) (p ++ d)) (all_taken k all) ∙ leaves_standing (stream x) (readable x) p c h.going leaves close in
+      let quiet = leaves_quiet (stream x) (readable x) p c h.going leaves close in
+      let len : length (p ++ take k c) ≡ length p + k = length-append p (take k c) ∙ ap (λ n. length p + n) (length-take-le k c (omega (arith, all))) in (
         some,
-        omega arith,
+        subst (λ (n : ℕ). IsQuiet (stream x) p c n) (sym all) quiet,
         record {
-          stage = rw (stage, e) reached.stage;
-          kind = rw (kind, e) reached.kind;
-          is_begun = rw e still;
-          frames = rw e (begins z_of.stage not_payload frames);
-          text = rw e (subst (ShowsText new.frames) (ap (text_after z_of.via types_here (b ++ c)) read ∙ begun_text z_of (b ++ c) (via_empty x q)) shown);
-          unit_from = rw e (unit_from ∙ reached.unit_from);
-          taken = omega (arith, taken, all, reached.taken, len);
-          within = omega (arith, len, fits);
+          stage = rw there (stage ∙ h.stage);
+          kind = rw there (kind ∙ h.kind);
+          messages = rw there (messages ∙ h.messages);
+          frames = rw there (subst (λ (s : Stage). HasBegun s new.frames (begun_here ++ c)) (sym (stage ∙ is)) frames_stand);
+          text = rw there (subst (ShowsText new.frames) (ap (text_after situation_here.via expected (begun_here ++ c)) read ∙ begun_text situation_here due stage_here (no_via x p) (begun_here ++ c)) shown);
+          unit_from = rw there (unit_from ∙ h.unit_from);
+          taken = omega (arith, taken, h.taken, len);
+          within = omega (arith, len, all, fits);
+          going = rw there (record { next = still; last = given_none (begun_here ++ c) (standing (stream x) p).refusal (let n = length-append begun_here c in omega (arith, n, all, some)) });
+          unfailed = failure ∙ h.unfailed;
         },
-        leaves_goes_on x q n on c left,
-        λ d. leaves_moves x q n on c d left fits ∙ ap (λ r. answer_from x (q ++ c) (n + length c) (r ++ d)) (sym (drop_all (length c) c (omega arith))),
-      ) in
-      subst (λ m. UnitAnswers x q n c new (Ok (m, steps.More))) (sym all) done
-    where
-      begins : (stage : Stage) → (stage ≡ in_payload → ⊥) → FrameStandsFor new.frames (Types (types_of stage)) ((standing x q).begun ++ c) → HasBegun stage new.frames ((standing x q).begun ++ c)
-      begins in_payload never h = absurd (never refl)
-      begins _ never h = h
+      )
 
-  has_fresh : (new : Receiver) (stage : Stage) → ((next : Expect) → FrameStandsFor new.frames next []) → HasBegun stage new.frames []
-  has_fresh new in_payload fresh = fresh
-  has_fresh new stage fresh = fresh (Types (types_of stage))
+  -- a record that is whole
+  module _ (new : Receiver) (mid : FrameReader) (same : new.frames ≡ mid) (f : Frame) (text : List ℕ) (n : ℕ) (read : frame_at x.limits.via expected (begun_here ++ c) ≡ whole (with_text f text) (length begun_here + n))
+      (shown : ShowsText mid (shown_behind x.limits.via expected (begun_here ++ c) situation_here.via)) (taken : new.taken ≡ r.taken + n) where
+    abbrev unit : StreamUnit
+    unit = frame (with_text f text)
 
-  module _ (new : Receiver) (fr : Frame) (text : List ℕ) (m : ℕ)
-      (read : frame_at x.limits.via types_here ((standing x q).begun ++ c) ≡ whole (record { frame = fr; text = text }) (length (standing x q).begun + m)) (within : m ≤ length c)
-      (fresh : (next : Expect) → FrameStandsFor new.frames next [])
-      (shown : ShowsText new.frames (text_after z_of.via types_here ((standing x q).begun ++ c) (frame_at x.limits.via types_here ((standing x q).begun ++ c))))
-      (taken : new.taken ≡ old.taken + m) where
-    abbrev read_of : Read
-    read_of = record { frame = fr; text = text }
+    front_whole : front (begun_here ++ c) ≡ whole unit (length begun_here + n)
+    front_whole = front_is (begun_here ++ c) ∙ ap (seen frame (λ fault. offence_at from_here (built (reason_of due fault)))) read
 
-    abbrev behind_it : Situation
-    behind_it = after_record z_of (standing x q).from fr text
+    by_last : Decides front begun_here c n
+    by_last = decides_at front ((readable x).reads situation_here from_here) begun_here c n h.going.next (λ e. let w = front_whole in cc) (ap extent front_whole)
 
-    taken_len : length (q ++ take m c) ≡ length q + m
-    taken_len = simp length-append (omega (arith, length-take-le m c within))
+    close_before : (i : ℕ) → i < n → (stream x).at_length situation_here from_here (length p + i) ≡ None
+    close_before i lt = close i (let w = by_last.within in omega (arith, w, lt))
 
-    unit_judged : unit_at x z_of.stage ((standing x q).begun ++ c) ≡ unless_refused (refused x fr) read_of (length (standing x q).begun + m)
-    unit_judged = unit_is ((standing x q).begun ++ c) ∙ ap (as_unit x z_of.stage) read
+    len : length (p ++ take n c) ≡ length p + n
+    len = length-append p (take n c) ∙ ap (λ k. length p + k) (length-take-le n c by_last.within)
 
-    shown_behind : ShowsText new.frames behind_it.via
-    shown_behind = subst (ShowsText new.frames) (ap (text_after z_of.via types_here ((standing x q).begun ++ c)) read ∙ done_text x.limits.via (standing x q).from (length (standing x q).begun + m) z_of ((standing x q).begun ++ c) read_of read) shown
+    there : standing (stream x) (p ++ take n c) ≡ record (behind_unit (stream x) (standing (stream x) p) unit (length begun_here + n)) { begun = [] }
+    there = whole_standing (stream x) (readable x) p c h.going n by_last close_before unit (length begun_here + n) front_whole
 
-    -- the record is whole at the byte that makes it so
-    decides_by : (k : ℕ) → extent (unit_at x z_of.stage ((standing x q).begun ++ c)) ≡ k → k ≡ length (standing x q).begun + m → 0 < k → Decides (unit_at x z_of.stage) (standing x q).begun c m
-    decides_by k e same lt = decided_at_last (unit_at x z_of.stage) (unit_peels x z_of.stage) (standing x q).begun c m on.is_begun (omega (arith, e)) (e ∙ same)
+    via_there : ShowsText new.frames (after_record situation_here from_here f text).via
+    via_there = rw same (subst (ShowsText mid) (ap (text_after situation_here.via expected (begun_here ++ c)) read ∙ whole_text situation_here due stage_here (no_via x p) x.limits.via from_here (begun_here ++ c) (with_text f text) (length begun_here + n) read) shown)
 
-    read_some : 0 < length (standing x q).begun + m
-    read_some = (decided_within (frame_at x.limits.via types_here) (frame_peels x.limits.via types_here) ((standing x q).begun ++ c) read_of (length (standing x q).begun + m) read).0
+    quiet : (stream x).completed situation_here from_here unit ≡ None → IsQuiet (stream x) p c n
+    quiet = whole_quiet (stream x) (readable x) p c h.going n by_last close_before unit (length begun_here + n) front_whole
 
-    -- where it isn't refused
-    module _ (none : refused x fr ≡ None) where
-      unit_whole : unit_at x z_of.stage ((standing x q).begun ++ c) ≡ whole (frame read_of) (length (standing x q).begun + m)
-      unit_whole = unit_judged ∙ ap (λ o. unless_refused o read_of (length (standing x q).begun + m)) none
+    completes : completed_record situation_here from_here f ≡ (stream x).completed situation_here from_here unit
+    unfolding completed
+    completes = refl
 
-      decides : Decides (unit_at x z_of.stage) (standing x q).begun c m
-      decides = decides_by (length (standing x q).begun + m) (ap extent unit_whole) refl read_some
+    -- and isn't refused
+    module _ (good : reason_in x f ≡ None) (stage : new.stage ≡ (after_record situation_here from_here f text).stage) (kind : new.kind ≡ (after_record situation_here from_here f text).kind)
+        (messages : new.messages ≡ (after_record situation_here from_here f text).messages) (unit_from : new.unit_from ≡ r.taken + n) (fresh : (next : Expect) → FrameStandsFor mid next []) (failure : new.failure ≡ r.failure) where
+      not_refused : (stream x).refused situation_here from_here unit ≡ None
+      unfolding refused
+      not_refused = ap (option_map (λ reason. offence_at from_here (built reason))) good
 
-      taken_fits : length q + m ≤ x.limits.session
-      taken_fits = omega arith
-
-      behind_is : after z_of (standing x q).from (frame read_of) ≡ behind_it
+      between : IsBetween (stream x) (readable x) (p ++ take n c) (after_record situation_here from_here f text) (from_here + (length begun_here + n))
       unfolding after
-      behind_is = refl
-
-      stands : standing x (q ++ take m c) ≡ stand behind_it ((standing x q).from + (length (standing x q).begun + m)) []
-      stands = whole_stands x q n on c [] m decides taken_fits (frame read_of) (length (standing x q).begun + m) unit_whole
-          ∙ ap (λ z. stand z ((standing x q).from + (length (standing x q).begun + m)) []) behind_is
-
-      reached_behind : IsAt new.stage behind_it → new.kind ≡ behind_it.kind → new.unit_from ≡ old.taken + m → Reached new x (q ++ take m c)
-      reached_behind at kind unit_from = record {
-        stage = rw stands at;
-        kind = rw stands kind;
-        is_begun = rw stands (unit_peels x behind_it.stage).nothing;
-        frames = rw stands (has_fresh new behind_it.stage fresh);
-        text = rw stands shown_behind;
-        unit_from = rw stands (omega (arith, unit_from, reached.taken, standing_length x q));
-        taken = omega (arith, taken, reached.taken, taken_len);
-        within = omega (arith, taken_len, fits);
+      between = record {
+        situation = ap (λ s. s.situation) there;
+        place = ap (λ s. s.from) there;
+        begun = ap (λ s. s.begun) there;
+        refusal = ap (λ s. s.refusal) there ∙ not_refused;
       }
 
-      pub record_done : (step : Step) → IsAt new.stage behind_it → new.kind ≡ behind_it.kind → step ≡ step_of behind_it.completed
-          → new.unit_from ≡ old.taken + m → UnitAnswers x q n c new (Ok (m, step))
-      record_done step at kind is_step unit_from =
-          subst (λ s. UnitAnswers x q n c new (Ok (m, s))) (sym is_step) (by_event behind_it.completed refl)
-        where
-          here : Reached new x (q ++ take m c)
-          here = reached_behind at kind unit_from
+      no_record : (stage : Stage) → HasBegun stage new.frames []
+      no_record (stages.Payload payload) = rw same fresh
+      no_record (stages.Record next) = rw same (fresh (may_come Initiator next))
 
-          completes_it : (s : Step) → behind_it.completed ≡ Some s → (d : List ℕ) → answer_from x q n (c ++ d) ≡ completes (n + m) s
-          completes_it s e d = whole_completes x q n on c d m decides taken_fits (frame read_of) (length (standing x q).begun + m) unit_whole s (ap (λ (z : Situation). z.completed) behind_is ∙ e)
+      reached : Reached new x (p ++ take n c)
+      reached =
+          let place = standing_length (stream x) (readable x) p in
+          reached_between new x (p ++ take n c) (after_record situation_here from_here f text) (from_here + (length begun_here + n)) between stage kind messages (no_record new.stage) via_there
+          (omega (arith, unit_from, h.taken, place)) (omega (arith, taken, h.taken, len)) (omega (arith, len, fits, by_last.within)) (failure ∙ h.unfailed)
 
-          by_event : (o : Option Step) → behind_it.completed ≡ o → UnitAnswers x q n c new (Ok (m, step_of o))
-          by_event None e = (
-            decides.some,
-            within,
-            here,
-            whole_goes_on x q n on c [] m decides taken_fits (frame read_of) (length (standing x q).begun + m) unit_whole (ap (λ (z : Situation). z.completed) behind_is ∙ e),
-            λ d. decided_moves x q n on c d m decides taken_fits,
-          )
-          by_event (Some steps.More) e = absurd ((standing_sound x (q ++ take m c)).no_more (ap (λ (s : Standing). s.situation.completed) stands ∙ e))
-          by_event (Some (steps.Opened mode kind)) e = (decides.some, within, here, completes_it (steps.Opened mode kind) e)
-          by_event (Some (steps.Envelope size)) e = (decides.some, within, here, completes_it (steps.Envelope size) e)
-          by_event (Some steps.Ended) e = (decides.some, within, here, completes_it steps.Ended e)
+      event : event_at (stream x) (p ++ take n c) ≡ completed_record situation_here from_here f
+      event = whole_event (stream x) (readable x) p c h.going n by_last close_before unit (length begun_here + n) front_whole ∙ sym completes
 
-    -- where it is refused
-    pub record_refused : (reason : Reason) (o : Offence) → refused x fr ≡ Some reason → o ≡ offence_at (standing x q).from (built reason) → failure_of new ≡ Some o → UnitAnswers x q n c new (Err o)
-    unfolding taken_of ShowsVia
-    record_refused reason o why is_offence failed =
-        let b = (standing x q).begun in
-        let k : ℕ = length b + m in
-        let is_wrong : unit_at x z_of.stage (b ++ c) ≡ wrong (built reason) k = unit_judged ∙ ap (λ r. unless_refused r read_of k) why in
-        let decides = decides_by k (ap extent is_wrong) refl read_some in
-        let e = (standing_wrong x q c m decides (built reason) k is_wrong).1 in (
-          m,
-          within,
-          omega (arith, taken, reached.taken),
-          failed,
-          rw e (subst (ShowsText new.frames) (refused_via x z_of (standing x q).from fr text reason why) shown_behind),
-          λ d. wrong_offends x q n on c d m decides (omega arith) (built reason) k is_wrong ∙ ap (offends (n + m)) (sym is_offence),
-        )
+      before : IsQuietBefore (stream x) p c n
+      before = decides_quiet (stream x) (readable x) p c h.going n by_last close_before
 
-    -- by what is answered behind it
-    pub record_answers : (step : Step) → BehindAnswers (refused x fr) (after_record z_of old.unit_from fr text) new old.unit_from (Ok step) → new.unit_from ≡ old.taken + m → UnitAnswers x q n c new (Ok (m, step))
-    record_answers step behind unit_from = by_refusal (refused x fr) refl behind where
-      by_refusal : (o : Option Reason) → refused x fr ≡ o → BehindAnswers o (after_record z_of old.unit_from fr text) new old.unit_from (Ok step) → UnitAnswers x q n c new (Ok (m, step))
-      by_refusal None e h =
-          let z_is : after_record z_of old.unit_from fr text ≡ behind_it = ap (λ f. after_record z_of f fr text) reached.unit_from in
-          record_done e step (subst (IsAt new.stage) z_is h.0) (h.1 ∙ ap (λ (z : Situation). z.kind) z_is) (h.2 ∙ ap (λ (z : Situation). step_of z.completed) z_is) unit_from
-      by_refusal (Some reason) e h = absurd h
+      by_event : (v : Option StreamEvent) → completed_record situation_here from_here f ≡ v → UnitAnswers x p c new (Ok (n, step_of v))
+      by_event None e = (by_last.some, quiet (sym completes ∙ e), reached)
+      by_event (Some (opened mode kind via)) e = (opened mode kind via, by_last.some, before, event ∙ e, refl, reached)
+      by_event (Some (message number size)) e = (message number size, by_last.some, before, event ∙ e, refl, reached)
+      by_event (Some (ended at)) e = (ended at, by_last.some, before, event ∙ e, refl, reached)
 
-    pub record_refuses : (o : Offence) → BehindAnswers (refused x fr) (after_record z_of old.unit_from fr text) new old.unit_from (Err o) → UnitAnswers x q n c new (Err o)
-    record_refuses o behind = by_refusal (refused x fr) refl behind where
-      by_refusal : (r : Option Reason) → refused x fr ≡ r → BehindAnswers r (after_record z_of old.unit_from fr text) new old.unit_from (Err o) → UnitAnswers x q n c new (Err o)
-      by_refusal None e h = absurd h
-      by_refusal (Some reason) e h = record_refused reason o e (h.0 ∙ ap (λ f. offence_at f (built reason)) reached.unit_from) h.1
+    -- or is
+    module _ (reason : Reason) (bad : reason_in x f ≡ Some reason) (o : Offence) (told : o ≡ offence_at from_here (built reason)) (failure : new.failure ≡ Some o) where
+      refusal : refusal_at (stream x) (p ++ take n c) ≡ Some o
+      unfolding refused
+      refusal =
+          whole_refusal (stream x) (readable x) p c h.going n by_last close_before unit (length begun_here + n) front_whole
+          ∙ ap (λ v. option_or (option_map (λ why. offence_at from_here (built why)) v) ((stream x).at_length (after situation_here from_here unit) (from_here + (length begun_here + n)) (length p + n))) bad
+          ∙ ap Some (sym told)
 
-  -- bytes that are no record that may come
-  pub record_wrong : (new : Receiver) (fault : FrameFault) (k : ℕ) (o : Offence) → frame_at x.limits.via types_here ((standing x q).begun ++ c) ≡ wrong fault k
-      → ShowsText new.frames (text_after z_of.via types_here ((standing x q).begun ++ c) (frame_at x.limits.via types_here ((standing x q).begun ++ c)))
-      → (old.unit_from + k ≤ x.limits.session → new.taken ≡ old.unit_from + k) → o ≡ offence_at old.unit_from reasons.Unbuilt → failure_of new ≡ Some o → UnitAnswers x q n c new (Err o)
-  unfolding taken_of ShowsVia
-  record_wrong new fault k o read shown taken is_offence failed =
-      let b = (standing x q).begun in
-      let is_wrong : unit_at x z_of.stage (b ++ c) ≡ wrong reasons.Unbuilt k = unit_is (b ++ c) ∙ ap (as_unit x z_of.stage) read ∙ ap (λ r. wrong r k) (built_fault z_of.stage fault) in
-      let left_or = leaves_or_decides (unit_at x z_of.stage) (unit_peels x z_of.stage) b c on.is_begun in
-      let len = standing_length x q in
-      elim left_or [
-        | inl l ↦ cc (l.at_end)
-        | inr d ↦
-            let m : ℕ = d.0 in
-            let size : k ≡ length b + m = sym (ap extent is_wrong) ∙ d.1.extent_is in
-            let e = (standing_wrong x q c m d.1 reasons.Unbuilt k is_wrong).1 in
-            let took : new.taken ≡ old.unit_from + k = taken (omega (arith, size, len, reached.unit_from, d.1.within)) in (
-              m,
-              d.1.within,
-              omega (arith, took, size, len, reached.unit_from),
-              failed,
-              rw e (subst (ShowsText new.frames) (ap (text_after z_of.via types_here (b ++ c)) read ∙ wrong_text k z_of (b ++ c) fault (via_empty x q)) shown),
-              λ more. wrong_offends x q n on c more m d.1 (omega (arith, d.1.within)) reasons.Unbuilt k is_wrong ∙ ap (offends (n + m)) (ap (λ f. offence_at f reasons.Unbuilt) (sym reached.unit_from) ∙ sym is_offence),
-            )
-      ]
+      refused_quiet : IsQuiet (stream x) p c n
+      refused_quiet = quiet (sym completes ∙ refused_none x situation_here from_here f reason bad)
+
+      via_shown : ShowsVia new (standing (stream x) (p ++ take n c)).situation.via
+      unfolding ShowsVia after
+      via_shown = rw there via_there
+
+      failed : Failed new x o (p ++ take n c)
+      unfolding failure_of taken_of
+      failed = record { failure = failure; taken = omega (arith, taken, h.taken, len); via = via_shown }
+
+      answers : UnitAnswers x p c new (Err o)
+      answers = (n, refused_quiet, refusal, failed)
+
+    by_place : (v : Option Reason) (from : ℕ) → from ≡ from_here → (result : Result Step Offence) → BehindAnswers v (after_record situation_here from f text) (completed_record situation_here from f) new from result
+        → BehindAnswers v (after_record situation_here from_here f text) (completed_record situation_here from_here f) new from_here result
+    by_place v from place result h = subst (λ (n : ℕ). BehindAnswers v (after_record situation_here n f text) (completed_record situation_here n f) new n result) place h
+
+    pub record_done : (v : Option Reason) → reason_in x f ≡ v → (from : ℕ) → from ≡ from_here → (step : Step) → BehindAnswers v (after_record situation_here from f text) (completed_record situation_here from f) new from (Ok step)
+        → new.unit_from ≡ r.taken + n → ((next : Expect) → FrameStandsFor mid next []) → new.failure ≡ r.failure → UnitAnswers x p c new (Ok (n, step))
+    record_done None good from place step h unit_from fresh failure =
+        let b = by_place None from place (Ok step) h in
+        rw b.3 (by_event good b.0 b.1 b.2 unit_from fresh failure (completed_record situation_here from_here f) refl)
+    record_done (Some reason) bad from place step h unit_from fresh failure = absurd h
+
+    pub record_refused : (v : Option Reason) → reason_in x f ≡ v → (from : ℕ) → from ≡ from_here → (o : Offence) → BehindAnswers v (after_record situation_here from f text) (completed_record situation_here from f) new from (Err o) → UnitAnswers x p c new (Err o)
+    record_refused None good from place o h = absurd h
+    record_refused (Some reason) bad from place o h = let b = by_place (Some reason) from place (Err o) h in answers reason bad o b.0 b.1
+
+  -- a record that is wrong
+  pub record_wrong : (new : Receiver) (fault : FrameFault) (k : ℕ) (o : Offence) → frame_at x.limits.via expected (begun_here ++ c) ≡ wrong fault k → o ≡ offence_at from_here reasons.Unbuilt
+      → ShowsText new.frames (shown_behind x.limits.via expected (begun_here ++ c) situation_here.via) → new.taken ≡ from_here + k → new.failure ≡ Some o → UnitAnswers x p c new (Err o)
+  unfolding failure_of taken_of ShowsVia
+  record_wrong new fault k o read told shown taken failure =
+      let n : ℕ = k - length begun_here in
+      let reads = (readable x).reads situation_here from_here in
+      let is_wrong : front (begun_here ++ c) ≡ wrong (offence_at from_here (built (reason_of due fault))) k = front_is (begun_here ++ c) ∙ ap (seen frame (λ why. offence_at from_here (built (reason_of due why)))) read in
+      let later = wrong_later front reads begun_here c h.going.next _ k is_wrong in
+      let d : Decides front begun_here c n = decides_at front reads begun_here c n h.going.next (λ e. cc) (ap extent is_wrong ∙ omega (arith, later)) in
+      let close_before = λ (i : ℕ) (lt : i < n). close i (let w = d.within in omega (arith, w, lt)) in
+      let len : length (p ++ take n c) ≡ length p + n = length-append p (take n c) ∙ ap (λ j. length p + j) (length-take-le n c d.within) in
+      let place = standing_length (stream x) (readable x) p in
+      let there = wrong_standing (stream x) (readable x) p c h.going n d close_before _ k is_wrong in (
+        n,
+        wrong_quiet (stream x) (readable x) p c h.going n d close_before _ k is_wrong,
+        wrong_refusal (stream x) (readable x) p c h.going n d close_before _ k is_wrong ∙ ap (λ reason. Some (offence_at from_here reason)) (built_fault due fault) ∙ ap Some (sym told),
+        record {
+          failure = failure;
+          taken = omega (arith, taken, len, place, later);
+          via = rw there (subst (ShowsText new.frames) (ap (text_after situation_here.via expected (begun_here ++ c)) read ∙ wrong_text situation_here due stage_here (no_via x p) (begun_here ++ c) fault k) shown);
+        },
+      )

@@ -9,11 +9,11 @@ use Rattle.dump_replay.specs.declared.check.Ending.{Ending}
 use Rattle.dump_replay.specs.declared.check.Ending.TheVariants as endings
 use Rattle.dump_replay.specs.Stream.{Settings}
 use Rattle.dump_replay.specs.Judging.{offence}
+use Rattle.dump_replay.specs.Laws.{ClosedOrRefused}
 use Rattle.dump_replay.specs.Sessions.{IsClosed}
 use Rattle.dump_replay.specs.Report.{report}
 use Rattle.dump_replay.specs.Running.{IsCheck, status_of, is_session_too_long}
 use Rattle.dump_replay.specs.Checking.{Judges, Reports, status_at}
-use Rattle.dump_replay.proofs.Closed.{none_is_closed}
 
 -- a refusal has one of two statuses
 refused_status : (o : Offence) (n : ℕ) → status_of (Some o) ≡ n → (n ≡ 10) ⊎ (n ≡ 1)
@@ -43,21 +43,21 @@ no_judgement n zero one ten (inl h) = zero h
 no_judgement n zero one ten (inr (inl h)) = one h
 no_judgement n zero one ten (inr (inr h)) = ten h
 
-module _ (x : Settings) (stream : List ℕ) where
+module _ (x : Settings) (bytes : List ℕ) where
   -- status 0
-  pub status_ended : (e : Ending) → status_at e ≡ 0 → Judges x stream e → IsClosed x stream
-  status_ended (endings.Judged None) s h = (none_is_closed x stream).0 h
-  status_ended (endings.Judged (Some o)) s h =
+  pub status_ended : ClosedOrRefused → (e : Ending) → status_at e ≡ 0 → Judges x bytes e → IsClosed x bytes
+  status_ended law (endings.Judged None) s h = (law x bytes).0 h
+  status_ended law (endings.Judged (Some o)) s h =
       elim (refused_status o 0 s) [
         | inl t ↦ absurd (omega (arith, t))
         | inr t ↦ absurd (omega (arith, t))
       ]
-  status_ended endings.ReadFault s h = cc
-  status_ended endings.WriteFault s h = cc
-  status_ended endings.Memory s h = cc
+  status_ended law endings.ReadFault s h = cc
+  status_ended law endings.WriteFault s h = cc
+  status_ended law endings.Memory s h = cc
 
   -- status 1
-  pub status_offended : (e : Ending) → status_at e ≡ 1 → Judges x stream e → (o : Offence) × (offence x stream ≡ Some o) × (is_session_too_long o.reason ≡ false)
+  pub status_offended : (e : Ending) → status_at e ≡ 1 → Judges x bytes e → (o : Offence) × (offence x bytes ≡ Some o) × (is_session_too_long o.reason ≡ false)
   status_offended (endings.Judged None) s h = cc
   status_offended (endings.Judged (Some o)) s h =
       elim (cases_Bool (is_session_too_long o.reason)) [
@@ -70,14 +70,14 @@ module _ (x : Settings) (stream : List ℕ) where
 
   module _ (w w' : List ℕ) where
     -- a judgement's status
-    pub status_reported : (e : Ending) → (status_at e ≡ 0) ⊎ (status_at e ≡ 1) ⊎ (status_at e ≡ 10) → Reports x stream w w' e → w' ≡ w ++ report x stream
+    pub status_reported : (e : Ending) → (status_at e ≡ 0) ⊎ (status_at e ≡ 1) ⊎ (status_at e ≡ 10) → Reports x bytes w w' e → w' ≡ w ++ report x bytes
     status_reported (endings.Judged o) s h = h
     status_reported endings.ReadFault s h = absurd (no_judgement 3 (λ e. cc) (λ e. cc) (λ e. cc) s)
     status_reported endings.WriteFault s h = absurd (no_judgement 4 (λ e. cc) (λ e. cc) (λ e. cc) s)
     status_reported endings.Memory s h = absurd (no_judgement 5 (λ e. cc) (λ e. cc) (λ e. cc) s)
 
     -- statuses 3, 4 and 5
-    pub status_cut : (e : Ending) → (status_at e ≡ 3) ⊎ (status_at e ≡ 4) ⊎ (status_at e ≡ 5) → Reports x stream w w' e → GrowsByPrefix w w' (report x stream)
+    pub status_cut : (e : Ending) → (status_at e ≡ 3) ⊎ (status_at e ≡ 4) ⊎ (status_at e ≡ 5) → Reports x bytes w w' e → GrowsByPrefix w w' (report x bytes)
     status_cut (endings.Judged o) (inl s) h = absurd (other_status o 3 s (λ e. cc) (λ e. cc) (λ e. cc))
     status_cut (endings.Judged o) (inr (inl s)) h = absurd (other_status o 4 s (λ e. cc) (λ e. cc) (λ e. cc))
     status_cut (endings.Judged o) (inr (inr s)) h = absurd (other_status o 5 s (λ e. cc) (λ e. cc) (λ e. cc))
@@ -107,8 +107,8 @@ check_words (a ∷ b ∷ []) other two e = e
 check_words (a ∷ b ∷ d ∷ rest) other two e = cc
 
 -- a session's status, where no read and no write failed
-pub status_closed : (x : Settings) (stream : List ℕ) (e : Ending) → IsClosed x stream → Judges x stream e → (e ≡ endings.ReadFault → ⊥) → (e ≡ endings.WriteFault → ⊥) → (status_at e ≡ 0) ⊎ (status_at e ≡ 5)
-status_closed x stream (endings.Judged o) closed h read written = inl (ap status_of (sym h ∙ (none_is_closed x stream).1 closed))
-status_closed x stream endings.ReadFault closed h read written = absurd (read refl)
-status_closed x stream endings.WriteFault closed h read written = absurd (written refl)
-status_closed x stream endings.Memory closed h read written = inr refl
+pub status_closed : ClosedOrRefused → (x : Settings) (bytes : List ℕ) (e : Ending) → IsClosed x bytes → Judges x bytes e → (e ≡ endings.ReadFault → ⊥) → (e ≡ endings.WriteFault → ⊥) → (status_at e ≡ 0) ⊎ (status_at e ≡ 5)
+status_closed law x bytes (endings.Judged o) closed h read written = inl (ap status_of (sym h ∙ (law x bytes).1 closed))
+status_closed law x bytes endings.ReadFault closed h read written = absurd (read refl)
+status_closed law x bytes endings.WriteFault closed h read written = absurd (written refl)
+status_closed law x bytes endings.Memory closed h read written = inr refl

@@ -1,178 +1,173 @@
--- Which Via is shown: that of the situation, until a record brings another; and what else a record at a stage may be.
-use Rattle.std.proofs.Common.{◌≡◌, ℕ, ◌⊎◌, inl, inr, List, [], ◌∷◌, length, Bool, true, false, refl, sym, ◌∙◌, arith}
-use Rattle.std.specs.Prelude.{nat_lt, ◌==◌, ◌||◌}
-use Rattle.std.proofs.lemmas.Bool.{cond_both, eqb-true, cases_Bool, and_from, and_left}
+-- Which Via is shown: that of the situation, until a record brings another.
+use Rattle.std.proofs.Common.{◌≡◌, ℕ, ◌-◌, ◌⊎◌, inl, inr, List, [], ◌∷◌, take, Bool, true, false, refl, sym, ap, ◌∙◌, subst}
+use Rattle.std.specs.Prelude.{nat_lt, ◌==◌, ◌||◌, if◌then◌else◌}
+use Rattle.std.proofs.lemmas.Bool.{eqb-true, cases_Bool, and_left}
+use Rattle.std.proofs.lemmas.List.{take-append-drop}
 use Rattle.unit_streams.specs.Front.{Front, begun, whole, wrong}
-use Rattle.nbfx_values.specs.declared.refusals.Reason.TheVariants as reasons
+use Rattle.unit_streams.specs.Grammar.{standing}
+use Rattle.unit_streams.proofs.Standing.{standing_keeps}
+use Rattle.nmf_records.specs.declared.record_types.TheConstants.{VIA, FAULT}
 use Rattle.nmf_records.specs.declared.frame.Frame.{Frame}
-use Rattle.nmf_records.specs.declared.frame.Frame.TheVariants.{Via, UnsizedEnvelope, Chunk, SizedEnvelope, Fault, PreambleAck}
+use Rattle.nmf_records.specs.declared.frame.Frame.TheVariants as frames
 use Rattle.nmf_records.specs.declared.frame.Expect.TheVariants.{Types}
 use Rattle.nmf_records.specs.declared.frame.FrameFault.{FrameFault}
-use Rattle.nmf_records.specs.declared.frame.FrameFault.TheVariants as faults
-use Rattle.nmf_records.specs.Records.{Read}
-use Rattle.nmf_records.specs.Reading.{typed_at, allows, record_at, frame_at}
+use Rattle.nmf_records.specs.declared.script.Direction.TheVariants.{Initiator}
+use Rattle.nmf_records.specs.declared.script.Due.{Due}
+use Rattle.nmf_records.specs.declared.script.Due.TheVariants as dues
+use Rattle.nmf_records.specs.Records.{Read, IsRecordOf}
+use Rattle.nmf_records.specs.Reading.{MayCome, allows, frame_at}
+use Rattle.nmf_records.specs.Script.{may_come}
 use Rattle.nmf_records.specs.Steps.{begins_text}
 use Rattle.nmf_records.specs.Reader.{text_after, text_read}
+use Rattle.nmf_records.proofs.Records.{read_record}
 use Rattle.nmf_records.proofs.Showing.{plain_head}
-use Rattle.dump_replay.specs.Stream.{Settings, Stage, at_version, at_mode, at_via, at_encoding, at_preamble_end, at_message, in_payload, after_end, Situation, StreamUnit, beginning, types_of, unexpected, reason_of, built, as_unit, unit_at, message_whole, opened, after_record, after, standing}
-use Rattle.dump_replay.specs.Receiving.{MayCome}
-use Rattle.dump_replay.proofs.Coming.{Of, Of_at, Of_map, type_of, typed_of, record_of, Coming, coming, a_version, a_mode, a_via, an_encoding, a_preamble_end, an_envelope, an_end, a_byte}
-use Rattle.dump_replay.proofs.After.{entered, one_less}
-use Rattle.dump_replay.proofs.Standing.{peel_by, standing_is}
+use Rattle.dump_replay.specs.declared.stage.Stage.{Stage}
+use Rattle.dump_replay.specs.declared.stage.Stage.TheVariants as stages
+use Rattle.dump_replay.specs.Stream.{Settings, Situation, StreamUnit, unit_in, message_whole, with_head, after_record, after_byte, after, stream}
+use Rattle.dump_replay.proofs.DueRecords.{version_due, mode_due, chunk_due}
+use Rattle.dump_replay.proofs.Grammar.{readable}
+use Rattle.dump_replay.proofs.Coming.{unit_of_record, unit_of_payload}
 
 -- no Via is whole yet
-abbrev pub before_via : Stage → Bool
-before_via at_version = true
-before_via at_mode = true
-before_via at_via = true
+abbrev before_via : Stage → Bool
+before_via (stages.Record dues.Version) = true
+before_via (stages.Record dues.Mode) = true
+before_via (stages.Record dues.Via) = true
 before_via _ = false
 
 -- there is no Via before its record
-abbrev HasNoVia : Situation → Type 0
+abbrev pub HasNoVia : Situation → Type 0
 HasNoVia z = before_via z.stage ≡ true → z.via ≡ []
 
--- a unit leaves none before its record
-after_no_via : (x : Settings) (z : Situation) (from : ℕ) (u : StreamUnit) → Coming x z.stage u → HasNoVia z → HasNoVia (after z from u)
-unfolding after
-after_no_via x z from u c h =
-    elim c [
-      | a_version text es eu ↦ rw eu (λ _. h (rw es refl))
-      | a_mode text es eu ↦ rw eu (λ _. h (rw es refl))
-      | a_via text es eu ↦ rw eu (λ t. cc)
-      | an_encoding encoding text known es eu ↦ rw eu (λ t. cc)
-      | a_preamble_end text es eu ↦ rw eu (λ t. cc)
-      | an_envelope size text within es eu ↦ rw eu (cond_both (size == 0) (message_whole z from 0) (entered z from size) HasNoVia (λ _ t. cc) (λ _ t. cc))
-      | an_end text es eu ↦ rw eu (λ t. cc)
-      | a_byte es eu ↦ rw eu (cond_both (nat_lt 1 z.left) (one_less z) (message_whole z z.envelope_from z.size) HasNoVia (λ _. h) (λ _ t. cc))
-    ]
+-- the head of an envelope leaves the Via
+pub head_via : (z : Situation) (from size : ℕ) → (with_head z from size).via ≡ z.via
+head_via z from size = go (size == 0) where
+  go : (b : Bool) → (if b then message_whole z else record z { stage = stages.Payload (record { from = from; size = size; left = size }) }).via ≡ z.via
+  go true = refl
+  go false = refl
 
--- where a stream stands before its Via, there is none
-pub via_empty : (x : Settings) (p : List ℕ) → before_via (standing x p).situation.stage ≡ true → (standing x p).situation.via ≡ []
-via_empty x p =
-    rw (standing_is x p)
-    (peel_by x (λ z from b s. HasNoVia z → HasNoVia s.situation) (λ z from b o h. h)
-    (λ z from b u k s e some within next h. next (after_no_via x z from u (coming x z.stage b u k e) h)) (length p) beginning 0 p (omega arith) (λ _. refl))
+head_behind : (z : Situation) (from size : ℕ) → before_via (with_head z from size).stage ≡ false
+head_behind z from size = go (size == 0) where
+  go : (b : Bool) → before_via (if b then message_whole z else record z { stage = stages.Payload (record { from = from; size = size; left = size }) }).stage ≡ false
+  go true = refl
+  go false = refl
+
+-- a unit leaves none before its record
+behind_record : (z : Situation) (from : ℕ) (due : Due) (f : Frame) (text : List ℕ) → z.stage ≡ stages.Record due → MayCome (may_come Initiator due) f → HasNoVia z → HasNoVia (after_record z from f text)
+behind_record z from due (frames.Version major minor) text at may none b = none (ap before_via at ∙ ap (λ d. before_via (stages.Record d)) (version_due due major minor may))
+behind_record z from due (frames.Mode mode) text at may none b = none (ap before_via at ∙ ap (λ d. before_via (stages.Record d)) (mode_due due mode may))
+behind_record z from due frames.Via text at may none b = cc
+behind_record z from due (frames.KnownEncoding encoding) text at may none b = cc
+behind_record z from due frames.UnsizedEnvelope text at may none b = cc
+behind_record z from due (frames.Chunk size) text at may none b = go (size == 0) (rw (at, chunk_due due size may) at b) where
+  go : (c : Bool) → before_via (stages.Record (if c then dues.End else dues.Chunk)) ≡ true → z.via ≡ []
+  go true e = cc
+  go false e = cc
+behind_record z from due (frames.SizedEnvelope size) text at may none b = let never = head_behind z from size in cc
+behind_record z from due frames.End text at may none b = cc
+behind_record z from due frames.Fault text at may none b = cc
+behind_record z from due frames.PreambleAck text at may none b = cc
+behind_record z from due frames.PreambleEnd text at may none b = cc
+
+behind_byte : (z : Situation) (stage : Stage) → HasNoVia z → HasNoVia (after_byte z stage)
+behind_byte z (stages.Record due) none = none
+behind_byte z (stages.Payload p) none = go (nat_lt 1 p.left) where
+  go : (b : Bool) → HasNoVia (if b then record z { stage = stages.Payload (record p { left = p.left - 1 }) } else message_whole z)
+  go true e = cc
+  go false e = cc
+
+module _ (x : Settings) where
+  behind_unit : (stage : Stage) (z : Situation) (from : ℕ) (b : List ℕ) (u : StreamUnit) (k : ℕ) → z.stage ≡ stage → unit_in x stage from b ≡ whole u k → HasNoVia z → HasNoVia (after z from u)
+  unfolding after
+  behind_unit (stages.Record due) z from b u k at e none = let c = unit_of_record x from b u k due e in rw c.1 (behind_record z from due c.0.frame c.0.text at c.2.may none)
+  behind_unit (stages.Payload p) z from b u k at e none = let c = unit_of_payload x from b u k p e in rw c.3 (behind_byte z z.stage none)
+
+  -- where a stream stands before its Via, there is none
+  pub no_via : (p : List ℕ) → HasNoVia (standing (stream x) p).situation
+  no_via p = standing_keeps (stream x) (readable x) (λ z from. HasNoVia z) (λ b. refl) (λ z from b u k e some none. behind_unit z.stage z from b u k refl e none) p
 
 -- where no text may come, none begins
-never_begins : (types : ℕ) → allows types 2 ≡ false → allows types 8 ≡ false → (b : List ℕ) → begins_text (Types types) b ≡ false
+never_begins : (types : ℕ) → allows types VIA ≡ false → allows types FAULT ≡ false → (b : List ℕ) → begins_text (Types types) b ≡ false
 never_begins types e f [] = refl
 never_begins types e f (kind ∷ rest) =
-    elim (cases_Bool (kind == 2)) [
-      | inl t ↦ let is : kind ≡ 2 = eqb-true kind 2 t in and_left (allows types kind) ((kind == 2) || (kind == 8)) (rw is e)
-      | inr n ↦ elim (cases_Bool (kind == 8)) [
-        | inl t ↦ let is : kind ≡ 8 = eqb-true kind 8 t in and_left (allows types kind) ((kind == 2) || (kind == 8)) (rw is f)
+    elim (cases_Bool (kind == VIA)) [
+      | inl t ↦ let is : kind ≡ VIA = eqb-true kind VIA t in and_left (allows types kind) ((kind == VIA) || (kind == FAULT)) (rw is e)
+      | inr n ↦ elim (cases_Bool (kind == FAULT)) [
+        | inl t ↦ let is : kind ≡ FAULT = eqb-true kind FAULT t in and_left (allows types kind) ((kind == VIA) || (kind == FAULT)) (rw is f)
         | inr m ↦ plain_head (Types types) kind rest (rw (n, m) refl)
       ]
     ]
 
 -- no text begins where a record comes that isn't a Via
-only_via : (stage : Stage) → (stage ≡ at_via) ⊎ ((b : List ℕ) → begins_text (Types (types_of stage)) b ≡ false)
-only_via at_version = inr (never_begins (types_of at_version) refl refl)
-only_via at_mode = inr (never_begins (types_of at_mode) refl refl)
-only_via at_via = inl refl
-only_via at_encoding = inr (never_begins (types_of at_encoding) refl refl)
-only_via at_preamble_end = inr (never_begins (types_of at_preamble_end) refl refl)
-only_via at_message = inr (never_begins (types_of at_message) refl refl)
-only_via in_payload = inr (never_begins (types_of in_payload) refl refl)
-only_via after_end = inr (never_begins (types_of after_end) refl refl)
+only_via : (due : Due) → (due ≡ dues.Via) ⊎ ((b : List ℕ) → begins_text (may_come Initiator due) b ≡ false)
+only_via dues.Version = inr (never_begins _ refl refl)
+only_via dues.Mode = inr (never_begins _ refl refl)
+only_via dues.Via = inl refl
+only_via dues.Encoding = inr (never_begins _ refl refl)
+only_via dues.PreambleEnd = inr (never_begins _ refl refl)
+only_via dues.Ack = inr (never_begins _ refl refl)
+only_via dues.Messages = inr (never_begins _ refl refl)
+only_via dues.Envelope = inr (never_begins _ refl refl)
+only_via dues.Reply = inr (never_begins _ refl refl)
+only_via dues.Chunk = inr (λ b. refl)
+only_via dues.End = inr (never_begins _ refl refl)
+only_via dues.Over = inr (never_begins _ refl refl)
 
--- of bytes without a whole text the same Via is shown
-same_shown : (z : Situation) (b : List ℕ) (reading : Front Read FrameFault) → HasNoVia z → text_read reading ≡ []
-    → text_after z.via (Types (types_of z.stage)) b reading ≡ z.via
-same_shown z b reading h nothing =
-    elim (only_via z.stage) [
-      | inl is ↦ cond_both (begins_text (Types (types_of z.stage)) b) (text_read reading) z.via (λ t. t ≡ z.via) (λ _. nothing ∙ sym (h (rw is refl))) (λ _. refl)
-      | inr never ↦ rw (never b) refl
-    ]
-
--- a record that has begun
-pub begun_text : (z : Situation) (b : List ℕ) → (before_via z.stage ≡ true → z.via ≡ []) → text_after z.via (Types (types_of z.stage)) b begun ≡ z.via
-begun_text z b h = same_shown z b begun h refl
-
--- a wrong record
-pub wrong_text : (k : ℕ) (z : Situation) (b : List ℕ) (fault : FrameFault) → (before_via z.stage ≡ true → z.via ≡ [])
-    → text_after z.via (Types (types_of z.stage)) b (wrong fault k) ≡ z.via
-wrong_text k z b fault h = same_shown z b (wrong fault k) h refl
-
--- a record of a Via's type begins a text
-begins_of : (limit types : ℕ) (b : List ℕ) → Of (λ r. type_of r.frame ≡ 2 → begins_text (Types types) b ≡ true) (record_at limit types b)
-begins_of limit types [] = tt
-begins_of limit types (kind ∷ bytes) =
-    let Q : Read → Type 0 = λ r. type_of r.frame ≡ 2 → begins_text (Types types) (kind ∷ bytes) ≡ true in
-    let P : Front Read FrameFault → Type 0 = Of Q in
-    cond_both (nat_lt 12 kind) _ _ P (λ _. tt)
-    (λ _. cond_both (allows types kind) _ _ P
-    (λ t. Of_map (λ r. type_of r.frame ≡ kind) Q (typed_at limit kind bytes)
-    (λ r e h. let is : kind ≡ 2 = sym e ∙ h in and_from (allows types kind) ((kind == 2) || (kind == 8)) t (rw is refl)) (typed_of limit kind bytes))
-    (λ _. tt))
-
--- where a Via comes, no other record does
-must_be_via : (f : Frame) → allows (types_of at_via) (type_of f) ≡ true → f ≡ Via
-must_be_via Via t = refl
-must_be_via _ t = cc
-
--- the Via stays at the head of an envelope
-opened_via : (z : Situation) (from size : ℕ) → z.via ≡ (opened z from size).via
-opened_via z from size = cond_both (size == 0) (message_whole z from 0) (entered z from size) (λ w. z.via ≡ w.via) (λ _. refl) (λ _. refl)
+-- where a Via is due no other record comes
+is_via : (f : Frame) → MayCome (may_come Initiator dues.Via) f → f ≡ frames.Via
+is_via frames.Via may = refl
+is_via _ may = cc
 
 -- the Via stays at the other records
-stays : (z : Situation) (from : ℕ) (f : Frame) (text : List ℕ) → (f ≡ Via → ⊥) → z.via ≡ (after_record z from f text).via
-stays z from Via text other = absurd (other refl)
-stays z from (SizedEnvelope size) text other = opened_via z from size
+stays : (z : Situation) (from : ℕ) (f : Frame) (text : List ℕ) → (f ≡ frames.Via → ⊥) → z.via ≡ (after_record z from f text).via
+stays z from frames.Via text other = absurd (other refl)
+stays z from (frames.SizedEnvelope size) text other = sym (head_via z from size)
 stays z from _ text other = refl
 
--- a record that is whole
-pub done_text : (limit from k : ℕ) (z : Situation) (b : List ℕ) (read : Read) → frame_at limit (Types (types_of z.stage)) b ≡ whole read k
-    → text_after z.via (Types (types_of z.stage)) b (whole read k) ≡ (after_record z from read.frame read.text).via
-done_text limit from k z b read e =
-    let t : allows (types_of z.stage) (type_of read.frame) ≡ true = Of_at (λ r. allows (types_of z.stage) (type_of r.frame) ≡ true) _ read k e (record_of limit (types_of z.stage) b) in
-    elim (only_via z.stage) [
-      | inl is ↦
-          let f : read.frame ≡ Via = must_be_via read.frame (rw is at t) in
-          let begins : begins_text (Types (types_of z.stage)) b ≡ true = Of_at (λ r. type_of r.frame ≡ 2 → begins_text (Types (types_of z.stage)) b ≡ true) _ read k e (begins_of limit (types_of z.stage) b) (rw f refl) in
-          rw (begins, f) refl
-      | inr never ↦
-          rw (never b)
-          (stays z from read.frame read.text (λ f.
-          let may : allows (types_of z.stage) 2 ≡ true = rw f at t in
-          let may_not : begins_text (Types (types_of z.stage)) (2 ∷ []) ≡ false = never (2 ∷ []) in
-          let yes : begins_text (Types (types_of z.stage)) (2 ∷ []) ≡ true = and_from (allows (types_of z.stage) 2) true may refl in
-          cc))
-    ]
+-- a Via's bytes begin a text
+via_begins : (k : ℕ) (b string : List ℕ) → take k b ≡ VIA ∷ string → begins_text (may_come Initiator dues.Via) b ≡ true
+via_begins k b string e = rw (sym (take-append-drop k b), e) refl
 
--- where a record comes, the unit is a record
-pub record_unit : (x : Settings) (stage : Stage) (b : List ℕ) → (stage ≡ in_payload → ⊥) → (stage ≡ after_end → ⊥)
-    → unit_at x stage b ≡ as_unit x stage (frame_at x.limits.via (Types (types_of stage)) b)
-unfolding unit_at
-record_unit x in_payload b h g = absurd (h refl)
-record_unit x after_end b h g = absurd (g refl)
-record_unit x _ b h g = refl
+module _ (z : Situation) (due : Due) (at : z.stage ≡ stages.Record due) (none : HasNoVia z) where
+  -- of bytes without a whole text the same Via is shown
+  same_shown : (b : List ℕ) (reading : Front Read FrameFault) → text_read reading ≡ [] → text_after z.via (may_come Initiator due) b reading ≡ z.via
+  same_shown b reading nothing =
+      elim (only_via due) [
+        | inl is ↦ let empty : z.via ≡ [] = none (ap before_via at ∙ ap (λ d. before_via (stages.Record d)) is) in go (begins_text (may_come Initiator due) b) (nothing ∙ sym empty)
+        | inr never ↦ rw (never b) refl
+      ]
+    where
+      go : (t : Bool) → text_read reading ≡ z.via → (if t then text_read reading else z.via) ≡ z.via
+      go true e = e
+      go false e = refl
 
--- a type byte that may not come
-built_unexpected : (stage : Stage) (kind : ℕ) → built (unexpected stage kind) ≡ reasons.Unbuilt
-built_unexpected at_encoding kind = cond_both (kind == 4) reasons.BadEncoding reasons.OutOfOrder (λ r. built r ≡ reasons.Unbuilt) (λ _. refl) (λ _. refl)
-built_unexpected at_preamble_end kind = cond_both (kind == 9) reasons.UpgradeRefused reasons.OutOfOrder (λ r. built r ≡ reasons.Unbuilt) (λ _. refl) (λ _. refl)
-built_unexpected _ kind = refl
+  -- a record that has begun
+  pub begun_text : (b : List ℕ) → text_after z.via (may_come Initiator due) b begun ≡ z.via
+  begun_text b = same_shown b begun refl
 
--- the faults of records are answered as one
-pub built_fault : (stage : Stage) (fault : FrameFault) → built (reason_of stage fault) ≡ reasons.Unbuilt
-built_fault stage (faults.Unexpected kind) = built_unexpected stage kind
-built_fault stage _ = refl
+  -- a wrong record
+  pub wrong_text : (b : List ℕ) (fault : FrameFault) (k : ℕ) → text_after z.via (may_come Initiator due) b (wrong fault k) ≡ z.via
+  wrong_text b fault k = same_shown b (wrong fault k) refl
 
--- no stage lets the type of a record come that may not
-none_other : (stage : Stage) → (allows (types_of stage) 5 ≡ true → ⊥) × (allows (types_of stage) 8 ≡ true → ⊥) × (allows (types_of stage) 11 ≡ true → ⊥) × (allows (types_of stage) 13 ≡ true → ⊥)
-none_other at_version = (λ t. cc, λ t. cc, λ t. cc, λ t. cc)
-none_other _ = (λ t. cc, λ t. cc, λ t. cc, λ t. cc)
-
--- a record that a stage lets come
-let_come : (stage : Stage) (f : Frame) → allows (types_of stage) (type_of f) ≡ true → MayCome f
-let_come stage UnsizedEnvelope t = (none_other stage).0 t
-let_come stage Fault t = (none_other stage).1 t
-let_come stage PreambleAck t = (none_other stage).2 t
-let_come stage (Chunk size) t = (none_other stage).3 t
-let_come stage _ t = tt
-
--- a record that is read at a stage
-pub came_record : (limit : ℕ) (stage : Stage) (b : List ℕ) (read : Read) (k : ℕ) → frame_at limit (Types (types_of stage)) b ≡ whole read k → MayCome read.frame
-came_record limit stage b read k e =
-    let_come stage read.frame (Of_at (λ r. allows (types_of stage) (type_of r.frame) ≡ true) _ read k e (record_of limit (types_of stage) b))
+  -- a record that is whole
+  pub whole_text : (limit from : ℕ) (b : List ℕ) (read : Read) (k : ℕ) → frame_at limit (may_come Initiator due) b ≡ whole read k
+      → text_after z.via (may_come Initiator due) b (whole read k) ≡ (after_record z from read.frame read.text).via
+  whole_text limit from b read k e =
+      let r = read_record limit (may_come Initiator due) b read k e in
+      elim (only_via due) [
+        | inl is ↦
+            let may : MayCome (may_come Initiator dues.Via) read.frame = subst (λ (d : Due). MayCome (may_come Initiator d) read.frame) is r.1 in
+            let f : read.frame ≡ frames.Via = is_via read.frame may in
+            let text : IsRecordOf frames.Via read.text (take k b) = subst (λ (g : Frame). IsRecordOf g read.text (take k b)) f r.0 in
+            let begins : begins_text (may_come Initiator due) b ≡ true = rw is (via_begins k b text.0 text.2) in
+            rw (begins, f) refl
+        | inr never ↦
+            rw (never b)
+            (stays z from read.frame read.text (λ f.
+            let may : MayCome (may_come Initiator due) frames.Via = subst (λ (g : Frame). MayCome (may_come Initiator due) g) f r.1 in
+            absurd (no_via_due due never may)))
+      ]
+    where
+      no_via_due : (due : Due) → ((b : List ℕ) → begins_text (may_come Initiator due) b ≡ false) → MayCome (may_come Initiator due) frames.Via → ⊥
+      no_via_due dues.Via never may = let no = never (VIA ∷ []) in cc
+      no_via_due _ never may = cc

@@ -1,20 +1,12 @@
 -- What is written of a stream, piece by piece.
-use Rattle.std.proofs.Common.{◌≡◌, ℕ, ◌+◌, inl, inr, List, [], ◌++◌, length, take, Option, Some, None, Result, Ok, Err, OnOk, OnErr, refl, sym, ap, ◌∙◌, arith, append_assoc}
+use Rattle.std.proofs.Common.{◌≡◌, ℕ, ◌+◌, inl, inr, List, ◌++◌, length, take, Option, Some, None, Result, Ok, Err, OnOk, OnErr, refl, sym, ap, ◌∙◌, subst, arith, append_assoc}
 use Rattle.std.proofs.Math.Seq.{take-append-add}
 use Rattle.std.proofs.lemmas.Bool.{cases_lt}
-use Rattle.std.proofs.lemmas.List.{append-nil, take_all, take-append-le}
+use Rattle.std.proofs.lemmas.List.{take_all, take-append-le}
 use Rattle.std.specs.Prelude.{⊤}
 use Rattle.io_edges.specs.Flow.{Told, GrowsByPrefix}
 use Rattle.io_edges.specs.declared.SinkFault.{SinkFault}
-use Rattle.nbfx_values.specs.declared.refusals.Offence.{Offence}
-use Rattle.nbfx_values.specs.declared.refusals.Reason.TheVariants.{Truncated}
-use Rattle.dump_replay.specs.Stream.{Settings, standing}
-use Rattle.dump_replay.specs.Judging.{open_offence, ending_at, offence}
-use Rattle.dump_replay.specs.Report.{offence_line, report, event_lines}
-use Rattle.dump_replay.specs.Receiving.{said_at_end}
-use Rattle.dump_replay.specs.Running.{IsPending}
 use Rattle.dump_replay.specs.Checking.{Grows}
-use Rattle.dump_replay.proofs.Pending.{pending_ends}
 
 -- what was told before, and what it became
 pub told_some : (P : List ℕ → List ℕ → Type 0) (old new : Option (List ℕ)) (w : List ℕ) → old ≡ Some w → Told old new P → (w' : List ℕ) × (new ≡ Some w') × P w w'
@@ -37,6 +29,13 @@ grown_within w w' b c h =
       | inr ge ↦ record { kept = h.kept; grown = h.grown ∙ ap (λ l. w ++ l) (sym (take-append-le h.kept b c ge)) }
     ]
 
+-- a line behind the others is the last of all
+pub put_behind : (w w' lines line all : List ℕ) → w' ≡ (w ++ lines) ++ line → all ≡ lines ++ line → w' ≡ w ++ all
+put_behind w w' lines line all e last = e ∙ append_assoc w lines line ∙ ap (λ l. w ++ l) (sym last)
+
+pub cut_behind : (w w' lines line all : List ℕ) → GrowsByPrefix (w ++ lines) w' line → all ≡ lines ++ line → GrowsByPrefix w w' all
+cut_behind w w' lines line all e last = subst (GrowsByPrefix w w') (sym last) (grown_behind w w' lines line e)
+
 -- what a put leaves, whether it is refused or not
 pub put_either : (answer : Result ⊤ SinkFault) (old new : Option (List ℕ)) (b : List ℕ) → OnOk answer (Told old new (λ w w'. w' ≡ w ++ b)) → OnErr answer (Told old new (λ w w'. GrowsByPrefix w w' b))
     → Told old new (λ w w'. GrowsByPrefix w w' b)
@@ -45,33 +44,9 @@ put_either (Ok u) (Some w) None b h k = absurd h
 put_either (Ok u) (Some w) (Some w') b h k = record { kept = length b; grown = h ∙ ap (λ l. w ++ l) (sym (take_all (length b) b (omega arith))) }
 put_either (Err fault) old new b h k = k
 
--- a prefix of it is more
-pub grows : (old new : Option (List ℕ)) (b : List ℕ) → Told old new (λ w w'. GrowsByPrefix w w' b) → Told old new Grows
-grows None new b told = tt
-grows (Some w) None b told = absurd told
-grows (Some w) (Some w') b told = record { more = take told.kept b; grown = told.grown }
-
--- nothing more is written
-pub grows_not : (written : Option (List ℕ)) → Told written written Grows
-grows_not None = tt
-grows_not (Some w) = record { more = []; grown = sym (append-nil w) }
-
 -- more behind more
 pub grows_further : (first mid last : Option (List ℕ)) → Told first mid Grows → Told mid last Grows → Told first last Grows
 grows_further None mid last before now = tt
 grows_further (Some u) None last before now = absurd before
 grows_further (Some u) (Some v) None before now = absurd now
 grows_further (Some u) (Some v) (Some w) before now = record { more = before.more ++ now.more; grown = now.grown ∙ ap (λ l. l ++ now.more) before.grown ∙ append_assoc u before.more now.more }
-
-module _ (x : Settings) (p : List ℕ) (pending : IsPending x p) where
-  -- a session that isn't over doesn't end with the input
-  pub end_refused : (u : ⊤) → ◌≡◌ {A = Result ⊤ Offence} (Ok u) (said_at_end (ending_at x p)) → ⊥
-  end_refused u e = let ends = (pending_ends x p pending).2 in let e' : ◌≡◌ {A = Result ⊤ Offence} (Ok u) (said_at_end (Some _)) = rw ends at e in cc
-
-  -- what the end of the input is answered with is the stream's offence, and the last line of its report
-  pub end_says : (o : Offence) → ◌≡◌ {A = Result ⊤ Offence} (Err o) (said_at_end (ending_at x p)) → (offence x p ≡ Some o) × (report x p ≡ event_lines x p ++ offence_line o)
-  end_says o e =
-      let ends = pending_ends x p pending in
-      let e' = rw ends.2 at e in
-      let same : open_offence (standing x p) Truncated ≡ o = cc in
-      (rw same at ends.1, rw same at ends.0)

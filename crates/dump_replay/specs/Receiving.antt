@@ -1,23 +1,18 @@
--- What a receiver stands for, and what it answers. It keeps of the bytes that it used no more than the framing's text.
-use Rattle.std.specs.Prelude.{◌≡◌, ℕ, ◌+◌, ◌≤◌, ◌<◌, List, [], ◌++◌, length, take, drop, Option, Some, None, Result, Ok, Err, ⊤}
-use Rattle.unit_streams.specs.Front.{begun}
+-- What a receiver stands for, and what it shows. It keeps of the bytes that it used no more than the framing's text.
+use Rattle.std.specs.Prelude.{◌≡◌, ℕ, ◌≤◌, List, [], length, Option, Some, None}
+use Rattle.unit_streams.specs.Grammar.{standing}
+use Rattle.unit_streams.specs.Going.{IsGoing}
+use Rattle.nbfx_values.specs.QuotasOf.{limits_of}
 use Rattle.nbfx_values.specs.declared.refusals.Offence.{Offence}
-use Rattle.nbfx_values.specs.declared.refusals.Reason.{Reason}
-use Rattle.nmf_records.specs.declared.frame.Frame.{Frame}
-use Rattle.nmf_records.specs.declared.frame.Frame.TheVariants as frames
 use Rattle.nmf_records.specs.declared.frame.Expect.{Expect}
-use Rattle.nmf_records.specs.declared.frame.Expect.TheVariants.{Types}
 use Rattle.nmf_records.specs.declared.reader.FrameReader.{FrameReader}
+use Rattle.nmf_records.specs.declared.script.Direction.TheVariants.{Initiator}
 use Rattle.nmf_records.specs.Reader.{StandsFor as FrameStandsFor, ShowsText, held_of as text_held_of}
-use Rattle.dump_replay.specs.declared.receiver.Step.{Step}
-use Rattle.dump_replay.specs.declared.receiver.Step.TheVariants as steps
+use Rattle.nmf_records.specs.Script.{may_come}
 use Rattle.dump_replay.specs.declared.receiver.Receiver.{Receiver}
 use Rattle.dump_replay.specs.declared.stage.Stage.{Stage}
 use Rattle.dump_replay.specs.declared.stage.Stage.TheVariants as stages
-use Rattle.dump_replay.specs.declared.stage.Next.{Next}
-use Rattle.dump_replay.specs.Stream.{Settings, limits_of, Stage as SpecStage, at_version, at_mode, at_via, at_encoding, at_preamble_end, at_message, in_payload, after_end, Situation, types_of, built, unit_at, standing}
-use Rattle.dump_replay.specs.Judging.{completes, offends, answer_from, offence_at}
-use Rattle.dump_replay.specs.Going.{GoesOn}
+use Rattle.dump_replay.specs.Stream.{Settings, stream}
 
 -- what the receiver is set to
 unfoldable pub settings_of : Receiver → Settings
@@ -27,13 +22,9 @@ settings_of r = record { limits = limits_of r.quotas }
 unfoldable pub taken_of : Receiver → ℕ
 taken_of r = r.taken
 
-abbrev pub offence_in : Stage → Option Offence
-offence_in (stages.Failed o) = Some o
-offence_in _ = None
-
 -- the offence that it answers from now on
 unfoldable pub failure_of : Receiver → Option Offence
-failure_of r = offence_in r.stage
+failure_of r = r.failure
 
 -- how many bytes of the framing's text it holds
 unfoldable pub held_of : Receiver → ℕ
@@ -43,87 +34,38 @@ held_of r = text_held_of r.frames
 unfoldable pub ShowsVia : Receiver → List ℕ → Type 0
 ShowsVia r via = ShowsText r.frames via
 
--- what may come next is what this situation lets come
-abbrev pub IsAt : Stage → Situation → Type 0
-IsAt stages.Version z = z.stage ≡ at_version
-IsAt stages.Mode z = z.stage ≡ at_mode
-IsAt stages.Via z = z.stage ≡ at_via
-IsAt stages.Encoding z = z.stage ≡ at_encoding
-IsAt stages.PreambleEnd z = z.stage ≡ at_preamble_end
-IsAt stages.Message z = z.stage ≡ at_message
-IsAt (stages.Payload payload) z = (z.stage ≡ in_payload) × (z.envelope_from ≡ payload.from) × (z.size ≡ payload.size) × (z.left ≡ payload.left)
-IsAt stages.Ended z = z.stage ≡ after_end
-IsAt (stages.Failed o) z = ⊥
-
 -- the reader of records has these bytes of one, or, where a payload is passed over, of none
-abbrev pub HasBegun : SpecStage → FrameReader → List ℕ → Type 0
-HasBegun in_payload frames b = (next : Expect) → FrameStandsFor frames next []
-HasBegun stage frames b = FrameStandsFor frames (Types (types_of stage)) b
+abbrev pub HasBegun : Stage → FrameReader → List ℕ → Type 0
+HasBegun (stages.Payload p) frames begun = (next : Expect) → FrameStandsFor frames next []
+HasBegun (stages.Record due) frames begun = FrameStandsFor frames (may_come Initiator due) begun
 
--- it has come as far as p
+-- it has come as far as p, and isn't refused
 pub record Reached (r : Receiver) (x : Settings) (p : List ℕ) : Type 0 where
-  pub stage : IsAt r.stage (standing x p).situation
-  pub kind : r.kind ≡ (standing x p).situation.kind
-  pub is_begun : unit_at x (standing x p).situation.stage (standing x p).begun ≡ begun
-  pub frames : HasBegun (standing x p).situation.stage r.frames (standing x p).begun
-  pub text : ShowsText r.frames (standing x p).situation.via
-  pub unit_from : r.unit_from ≡ (standing x p).from
+  pub stage : r.stage ≡ (standing (stream x) p).situation.stage
+  pub kind : r.kind ≡ (standing (stream x) p).situation.kind
+  pub messages : r.messages ≡ (standing (stream x) p).situation.messages
+  pub frames : HasBegun r.stage r.frames (standing (stream x) p).begun
+  pub text : ShowsText r.frames (standing (stream x) p).situation.via
+  pub unit_from : r.unit_from ≡ (standing (stream x) p).from
   pub taken : r.taken ≡ length p
   pub within : length p ≤ x.limits.session
+  pub going : IsGoing (stream x) (standing (stream x) p)
+  pub unfailed : r.failure ≡ None
 
 -- the bytes used, of a stream that isn't refused
 unfoldable pub StandsFor : Receiver → List ℕ → Type 0
 StandsFor r p = Reached r (settings_of r) p
 
--- what the end of the input is answered with
-abbrev pub said_at_end : Option Offence → Result ⊤ Offence
-said_at_end None = Ok tt
-said_at_end (Some o) = Err o
+-- it has used the bytes that it stands for
+pub counts_taken : (r : Receiver) (p : List ℕ) → StandsFor r p → taken_of r ≡ length p
+unfolding StandsFor taken_of
+counts_taken r p stands = stands.taken
 
--- a record that may come in an initiator's stream
-abbrev pub MayCome : Frame → Type 0
-MayCome frames.UnsizedEnvelope = ⊥
-MayCome (frames.Chunk size) = ⊥
-MayCome frames.Fault = ⊥
-MayCome frames.PreambleAck = ⊥
-MayCome _ = Unit {0}
+-- what a refused receiver shows: the offence, and of the bytes p that show it how many they are and their Via
+pub record Failed (r : Receiver) (x : Settings) (o : Offence) (p : List ℕ) : Type 0 where
+  pub failure : failure_of r ≡ Some o
+  pub taken : taken_of r ≡ length p
+  pub via : ShowsVia r (standing (stream x) p).situation.via
 
-abbrev pub step_of : Option Step → Step
-step_of None = steps.More
-step_of (Some step) = step
-
--- where a record leads to
-pub record LeadsTo (next : Next) (z : Situation) : Type 0 where
-  pub stage : IsAt next.stage z
-  pub kind : next.kind ≡ z.kind
-  pub step : next.step ≡ step_of z.completed
-
--- what a whole record is answered with, that begins at this offset
-abbrev pub RecordAnswers : Option Reason → Situation → Result Next Reason → Type 0
-RecordAnswers None z (Ok next) = LeadsTo next z
-RecordAnswers None z (Err reason) = ⊥
-RecordAnswers (Some reason) z (Ok next) = ⊥
-RecordAnswers (Some reason) z (Err given) = given ≡ built reason
-
--- what a whole record is answered with, behind which the situation is z
-abbrev pub BehindAnswers : Option Reason → Situation → Receiver → ℕ → Result Step Offence → Type 0
-BehindAnswers None z new from (Ok step) = IsAt new.stage z × (new.kind ≡ z.kind) × (step ≡ step_of z.completed)
-BehindAnswers None z new from (Err o) = ⊥
-BehindAnswers (Some reason) z new from (Ok step) = ⊥
-BehindAnswers (Some reason) z new from (Err o) = (o ≡ offence_at from (built reason)) × (failure_of new ≡ Some o)
-
--- what bytes of one unit are answered with, behind q, the last n bytes of which are the same piece's
-abbrev pub UnitAnswers : Settings → List ℕ → ℕ → List ℕ → Receiver → Result (ℕ × Step) Offence → Type 0
-UnitAnswers x q n c new (Ok (k, steps.More)) =
-    (0 < k) × (k ≤ length c) × Reached new x (q ++ take k c) × GoesOn x (q ++ take k c) (n + k)
-    × ((d : List ℕ) → answer_from x q n (c ++ d) ≡ answer_from x (q ++ take k c) (n + k) (drop k c ++ d))
-UnitAnswers x q n c new (Ok (k, step)) =
-    (0 < k) × (k ≤ length c) × Reached new x (q ++ take k c) × ((d : List ℕ) → answer_from x q n (c ++ d) ≡ completes (n + k) step)
-UnitAnswers x q n c new (Err o) =
-    (k : ℕ) × (k ≤ length c) × (taken_of new ≡ length q + k) × (failure_of new ≡ Some o) × ShowsVia new (standing x (q ++ take k c)).situation.via
-    × ((d : List ℕ) → answer_from x q n (c ++ d) ≡ offends (n + k) o)
-
--- it is at a unit of this kind
-abbrev pub AtPayload : Stage → Type 0
-AtPayload (stages.Payload payload) = Unit {0}
-AtPayload _ = ⊥
+unfoldable pub FailedBehind : Receiver → Offence → List ℕ → Type 0
+FailedBehind r o p = Failed r (settings_of r) o p

@@ -1,5 +1,5 @@
 -- The lines that a report of an initiator's stream has.
-use Rattle.std.specs.Prelude.{ℕ, ◌+◌, ◌-◌, ◌/◌, ◌%◌, List, [], ◌∷◌, ◌++◌, length, Bool, true, false, Option, Some, None, nat_lt, nat_le, ◌==◌, ◌&&◌, not, if◌then◌else◌, codes}
+use Rattle.std.specs.Prelude.{ℕ, ◌+◌, ◌/◌, ◌%◌, List, [], ◌∷◌, ◌++◌, length, Bool, false, Option, Some, None, nat_lt, nat_le, ◌==◌, ◌&&◌, not, if◌then◌else◌, codes}
 use Rattle.std.specs.List.{flat_map}
 use Rattle.std.specs.Fmt.{decimal, digit_glyph}
 use Rattle.nbfx_values.specs.declared.session.Mode.{Mode}
@@ -10,10 +10,8 @@ use Rattle.nbfx_values.specs.Refusals.{reason_number, reason_name}
 use Rattle.nbfx_values.specs.declared.refusals.Place.{Place}
 use Rattle.nbfx_values.specs.declared.refusals.Place.TheVariants.{Frame, Payload}
 use Rattle.nbfx_values.specs.declared.refusals.Offence.{Offence}
-use Rattle.dump_replay.specs.declared.receiver.Step.{Step}
-use Rattle.dump_replay.specs.declared.receiver.Step.TheVariants.{More, Opened, Envelope, Ended}
-use Rattle.dump_replay.specs.Stream.{Settings, Situation, standing}
-use Rattle.dump_replay.specs.Judging.{completed_of, refusal_at, ending_at, is_over_at}
+use Rattle.unit_streams.specs.Judging.{History, history, events_of}
+use Rattle.dump_replay.specs.Stream.{Settings, StreamEvent, opened, message, ended, stream}
 
 -- a byte that a quoted text shows as it is: a printable one of ASCII other than the quote and the backslash
 abbrev pub is_plain : ℕ → Bool
@@ -48,52 +46,32 @@ ended_line n = joined (codes "ended " ∷ decimal n ∷ codes "\n" ∷ [])
 
 abbrev pub place_words : Place → List (List ℕ)
 place_words (Frame offset) = codes "frame " ∷ decimal offset ∷ []
-place_words (Payload message at) = codes "payload " ∷ decimal message ∷ codes " " ∷ decimal at ∷ []
+place_words (Payload number at) = codes "payload " ∷ decimal number ∷ codes " " ∷ decimal at ∷ []
 
 unfoldable pub offence_line : Offence → List ℕ
 offence_line o = joined (codes "offence " ∷ place_words o.place ++ codes " " ∷ decimal (reason_number o.reason) ∷ codes " " ∷ reason_name o.reason ∷ codes "\n" ∷ [])
 
--- the line of an event that n bytes complete and that leaves this situation
-abbrev pub event_line : Situation → ℕ → Step → List ℕ
-event_line z n More = []
-event_line z n (Opened mode kind) = open_line mode kind z.via
-event_line z n (Envelope size) = message_line (z.messages - 1) size
-event_line z n Ended = ended_line n
-
-abbrev pub event_line_of : Situation → ℕ → Option Step → List ℕ
-event_line_of z n None = []
-event_line_of z n (Some step) = event_line z n step
-
--- the line of the event that the prefix p completes, if it does
-unfoldable pub line_at : Settings → List ℕ → List ℕ
-line_at x p = event_line_of (standing x p).situation (length p) (completed_of (standing x p))
+-- the line of an event
+abbrev pub event_line : StreamEvent → List ℕ
+event_line (opened mode kind via) = open_line mode kind via
+event_line (message number size) = message_line number size
+event_line (ended n) = ended_line n
 
 abbrev pub offence_line_of : Option Offence → List ℕ
 offence_line_of None = []
 offence_line_of (Some o) = offence_line o
 
--- the last line, or more lines
-abbrev pub closed_or : Option Offence → Bool → List ℕ → List ℕ
-closed_or (Some o) over more = offence_line o
-closed_or None true more = []
-closed_or None false more = more
+-- the lines of a history: one for each event, and then the offence's
+abbrev pub history_lines : History StreamEvent Offence → List ℕ
+history_lines h = flat_map event_line h.events ++ offence_line_of h.offence
 
--- what is reported of p and of its longer prefixes, as y goes on
-unfoldable pub report_from : Settings → List ℕ → List ℕ → List ℕ
-report_from x p [] = line_at x p ++ closed_or (refusal_at x p) (is_over_at x p) (offence_line_of (ending_at x p))
-report_from x p (b ∷ y) = line_at x p ++ closed_or (refusal_at x p) (is_over_at x p) (report_from x (p ++ b ∷ []) y)
-
--- the report of a stream: a line for each event up to its end or its offence, and then the offence's
+-- the report of a stream
 unfoldable pub report : Settings → List ℕ → List ℕ
-report x b = report_from x [] b
+report x bytes = history_lines (history (stream x) bytes)
 
--- the lines for the events of a stream that neither ended nor was refused
-unfoldable pub event_lines_from : Settings → List ℕ → List ℕ → List ℕ
-event_lines_from x p [] = line_at x p
-event_lines_from x p (b ∷ y) = line_at x p ++ event_lines_from x (p ++ b ∷ []) y
-
+-- the lines for the events of bytes so far
 unfoldable pub event_lines : Settings → List ℕ → List ℕ
-event_lines x b = event_lines_from x [] b
+event_lines x bytes = flat_map event_line (events_of (stream x) bytes)
 
 -- a line for each payload, numbered from here on
 abbrev pub message_lines : ℕ → List (List ℕ) → List ℕ

@@ -1,11 +1,12 @@
--- The sessions of MC-NMF in an initiator's direction and duplex mode, as a grammar.
-use Rattle.std.specs.Prelude.{◌≡◌, ℕ, ◌≤◌, List, [], ◌∷◌, ◌++◌, length}
+-- The sessions of MC-NMF in an initiator's direction and duplex mode, as a grammar; and the bytes
+-- of a script.
+use Rattle.std.specs.Prelude.{◌≡◌, ℕ, ◌≤◌, List, [], ◌∷◌, ◌++◌, length, None}
 use Rattle.nbfx_values.specs.declared.session.Kind.{Kind}
 use Rattle.nbfx_values.specs.Session.{kind_number}
 use Rattle.nmf_records.specs.declared.frame.Frame.{Frame}
 use Rattle.nmf_records.specs.declared.frame.Frame.TheVariants.{Version, Mode, Via, KnownEncoding, SizedEnvelope, End, PreambleEnd}
 use Rattle.nmf_records.specs.Records.{IsRecordOf}
-use Rattle.dump_replay.specs.Stream.{Settings}
+use Rattle.dump_replay.specs.Stream.{Settings, reason_in}
 
 -- a record without a text
 abbrev pub IsBare : Frame → List ℕ → Type 0
@@ -53,3 +54,26 @@ pub record IsClosed (x : Settings) (bytes : List ℕ) : Type 0 where
   pub rest : List ℕ
   pub joined : bytes ≡ session ++ rest
   pub is_session : IsSession x via kind payloads session
+
+-- how many bytes stand behind a record, before the next
+abbrev pub payload_size : Frame → ℕ
+payload_size (SizedEnvelope size) = size
+payload_size _ = 0
+
+-- the bytes are this record, which isn't refused by what it says, its payload, and then such a rest
+pub record BeginsWith (x : Settings) (frame : Frame) (Rest : List ℕ → Type 0) (bytes : List ℕ) : Type 0 where
+  pub text : List ℕ
+  pub head : List ℕ
+  pub payload : List ℕ
+  pub rest : List ℕ
+  pub joined : bytes ≡ head ++ payload ++ rest
+  pub is_record : IsRecordOf frame text head
+  pub unrefused : reason_in x frame ≡ None
+  pub text_within : length text ≤ x.limits.via
+  pub sized : length payload ≡ payload_size frame
+  pub next : Rest rest
+
+-- the bytes are these records, one behind the other, with their payloads
+abbrev pub HasScript : Settings → List Frame → List ℕ → Type 0
+HasScript x [] bytes = bytes ≡ []
+HasScript x (frame ∷ script) bytes = BeginsWith x frame (HasScript x script) bytes

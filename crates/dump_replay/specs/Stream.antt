@@ -1,198 +1,196 @@
--- Where an initiator's stream stands: its whole units from the front, the situation after them, and the bytes
--- of the unit that is begun.
-use Rattle.std.specs.Prelude.{ℕ, zero, suc, ◌+◌, ◌-◌, ◌^◌, List, [], ◌∷◌, length, drop, Option, Some, None, nat_lt, ◌==◌, ◌&&◌, ◌||◌, if◌then◌else◌}
-use Rattle.unit_streams.specs.Front.{Front, begun, whole, wrong}
-use Rattle.nbfx_values.specs.declared.limits.Quotas.{Quotas}
+-- An initiator's stream in duplex mode, as a grammar of units: a record, where an envelope's is its head, or a byte of a payload.
+use Rattle.std.specs.Prelude.{ℕ, ◌+◌, ◌-◌, List, [], ◌∷◌, Bool, true, false, Option, Some, None, nat_lt, nat_le, ◌==◌, ◌&&◌, ◌||◌, not, if◌then◌else◌}
+use Rattle.std.specs.Option.{option_map}
+use Rattle.unit_streams.specs.Front.{Front, begun, whole}
+use Rattle.unit_streams.specs.Parts.{seen}
+use Rattle.unit_streams.specs.Grammar.{Grammar}
+use Rattle.nbfx_values.specs.Limits.{Limits, usual_limits}
 use Rattle.nbfx_values.specs.declared.session.Mode.{Mode}
 use Rattle.nbfx_values.specs.declared.session.Mode.TheVariants.{Duplex}
 use Rattle.nbfx_values.specs.declared.session.Kind.{Kind}
 use Rattle.nbfx_values.specs.declared.session.Kind.TheVariants.{Plain, Session}
+use Rattle.nbfx_values.specs.declared.refusals.Place.TheVariants.{Frame as InFrame}
+use Rattle.nbfx_values.specs.declared.refusals.Offence.{Offence}
 use Rattle.nbfx_values.specs.declared.refusals.Reason.{Reason}
 use Rattle.nbfx_values.specs.declared.refusals.Reason.TheVariants as reasons
 use Rattle.nbfx_values.specs.Refusals.{reason_number}
 use Rattle.nmf_records.specs.declared.frame.Frame.{Frame}
-use Rattle.nmf_records.specs.declared.frame.Frame.TheVariants.{Version, Mode as ModeRecord, Via, KnownEncoding, UnsizedEnvelope, Chunk, SizedEnvelope, End, Fault, PreambleAck, PreambleEnd}
-use Rattle.nmf_records.specs.declared.frame.Expect.TheVariants.{Types}
+use Rattle.nmf_records.specs.declared.frame.Frame.TheVariants.{Version, Mode as ModeRecord, Via, KnownEncoding, SizedEnvelope, End, PreambleEnd}
 use Rattle.nmf_records.specs.declared.frame.FrameFault.{FrameFault}
 use Rattle.nmf_records.specs.declared.frame.FrameFault.TheVariants as faults
+use Rattle.nmf_records.specs.declared.script.Direction.TheVariants.{Initiator}
+use Rattle.nmf_records.specs.declared.script.Due.{Due}
+use Rattle.nmf_records.specs.declared.script.Due.TheVariants as dues
+use Rattle.nmf_records.specs.declared.record_types.TheConstants.{EXTENSIBLE_ENCODING, UPGRADE_REQUEST}
 use Rattle.nmf_records.specs.Records.{Read}
 use Rattle.nmf_records.specs.Reading.{frame_at}
-use Rattle.dump_replay.specs.declared.receiver.Step.{Step}
-use Rattle.dump_replay.specs.declared.receiver.Step.TheVariants as steps
-
--- the numbers that quotas hold
-pub record Limits : Type 0 where
-  pub payload : ℕ
-  pub depth : ℕ
-  pub dictionary : ℕ
-  pub content : ℕ
-  pub via : ℕ
-  pub session : ℕ
-
-abbrev pub limits_of : Quotas → Limits
-limits_of q = record { payload = q.payload; depth = q.depth; dictionary = q.dictionary; content = q.content; via = q.via; session = q.session }
+use Rattle.nmf_records.specs.Script.{may_come, leads, may_end}
+use Rattle.dump_replay.specs.declared.stage.Stage.{Stage}
+use Rattle.dump_replay.specs.declared.stage.Stage.TheVariants as stages
 
 -- what a reading end is set to
 pub record Settings : Type 0 where
   pub limits : Limits
 
--- what may come next
-pub data Stage : Type 0 where
-  at_version : Stage
-  at_mode : Stage
-  at_via : Stage
-  at_encoding : Stage
-  at_preamble_end : Stage
-  -- an envelope or the end
-  at_message : Stage
-  -- the payload of the envelope that is open
-  in_payload : Stage
-  after_end : Stage
+-- the limits where none is said
+unfoldable pub usual : Settings
+usual = record { limits = usual_limits }
 
 -- what whole units leave behind
 pub record Situation : Type 0 where
+  -- what may come next, or the payload that is open
   pub stage : Stage
-  -- duplex, the only mode that is read
-  pub mode : Mode
   -- of the Known Encoding record; a session's until there is one
   pub kind : Kind
   -- of the Via record; empty until there is one
   pub via : List ℕ
   -- how many envelopes are whole
   pub messages : ℕ
-  -- of the last envelope's payload, in bytes
-  pub size : ℕ
-  -- payload bytes still to come
-  pub left : ℕ
-  -- the offset of the type byte of the envelope that is open
-  pub envelope_from : ℕ
-  -- the event that the last unit completed
-  pub completed : Option Step
 
 abbrev pub beginning : Situation
-beginning = record { stage = at_version; mode = Duplex; kind = Session; via = []; messages = 0; size = 0; left = 0; envelope_from = 0; completed = None }
+beginning = record { stage = stages.Record dues.Version; kind = Session; via = []; messages = 0 }
 
--- A unit is a record, where an envelope's is its head, or a byte of a payload, in which nothing is judged.
 pub data StreamUnit : Type 0 where
   frame : Read → StreamUnit
-  payload_byte : StreamUnit
+  payload_byte : ℕ → StreamUnit
 
--- the types of the records that may come, type t as the bit t
-abbrev pub types_of : Stage → ℕ
-types_of at_version = 2 ^ 0
-types_of at_mode = 2 ^ 1
-types_of at_via = 2 ^ 2
-types_of at_encoding = 2 ^ 3
-types_of at_preamble_end = 2 ^ 12
-types_of at_message = 2 ^ 6 + 2 ^ 7
-types_of in_payload = 0
-types_of after_end = 0
+pub data StreamEvent : Type 0 where
+  -- the preamble is whole
+  opened : Mode → Kind → (via : List ℕ) → StreamEvent
+  -- the envelope with this number is, with a payload of so many bytes
+  message : (number size : ℕ) → StreamEvent
+  -- so many bytes are a session
+  ended : ℕ → StreamEvent
 
 -- why a type byte may not come
-abbrev pub unexpected : Stage → ℕ → Reason
-unexpected at_encoding kind = if kind == 4 then reasons.BadEncoding else reasons.OutOfOrder
-unexpected at_preamble_end kind = if kind == 9 then reasons.UpgradeRefused else reasons.OutOfOrder
+abbrev pub unexpected : Due → ℕ → Reason
+unexpected dues.Encoding kind = if kind == EXTENSIBLE_ENCODING then reasons.BadEncoding else reasons.OutOfOrder
+unexpected dues.PreambleEnd kind = if kind == UPGRADE_REQUEST then reasons.UpgradeRefused else reasons.OutOfOrder
 unexpected _ kind = reasons.OutOfOrder
 
-abbrev pub reason_of : Stage → FrameFault → Reason
-reason_of stage faults.UnknownRecord = reasons.UnknownRecord
-reason_of stage (faults.Unexpected kind) = unexpected stage kind
-reason_of stage faults.BadInt = reasons.BadInt
-reason_of stage faults.TextTooLong = reasons.TextTooLong
-reason_of stage faults.TextNotUtf8 = reasons.TextNotUtf8
+abbrev pub reason_of : Due → FrameFault → Reason
+reason_of due faults.UnknownRecord = reasons.UnknownRecord
+reason_of due (faults.Unexpected kind) = unexpected due kind
+reason_of due faults.BadInt = reasons.BadInt
+reason_of due faults.TextTooLong = reasons.TextTooLong
+reason_of due faults.TextNotUtf8 = reasons.TextNotUtf8
 
--- why a whole record's content is refused
-abbrev pub refused : Settings → Frame → Option Reason
-refused x (Version major minor) = if (major == 1) && (minor == 0) then None else Some reasons.BadVersion
-refused x (ModeRecord mode) = if mode == 2 then None else Some reasons.BadMode
-refused x (KnownEncoding encoding) = if (encoding == 7) || (encoding == 8) then None else Some reasons.BadEncoding
-refused x (SizedEnvelope size) = if nat_lt x.limits.payload size then Some reasons.MessageTooLarge else None
-refused x _ = None
+-- why what a whole record says is refused
+abbrev pub reason_in : Settings → Frame → Option Reason
+reason_in x (Version major minor) = if (major == 1) && (minor == 0) then None else Some reasons.BadVersion
+reason_in x (ModeRecord mode) = if mode == 2 then None else Some reasons.BadMode
+reason_in x (KnownEncoding encoding) = if (encoding == 7) || (encoding == 8) then None else Some reasons.BadEncoding
+reason_in x (SizedEnvelope size) = if nat_lt x.limits.payload size then Some reasons.MessageTooLarge else None
+reason_in x _ = None
 
 -- The reasons 1 to 10 are answered as one until each is told apart.
 abbrev pub built : Reason → Reason
 built reason = if nat_lt (reason_number reason) 11 then reasons.Unbuilt else reason
 
-abbrev pub unless_refused : Option Reason → Read → ℕ → Front StreamUnit Reason
-unless_refused None read n = whole (frame read) n
-unless_refused (Some reason) read n = wrong (built reason) n
+abbrev pub offence_at : ℕ → Reason → Offence
+offence_at from reason = record { place = InFrame from; reason = reason }
 
-abbrev pub as_unit : Settings → Stage → Front Read FrameFault → Front StreamUnit Reason
-as_unit x stage begun = begun
-as_unit x stage (whole read n) = unless_refused (refused x read.frame) read n
-as_unit x stage (wrong fault n) = wrong (built (reason_of stage fault)) n
+-- the record at the front of some bytes, where one is due
+abbrev pub record_at : Settings → Due → ℕ → List ℕ → Front StreamUnit Offence
+record_at x dues.Over from bytes = begun
+record_at x due from bytes = seen frame (λ fault. offence_at from (built (reason_of due fault))) (frame_at x.limits.via (may_come Initiator due) bytes)
 
-abbrev pub payload_at : List ℕ → Front StreamUnit Reason
+abbrev pub payload_at : List ℕ → Front StreamUnit Offence
 payload_at [] = begun
-payload_at (byte ∷ rest) = whole payload_byte 1
-
-abbrev pub record_unit_at : Settings → Stage → List ℕ → Front StreamUnit Reason
-record_unit_at x stage bytes = as_unit x stage (frame_at x.limits.via (Types (types_of stage)) bytes)
+payload_at (byte ∷ rest) = whole (payload_byte byte) 1
 
 -- the unit at the front of some bytes
-unfoldable pub unit_at : Settings → Stage → List ℕ → Front StreamUnit Reason
-unit_at x at_version bytes = record_unit_at x at_version bytes
-unit_at x at_mode bytes = record_unit_at x at_mode bytes
-unit_at x at_via bytes = record_unit_at x at_via bytes
-unit_at x at_encoding bytes = record_unit_at x at_encoding bytes
-unit_at x at_preamble_end bytes = record_unit_at x at_preamble_end bytes
-unit_at x at_message bytes = record_unit_at x at_message bytes
-unit_at x in_payload bytes = payload_at bytes
--- what follows a session's end isn't judged
-unit_at x after_end bytes = begun
+unfoldable pub unit_in : Settings → Stage → ℕ → List ℕ → Front StreamUnit Offence
+unit_in x (stages.Record due) from bytes = record_at x due from bytes
+unit_in x (stages.Payload payload) from bytes = payload_at bytes
 
--- an envelope's payload is all there
-abbrev pub message_whole : Situation → ℕ → ℕ → Situation
-message_whole z from size = record z { stage = at_message; messages = z.messages + 1; size = size; left = 0; envelope_from = from; completed = Some (steps.Envelope size) }
+-- what is due where a record is read
+abbrev pub due_in : Stage → Due
+due_in (stages.Record due) = due
+due_in (stages.Payload payload) = dues.Messages
 
--- an envelope whose head begins there
-abbrev pub opened : Situation → ℕ → ℕ → Situation
-opened z from size =
-    if size == 0 then message_whole z from 0
-    else record z { stage = in_payload; size = size; left = size; envelope_from = from; completed = None }
+-- where a record leads
+abbrev pub led : Stage → Frame → Stage
+led stage read = stages.Record (leads Initiator Duplex (due_in stage) read)
 
-abbrev pub after_payload_byte : Situation → Situation
-after_payload_byte z =
-    if nat_lt 1 z.left then record z { left = z.left - 1; completed = None }
-    else message_whole z z.envelope_from z.size
+-- an envelope is all there
+abbrev pub message_whole : Situation → Situation
+message_whole z = record z { stage = stages.Record dues.Messages; messages = z.messages + 1 }
 
--- the situation after a record that begins at this offset
+-- an envelope whose head begins at this offset
+abbrev pub with_head : Situation → ℕ → ℕ → Situation
+with_head z from size = if size == 0 then message_whole z else record z { stage = stages.Payload (record { from = from; size = size; left = size }) }
+
+-- the situation behind a record that begins at this offset
 abbrev pub after_record : Situation → ℕ → Frame → List ℕ → Situation
-after_record z from (Version major minor) text = record z { stage = at_mode; completed = None }
-after_record z from (ModeRecord mode) text = record z { stage = at_via; completed = None }
-after_record z from Via text = record z { stage = at_encoding; via = text; completed = None }
-after_record z from (KnownEncoding encoding) text = record z { stage = at_preamble_end; kind = (if encoding == 7 then Plain else Session); completed = None }
-after_record z from PreambleEnd text = record z { stage = at_message; completed = Some (steps.Opened z.mode z.kind) }
-after_record z from (SizedEnvelope size) text = opened z from size
-after_record z from End text = record z { stage = after_end; completed = Some steps.Ended }
--- the others may not come in this direction
-after_record z from UnsizedEnvelope text = z
-after_record z from (Chunk size) text = z
-after_record z from Fault text = z
-after_record z from PreambleAck text = z
+after_record z from Via text = record z { stage = led z.stage Via; via = text }
+after_record z from (KnownEncoding encoding) text = record z { stage = led z.stage (KnownEncoding encoding); kind = (if encoding == 7 then Plain else Session) }
+after_record z from (SizedEnvelope size) text = with_head z from size
+after_record z from read text = record z { stage = led z.stage read }
+
+-- the situation behind a byte of a payload
+abbrev pub after_byte : Situation → Stage → Situation
+after_byte z (stages.Payload p) = if nat_lt 1 p.left then record z { stage = stages.Payload (record p { left = p.left - 1 }) } else message_whole z
+after_byte z (stages.Record due) = z
 
 unfoldable pub after : Situation → ℕ → StreamUnit → Situation
 after z from (frame read) = after_record z from read.frame read.text
-after z from payload_byte = after_payload_byte z
+after z from (payload_byte byte) = after_byte z z.stage
 
--- the situation after the whole units, where the unit that is begun begins, and its bytes so far
-pub record Standing : Type 0 where
-  pub situation : Situation
-  pub from : ℕ
-  pub begun : List ℕ
+-- the event that a record completes which begins at this offset
+abbrev pub completed_record : Situation → ℕ → Frame → Option StreamEvent
+completed_record z from PreambleEnd = Some (opened Duplex z.kind z.via)
+completed_record z from (SizedEnvelope size) = if size == 0 then Some (message z.messages 0) else None
+completed_record z from End = Some (ended (from + 1))
+completed_record z from _ = None
 
--- what f makes of a whole thing and its length, or the other
-abbrev pub on_whole : {A R B : Type 0} → Front A R → (A → ℕ → B) → B → B
-on_whole begun f other = other
-on_whole (whole a n) f other = f a n
-on_whole (wrong r n) f other = other
+-- the event that a byte of a payload completes
+abbrev pub completed_byte : ℕ → Stage → Option StreamEvent
+completed_byte messages (stages.Payload p) = if nat_lt 1 p.left then None else Some (message messages p.size)
+completed_byte messages (stages.Record due) = None
 
--- at most so many units peeled off the front of bytes that begin at this offset in this situation
-unfoldable pub peeled : Settings → ℕ → Situation → ℕ → List ℕ → Standing
-peeled x zero z from bytes = record { situation = z; from = from; begun = bytes }
-peeled x (suc more) z from bytes =
-    on_whole (unit_at x z.stage bytes) (λ unit n. peeled x more (after z from unit) (from + n) (drop n bytes)) (record { situation = z; from = from; begun = bytes })
+unfoldable pub completed : Situation → ℕ → StreamUnit → Option StreamEvent
+completed z from (frame read) = completed_record z from read.frame
+completed z from (payload_byte byte) = completed_byte z.messages z.stage
 
--- where the stream p stands; a unit has at least one byte
-unfoldable pub standing : Settings → List ℕ → Standing
-standing x p = peeled x (length p) beginning 0 p
+-- why a whole unit is refused that begins at this offset
+unfoldable pub refused : Settings → ℕ → StreamUnit → Option Offence
+refused x from (frame read) = option_map (λ reason. offence_at from (built reason)) (reason_in x read.frame)
+refused x from (payload_byte byte) = None
+
+-- the session is over
+abbrev pub is_over_in : Stage → Bool
+is_over_in (stages.Record dues.Over) = true
+is_over_in _ = false
+
+-- the first byte of the record that isn't whole (of an envelope, its type byte), or the end of the bytes
+abbrev pub open_from : Stage → ℕ → ℕ
+open_from (stages.Payload p) from = p.from
+open_from (stages.Record due) from = from
+
+-- as many bytes as the session quota, and the session isn't over
+unfoldable pub too_long : Settings → Stage → ℕ → ℕ → Option Offence
+too_long x stage from n = if nat_le x.limits.session n && not (is_over_in stage) then Some (offence_at (open_from stage from) reasons.SessionTooLong) else None
+
+-- the input may end where the session may
+unfoldable pub cut_off : Stage → ℕ → Option Offence
+cut_off (stages.Record due) from = if may_end Initiator Duplex due then None else Some (offence_at from reasons.Truncated)
+cut_off (stages.Payload p) from = Some (offence_at p.from reasons.Truncated)
+
+-- the stream's grammar
+abbrev pub stream : Settings → Grammar Situation StreamUnit StreamEvent Offence
+stream x = record {
+  start = beginning;
+  unit_at = λ z from bytes. unit_in x z.stage from bytes;
+  after = after;
+  refused = λ z from unit. refused x from unit;
+  completed = completed;
+  is_over = λ z. is_over_in z.stage;
+  at_length = λ z from n. too_long x z.stage from n;
+  at_end = λ z from n. cut_off z.stage from;
+}
+
+-- the events that end a session
+abbrev pub ends : StreamEvent → Bool
+ends (ended n) = true
+ends _ = false

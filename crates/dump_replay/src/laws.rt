@@ -1,12 +1,21 @@
 //! What holds of an initiator's streams by their definitions alone. Each function does nothing: its
 //! contract is a law, which a caller has where it calls the function.
 
-ghost use Rattle.dump_replay.specs.Laws.{ClosedOrRefused, ReportsEvents, ReportsSessions, NoUnitGoesOn, TooLongByLength, NoPieceCutsOff, EndCutsOff, NoEventIsMore, CutsChangeNothing};
+ghost use Rattle.unit_streams.specs.Laws.{StandingsGoOn, AnswersAreFirst, CutsChangeNothing, HistoryIsAnswers, NoUnitGoesOn, EndsAreClosed, OffencesAreFirst};
+ghost use Rattle.unit_streams.specs.Refusals.{RefusalsAreThree};
+ghost use Rattle.dump_replay.specs.Stream.{Settings, stream};
+ghost use Rattle.dump_replay.specs.Laws.{ClosedOrRefused, SessionsAreScripts, ReportsEvents, ReportsSessions, ThreeReasons, UnbuiltByRecord, UnbuiltFirst, TooLargeByHead, TooLargeFirst, TooLongByLength, TooLongAtQuota, NoPieceCutsOff, CutOffByEnd, EndCutsOff, CutOffUnrefused};
 
 /// A stream either is closed, which is that a session stands at its front, or has an offence, which
 /// is one: what refuses it is a function of its bytes.
 pub fn closed_or_refused()
     ensures { ClosedOrRefused }
+{}
+
+/// A session is the records of a script of the standard, each with the payload behind it, none of
+/// which is refused by what it says, within the session quota.
+pub fn sessions_are_scripts()
+    ensures { SessionsAreScripts }
 {}
 
 /// A stream's report is a line for each of its events, in their order, and then the line of its
@@ -21,26 +30,53 @@ pub fn session_reports()
     ensures { ReportsSessions }
 {}
 
-/// No unit, which is a record or a byte of a payload, begins a longer one that may come in its place.
+/// A stream stands where its bytes so far have led it. No unit, which is a record or a byte of a
+/// payload, begins a longer one that may come in its place, and nothing comes behind the end.
 pub fn units()
-    ensures none_goes_on { NoUnitGoesOn }
+    ensures standings_go_on { (x : Settings) → StandingsGoOn (stream x) }
+    ensures none_goes_on { (x : Settings) → NoUnitGoesOn (stream x) }
+    ensures ends_are_closed { (x : Settings) → EndsAreClosed (stream x) }
 {}
 
-/// A stream is refused as too long only where a session that isn't over has reached its quota. No
-/// piece shows that a stream is cut off: the end of the input does, and shows nothing else.
-pub fn reasons()
-    ensures too_long { TooLongByLength }
-    ensures none_before_the_end { NoPieceCutsOff }
-    ensures at_the_end { EndCutsOff }
+/// A piece is answered by the first event or refusal that a byte of it brings. Where pieces are cut
+/// changes nothing, and a stream's history is what a reader is answered, piece by piece.
+pub fn answers()
+    ensures are_first { (x : Settings) → AnswersAreFirst (stream x) }
+    ensures cuts_change_nothing { (x : Settings) → CutsChangeNothing (stream x) }
+    ensures make_the_history { (x : Settings) → HistoryIsAnswers (stream x) }
 {}
 
-/// An event that a piece completes is never `More`, which stands for none.
-pub fn events()
-    ensures { NoEventIsMore }
+/// A stream's offence is the first refusal of a prefix, or else its end's. A prefix is refused by
+/// what its last unit says, by bytes that are no unit which may come, or by its length.
+pub fn refusals()
+    ensures first_is_the_offence { (x : Settings) → OffencesAreFirst (stream x) }
+    ensures are_three { (x : Settings) → RefusalsAreThree (stream x) }
 {}
 
-/// Where pieces are cut changes nothing: two as one are answered as the first is, or, where that
-/// decides nothing, as the second is behind it, counted from the beginning of the first.
-pub fn cuts()
-    ensures { CutsChangeNothing }
+/// Which bytes refuse a prefix by a record, and so a stream where no shorter prefix is refused:
+/// those of one of the reasons that are answered as one, or the head of an envelope that is too
+/// large. The place is the record's first byte. There is but one other reason, which [`too_long`]
+/// has.
+pub fn reasons_of_records()
+    ensures three { ThreeReasons }
+    ensures unbuilt { UnbuiltByRecord }
+    ensures unbuilt_first { UnbuiltFirst }
+    ensures too_large { TooLargeByHead }
+    ensures too_large_first { TooLargeFirst }
+{}
+
+/// A prefix is too long that has the session quota, isn't over, and is refused by nothing else. A
+/// stream is, where its bytes up to the quota are and no shorter prefix is refused.
+pub fn too_long()
+    ensures by_length { TooLongByLength }
+    ensures at_quota { TooLongAtQuota }
+{}
+
+/// No piece shows that a stream is cut off: the end of the input does, where the session isn't
+/// over, and shows nothing else.
+pub fn cut_off()
+    ensures no_piece { NoPieceCutsOff }
+    ensures by_end { CutOffByEnd }
+    ensures end_alone { EndCutsOff }
+    ensures unrefused { CutOffUnrefused }
 {}

@@ -10,12 +10,14 @@
 //! The definitions are in `specs/`: `Stream` has the units of a stream and where each leads, `Judging`
 //! the refusal and the event of a prefix and the offence of a stream, `Sessions` the grammar that they
 //! are tied to, `Report` the lines, `Receiving` what a receiver stands for, `Running` and `Checking` what
-//! a run leaves, `Laws` what holds of streams alone.
+//! a run leaves, `Reasons` which bytes give each reason for refusing a stream, `Laws` what holds of
+//! streams alone.
 #![tactic(auto)]
 
 mod check;
 pub mod laws;
 mod output;
+pub mod reading;
 pub mod receiver;
 mod report;
 pub mod run;

@@ -1,18 +1,21 @@
 //! The reading half of a server: an initiator's stream, in any pieces.
 
-ghost use Rattle.std.specs.Prelude.{◌≡◌, ℕ, ◌+◌, ◌^◌, ◌≤◌, ◌<◌, List, [], ◌++◌, length, take, IfOk, IfErr, OnOk, OnErr, Ok, Some, false, true};
+ghost use Rattle.std.specs.Prelude.{◌≡◌, ℕ, ◌+◌, ◌^◌, ◌≤◌, ◌<◌, List, [], ◌++◌, length, take, IfOk, IfErr, OnOk, Ok, Err, Some, None, false, true};
+ghost use Rattle.unit_streams.specs.Grammar.{standing};
+ghost use Rattle.unit_streams.specs.Judging.{answer, used, is_over_at, ending_at};
+ghost use Rattle.unit_streams.specs.Going.{IsGoing};
+ghost use Rattle.nbfx_values.specs.QuotasOf.{limits_of};
 ghost use Rattle.nbfx_values.specs.declared.refusals.Offence.{Offence as Refusal};
 ghost use Rattle.nmf_records.specs.Reader.{limit_of};
-ghost use Rattle.dump_replay.specs.Stream.{Settings, Situation, limits_of, refused, after_record, standing};
-ghost use Rattle.nbfx_values.specs.declared.session.Mode.TheVariants.{Duplex};
-ghost use Rattle.dump_replay.specs.Judging.{answer, said, used, is_over_at, ending_at, open_from, offence_at};
-ghost use Rattle.dump_replay.specs.Going.{GoesOn};
+ghost use Rattle.dump_replay.specs.Stream.{Settings, Situation, stream, reason_in, after_record, completed_record, open_from, offence_at, is_over_in};
 
+use crate::reading::ReadingEnd;
+use crate::report;
 use crate::stage::{self, Payload, Stage};
-use multibyte_ints::Memory;
 use nbfx_values::{Kept, Kind, Mode, Offence, Place, Quotas, Reason};
-use nmf_records::{Expect, Frame, FrameReader, FrameStep};
-use std::alloc::Global;
+use nmf_records::{Direction, Due, Frame, FrameReader, FrameStep};
+use std::alloc::{AllocError, Global};
+use unit_streams::Memory;
 
 /// What the bytes that were fed have completed.
 #[derive(Clone, Copy, Debug, PartialEq, Eq)]
@@ -34,15 +37,20 @@ pub struct Receiver {
     frames: FrameReader,
     stage: Stage,
     kind: Kind,
+    /// How many envelopes are whole.
+    messages: u64,
     /// How many bytes were used.
     taken: u64,
     /// The offset at which the unit begins that is read.
     unit_from: u64,
+    failure: Option<Offence>,
     ghost limit: { limit_of frames ≡ quotas.via },
 }
 
 impl Receiver {
-    ghost use Rattle.dump_replay.specs.Receiving.{settings_of, taken_of, failure_of, held_of, StandsFor, ShowsVia, said_at_end, UnitAnswers, IsAt, AtPayload, MayCome, BehindAnswers, Reached};
+    ghost use Rattle.dump_replay.specs.Receiving.{settings_of, taken_of, failure_of, held_of, StandsFor, FailedBehind, ShowsVia, Reached};
+    ghost use Rattle.dump_replay.specs.Saying.{said, said_at_end};
+    ghost use Rattle.dump_replay.specs.Stepping.{UnitAnswers, BehindAnswers};
 
     /// A reader before the first byte. It makes all its room.
     pub fn new(alloc: Global, quotas: Quotas) -> Result<Receiver, Memory>
@@ -53,10 +61,12 @@ impl Receiver {
         Ok(Receiver {
             quotas,
             frames: FrameReader::new(alloc, quotas.via)?,
-            stage: Stage::Version,
+            stage: Stage::Record(Due::first(Direction::Initiator)),
             kind: Kind::Session,
+            messages: 0,
             taken: 0,
             unit_from: 0,
+            failure: None,
         })
     }
 
@@ -66,26 +76,25 @@ impl Receiver {
     pub fn feed(&mut self, piece: &[u8]) -> Result<(usize, Step), Offence>
         ensures within { IfOk result (λ answer. answer.0 ≤ length piece.now) }
         // The answer is decided at the first byte that completes an event or shows a refusal.
-        ensures answers { (p : List ℕ) → StandsFor self.old p → is_over_at (settings_of self.old) p ≡ false
-            → result ≡ said (length piece.now) (answer (settings_of self.old) p piece.now) }
-        ensures ended { (p : List ℕ) → StandsFor self.old p → is_over_at (settings_of self.old) p ≡ true
+        ensures answers { (p : List ℕ) → StandsFor self.old p → is_over_at (stream (settings_of self.old)) p ≡ false
+            → result ≡ said (length piece.now) (answer (stream (settings_of self.old)) p piece.now) }
+        ensures ended { (p : List ℕ) → StandsFor self.old p → is_over_at (stream (settings_of self.old)) p ≡ true
             → result ≡ Ok (0, Step.Ended) }
         ensures repeated { (o : Refusal) → failure_of self.old ≡ Some o → result ≡ Err o }
         ensures unchanged { (o : Refusal) → failure_of self.old ≡ Some o → self.new ≡ self.old }
 
-        // What it stands for then.
-        ensures stands { (p : List ℕ) → StandsFor self.old p → IfOk result (λ answer. StandsFor self.new (p ++ take answer.0 piece.now)) }
-        ensures taken { (p : List ℕ) → StandsFor self.old p → is_over_at (settings_of self.old) p ≡ false
-            → taken_of self.new ≡ length p + used (length piece.now) (answer (settings_of self.old) p piece.now) }
-        ensures via { (p : List ℕ) → StandsFor self.old p → is_over_at (settings_of self.old) p ≡ false
-            → ShowsVia self.new (standing (settings_of self.old) (p ++ take (used (length piece.now) (answer (settings_of self.old) p piece.now)) piece.now)).situation.via }
+        // What it stands for then, or shows of what is refused.
+        ensures stands { (p : List ℕ) → StandsFor self.old p → IfOk result (λ step. StandsFor self.new (p ++ take step.0 piece.now)) }
+        ensures failed { (p : List ℕ) → StandsFor self.old p → IfErr result (λ o. FailedBehind self.new o
+            (p ++ take (used (length piece.now) (answer (stream (settings_of self.old)) p piece.now)) piece.now)) }
         ensures refused { IfErr result (λ o. failure_of self.new ≡ Some o) }
         ensures settings { settings_of self.new ≡ settings_of self.old }
     {
-        match self.stage {
-            Stage::Failed(offence) => return Err(offence),
-            Stage::Ended => return Ok((0, Step::Ended)),
-            _ => {}
+        if let Some(offence) = self.failure {
+            return Err(offence);
+        }
+        if self.has_ended() {
+            return Ok((0, Step::Ended));
         }
         let room = self.room(piece.len());
         let mut used = 0;
@@ -109,9 +118,10 @@ impl Receiver {
 
     /// Says that the input is over, which is no offence exactly after the session's end.
     pub fn end_of_input(&mut self) -> Result<(), Offence>
-        ensures answers { (p : List ℕ) → StandsFor self.old p → result ≡ said_at_end (ending_at (settings_of self.old) p) }
+        ensures answers { (p : List ℕ) → StandsFor self.old p → result ≡ said_at_end (ending_at (stream (settings_of self.old)) p) }
         ensures repeated { (o : Refusal) → failure_of self.old ≡ Some o → result ≡ Err o }
         ensures unchanged { (o : Refusal) → failure_of self.old ≡ Some o → self.new ≡ self.old }
+        ensures failed { (p : List ℕ) → StandsFor self.old p → IfErr result (λ o. FailedBehind self.new o p) }
         ensures via { (via : List ℕ) → ShowsVia self.old via → ShowsVia self.new via }
         ensures held { held_of self.new ≡ held_of self.old }
         ensures refused { IfErr result (λ o. failure_of self.new ≡ Some o) }
@@ -119,20 +129,21 @@ impl Receiver {
         ensures taken { taken_of self.new ≡ taken_of self.old }
         ensures settings { settings_of self.new ≡ settings_of self.old }
     {
-        match self.stage {
-            Stage::Failed(offence) => Err(offence),
-            Stage::Ended => Ok(()),
-            _ => {
-                let from = self.open_from();
-                Err(self.refuse(from, Reason::Truncated))
-            }
+        if let Some(offence) = self.failure {
+            return Err(offence);
         }
+        if self.has_ended() {
+            return Ok(());
+        }
+        let from = self.open_from();
+        Err(self.refuse(from, Reason::Truncated))
     }
 
     /// The Via, once its record is whole, and else the empty text.
     pub fn via(&self) -> &str
         ensures shown { (via : List ℕ) → ShowsVia self.now via → result.now ≡ via }
-        ensures stands { (p : List ℕ) → StandsFor self.now p → result.now ≡ (standing (settings_of self.now) p).situation.via }
+        ensures stands { (p : List ℕ) → StandsFor self.now p → result.now ≡ (standing (stream (settings_of self.now)) p).situation.via }
+        ensures failed { (o : Refusal) (p : List ℕ) → FailedBehind self.now o p → result.now ≡ (standing (stream (settings_of self.now)) p).situation.via }
     {
         self.frames.text()
     }
@@ -141,9 +152,17 @@ impl Receiver {
     pub fn taken(&self) -> u64
         ensures counted { result ≡ taken_of self.now }
         ensures stands { (p : List ℕ) → StandsFor self.now p → result ≡ length p }
+        ensures failed { (o : Refusal) (p : List ℕ) → FailedBehind self.now o p → result ≡ length p }
         ensures within { (p : List ℕ) → StandsFor self.now p → length p ≤ (settings_of self.now).limits.session }
     {
         self.taken
+    }
+
+    /// How many envelopes are whole.
+    pub fn messages(&self) -> u64
+        ensures { (p : List ℕ) → StandsFor self.now p → result ≡ (standing (stream (settings_of self.now)) p).situation.messages }
+    {
+        self.messages
     }
 
     /// What it holds of the input.
@@ -159,6 +178,12 @@ impl Receiver {
         }
     }
 
+    fn has_ended(&self) -> bool
+        ensures { result ≡ is_over_in self.now.stage }
+    {
+        matches!(self.stage, Stage::Record(Due::Over))
+    }
+
     // How many of so many bytes may be read within the session quota.
     fn room(&self, len: usize) -> usize
         ensures within { result ≤ len }
@@ -172,27 +197,23 @@ impl Receiver {
 
     // The first byte of the record that isn't whole.
     fn open_from(&self) -> u64
-        ensures { (z : Situation) → IsAt self.now.stage z → result ≡ open_from z.stage z.envelope_from self.now.unit_from }
+        ensures { result ≡ open_from self.now.stage self.now.unit_from }
     {
         match self.stage {
             Stage::Payload(payload) => payload.from,
-            _ => self.unit_from,
+            Stage::Record(_) => self.unit_from,
         }
     }
 
     fn refuse(&mut self, from: u64, reason: Reason) -> Offence
         ensures offence { result ≡ offence_at from reason }
-        ensures refused { failure_of self.new ≡ Some result }
-        ensures frames { self.new.frames ≡ self.old.frames }
-        ensures quotas { self.new.quotas ≡ self.old.quotas }
-        ensures taken { self.new.taken ≡ self.old.taken }
-        ensures unit_from { self.new.unit_from ≡ self.old.unit_from }
+        ensures refused { self.new ≡ record self.old { failure = Some result } }
     {
         let offence = Offence {
             place: Place::Frame(from),
             reason,
         };
-        self.stage = Stage::Failed(offence);
+        self.failure = Some(offence);
         offence
     }
 
@@ -200,8 +221,8 @@ impl Receiver {
     fn unit(&mut self, bytes: &[u8]) -> Result<(usize, Step), Offence>
         requires some { 0 < length bytes.now }
         requires fits { self.old.taken + length bytes.now ≤ self.old.quotas.session }
-        ensures answers { (x : Settings) (q : List ℕ) (n : ℕ) → limits_of self.old.quotas ≡ x.limits → Reached self.old x q → GoesOn x q n
-            → UnitAnswers x q n bytes.now self.new result }
+        ensures answers { (x : Settings) (p : List ℕ) → limits_of self.old.quotas ≡ x.limits → Reached self.old x p → is_over_at (stream x) p ≡ false
+            → UnitAnswers x p bytes.now self.new result }
         ensures refused { IfErr result (λ o. failure_of self.new ≡ Some o) }
         ensures quotas { self.new.quotas ≡ self.old.quotas }
         ensures within { IfOk result (λ answer. answer.0 ≤ length bytes.now) }
@@ -209,7 +230,7 @@ impl Receiver {
     {
         match self.stage {
             Stage::Payload(payload) => Ok(self.payload(payload, bytes.len())),
-            _ => self.record(bytes),
+            Stage::Record(due) => self.record(due, bytes),
         }
     }
 
@@ -217,8 +238,8 @@ impl Receiver {
     fn payload(&mut self, payload: Payload, len: usize) -> (usize, Step)
         requires some { 0 < len }
         requires fits { self.old.taken + len ≤ self.old.quotas.session }
-        ensures answers { (x : Settings) (q : List ℕ) (n : ℕ) (c : List ℕ) → length c ≡ len → self.old.stage ≡ Stage.Payload payload
-            → limits_of self.old.quotas ≡ x.limits → Reached self.old x q → GoesOn x q n → UnitAnswers x q n c self.new (Ok result) }
+        ensures answers { (x : Settings) (p c : List ℕ) → length c ≡ len → self.old.stage ≡ Stage.Payload payload
+            → limits_of self.old.quotas ≡ x.limits → Reached self.old x p → UnitAnswers x p c self.new (Ok result) }
         ensures quotas { self.new.quotas ≡ self.old.quotas }
         ensures within { result.0 ≤ len }
         ensures taken { self.new.taken ≡ self.old.taken + result.0 }
@@ -231,31 +252,31 @@ impl Receiver {
             self.stage = Stage::Payload(Payload { left, ..payload });
             return (n, Step::More);
         }
-        self.stage = Stage::Message;
+        self.stage = Stage::Record(Due::Messages);
+        self.messages = self.messages.saturating_add(1);
         let size = payload.size;
         (n, Step::Envelope { size })
     }
 
     // Takes bytes of a record.
-    fn record(&mut self, bytes: &[u8]) -> Result<(usize, Step), Offence>
+    fn record(&mut self, due: Due, bytes: &[u8]) -> Result<(usize, Step), Offence>
         requires some { 0 < length bytes.now }
         requires fits { self.old.taken + length bytes.now ≤ self.old.quotas.session }
-        ensures answers { (x : Settings) (q : List ℕ) (n : ℕ) → (AtPayload self.old.stage → ⊥) → limits_of self.old.quotas ≡ x.limits → Reached self.old x q → GoesOn x q n
-            → UnitAnswers x q n bytes.now self.new result }
+        ensures answers { (x : Settings) (p : List ℕ) → self.old.stage ≡ Stage.Record due → limits_of self.old.quotas ≡ x.limits → Reached self.old x p
+            → is_over_at (stream x) p ≡ false → UnitAnswers x p bytes.now self.new result }
         ensures refused { IfErr result (λ o. failure_of self.new ≡ Some o) }
         ensures quotas { self.new.quotas ≡ self.old.quotas }
         ensures within { IfOk result (λ answer. answer.0 ≤ length bytes.now) }
         ensures taken { IfOk result (λ answer. self.new.taken ≡ self.old.taken + answer.0) }
     {
-        let expect = Expect::Types(self.stage.types());
-        match self.frames.feed(bytes, expect) {
+        match self.frames.feed(bytes, due.expect(Direction::Initiator)) {
             Ok((n, FrameStep::More)) => {
                 self.taken += n as u64;
                 Ok((n, Step::More))
             }
             Ok((n, FrameStep::Done(frame))) => {
                 self.taken += n as u64;
-                let step = self.behind(frame)?;
+                let step = self.behind(due, frame)?;
                 Ok((n, step))
             }
             Err(refusal) => {
@@ -266,23 +287,59 @@ impl Receiver {
     }
 
     // Goes on behind a whole record.
-    fn behind(&mut self, frame: Frame) -> Result<Step, Offence>
-        ensures answers { (x : Settings) (z : Situation) (text : List ℕ) → limits_of self.old.quotas ≡ x.limits → self.old.kind ≡ z.kind → z.mode ≡ Duplex → MayCome frame
-            → BehindAnswers (refused x frame) (after_record z self.old.unit_from frame text) self.new self.old.unit_from result }
+    fn behind(&mut self, due: Due, frame: Frame) -> Result<Step, Offence>
+        ensures answers { (x : Settings) (z : Situation) (text : List ℕ) → limits_of self.old.quotas ≡ x.limits → z.stage ≡ Stage.Record due → z.kind ≡ self.old.kind
+            → z.messages ≡ self.old.messages → z.messages + 1 < 2 ^ 64
+            → BehindAnswers (reason_in x frame) (after_record z self.old.unit_from frame text) (completed_record z self.old.unit_from frame) self.new self.old.unit_from result }
         ensures refused { IfErr result (λ o. failure_of self.new ≡ Some o) }
         ensures frames { self.new.frames ≡ self.old.frames }
         ensures quotas { self.new.quotas ≡ self.old.quotas }
         ensures taken { self.new.taken ≡ self.old.taken }
         ensures unit_from { OnOk result (self.new.unit_from ≡ self.old.taken) }
+        ensures failure { OnOk result (self.new.failure ≡ self.old.failure) }
     {
-        match stage::behind_record(&self.quotas, self.kind, self.unit_from, frame) {
+        match stage::behind_record(&self.quotas, due, self.kind, self.unit_from, frame) {
             Ok(next) => {
                 self.stage = next.stage;
                 self.kind = next.kind;
                 self.unit_from = self.taken;
+                if let Step::Envelope { .. } = next.step {
+                    self.messages = self.messages.saturating_add(1);
+                }
                 Ok(next.step)
             }
             Err(reason) => Err(self.refuse(self.unit_from, reason)),
+        }
+    }
+}
+
+impl ReadingEnd for Receiver {
+    ghost use Rattle.dump_replay.specs.Receiving.{settings_of, taken_of, StandsFor, counts_taken};
+
+    ghost settings = { settings_of };
+
+    ghost stands = { StandsFor };
+
+    ghost taken = { taken_of };
+
+    ghost counts = { counts_taken };
+
+    fn feed(&mut self, piece: &[u8]) -> Result<(usize, Step), Offence> {
+        Receiver::feed(self, piece)
+    }
+
+    fn end_of_input(&mut self) -> Result<(), Offence> {
+        Receiver::end_of_input(self)
+    }
+
+    fn line(&self, alloc: Global, step: Step) -> Result<String, AllocError> {
+        match step {
+            Step::More => Ok(String::new(alloc)),
+            Step::Opened { mode, kind } => report::open_line(alloc, mode, kind, self.via()),
+            Step::Envelope { size } => {
+                report::message_line(alloc, self.messages.saturating_sub(1), size)
+            }
+            Step::Ended => report::ended_line(alloc, self.taken),
         }
     }
 }

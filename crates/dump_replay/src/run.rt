@@ -1,6 +1,6 @@
 //! The top call.
 
-ghost use Rattle.std.specs.Prelude.{◌≡◌, ◌≤◌, ◌↔◌, ◌⊎◌, ◌++◌, ℕ, List, [], map, true, false, Some};
+ghost use Rattle.std.specs.Prelude.{◌≡◌, ◌≤◌, ◌↔◌, ◌⊎◌, ◌++◌, ℕ, List, [], map, true, false, Option, Some};
 ghost use Rattle.std.specs.String.{string_bytes};
 ghost use Rattle.io_edges.specs.Faults.{Rose};
 ghost use Rattle.io_edges.specs.Flow.{Told, GrowsByPrefix};
@@ -8,7 +8,8 @@ ghost use Rattle.nbfx_values.specs.declared.refusals.Offence.{Offence as Refusal
 ghost use Rattle.dump_replay.specs.Judging.{offence};
 ghost use Rattle.dump_replay.specs.Sessions.{IsClosed};
 ghost use Rattle.dump_replay.specs.Report.{report};
-ghost use Rattle.dump_replay.specs.Running.{usual, IsCheck, IsStatus, status_of, note_of, is_session_too_long};
+ghost use Rattle.dump_replay.specs.Stream.{usual};
+ghost use Rattle.dump_replay.specs.Running.{IsCheck, IsStatus, status_of, note_of, is_session_too_long};
 ghost use Rattle.dump_replay.specs.Checking.{status_at, Decides, Breaks, Reaches};
 
 use crate::check::{self, Ending};
@@ -74,7 +75,8 @@ pub fn run<I: Source, O: Sink + Send, N: Sink>(
         → (stream w : List ℕ) → I.left input ≡ Some stream → O.written output ≡ Some w
         → O.written result.output ≡ Some (w ++ report usual stream) }
     ensures decided { IsCheck (map string_bytes words.now) → (result.status ≡ 0) ⊎ (result.status ≡ 1) ⊎ (result.status ≡ 10)
-        → Decides usual (I.left input) (I.left result.input) (I.taken input) (I.taken result.input) }
+        → (o : Option Refusal) × (status_of o ≡ result.status) × Decides usual o (I.left input) (I.left result.input) (I.taken input) (I.taken result.input)
+        (O.written output) (O.written result.output) }
     ensures broken { IsCheck (map string_bytes words.now) → result.status ≡ 3
         → Breaks usual (I.left input) (I.left result.input) (I.taken input) (I.taken result.input) (O.written output) (O.written result.output) }
     ensures cut { IsCheck (map string_bytes words.now) → (result.status ≡ 3) ⊎ (result.status ≡ 4) ⊎ (result.status ≡ 5)

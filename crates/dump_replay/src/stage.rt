@@ -1,13 +1,13 @@
 //! What may come next in an initiator's stream, and where a whole record leads to.
 
 ghost use Rattle.std.specs.Prelude.{◌≡◌, ℕ, List};
-ghost use Rattle.nbfx_values.specs.declared.session.Mode.TheVariants.{Duplex};
-ghost use Rattle.dump_replay.specs.Stream.{Settings, Situation, Stage as SpecStage, limits_of, types_of, refused, after_record};
-ghost use Rattle.dump_replay.specs.Receiving.{IsAt, MayCome, RecordAnswers};
+ghost use Rattle.nbfx_values.specs.QuotasOf.{limits_of};
+ghost use Rattle.dump_replay.specs.Stream.{Settings, Situation, reason_in, after_record, completed_record};
+ghost use Rattle.dump_replay.specs.Stepping.{RecordAnswers, RefusedAs, step_of};
 
 use crate::receiver::Step;
-use nbfx_values::{Kind, Mode, Offence, Quotas, Reason};
-use nmf_records::Frame;
+use nbfx_values::{Kind, Mode, Quotas, Reason};
+use nmf_records::{Direction, Due, Frame};
 
 /// An envelope that is open.
 #[derive(Clone, Copy, Debug, PartialEq, Eq)]
@@ -23,34 +23,10 @@ pub struct Payload {
 /// What may come next.
 #[derive(Clone, Copy, Debug, PartialEq, Eq)]
 pub enum Stage {
-    Version,
-    Mode,
-    Via,
-    Encoding,
-    PreambleEnd,
-    /// An envelope or the end.
-    Message,
+    /// A record.
+    Record(Due),
     /// The payload of an envelope.
     Payload(Payload),
-    Ended,
-    Failed(Offence),
-}
-
-impl Stage {
-    /// The records that may come, type t as the bit t.
-    pub fn types(self) -> u16
-        ensures { (z : Situation) → IsAt self z → result ≡ types_of z.stage }
-    {
-        match self {
-            Stage::Version => 1 << 0,
-            Stage::Mode => 1 << 1,
-            Stage::Via => 1 << 2,
-            Stage::Encoding => 1 << 3,
-            Stage::PreambleEnd => 1 << 12,
-            Stage::Message => 1 << 6 | 1 << 7,
-            Stage::Payload(_) | Stage::Ended | Stage::Failed(_) => 0,
-        }
-    }
 }
 
 /// Where a record leads to.
@@ -61,67 +37,77 @@ pub struct Next {
     pub step: Step,
 }
 
-impl Next {
-    /// On to a stage, with nothing completed.
-    fn at(stage: Stage, kind: Kind) -> Next
-        ensures { result ≡ record { stage = stage; kind = kind; step = Step.More } }
-    {
-        Next {
-            stage,
-            kind,
-            step: Step::More,
-        }
-    }
-}
-
-/// Where the head of an envelope leads to that begins at this offset.
-fn behind_head(quotas: &Quotas, kind: Kind, from: u64, size: u32) -> Result<Next, Reason>
-    ensures { (x : Settings) (z : Situation) (text : List ℕ) → limits_of quotas.now ≡ x.limits → kind ≡ z.kind
-        → RecordAnswers (refused x (Frame.SizedEnvelope size)) (after_record z from (Frame.SizedEnvelope size) text) result }
+/// Why what a whole record says is refused.
+fn refused(quotas: &Quotas, frame: Frame) -> Option<Reason>
+    ensures { (x : Settings) → limits_of quotas.now ≡ x.limits → RefusedAs (reason_in x frame) result }
 {
-    if size > quotas.payload {
-        return Err(Reason::MessageTooLarge);
+    match frame {
+        Frame::Version { major: 1, minor: 0 } => None,
+        Frame::Version { .. } => Some(Reason::Unbuilt),
+        Frame::Mode(2) => None,
+        Frame::Mode(_) => Some(Reason::Unbuilt),
+        Frame::KnownEncoding(7 | 8) => None,
+        Frame::KnownEncoding(_) => Some(Reason::Unbuilt),
+        Frame::SizedEnvelope(size) if size > quotas.payload => Some(Reason::MessageTooLarge),
+        _ => None,
     }
-    if size == 0 {
-        return Ok(Next {
-            stage: Stage::Message,
-            kind,
-            step: Step::Envelope { size },
-        });
-    }
-    let payload = Payload {
-        from,
-        size,
-        left: size,
-    };
-    Ok(Next::at(Stage::Payload(payload), kind))
 }
 
 /// Where a whole record leads to that begins at this offset, or why it is refused.
-pub fn behind_record(quotas: &Quotas, kind: Kind, from: u64, frame: Frame) -> Result<Next, Reason>
-    ensures { (x : Settings) (z : Situation) (text : List ℕ) → limits_of quotas.now ≡ x.limits → kind ≡ z.kind → z.mode ≡ Duplex
-        → MayCome frame → RecordAnswers (refused x frame) (after_record z from frame text) result }
+pub fn behind_record(
+    quotas: &Quotas,
+    due: Due,
+    kind: Kind,
+    from: u64,
+    frame: Frame,
+) -> Result<Next, Reason>
+    ensures { (x : Settings) (z : Situation) (text : List ℕ) → limits_of quotas.now ≡ x.limits → z.kind ≡ kind → z.stage ≡ Stage.Record due
+        → RecordAnswers x z from frame text result }
+{
+    if let Some(reason) = refused(quotas, frame) {
+        return Err(reason);
+    }
+    Ok(Next {
+        stage: stage_behind(due, from, frame),
+        kind: kind_behind(kind, frame),
+        step: step_behind(kind, frame),
+    })
+}
+
+fn stage_behind(due: Due, from: u64, frame: Frame) -> Stage
+    ensures { (z : Situation) (text : List ℕ) → z.stage ≡ Stage.Record due → result ≡ (after_record z from frame text).stage }
 {
     match frame {
-        Frame::Version { major: 1, minor: 0 } => Ok(Next::at(Stage::Mode, kind)),
-        Frame::Mode(2) => Ok(Next::at(Stage::Via, kind)),
-        Frame::Via => Ok(Next::at(Stage::Encoding, kind)),
-        Frame::KnownEncoding(7) => Ok(Next::at(Stage::PreambleEnd, Kind::Plain)),
-        Frame::KnownEncoding(8) => Ok(Next::at(Stage::PreambleEnd, Kind::Session)),
-        Frame::PreambleEnd => Ok(Next {
-            stage: Stage::Message,
-            kind,
-            step: Step::Opened {
-                mode: Mode::Duplex,
-                kind,
-            },
+        Frame::SizedEnvelope(0) => Stage::Record(Due::Messages),
+        Frame::SizedEnvelope(size) => Stage::Payload(Payload {
+            from,
+            size,
+            left: size,
         }),
-        Frame::SizedEnvelope(size) => behind_head(quotas, kind, from, size),
-        Frame::End => Ok(Next {
-            stage: Stage::Ended,
+        _ => Stage::Record(due.behind(Direction::Initiator, Mode::Duplex, frame)),
+    }
+}
+
+fn kind_behind(kind: Kind, frame: Frame) -> Kind
+    ensures { (z : Situation) (from : ℕ) (text : List ℕ) → z.kind ≡ kind → result ≡ (after_record z from frame text).kind }
+{
+    match frame {
+        Frame::KnownEncoding(7) => Kind::Plain,
+        Frame::KnownEncoding(_) => Kind::Session,
+        _ => kind,
+    }
+}
+
+fn step_behind(kind: Kind, frame: Frame) -> Step
+    ensures { (z : Situation) (from : ℕ) → z.kind ≡ kind → result ≡ step_of (completed_record z from frame) }
+{
+    match frame {
+        Frame::PreambleEnd => Step::Opened {
+            mode: Mode::Duplex,
             kind,
-            step: Step::Ended,
-        }),
-        _ => Err(Reason::Unbuilt),
+        },
+        Frame::SizedEnvelope(0) => Step::Envelope { size: 0 },
+        Frame::End => Step::Ended,
+        _ => Step::More,
     }
 }

@@ -105,7 +105,7 @@ module _ {Z U E R : Type 0} (g : Grammar Z U E R) where
       answer_skips j p n y m.0 ∙ answer_refused (p ++ take j y) (n + j) (drop j y) r m.1 ∙ ap (λ i. offends i r) (sym s)
 
   -- none of the bytes
-  quiet_none : (p y : List ℕ) → IsQuiet g p y 0
+  pub quiet_none : (p y : List ℕ) → IsQuiet g p y 0
   quiet_none p y = record { within = omega arith; unrefused = λ i lt. absurd (omega arith); eventless = λ i some le. absurd (omega arith) }
 
   -- one more byte in front

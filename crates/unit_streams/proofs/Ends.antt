@@ -91,7 +91,7 @@ module _ {Z U E R : Type 0} (g : Grammar Z U E R) (readable : IsReadable g) wher
 
   module _ (quiet : IsQuietWhenOver g) where
     -- what follows an end is begun and no more
-    after_end : (p c : List ℕ) → is_over_at g p ≡ true → standing g (p ++ c) ≡ with_more (standing g p) c
+    pub after_end : (p c : List ℕ) → is_over_at g p ≡ true → standing g (p ++ c) ≡ with_more (standing g p) c
     unfolding is_over_at resumed
     after_end p c o =
         standing_append g readable p c

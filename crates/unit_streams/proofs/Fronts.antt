@@ -94,6 +94,30 @@ module _ {A R : Type 0} (f : List ℕ → Front A R) (reads : ReadsFront f) wher
       go (inl e) = inl (record { along = along e; at_end = e })
       go (inr d) = let lt = decided_later b c (extent (f (b ++ c))) h d in inr (extent (f (b ++ c)) - length b, at (extent (f (b ++ c))) refl d lt)
 
+  -- what follows a begun front and is begun still leaves it so
+  pub left_begun : (b c : List ℕ) → f b ≡ begun → f (b ++ c) ≡ begun → Leaves f b c
+  left_begun b c h e =
+      elim (leaves_or_decides b c h) [
+        | inl l ↦ l
+        | inr d ↦ absurd (omega (arith, d.1.extent_is, d.1.some, ap extent e))
+      ]
+
+  -- what decides it does so with the byte that it says
+  pub decides_at : (b c : List ℕ) (n : ℕ) → f b ≡ begun → (f (b ++ c) ≡ begun → ⊥) → extent (f (b ++ c)) ≡ length b + n → Decides f b c n
+  decides_at b c n h said e =
+      elim (leaves_or_decides b c h) [
+        | inl l ↦ absurd (said l.at_end)
+        | inr d ↦ let same : d.0 ≡ n = omega (arith, d.1.extent_is, e) in subst (Decides f b c) same d.1
+      ]
+
+  -- what shows a front to be wrong has more bytes than were begun
+  pub wrong_later : (b c : List ℕ) → f b ≡ begun → (r : R) (k : ℕ) → f (b ++ c) ≡ wrong r k → length b < k
+  wrong_later b c h r k e =
+      elim (decided (b ++ c)) [
+        | inl none ↦ cc
+        | inr d ↦ let n = decided_later b c (extent (f (b ++ c))) h d in omega (arith, n, ap extent e)
+      ]
+
   -- a whole or wrong front has a byte, and has no more than there are
   pub decided_within : f [] ≡ begun → (b : List ℕ) → (f b ≡ begun) ⊎ ((0 < extent (f b)) × (extent (f b) ≤ length b))
   decided_within nothing b =

@@ -10,8 +10,11 @@ pub mod Standing
 pub mod Answers
 pub mod Cuts
 pub mod Histories
+pub mod Offences
 pub mod Passing
+pub mod Refusals
 pub mod Ends
 pub mod Pending
 pub mod Units
 pub mod Quiet
+pub mod Along

@@ -15,6 +15,11 @@ pub given_none : {A : Type 0} (b : List ℕ) (given : Option A) → 0 < length b
 given_none [] given h = absurd (omega arith)
 given_none (x ∷ b) given h = refl
 
+-- what it gave is given where nothing is begun behind it
+pub given_some : {A : Type 0} (b : List ℕ) (given : Option A) (a : A) → given_at b given ≡ Some a → (b ≡ []) × (given ≡ Some a)
+given_some [] given a e = (refl, e)
+given_some (x ∷ b) given a e = cc
+
 module _ {Z U E R : Type 0} (g : Grammar Z U E R) where
   -- an event and a refusal are those of where the prefix stands
   pub event_from : (p : List ℕ) (s : Standing Z E R) → standing g p ≡ s → event_at g p ≡ event_of g s

@@ -1,5 +1,6 @@
--- Bytes that decide nothing, in two parts.
-use Rattle.std.proofs.Common.{◌≡◌, ℕ, ◌+◌, ◌-◌, ◌<◌, ◌≤◌, ◌⊎◌, inl, inr, List, ◌++◌, length, take, drop, None, sym, ap, ◌∙◌, arith, append_assoc, length-drop}
+-- Bytes that decide nothing, in two parts, and before more.
+use Rattle.std.proofs.Common.{◌≡◌, ℕ, ◌+◌, ◌-◌, ◌<◌, ◌≤◌, inl, inr, List, ◌++◌, length, take, drop, None, sym, ap, ◌∙◌, arith, append_assoc, length-append, length-drop}
+use Rattle.std.proofs.lemmas.List.{take-append-le}
 use Rattle.std.proofs.Math.Seq.{take-add}
 use Rattle.std.proofs.lemmas.Bool.{cases_lt}
 use Rattle.unit_streams.specs.Grammar.{Grammar}
@@ -41,3 +42,22 @@ module _ {Z U E R : Type 0} (g : Grammar Z U E R) (p y : List ℕ) (k m : ℕ) (
           | inl more ↦ ap (event_at g) (behind i (omega arith)) ∙ rest.eventless (i - k) (omega arith) (omega arith)
           | inr few ↦ first.eventless i some few
         ]
+
+-- what is quiet is so before more bytes
+module _ {Z U E R : Type 0} (g : Grammar Z U E R) (p y more : List ℕ) (k : ℕ) where
+  same_front : (i : ℕ) → i ≤ k → k ≤ length y → p ++ take i (y ++ more) ≡ p ++ take i y
+  same_front i le within = ap (λ c. p ++ c) (take-append-le i y more (omega arith))
+
+  pub quiet_before_behind : IsQuietBefore g p y k → IsQuietBefore g p (y ++ more) k
+  quiet_before_behind q = record {
+    within = (let w = q.within in let n = length-append y more in omega (arith, w, n));
+    unrefused = λ i lt. ap (refusal_at g) (same_front i (omega (arith, lt)) q.within) ∙ q.unrefused i lt;
+    eventless = λ i some lt. ap (event_at g) (same_front i (omega (arith, lt)) q.within) ∙ q.eventless i some lt;
+  }
+
+  pub quiet_behind : IsQuiet g p y k → IsQuiet g p (y ++ more) k
+  quiet_behind q = record {
+    within = (let w = q.within in let n = length-append y more in omega (arith, w, n));
+    unrefused = λ i lt. ap (refusal_at g) (same_front i (omega (arith, lt)) q.within) ∙ q.unrefused i lt;
+    eventless = λ i some le. ap (event_at g) (same_front i le q.within) ∙ q.eventless i some le;
+  }

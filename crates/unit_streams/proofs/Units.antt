@@ -5,7 +5,7 @@ use Rattle.std.proofs.lemmas.List.{append-nil, drop-drop, take-append-drop, leng
 use Rattle.std.specs.Option.{option_or, option_to_list}
 use Rattle.unit_streams.specs.Front.{Front, begun, whole, wrong}
 use Rattle.unit_streams.specs.Grammar.{Grammar, Standing, standing, resumed, with_more, IsReadable}
-use Rattle.unit_streams.specs.Judging.{given_at, event_at, refusal_at, History, led_by, history_from}
+use Rattle.unit_streams.specs.Judging.{given_at, event_at, refusal_at, led_by, history_from}
 use Rattle.unit_streams.specs.Going.{IsGoing, IsQuietBefore, IsQuiet}
 use Rattle.unit_streams.specs.Units.{Counted, Leads, events_along, size_of}
 use Rattle.unit_streams.specs.Laws.{NoUnitGoesOn}

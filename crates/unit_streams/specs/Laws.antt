@@ -1,8 +1,8 @@
 -- What holds of every grammar whose units are known by their own bytes.
-use Rattle.std.specs.Prelude.{◌≡◌, ℕ, ◌+◌, List, [], ◌++◌, length, true, None, ◌↔◌}
+use Rattle.std.specs.Prelude.{◌≡◌, ℕ, ◌+◌, ◌<◌, ◌≤◌, List, [], ◌++◌, length, take, true, Some, None, ◌↔◌, ◌⊎◌}
 use Rattle.unit_streams.specs.Front.{whole}
 use Rattle.unit_streams.specs.Grammar.{Grammar, standing, resumed}
-use Rattle.unit_streams.specs.Judging.{Answer, goes_on, completes, offends, answer, history_from, only, refusal_at, is_over_at}
+use Rattle.unit_streams.specs.Judging.{Answer, goes_on, completes, offends, answer, history_from, only, refusal_at, ending_at, is_over_at, offence}
 use Rattle.unit_streams.specs.Going.{Means, history_by}
 
 -- an answer, its bytes counted with so many before them
@@ -42,3 +42,20 @@ module _ {Z U E R : Type 0} (g : Grammar Z U E R) where
   -- behind a prefix that ends the stream and isn't refused, nothing comes
   abbrev pub EndsAreClosed : Type 0
   EndsAreClosed = (p y : List ℕ) → is_over_at g p ≡ true → refusal_at g p ≡ None → history_from g p y ≡ only None
+
+  -- a prefix of the stream is refused so, and no shorter one is refused
+  pub record IsRefusedAt (bytes : List ℕ) (r : R) : Type 0 where
+    pub place : ℕ
+    pub within : place ≤ length bytes
+    pub before : (i : ℕ) → i < place → refusal_at g (take i bytes) ≡ None
+    pub refused : refusal_at g (take place bytes) ≡ Some r
+
+  -- no prefix is refused, and the end of the input is
+  pub record IsRefusedAtEnd (bytes : List ℕ) (r : R) : Type 0 where
+    pub unrefused : (i : ℕ) → i ≤ length bytes → refusal_at g (take i bytes) ≡ None
+    pub ended : ending_at g bytes ≡ Some r
+
+  -- a stream's offence is the first refusal of a prefix, or else its end's
+  abbrev pub OffencesAreFirst : Type 0
+  OffencesAreFirst = (bytes : List ℕ) (r : R)
+      → (offence g bytes ≡ Some r) ↔ (IsRefusedAt bytes r ⊎ IsRefusedAtEnd bytes r)

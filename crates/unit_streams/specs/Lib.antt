@@ -4,4 +4,5 @@ pub mod Grammar
 pub mod Judging
 pub mod Going
 pub mod Units
+pub mod Refusals
 pub mod Laws

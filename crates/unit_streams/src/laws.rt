@@ -6,7 +6,8 @@
 ghost use Rattle.std.specs.Prelude.{ℕ, List, ◌≡◌, length, OnSome, Some, None, Bool, true};
 ghost use Rattle.unit_streams.specs.Grammar.{Grammar, IsReadable, IsQuietWhenOver, TellsItsEnd};
 ghost use Rattle.unit_streams.specs.Judging.{History, only, history_from, refusal_at, is_over_at};
-ghost use Rattle.unit_streams.specs.Laws.{StandingsGoOn, AnswersAreFirst, CutsChangeNothing, HistoryIsAnswers, NoUnitGoesOn, EndsAreClosed};
+ghost use Rattle.unit_streams.specs.Laws.{StandingsGoOn, AnswersAreFirst, CutsChangeNothing, HistoryIsAnswers, NoUnitGoesOn, EndsAreClosed, OffencesAreFirst};
+ghost use Rattle.unit_streams.specs.Refusals.{RefusalsAreThree};
 
 /// A stream stands where it stood before some bytes and went on by them.
 pub fn standings_go_on()
@@ -37,4 +38,16 @@ pub fn no_unit_goes_on()
 /// What follows a stream's end brings nothing.
 pub fn ends_are_closed()
     ensures { (g : Grammar ℕ ℕ ℕ ℕ) → IsReadable g → IsQuietWhenOver g → EndsAreClosed g }
+{}
+
+/// A stream's offence is what refuses the shortest prefix that is refused, or else what its end is
+/// refused as: it has one at most.
+pub fn offences_are_first()
+    ensures { (g : Grammar ℕ ℕ ℕ ℕ) → OffencesAreFirst g }
+{}
+
+/// A prefix is refused by what its last whole unit says, by bytes that are no unit which may come,
+/// or by its length.
+pub fn refusals_are_three()
+    ensures { (g : Grammar ℕ ℕ ℕ ℕ) → IsReadable g → RefusalsAreThree g }
 {}

@@ -1,5 +1,6 @@
-use Rattle.dump_replay.proofs.Closed.{none_is_closed}
+use Rattle.dump_replay.proofs.FromSession.{closed_offence}
+use Rattle.dump_replay.proofs.ToSession.{offenceless_closed}
 use Rattle.dump_replay.proofs.laws.closed_or_refused.Goals as goal
 
 pub returns : goal.returns
-returns c = none_is_closed
+returns c = λ x bytes. (offenceless_closed x bytes, closed_offence x bytes)

@@ -1,5 +1,8 @@
-use Rattle.dump_replay.proofs.Lines.{reports_events}
+use Rattle.std.proofs.Common.{refl}
+use Rattle.unit_streams.specs.Judging.{events, offence}
+use Rattle.dump_replay.specs.Report.{report}
 use Rattle.dump_replay.proofs.laws.reports.Goals as goal
 
 pub returns : goal.returns
-returns c = reports_events
+unfolding events offence report
+returns c = λ x bytes. refl

@@ -1,55 +1,69 @@
-use Rattle.std.proofs.Common.{◌≡◌, Err, refl, sym, ap, ◌∙◌}
-use Rattle.nbfx_values.specs.declared.limits.Quotas.{Quotas}
+use Rattle.std.proofs.Common.{Err, refl, sym, ap, ◌∙◌}
 use Rattle.nbfx_values.specs.declared.refusals.Reason.TheVariants.{Truncated}
-use Rattle.dump_replay.specs.Stream.{Settings, after_end, limits_of, standing}
-use Rattle.dump_replay.specs.Judging.{is_over, is_over_at, offence_at, open_from}
-use Rattle.dump_replay.specs.Receiving.{StandsFor, settings_of, failure_of, taken_of, held_of, ShowsVia, said_at_end}
-use Rattle.dump_replay.proofs.Events.{over_ending, ending_is}
-use Rattle.dump_replay.proofs.ReceiverFacts.{before_end, failed_stage}
+use Rattle.dump_replay.specs.Stream.{offence_at}
+use Rattle.dump_replay.specs.Saying.{said_at_end}
+use Rattle.dump_replay.specs.Receiving.{StandsFor, FailedBehind, settings_of, failure_of, taken_of, held_of, ShowsVia}
+use Rattle.dump_replay.proofs.ReceiverFacts.{not_failed, ending_open, ending_over}
 use Rattle.dump_replay.proofs.receiver.Receiver.end_of_input.Goals as goal
 
-abbrev settings_from : Quotas → Settings
-settings_from q = record { limits = limits_of q }
-
-pub returns-in-Failed-clause-answers : goal.returns-in-Failed-clause-answers
+pub returns-in-Some-clause-answers : goal.returns-in-Some-clause-answers
 unfolding StandsFor
-returns-in-Failed-clause-answers c = λ p stands. let none : ⊥ = rw c.in-Failed.is at stands.stage in absurd none
+returns-in-Some-clause-answers c = λ p h. absurd (not_failed c.args.self.now _ p c.in-Some.offence h c.in-Some.is)
 
-pub returns-in-Failed-clause-repeated : goal.returns-in-Failed-clause-repeated
+pub returns-in-Some-clause-repeated : goal.returns-in-Some-clause-repeated
 unfolding failure_of
-returns-in-Failed-clause-repeated c = λ o e. let same = failed_stage c.args.self.now.stage o e in cc
+returns-in-Some-clause-repeated c = λ o e. let same = c.in-Some.is in cc
 
-pub returns-in-Failed-clause-refused : goal.returns-in-Failed-clause-refused
+pub returns-in-Some-clause-failed : goal.returns-in-Some-clause-failed
+unfolding StandsFor
+returns-in-Some-clause-failed c = λ p h. absurd (not_failed c.args.self.now _ p c.in-Some.offence h c.in-Some.is)
+
+pub returns-in-Some-clause-refused : goal.returns-in-Some-clause-refused
 unfolding failure_of
-returns-in-Failed-clause-refused c = rw c.in-Failed.is refl
+returns-in-Some-clause-refused c = c.in-Some.is
 
-pub returns-in-Ended-clause-answers : goal.returns-in-Ended-clause-answers
-unfolding StandsFor is_over_at settings_of
-returns-in-Ended-clause-answers c = λ p stands.
-    let x = settings_of c.args.self.now in
-    let at : (standing x p).situation.stage ≡ after_end = rw c.in-Ended.is at stands.stage in
-    sym (ap said_at_end (over_ending x p (ap is_over at)))
+pub returns-then-has_ended-clause-answers : goal.returns-then-has_ended-clause-answers
+unfolding StandsFor
+returns-then-has_ended-clause-answers c = λ p h. sym (ap said_at_end (ending_over c.args.self.now _ p h (sym c.has_ended.ensures ∙ c.if-has_ended.true)))
 
-pub returns-in-Ended-clause-repeated : goal.returns-in-Ended-clause-repeated
+pub returns-then-has_ended-clause-repeated : goal.returns-then-has_ended-clause-repeated
 unfolding failure_of
-returns-in-Ended-clause-repeated c = λ o e. let same = failed_stage c.args.self.now.stage o e in cc
+returns-then-has_ended-clause-repeated c = λ o e. absurd (c.in_default.not-Some o e)
 
-pub returns-in_default : goal.returns-in_default
-unfolding StandsFor is_over_at failure_of taken_of settings_of held_of ShowsVia
-returns-in_default c =
-    let r = c.args.self.now in
-    record {
-      answers = λ p stands.
-          let x = settings_of r in
-          let z = (standing x p).situation in
-          let from = c.open_from-from.ensures z stands.stage ∙ ap (open_from z.stage z.envelope_from) stands.unit_from in
-          ap Err (c.refuse.ensures.offence ∙ ap (λ f. offence_at f Truncated) from) ∙ sym (ap said_at_end (ending_is x p (before_end r.stage z stands.stage c.in_default.not-Ended)));
-      repeated = λ o e. absurd (c.in_default.not-Failed o (failed_stage r.stage o e));
-      unchanged = λ o e. absurd (c.in_default.not-Failed o (failed_stage r.stage o e));
-      via = λ via shows. rw c.refuse.ensures.frames shows;
-      held = rw c.refuse.ensures.frames refl;
-      refused = c.refuse.ensures.refused;
-      kept = tt;
-      taken = c.refuse.ensures.taken;
-      settings = ap settings_from c.refuse.ensures.quotas;
-    }
+pub returns-clause-answers : goal.returns-clause-answers
+unfolding StandsFor
+returns-clause-answers c = λ p h.
+    ap Err (c.refuse.ensures.offence ∙ ap (λ f. offence_at f Truncated) c.open_from-from.ensures)
+    ∙ sym (ap said_at_end (ending_open c.args.self.now _ p h (sym c.has_ended.ensures ∙ c.if-has_ended.false)))
+
+pub returns-clause-repeated : goal.returns-clause-repeated
+unfolding failure_of
+returns-clause-repeated c = λ o e. absurd (c.in_default.not-Some o e)
+
+pub returns-clause-unchanged : goal.returns-clause-unchanged
+unfolding failure_of
+returns-clause-unchanged c = λ o e. absurd (c.in_default.not-Some o e)
+
+pub returns-clause-failed : goal.returns-clause-failed
+unfolding StandsFor FailedBehind settings_of failure_of taken_of ShowsVia
+returns-clause-failed c = λ p h. rw c.refuse.ensures.refused (record { failure = refl; taken = h.taken; via = h.text })
+
+pub returns-clause-via : goal.returns-clause-via
+unfolding ShowsVia
+returns-clause-via c = λ via h. rw c.refuse.ensures.refused h
+
+pub returns-clause-held : goal.returns-clause-held
+unfolding held_of
+returns-clause-held c = rw c.refuse.ensures.refused refl
+
+pub returns-clause-refused : goal.returns-clause-refused
+unfolding failure_of
+returns-clause-refused c = rw c.refuse.ensures.refused refl
+
+pub returns-clause-taken : goal.returns-clause-taken
+unfolding taken_of
+returns-clause-taken c = rw c.refuse.ensures.refused refl
+
+pub returns-clause-settings : goal.returns-clause-settings
+unfolding settings_of
+returns-clause-settings c = rw c.refuse.ensures.refused refl

@@ -1,76 +1,70 @@
-use Rattle.std.proofs.Common.{◌≡◌, ℕ, ◌+◌, ◌-◌, ◌≤◌, ◌<◌, true, false, List, ◌++◌, length, take, drop, Ok, Err, refl, sym, ap, ◌∙◌, subst, arith, length-drop}
+use Rattle.std.proofs.Common.{◌≡◌, ℕ, Bool, ◌+◌, ◌-◌, ◌<◌, ◌≤◌, inl, inr, List, ◌++◌, length, take, drop, false, Some, refl, sym, ap, ◌∙◌, subst, arith, length-drop}
+use Rattle.std.proofs.lemmas.Bool.{cases_lt}
 use Rattle.std.proofs.lemmas.List.{take-append-drop, length-take-le}
 use Rattle.std.proofs.lemmas.Result.{err_from_is_err_and}
+use Rattle.unit_streams.specs.Grammar.{standing}
+use Rattle.unit_streams.specs.Judging.{is_over_at, answer, used as used_of}
 use Rattle.nbfx_values.specs.declared.limits.Quotas.{Quotas}
+use Rattle.nbfx_values.specs.QuotasOf.{limits_of}
+use Rattle.nbfx_values.specs.declared.refusals.Offence.{Offence}
 use Rattle.nbfx_values.specs.declared.refusals.Reason.TheVariants.{SessionTooLong}
+use Rattle.nmf_records.specs.declared.reader.FrameReader.{FrameReader}
+use Rattle.nmf_records.specs.Reader.{ShowsText}
 use Rattle.dump_replay.specs.declared.receiver.Receiver.{Receiver}
 use Rattle.dump_replay.specs.declared.receiver.Step.TheVariants as steps
-use Rattle.dump_replay.specs.Stream.{Settings, after_end, limits_of, standing}
-use Rattle.dump_replay.specs.Judging.{is_over, is_over_at, open_from, offence_at, answer, completes, offends}
-use Rattle.dump_replay.specs.Receiving.{StandsFor, Reached, ShowsVia, settings_of, failure_of, taken_of}
-use Rattle.dump_replay.proofs.ReceiverFacts.{before_end, failed_stage}
-use Rattle.dump_replay.proofs.FeedSteps.{along_start, along_more, along_event, along_refused, along_too_long, along_end, Said, said_event, said_more, said_refused, so_many, some_used, all_used}
+use Rattle.dump_replay.specs.Stream.{Settings, open_from, offence_at, is_over_in, stream}
+use Rattle.dump_replay.specs.Receiving.{settings_of, taken_of, failure_of, ShowsVia, StandsFor, Reached, Failed, FailedBehind}
+use Rattle.dump_replay.proofs.ReceiverFacts.{not_failed, over_as_stage}
+use Rattle.dump_replay.proofs.FeedSteps.{Fed, FedRefused, along_none, along_more, along_event, along_refused, along_too_long, along_end, some_taken}
 use Rattle.dump_replay.proofs.receiver.Receiver.feed.Goals as goal
 
 abbrev settings_from : Quotas → Settings
 settings_from q = record { limits = limits_of q }
 
--- a failed receiver stands for no stream
-pub returns-in-Failed-clause-answers : goal.returns-in-Failed-clause-answers
-unfolding StandsFor
-returns-in-Failed-clause-answers c = λ p stands not_over. let none : ⊥ = rw c.in-Failed.is at stands.stage in absurd none
+session_is : (a b : Quotas) → a ≡ b → a.session ≡ b.session
+session_is a b e = ap (λ (q : Quotas). q.session) e
 
-pub returns-in-Failed-clause-ended : goal.returns-in-Failed-clause-ended
+-- a refused receiver stands for no stream
+pub returns-in-Some-clause-answers : goal.returns-in-Some-clause-answers
 unfolding StandsFor
-returns-in-Failed-clause-ended c = λ p stands over. let none : ⊥ = rw c.in-Failed.is at stands.stage in absurd none
+returns-in-Some-clause-answers c = λ p stands on. absurd (not_failed c.args.self.now _ p _ stands c.in-Some.is)
 
-pub returns-in-Failed-clause-repeated : goal.returns-in-Failed-clause-repeated
+pub returns-in-Some-clause-ended : goal.returns-in-Some-clause-ended
+unfolding StandsFor
+returns-in-Some-clause-ended c = λ p stands over. absurd (not_failed c.args.self.now _ p _ stands c.in-Some.is)
+
+pub returns-in-Some-clause-repeated : goal.returns-in-Some-clause-repeated
 unfolding failure_of
-returns-in-Failed-clause-repeated c = λ o e. let same = failed_stage c.args.self.now.stage o e in cc
+returns-in-Some-clause-repeated c = λ o e. let is = c.in-Some.is in cc
 
-pub returns-in-Failed-clause-taken : goal.returns-in-Failed-clause-taken
+pub returns-in-Some-clause-failed : goal.returns-in-Some-clause-failed
 unfolding StandsFor
-returns-in-Failed-clause-taken c = λ p stands not_over. let none : ⊥ = rw c.in-Failed.is at stands.stage in absurd none
+returns-in-Some-clause-failed c = λ p stands. absurd (not_failed c.args.self.now _ p _ stands c.in-Some.is)
 
-pub returns-in-Failed-clause-via : goal.returns-in-Failed-clause-via
-unfolding StandsFor
-returns-in-Failed-clause-via c = λ p stands not_over. let none : ⊥ = rw c.in-Failed.is at stands.stage in absurd none
-
-pub returns-in-Failed-clause-refused : goal.returns-in-Failed-clause-refused
+pub returns-in-Some-clause-refused : goal.returns-in-Some-clause-refused
 unfolding failure_of
-returns-in-Failed-clause-refused c = rw c.in-Failed.is refl
+returns-in-Some-clause-refused c = c.in-Some.is
 
--- an ended one stands for no stream that isn't over
-at_end : (r : Receiver) (p : List ℕ) → r.stage ≡ Rattle.dump_replay.specs.declared.stage.Stage.TheVariants.Ended → StandsFor r p → is_over_at (settings_of r) p ≡ true
-unfolding StandsFor is_over_at settings_of
-at_end r p e stands = let at : (standing (settings_of r) p).situation.stage ≡ after_end = rw e at stands.stage in ap is_over at
+-- it has ended exactly where it is over
+over_is : (r : Receiver) (p : List ℕ) → StandsFor r p → is_over_at (stream (settings_of r)) p ≡ is_over_in r.stage
+unfolding StandsFor settings_of
+over_is r p stands = over_as_stage r (settings_of r) p stands
 
-pub returns-in-Ended-clause-answers : goal.returns-in-Ended-clause-answers
-returns-in-Ended-clause-answers c = λ p stands not_over. let over = at_end c.args.self.now p c.in-Ended.is stands in cc
+pub returns-then-has_ended-clause-answers : goal.returns-then-has_ended-clause-answers
+returns-then-has_ended-clause-answers c = λ p stands on. let over = over_is c.args.self.now p stands in let ended = c.has_ended.ensures in let true_here = c.if-has_ended.true in cc
 
-pub returns-in-Ended-clause-repeated : goal.returns-in-Ended-clause-repeated
+pub returns-then-has_ended-clause-repeated : goal.returns-then-has_ended-clause-repeated
 unfolding failure_of
-returns-in-Ended-clause-repeated c = λ o e. let same = failed_stage c.args.self.now.stage o e in cc
-
-pub returns-in-Ended-clause-taken : goal.returns-in-Ended-clause-taken
-returns-in-Ended-clause-taken c = λ p stands not_over. let over = at_end c.args.self.now p c.in-Ended.is stands in cc
-
-pub returns-in-Ended-clause-via : goal.returns-in-Ended-clause-via
-returns-in-Ended-clause-via c = λ p stands not_over. let over = at_end c.args.self.now p c.in-Ended.is stands in cc
+returns-then-has_ended-clause-repeated c = λ o e. absurd (c.in_default.not-Some o e)
 
 pub loop-used-init : goal.loop-used-init
-unfolding StandsFor
+unfolding StandsFor settings_of
 loop-used-init c = record {
   within = omega arith;
   quotas = refl;
   taken = omega arith;
-  along = λ p stands not_over. along_start (settings_of c.args.self.now) p c.args.piece.now c.args.self.now stands not_over;
+  along = λ p stands on. along_none (settings_of c.args.self.now) p c.args.piece.now c.args.self.now stands on;
 }
-
--- before its end
-still_on : (r : Receiver) (p : List ℕ) → (r.stage ≡ Rattle.dump_replay.specs.declared.stage.Stage.TheVariants.Ended → ⊥) → StandsFor r p → is_over_at (settings_of r) p ≡ false
-unfolding StandsFor is_over_at settings_of
-still_on r p never stands = before_end r.stage (standing (settings_of r) p).situation stands.stage never
 
 -- the bytes that a unit is read from, and those behind them
 module _ (piece : List ℕ) (used room : ℕ) where
@@ -86,6 +80,17 @@ module _ (piece : List ℕ) (used room : ℕ) where
   here_len : used ≤ room → room ≤ length piece → length here ≡ room - used
   here_len le within = length-take-le (room - used) (drop used piece) (let n = length-drop used piece in omega (arith, le, within, n))
 
+pub unit-requires-clause-fits : goal.unit-requires-clause-fits
+unit-requires-clause-fits c =
+    let piece : List ℕ = c.args.piece.now in
+    let inv = c.loop-used.invariant in
+    let len = here_len piece c.loop-used.used c.room-room.result inv.within c.room-room.ensures.within in
+    let session = session_is _ _ inv.quotas in
+    elim (cases_lt c.args.self.now.quotas.session c.args.self.now.taken) [
+      | inl past ↦ let none = c.room-room.ensures.none past in absurd (omega (arith, none, c.loop-used-test.true))
+      | inr le ↦ let fits = c.room-room.ensures.quota le in omega (arith, fits, len, inv.taken, session, inv.within)
+    ]
+
 pub loop-used-preserved : goal.loop-used-preserved
 unfolding settings_of
 loop-used-preserved c =
@@ -98,15 +103,41 @@ loop-used-preserved c =
       within = let len = here_len piece used room inv.within c.room-room.ensures.within in omega (arith, c.in_ok-n.ensures.within, inv.within, len);
       quotas = c.in_ok-n.ensures.quotas ∙ inv.quotas;
       taken = omega (arith, c.in_ok-n.ensures.taken, inv.taken);
-      along = λ p stands not_over.
-          let a = inv.along p stands not_over in
-          let u = rw c.in-More.is at (c.in_ok-n.ensures.answers x (p ++ take used piece) used (ap limits_of inv.quotas) a.reached a.on) in
-          along_more x p piece used (here piece used room) (behind piece used room) (split piece used room) c.loop-used.self c.unit.new.self c.in_ok-n.n a u;
+      along = λ p stands on.
+          let a = inv.along p stands on in
+          let u = rw c.in-More.is at (c.in_ok-n.ensures.answers x (p ++ take used piece) (ap limits_of inv.quotas) a.reached a.on) in
+          along_more x p piece c.loop-used.self used a (here piece used room) (behind piece used room) (split piece used room) c.unit.new.self c.in_ok-n.n u;
     }
+
+-- where it hasn't ended the session isn't over
+still_on : (r : Receiver) (p : List ℕ) (b : Bool) → b ≡ is_over_in r.stage → b ≡ false → StandsFor r p → is_over_at (stream (settings_of r)) p ≡ false
+still_on r p b is e stands = over_is r p stands ∙ sym is ∙ e
+
+-- what it is set to stays
+same_settings : (a b : Quotas) → a ≡ b → settings_from a ≡ settings_from b
+same_settings a b e = ap settings_from e
+
+-- so what is shown is
+told_by : (new : Receiver) (p piece : List ℕ) (o : Offence) (a b x : Settings) → a ≡ b → Failed new a o (p ++ take (used_of (length piece) (answer (stream x) p piece)) piece) → Failed new b o (p ++ take (used_of (length piece) (answer (stream x) p piece)) piece)
+told_by new p piece o a b x e h = subst (λ (s : Settings). Failed new s o (p ++ take (used_of (length piece) (answer (stream x) p piece)) piece)) e h
+
+-- a piece that fits is used whole
+all_used : (room len session taken : ℕ) → room ≤ len → (room < len → session ≤ taken + room) → taken + room < session → room ≡ len
+all_used room len session taken within full short =
+    elim (cases_lt room len) [
+      | inl less ↦ let past = full less in absurd (omega (arith, past, short))
+      | inr le ↦ omega (arith, within, le)
+    ]
+
+shown_by : (a b : FrameReader) (text : List ℕ) → a ≡ b → ShowsText a text → ShowsText b text
+shown_by a b text e h = subst (λ (t : FrameReader). ShowsText t text) e h
+
+stands_by : (new : Receiver) (q : List ℕ) (a b : Settings) → a ≡ b → Reached new a q → Reached new b q
+stands_by new q a b e h = subst (λ (s : Settings). Reached new s q) e h
 
 -- a refusal of a unit
 pub returns-in_err-n : goal.returns-in_err-n
-unfolding settings_of failure_of
+unfolding settings_of FailedBehind failure_of
 returns-in_err-n c =
     let r : Receiver = c.args.self.now in
     let piece : List ℕ = c.args.piece.now in
@@ -115,29 +146,28 @@ returns-in_err-n c =
     let inv = c.loop-used.invariant in
     let x : Settings = settings_of r in
     let q = err_from_is_err_and c.from_residual.result c.from_residual.ensures.1 in
-    let told : (p : List ℕ) → StandsFor r p → is_over_at x p ≡ false → Said c.unit.new.self x p piece (Err c.in_err-n.field-0.0)
-    = λ p stands not_over.
-    let a = inv.along p stands not_over in
-    let u = c.in_err-n.ensures.answers x (p ++ take used piece) used (ap limits_of inv.quotas) a.reached a.on in
-    let h = along_refused x p piece used (here piece used room) (behind piece used room) (split piece used room) c.loop-used.self c.unit.new.self c.in_err-n.field-0.0 a u in
-    said_refused c.unit.new.self x p piece (used + h.0) c.in_err-n.field-0.0 h.1 (let l = so_many c.unit.new.self x p piece used (omega (arith, inv.within, c.room-room.ensures.within)) in omega (arith, h.2, l)) h.4 in
+    let same = same_settings _ _ (c.in_err-n.ensures.quotas ∙ inv.quotas) in
+    let on = λ (p : List ℕ) (stands : StandsFor r p). still_on r p _ c.has_ended.ensures c.if-has_ended.false stands in
+    let told : (p : List ℕ) → StandsFor r p → FedRefused c.unit.new.self x p piece c.in_err-n.field-0.0
+    = λ p stands.
+    let a = inv.along p stands (on p stands) in
+    let u = c.in_err-n.ensures.answers x (p ++ take used piece) (ap limits_of inv.quotas) a.reached a.on in
+    along_refused x p piece c.loop-used.self used a (here piece used room) (behind piece used room) (split piece used room) c.unit.new.self c.in_err-n.field-0.0 u in
     rw (q.1, q.2) (record {
       within = tt;
-      answers = λ p stands not_over. (told p stands not_over).answers;
-      ended = λ p stands over. let not_over = still_on r p c.in_default.not-Ended stands in cc;
-      repeated = λ o e. absurd (c.in_default.not-Failed o (failed_stage r.stage o e));
-      unchanged = λ o e. absurd (c.in_default.not-Failed o (failed_stage r.stage o e));
+      answers = λ p stands not_over. sym (told p stands).0;
+      ended = λ p stands over. let not_over = on p stands in cc;
+      repeated = λ o e. absurd (c.in_default.not-Some o e);
+      unchanged = λ o e. absurd (c.in_default.not-Some o e);
       stands = λ p stands. tt;
-      taken = λ p stands not_over. (told p stands not_over).taken;
-      via = λ p stands not_over. (told p stands not_over).via;
+      failed = λ p stands. told_by c.unit.new.self p piece c.in_err-n.field-0.0 _ _ x (sym same) (told p stands).1;
       refused = c.in_err-n.ensures.refused;
-      settings = ap settings_from (c.in_err-n.ensures.quotas ∙ inv.quotas);
+      settings = same;
     })
 
--- an event
 -- a unit uses some byte
 pub returns-then-n-eq0 : goal.returns-then-n-eq0
-unfolding settings_of failure_of
+unfolding settings_of failure_of StandsFor
 returns-then-n-eq0 c =
     let r : Receiver = c.args.self.now in
     let piece : List ℕ = c.args.piece.now in
@@ -145,26 +175,28 @@ returns-then-n-eq0 c =
     let room : ℕ = c.room-room.result in
     let inv = c.loop-used.invariant in
     let x : Settings = settings_of r in
-    let never : (p : List ℕ) → StandsFor r p → is_over_at x p ≡ false → ⊥
-    = λ p stands not_over.
-    let a = inv.along p stands not_over in
-    let some = some_used x (p ++ take used piece) used (here piece used room) c.unit.new.self c.in_ok-n.n c.in_ok-n.step (c.in_ok-n.ensures.answers x (p ++ take used piece) used (ap limits_of inv.quotas) a.reached a.on) in
+    let on = λ (p : List ℕ) (stands : StandsFor r p). still_on r p _ c.has_ended.ensures c.if-has_ended.false stands in
+    let never : (p : List ℕ) → StandsFor r p → ⊥
+    = λ p stands.
+    let a = inv.along p stands (on p stands) in
+    let u = c.in_ok-n.ensures.answers x (p ++ take used piece) (ap limits_of inv.quotas) a.reached a.on in
+    let some = some_taken x p piece c.loop-used.self used a (here piece used room) (behind piece used room) (split piece used room) c.unit.new.self c.in_ok-n.n c.in_ok-n.step u in
     omega (arith, some, c.if-n-eq0.true) in
     record {
       within = let len = here_len piece used room inv.within c.room-room.ensures.within in omega (arith, c.in_ok-n.ensures.within, inv.within, len, c.room-room.ensures.within);
-      answers = λ p stands not_over. absurd (never p stands not_over);
-      ended = λ p stands over. let not_over = still_on r p c.in_default.not-Ended stands in cc;
-      repeated = λ o e. absurd (c.in_default.not-Failed o (failed_stage r.stage o e));
-      unchanged = λ o e. absurd (c.in_default.not-Failed o (failed_stage r.stage o e));
-      stands = λ p stands. absurd (never p stands (still_on r p c.in_default.not-Ended stands));
-      taken = λ p stands not_over. absurd (never p stands not_over);
-      via = λ p stands not_over. absurd (never p stands not_over);
+      answers = λ p stands not_over. absurd (never p stands);
+      ended = λ p stands over. let not_over = on p stands in cc;
+      repeated = λ o e. absurd (c.in_default.not-Some o e);
+      unchanged = λ o e. absurd (c.in_default.not-Some o e);
+      stands = λ p stands. absurd (never p stands);
+      failed = λ p stands. tt;
       refused = tt;
-      settings = ap settings_from (c.in_ok-n.ensures.quotas ∙ inv.quotas);
+      settings = same_settings _ _ (c.in_ok-n.ensures.quotas ∙ inv.quotas);
     }
 
+-- an event
 pub returns-in_default-step : goal.returns-in_default-step
-unfolding settings_of StandsFor failure_of
+unfolding settings_of failure_of StandsFor
 returns-in_default-step c =
     let r : Receiver = c.args.self.now in
     let piece : List ℕ = c.args.piece.now in
@@ -173,63 +205,64 @@ returns-in_default-step c =
     let n : ℕ = c.in_ok-n.n in
     let inv = c.loop-used.invariant in
     let x : Settings = settings_of r in
-    let within : used + n ≤ length piece = let len = here_len piece used room inv.within c.room-room.ensures.within in omega (arith, c.in_ok-n.ensures.within, inv.within, len, c.room-room.ensures.within) in
-    let same : settings_of c.unit.new.self ≡ x = ap settings_from (c.in_ok-n.ensures.quotas ∙ inv.quotas) in
-    let led : (p : List ℕ) → StandsFor r p → is_over_at x p ≡ false → (answer x p piece ≡ completes (used + n) c.in_ok-n.step) × Reached c.unit.new.self x (p ++ take (used + n) piece)
-    = λ p stands not_over.
-    let a = inv.along p stands not_over in
-    let u = c.in_ok-n.ensures.answers x (p ++ take used piece) used (ap limits_of inv.quotas) a.reached a.on in
-    along_event x p piece used (here piece used room) (behind piece used room) (split piece used room) c.loop-used.self c.unit.new.self n c.in_ok-n.step c.in_default-step.not-More a u in
-    let told : (p : List ℕ) → StandsFor r p → is_over_at x p ≡ false → Said c.unit.new.self x p piece (Ok (used + n, c.in_ok-n.step))
-    = λ p stands not_over. let l = led p stands not_over in said_event c.unit.new.self x p piece (used + n) c.in_ok-n.step within l.0 l.1 in
+    let on = λ (p : List ℕ) (stands : StandsFor r p). still_on r p _ c.has_ended.ensures c.if-has_ended.false stands in
+    let same = same_settings _ _ (c.in_ok-n.ensures.quotas ∙ inv.quotas) in
+    let told : (p : List ℕ) → StandsFor r p → Fed c.unit.new.self x p piece (used + n) c.in_ok-n.step
+    = λ p stands.
+    let a = inv.along p stands (on p stands) in
+    let u = c.in_ok-n.ensures.answers x (p ++ take used piece) (ap limits_of inv.quotas) a.reached a.on in
+    along_event x p piece c.loop-used.self used a (here piece used room) (behind piece used room) (split piece used room) c.unit.new.self n c.in_ok-n.step c.in_default-step.not-More u in
     record {
-      within = within;
-      answers = λ p stands not_over. (told p stands not_over).answers;
-      ended = λ p stands over. let not_over = still_on r p c.in_default.not-Ended stands in cc;
-      repeated = λ o e. absurd (c.in_default.not-Failed o (failed_stage r.stage o e));
-      unchanged = λ o e. absurd (c.in_default.not-Failed o (failed_stage r.stage o e));
-      stands = λ p stands. subst (λ y. Reached c.unit.new.self y (p ++ take (used + n) piece)) (sym same) (led p stands (still_on r p c.in_default.not-Ended stands)).1;
-      taken = λ p stands not_over. (told p stands not_over).taken;
-      via = λ p stands not_over. (told p stands not_over).via;
+      within = let len = here_len piece used room inv.within c.room-room.ensures.within in omega (arith, c.in_ok-n.ensures.within, inv.within, len, c.room-room.ensures.within);
+      answers = λ p stands not_over. sym (told p stands).0;
+      ended = λ p stands over. let not_over = on p stands in cc;
+      repeated = λ o e. absurd (c.in_default.not-Some o e);
+      unchanged = λ o e. absurd (c.in_default.not-Some o e);
+      stands = λ p stands. stands_by c.unit.new.self (p ++ take (used + n) piece) _ _ (sym same) (told p stands).1;
+      failed = λ p stands. tt;
       refused = tt;
       settings = same;
     }
 
 -- the session quota is reached
 pub returns-then-self : goal.returns-then-self
-unfolding settings_of StandsFor taken_of ShowsVia failure_of
+unfolding settings_of failure_of StandsFor FailedBehind taken_of ShowsVia
 returns-then-self c =
     let r : Receiver = c.args.self.now in
     let piece : List ℕ = c.args.piece.now in
     let used : ℕ = c.loop-used.used in
     let inv = c.loop-used.invariant in
     let x : Settings = settings_of r in
-    let le : used ≤ length piece = omega (arith, inv.within, c.room-room.ensures.within) in
-    let told : (p : List ℕ) → StandsFor r p → is_over_at x p ≡ false → Said c.refuse.new.self x p piece (Err c.refuse.result)
-    = λ p stands not_over.
-    let a = inv.along p stands not_over in
-    let s = standing x (p ++ take used piece) in
-    let long : x.limits.session ≤ length (p ++ take used piece) = omega (arith, c.if-self.true, a.reached.taken, ap (λ (k : Quotas). k.session) inv.quotas) in
-    let from = c.open_from-from.ensures s.situation a.reached.stage ∙ ap (open_from s.situation.stage s.situation.envelope_from) a.reached.unit_from in
-    let e = along_too_long x p piece c.loop-used.self used a long in
-    said_refused c.refuse.new.self x p piece used c.refuse.result (e ∙ ap (offends used) (sym (c.refuse.ensures.offence ∙ ap (λ f. offence_at f SessionTooLong) from)))
-    (c.refuse.ensures.taken ∙ a.reached.taken ∙ so_many c.loop-used.self x p piece used le) (rw c.refuse.ensures.frames a.reached.text) in
+    let on = λ (p : List ℕ) (stands : StandsFor r p). still_on r p _ c.has_ended.ensures c.if-has_ended.false stands in
+    let new : Receiver = c.refuse.new.self in
+    let fields : new ≡ record c.loop-used.self { failure = Some c.refuse.result } = c.refuse.ensures.refused in
+    let same = same_settings _ _ (ap (λ (t : Receiver). t.quotas) fields ∙ inv.quotas) in
+    let told : (p : List ℕ) → StandsFor r p → FedRefused new x p piece c.refuse.result
+    = λ p stands.
+    let a = inv.along p stands (on p stands) in
+    let long : x.limits.session ≤ length (p ++ take used piece) = omega (arith, c.if-self.true, a.reached.taken, session_is _ _ inv.quotas) in
+    along_too_long x p piece c.loop-used.self used a new c.refuse.result long
+    (c.refuse.ensures.offence ∙ ap (λ n. offence_at n SessionTooLong) (c.open_from-from.ensures ∙ ap (λ s. open_from s c.loop-used.self.unit_from) a.reached.stage ∙ ap (open_from (standing (stream x) (p ++ take used piece)).situation.stage) a.reached.unit_from))
+    (record {
+      failure = ap (λ (t : Receiver). t.failure) fields;
+      taken = ap (λ (t : Receiver). t.taken) fields ∙ a.reached.taken;
+      via = shown_by _ _ _ (ap (λ (t : Receiver). t.frames) (sym fields)) a.reached.text;
+    }) in
     record {
       within = tt;
-      answers = λ p stands not_over. (told p stands not_over).answers;
-      ended = λ p stands over. let not_over = still_on r p c.in_default.not-Ended stands in cc;
-      repeated = λ o e. absurd (c.in_default.not-Failed o (failed_stage r.stage o e));
-      unchanged = λ o e. absurd (c.in_default.not-Failed o (failed_stage r.stage o e));
+      answers = λ p stands not_over. sym (told p stands).0;
+      ended = λ p stands over. let not_over = on p stands in cc;
+      repeated = λ o e. absurd (c.in_default.not-Some o e);
+      unchanged = λ o e. absurd (c.in_default.not-Some o e);
       stands = λ p stands. tt;
-      taken = λ p stands not_over. (told p stands not_over).taken;
-      via = λ p stands not_over. (told p stands not_over).via;
-      refused = c.refuse.ensures.refused;
-      settings = ap settings_from (c.refuse.ensures.quotas ∙ inv.quotas);
+      failed = λ p stands. told_by new p piece c.refuse.result _ _ x (sym same) (told p stands).1;
+      refused = ap (λ (t : Receiver). t.failure) fields;
+      settings = same;
     }
 
 -- the piece is used up
 pub returns : goal.returns
-unfolding settings_of StandsFor failure_of
+unfolding settings_of failure_of StandsFor
 returns c =
     let r : Receiver = c.args.self.now in
     let piece : List ℕ = c.args.piece.now in
@@ -237,24 +270,23 @@ returns c =
     let room : ℕ = c.room-room.result in
     let inv = c.loop-used.invariant in
     let x : Settings = settings_of r in
-    let same : settings_of c.loop-used.self ≡ x = ap settings_from inv.quotas in
-    let ends : used ≡ room = omega (arith, inv.within, c.loop-used-test.false) in
-    let short : r.taken + room < r.quotas.session = omega (arith, c.if-self.false, inv.taken, ends, ap (λ (k : Quotas). k.session) inv.quotas) in
-    let all : used ≡ length piece = ends ∙ all_used room (length piece) r.quotas.session r.taken c.room-room.ensures.within c.room-room.ensures.full short in
-    let told : (p : List ℕ) → StandsFor r p → is_over_at x p ≡ false → Said c.loop-used.self x p piece (Ok (used, steps.More))
-    = λ p stands not_over.
-    let a = inv.along p stands not_over in
-    let lt : length (p ++ take used piece) < x.limits.session = omega (arith, c.if-self.false, a.reached.taken, ap (λ (k : Quotas). k.session) inv.quotas) in
-    said_more c.loop-used.self x p piece used all (along_end x p piece c.loop-used.self used a (omega (arith, all)) lt) a.reached in
+    let on = λ (p : List ℕ) (stands : StandsFor r p). still_on r p _ c.has_ended.ensures c.if-has_ended.false stands in
+    let same = same_settings _ _ inv.quotas in
+    let at_room : used ≡ room = omega (arith, inv.within, c.loop-used-test.false) in
+    let short : r.taken + room < r.quotas.session = omega (arith, c.if-self.false, inv.taken, at_room, session_is _ _ inv.quotas) in
+    let all : used ≡ length piece = at_room ∙ all_used room (length piece) r.quotas.session r.taken c.room-room.ensures.within c.room-room.ensures.full short in
+    let told : (p : List ℕ) → StandsFor r p → Fed c.loop-used.self x p piece used steps.More
+    = λ p stands.
+    let a = inv.along p stands (on p stands) in
+    along_end x p piece c.loop-used.self used a steps.More all (omega (arith, c.if-self.false, a.reached.taken, session_is _ _ inv.quotas)) refl in
     record {
       within = omega (arith, all);
-      answers = λ p stands not_over. (told p stands not_over).answers;
-      ended = λ p stands over. let not_over = still_on r p c.in_default.not-Ended stands in cc;
-      repeated = λ o e. absurd (c.in_default.not-Failed o (failed_stage r.stage o e));
-      unchanged = λ o e. absurd (c.in_default.not-Failed o (failed_stage r.stage o e));
-      stands = λ p stands. subst (λ y. Reached c.loop-used.self y (p ++ take used piece)) (sym same) (inv.along p stands (still_on r p c.in_default.not-Ended stands)).reached;
-      taken = λ p stands not_over. (told p stands not_over).taken;
-      via = λ p stands not_over. (told p stands not_over).via;
+      answers = λ p stands not_over. sym (told p stands).0;
+      ended = λ p stands over. let not_over = on p stands in cc;
+      repeated = λ o e. absurd (c.in_default.not-Some o e);
+      unchanged = λ o e. absurd (c.in_default.not-Some o e);
+      stands = λ p stands. stands_by c.loop-used.self (p ++ take used piece) _ _ (sym same) (told p stands).1;
+      failed = λ p stands. tt;
       refused = tt;
       settings = same;
     }

@@ -1,6 +1,7 @@
 use Rattle.std.proofs.Common.{◌≡◌, ℕ, ◌+◌, ◌-◌, ◌≤◌, List, false}
-use Rattle.dump_replay.specs.Judging.{is_over_at}
-use Rattle.dump_replay.specs.Receiving.{StandsFor, settings_of}
+use Rattle.unit_streams.specs.Judging.{is_over_at}
+use Rattle.dump_replay.specs.Stream.{stream}
+use Rattle.dump_replay.specs.Receiving.{settings_of, StandsFor}
 use Rattle.dump_replay.proofs.FeedSteps.{Along}
 use Rattle.dump_replay.proofs.receiver.Receiver.feed.Given as goal
 
@@ -9,7 +10,7 @@ invariant-loop-used l = record {
   within : l.used ≤ l.room;
   quotas : l.self.quotas ≡ l.initial.self.quotas;
   taken : l.self.taken ≡ l.initial.self.taken + l.used;
-  along : (p : List ℕ) → StandsFor l.initial.self p → is_over_at (settings_of l.initial.self) p ≡ false → Along l.self (settings_of l.initial.self) p l.piece l.used;
+  along : (p : List ℕ) → StandsFor l.initial.self p → is_over_at (stream (settings_of l.initial.self)) p ≡ false → Along l.self (settings_of l.initial.self) p l.piece l.used;
 }
 
 abbrev pub decreases-loop-used : goal.decreases-loop-used

@@ -1,25 +1,33 @@
-use Rattle.std.proofs.Common.{refl, sym, ap, arith}
-use Rattle.nmf_records.specs.declared.frame.Expect.TheVariants.{Types}
-use Rattle.dump_replay.specs.Stream.{Settings, Standing, limits_of, types_of, beginning}
+use Rattle.std.proofs.Common.{refl, sym, ap, ◌∙◌, arith}
+use Rattle.unit_streams.specs.Grammar.{Standing}
+use Rattle.nbfx_values.specs.QuotasOf.{limits_of}
+use Rattle.nbfx_values.specs.declared.refusals.Offence.{Offence}
+use Rattle.nmf_records.specs.declared.script.Direction.TheVariants.{Initiator}
+use Rattle.nmf_records.specs.declared.script.Due.TheVariants as dues
+use Rattle.nmf_records.specs.Script.{may_come}
+use Rattle.dump_replay.specs.declared.stage.Stage.TheVariants as stages
+use Rattle.dump_replay.specs.Stream.{Settings, Situation, StreamEvent, beginning}
 use Rattle.dump_replay.specs.Receiving.{StandsFor, ShowsVia, settings_of}
-use Rattle.dump_replay.proofs.Units.{unit_peels}
-use Rattle.dump_replay.proofs.Standing.{standing_nothing}
+use Rattle.dump_replay.proofs.Grammar.{readable}
+use Rattle.dump_replay.proofs.ReceiverFacts.{stands_first}
 use Rattle.dump_replay.proofs.receiver.Receiver.new.Goals as goal
 
 pub returns-clause-stands : goal.returns-clause-stands
 unfolding StandsFor settings_of
 returns-clause-stands c =
     let x : Settings = record { limits = limits_of c.args.quotas } in
-    let e = standing_nothing x in
+    let e = stands_first x in
     record {
-      stage = ap (λ (s : Standing). s.situation.stage) e;
-      kind = sym (ap (λ (s : Standing). s.situation.kind) e);
-      is_begun = rw e (unit_peels x beginning.stage).nothing;
-      frames = rw e (c.in_ok-new.ensures.stands (Types (types_of beginning.stage)));
+      stage = ap stages.Record c.first.ensures ∙ sym (ap (λ (s : Standing Situation StreamEvent Offence). s.situation.stage) e);
+      kind = sym (ap (λ (s : Standing Situation StreamEvent Offence). s.situation.kind) e);
+      messages = sym (ap (λ (s : Standing Situation StreamEvent Offence). s.situation.messages) e);
+      frames = rw (c.first.ensures, e) (c.in_ok-new.ensures.stands (may_come Initiator dues.Version));
       text = rw e c.in_ok-new.ensures.text;
-      unit_from = sym (ap (λ (s : Standing). s.from) e);
+      unit_from = sym (ap (λ (s : Standing Situation StreamEvent Offence). s.from) e);
       taken = refl;
       within = omega arith;
+      going = rw e (record { next = (readable x).nothing beginning 0; last = refl });
+      unfailed = refl;
     }
 
 pub returns-clause-via : goal.returns-clause-via

@@ -1,5 +1,5 @@
 use Rattle.std.proofs.Common.{refl}
-use Rattle.dump_replay.specs.Receiving.{StandsFor, taken_of}
+use Rattle.dump_replay.specs.Receiving.{StandsFor, FailedBehind, taken_of}
 use Rattle.dump_replay.proofs.receiver.Receiver.taken.Goals as goal
 
 pub returns-clause-counted : goal.returns-clause-counted
@@ -9,6 +9,10 @@ returns-clause-counted c = refl
 pub returns-clause-stands : goal.returns-clause-stands
 unfolding StandsFor
 returns-clause-stands c = λ p h. h.taken
+
+pub returns-clause-failed : goal.returns-clause-failed
+unfolding FailedBehind taken_of
+returns-clause-failed c = λ o p h. h.taken
 
 pub returns-clause-within : goal.returns-clause-within
 unfolding StandsFor

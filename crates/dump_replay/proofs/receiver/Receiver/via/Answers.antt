@@ -1,4 +1,4 @@
-use Rattle.dump_replay.specs.Receiving.{StandsFor, ShowsVia}
+use Rattle.dump_replay.specs.Receiving.{StandsFor, FailedBehind, ShowsVia}
 use Rattle.dump_replay.proofs.receiver.Receiver.via.Goals as goal
 
 pub returns-clause-shown : goal.returns-clause-shown
@@ -8,3 +8,7 @@ returns-clause-shown c = λ via h. c.text.ensures via h
 pub returns-clause-stands : goal.returns-clause-stands
 unfolding StandsFor
 returns-clause-stands c = λ p h. c.text.ensures _ h.text
+
+pub returns-clause-failed : goal.returns-clause-failed
+unfolding FailedBehind ShowsVia
+returns-clause-failed c = λ o p h. c.text.ensures _ h.via

@@ -1,0 +1,119 @@
+-- The grammar of an initiator's stream is one: its units are known by their own bytes, and it ends with the events that end it.
+use Rattle.std.proofs.Common.{◌≡◌, ℕ, ◌<◌, ◌⊎◌, inl, inr, List, [], ◌∷◌, Bool, true, false, Some, None, refl, ap, arith}
+use Rattle.std.specs.Prelude.{nat_le, ◌&&◌, not, if◌then◌else◌}
+use Rattle.std.proofs.lemmas.Bool.{lt-leb}
+use Rattle.unit_streams.specs.Front.{begun, ReadsFront}
+use Rattle.unit_streams.specs.Parts.{seen}
+use Rattle.unit_streams.specs.Grammar.{IsReadable, IsQuietWhenOver}
+use Rattle.unit_streams.proofs.Peeling.{extent}
+use Rattle.unit_streams.proofs.Fronts.{IsDecided, reads_by}
+use Rattle.unit_streams.proofs.Parts.{reads_seen}
+use Rattle.nbfx_values.specs.declared.refusals.Offence.{Offence}
+use Rattle.nbfx_values.specs.declared.refusals.Reason.TheVariants.{SessionTooLong}
+use Rattle.nmf_records.specs.declared.script.Direction.TheVariants.{Initiator}
+use Rattle.nmf_records.specs.declared.script.Due.{Due}
+use Rattle.nmf_records.specs.declared.script.Due.TheVariants as dues
+use Rattle.nmf_records.specs.Reading.{frame_at}
+use Rattle.nmf_records.specs.Script.{may_come}
+use Rattle.nmf_records.proofs.Frames.{frame_peels, frames_front}
+use Rattle.dump_replay.specs.declared.stage.Stage.{Stage}
+use Rattle.dump_replay.specs.declared.stage.Stage.TheVariants as stages
+use Rattle.dump_replay.specs.Stream.{Settings, StreamUnit, frame, reason_of, built, offence_at, record_at, payload_at, unit_in, is_over_in, open_from, too_long, cut_off, stream}
+
+-- where nothing is read
+reads_nothing : ReadsFront {A = StreamUnit} {R = Offence} (λ bytes. begun)
+reads_nothing = reads_by (λ bytes. begun) (λ b. inl refl)
+
+-- a payload's byte
+reads_payload : ReadsFront payload_at
+reads_payload = reads_by payload_at cases where
+  cases : (b : List ℕ) → (payload_at b ≡ begun) ⊎ IsDecided payload_at b (extent (payload_at b))
+  cases [] = inl refl
+  cases (x ∷ b) = inr (record {
+    said = λ h. cc;
+    within = omega arith;
+    alone = refl;
+    first = λ j lt. let none : j ≡ 0 = omega arith in rw none refl;
+    stays = λ more. refl;
+  })
+
+module _ (x : Settings) where
+  -- a record that is due
+  reads_due : (due : Due) (from : ℕ) → ReadsFront (λ bytes. seen frame (λ fault. offence_at from (built (reason_of due fault))) (frame_at x.limits.via (may_come Initiator due) bytes))
+  reads_due due from = reads_seen frame (λ fault. offence_at from (built (reason_of due fault))) (frame_at x.limits.via (may_come Initiator due)) (frames_front x.limits.via (may_come Initiator due))
+
+  nothing_due : (due : Due) (from : ℕ) → seen frame (λ fault. offence_at from (built (reason_of due fault))) (frame_at x.limits.via (may_come Initiator due) []) ≡ begun
+  nothing_due due from = ap (seen frame (λ fault. offence_at from (built (reason_of due fault)))) (frame_peels x.limits.via (may_come Initiator due)).nothing
+
+  reads_record : (due : Due) (from : ℕ) → ReadsFront (record_at x due from)
+  reads_record dues.Over from = reads_nothing
+  reads_record dues.Version from = reads_due dues.Version from
+  reads_record dues.Mode from = reads_due dues.Mode from
+  reads_record dues.Via from = reads_due dues.Via from
+  reads_record dues.Encoding from = reads_due dues.Encoding from
+  reads_record dues.PreambleEnd from = reads_due dues.PreambleEnd from
+  reads_record dues.Ack from = reads_due dues.Ack from
+  reads_record dues.Messages from = reads_due dues.Messages from
+  reads_record dues.Envelope from = reads_due dues.Envelope from
+  reads_record dues.Reply from = reads_due dues.Reply from
+  reads_record dues.Chunk from = reads_due dues.Chunk from
+  reads_record dues.End from = reads_due dues.End from
+
+  nothing_recorded : (due : Due) (from : ℕ) → record_at x due from [] ≡ begun
+  nothing_recorded dues.Over from = refl
+  nothing_recorded dues.Version from = nothing_due dues.Version from
+  nothing_recorded dues.Mode from = nothing_due dues.Mode from
+  nothing_recorded dues.Via from = nothing_due dues.Via from
+  nothing_recorded dues.Encoding from = nothing_due dues.Encoding from
+  nothing_recorded dues.PreambleEnd from = nothing_due dues.PreambleEnd from
+  nothing_recorded dues.Ack from = nothing_due dues.Ack from
+  nothing_recorded dues.Messages from = nothing_due dues.Messages from
+  nothing_recorded dues.Envelope from = nothing_due dues.Envelope from
+  nothing_recorded dues.Reply from = nothing_due dues.Reply from
+  nothing_recorded dues.Chunk from = nothing_due dues.Chunk from
+  nothing_recorded dues.End from = nothing_due dues.End from
+
+  reads_unit : (stage : Stage) (from : ℕ) → ReadsFront (unit_in x stage from)
+  unfolding unit_in
+  reads_unit (stages.Record due) from = reads_record due from
+  reads_unit (stages.Payload payload) from = reads_payload
+
+  nothing_read : (stage : Stage) (from : ℕ) → unit_in x stage from [] ≡ begun
+  unfolding unit_in
+  nothing_read (stages.Record due) from = nothing_recorded due from
+  nothing_read (stages.Payload payload) from = refl
+
+  pub readable : IsReadable (stream x)
+  readable = record { reads = λ z from. reads_unit z.stage from; nothing = λ z from. nothing_read z.stage from }
+
+  -- behind the end
+  unread_over : (stage : Stage) (from : ℕ) (bytes : List ℕ) → is_over_in stage ≡ true → unit_in x stage from bytes ≡ begun
+  unfolding unit_in
+  unread_over (stages.Record dues.Over) from bytes e = refl
+  unread_over (stages.Record _) from bytes e = cc
+  unread_over (stages.Payload p) from bytes e = cc
+
+  any_length_over : (stage : Stage) (from n : ℕ) → is_over_in stage ≡ true → too_long x stage from n ≡ None
+  unfolding too_long
+  any_length_over stage from n e = rw e (no (nat_le x.limits.session n)) where
+    no : (b : Bool) → (if b && not true then Some (offence_at (open_from stage from) SessionTooLong) else None) ≡ None
+    no true = refl
+    no false = refl
+
+  any_end_over : (stage : Stage) (from : ℕ) → is_over_in stage ≡ true → cut_off stage from ≡ None
+  unfolding cut_off
+  any_end_over (stages.Record dues.Over) from e = refl
+  any_end_over (stages.Record _) from e = cc
+  any_end_over (stages.Payload p) from e = cc
+
+  pub quiet_over : IsQuietWhenOver (stream x)
+  quiet_over = record {
+    unread = λ z from bytes e. unread_over z.stage from bytes e;
+    any_length = λ z from n e. any_length_over z.stage from n e;
+    any_end = λ z from n e. any_end_over z.stage from e;
+  }
+
+  -- within the session quota no length is too great
+  pub short_enough : (stage : Stage) (from n : ℕ) → n < x.limits.session → too_long x stage from n ≡ None
+  unfolding too_long
+  short_enough stage from n lt = rw (lt-leb x.limits.session n lt) refl

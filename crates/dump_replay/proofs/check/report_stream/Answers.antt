@@ -1,0 +1,258 @@
+use Rattle.std.proofs.Common.{◌≡◌, ℕ, ◌<◌, List, [], ◌++◌, length, take, Some, Ok, Err, IfOk, OnOk, refl, sym, ap, ◌∙◌, subst, arith}
+use Rattle.std.proofs.lemmas.List.{append-nil}
+use Rattle.dump_replay.specs.Stream.{Settings}
+use Rattle.dump_replay.specs.Judging.{offence}
+use Rattle.dump_replay.specs.Report.{event_lines, report}
+use Rattle.dump_replay.proofs.Lines.{nothing_lines}
+use Rattle.dump_replay.proofs.CheckSteps.{rose_later, room_is, first_read, first_pending, read_at, says_at, writes_at, ends_at, less_left, piece_came, piece_reaches, piece_decides, end_decides, read_breaks, breaks_reach, none_reaches, lines_front, left_none, stopped_judges, stopped_reports, ended_judges, ended_reports, ended_judged, stopped_not_read, stopped_not_judged, stopped_write, ended_not_read, ended_write, stopped_still, ended_still}
+use Rattle.dump_replay.proofs.check.report_stream.Goals as goal
+
+-- before the first piece nothing is read
+pub loop-n-init : goal.loop-n-init
+loop-n-init g c =
+    let x : Settings = g.E.ReadingEnd.settings c.args.end in
+    record {
+      room = omega (arith, c.in-Ok.ensures.len);
+      settings = refl;
+      input_faults = refl;
+      output_faults = refl;
+      reads = (
+        [],
+        first_read x (g.E.ReadingEnd.stands c.args.end) c.requires.room c.requires.fresh,
+        first_pending x c.requires.room,
+        λ bytes e. (bytes, e, refl),
+        λ t e. e ∙ ap Some (sym (append-nil t)),
+        λ w e. e ∙ ap Some (sym (append-nil w) ∙ ap (λ l. w ++ l) (sym (nothing_lines x))),
+      );
+    }
+
+-- there was no memory to begin with
+pub returns-in_default-clause-reaches : goal.returns-in_default-clause-reaches
+returns-in_default-clause-reaches g c = none_reaches (g.E.ReadingEnd.settings c.args.end) c.requires.room (g.I.Source.left c.args.input.now) (g.I.Source.taken c.args.input.now) (g.O.Sink.written c.args.output.now)
+
+-- reading failed
+-- what was read then
+read_so_far : goal.returns-in_default-take-clause-breaks
+read_so_far g c = λ e.
+    let r = c.loop-n.invariant.reads in
+    read_breaks (g.E.ReadingEnd.settings c.args.end) (g.I.Source.left c.args.input.now) (g.I.Source.left c.take.new.self) (g.I.Source.taken c.args.input.now) (g.I.Source.taken c.take.new.self) (g.O.Sink.written c.args.output.now) (g.O.Sink.written c.loop-n.output)
+    (g.I.Source.left c.loop-n.input) (g.I.Source.taken c.loop-n.input) r.0 r.2 r.3 c.in_default-take.ensures.failed_left r.4 c.in_default-take.ensures.failed_taken r.5
+
+pub returns-in_default-take-clause-reaches : goal.returns-in_default-take-clause-reaches
+returns-in_default-take-clause-reaches g c =
+    breaks_reach (g.E.ReadingEnd.settings c.args.end) (g.I.Source.left c.args.input.now) (g.I.Source.left c.take.new.self) (g.I.Source.taken c.args.input.now) (g.I.Source.taken c.take.new.self) (g.O.Sink.written c.args.output.now) (g.O.Sink.written c.loop-n.output) (read_so_far g c refl)
+
+pub returns-in_default-take-clause-reports : goal.returns-in_default-take-clause-reports
+returns-in_default-take-clause-reports g c = λ bytes w left written.
+    let x : Settings = g.E.ReadingEnd.settings c.args.end in
+    let r = c.loop-n.invariant.reads in
+    let l = r.3 bytes left in
+    (w ++ event_lines x r.0, r.5 w written, lines_front x r.0 l.0 bytes w r.2 l.2)
+
+pub returns-in_default-take-clause-breaks : goal.returns-in_default-take-clause-breaks
+returns-in_default-take-clause-breaks g c = read_so_far g c
+
+pub returns-in_default-take-clause-read_failed : goal.returns-in_default-take-clause-read_failed
+returns-in_default-take-clause-read_failed g c = λ e.
+    rose_later (g.I.Source.faults c.args.input.now) (g.I.Source.faults c.loop-n.input) (g.I.Source.faults c.take.new.self) c.loop-n.invariant.input_faults c.in_default-take.ensures.failed
+
+-- the input is over
+pub returns-then-n-eq0-clause-reaches : goal.returns-then-n-eq0-clause-reaches
+returns-then-n-eq0-clause-reaches g c =
+    let inv = c.loop-n.invariant in
+    let r = inv.reads in
+    let came = piece_came (g.I.Source.left c.args.input.now) (g.I.Source.left c.loop-n.input) (g.I.Source.left c.take.new.self) (g.I.Source.taken c.args.input.now) (g.I.Source.taken c.loop-n.input) (g.I.Source.taken c.take.new.self)
+    c.loop-n.room.items c.take.new.room _ c.loop-n.room.len c.in-Ok-take.n inv.room c.loop-n.room.ok.0 (c.take.auto.room ∙ ap length c.deref_mut.ensures.value) refl c.in-Ok-take.ensures.within r.0 r.3 r.4 c.in-Ok-take.ensures.moved c.in-Ok-take.ensures.taken in
+    piece_reaches (g.E.ReadingEnd.settings c.args.end) (g.I.Source.left c.args.input.now) (g.I.Source.left c.take.new.self) (g.I.Source.taken c.args.input.now) (g.I.Source.taken c.take.new.self) (g.O.Sink.written c.args.output.now)
+    (g.O.Sink.written c.loop-n.output) (g.O.Sink.written c.finish.new.output) r.0 _ r.2 came.short
+    came.rest
+    came.handed r.5 c.finish.ensures.grows
+
+pub returns-then-n-eq0-clause-written_well : goal.returns-then-n-eq0-clause-written_well
+returns-then-n-eq0-clause-written_well g c = λ well.
+    ended_still c.ended.result c.finish.result (g.O.Sink.faults c.finish.new.output ≡ g.O.Sink.faults c.loop-n.output) c.ended.ensures.stopped c.finish.ensures.good c.finish.ensures.memory well ∙ c.loop-n.invariant.output_faults
+
+pub returns-then-n-eq0-clause-decides : goal.returns-then-n-eq0-clause-decides
+returns-then-n-eq0-clause-decides g c = λ o e.
+    let x : Settings = g.E.ReadingEnd.settings c.args.end in
+    let inv = c.loop-n.invariant in
+    let r = inv.reads in
+    let k = ends_at (g.E.ReadingEnd.settings c.loop-n.end) x inv.settings (g.E.ReadingEnd.stands c.loop-n.end) r.0 r.1 r.2 (g.O.Sink.written c.loop-n.output) (g.O.Sink.written c.finish.new.output) c.finish.result c.finish.ensures.says c.finish.ensures.writes in
+    let told = ended_judged c.ended.result c.finish.result o c.ended.ensures.judged c.ended.ensures.stopped e in
+    end_decides x (g.I.Source.left c.args.input.now) (g.I.Source.left c.take.new.self) (g.I.Source.taken c.args.input.now) (g.I.Source.taken c.take.new.self) (g.O.Sink.written c.args.output.now) (g.O.Sink.written c.finish.new.output)
+    (g.I.Source.left c.loop-n.input) (g.I.Source.taken c.loop-n.input) r.0 c.take.new.room c.in-Ok-take.n o c.if-n-eq0.true r.3 c.in-Ok-take.ensures.moved (c.in-Ok-take.ensures.ended (omega arith)) r.4 c.in-Ok-take.ensures.taken
+    (subst (λ v. IfOk v (λ o. offence x r.0 ≡ o)) told k.0) (λ w written. let k' = k.1 w (r.5 w written) in (k'.0, k'.1, subst (λ v. OnOk v (k'.0 ≡ w ++ report x r.0)) told k'.2))
+
+pub returns-then-n-eq0-clause-judges : goal.returns-then-n-eq0-clause-judges
+returns-then-n-eq0-clause-judges g c = λ bytes left.
+    let x : Settings = g.E.ReadingEnd.settings c.args.end in
+    let inv = c.loop-n.invariant in
+    let r = inv.reads in
+    let none = left_none (g.I.Source.left c.args.input.now) (g.I.Source.left c.loop-n.input) (g.I.Source.left c.take.new.self) r.0 r.3 c.in-Ok-take.n (c.in-Ok-take.ensures.ended (omega arith)) c.if-n-eq0.true bytes left in
+    let k = ends_at (g.E.ReadingEnd.settings c.loop-n.end) x inv.settings (g.E.ReadingEnd.stands c.loop-n.end) r.0 r.1 r.2 (g.O.Sink.written c.loop-n.output) (g.O.Sink.written c.finish.new.output) c.finish.result c.finish.ensures.says c.finish.ensures.writes in
+    rw none (ended_judges x c.ended.result r.0 c.finish.result c.ended.ensures.judged c.ended.ensures.stopped k.0)
+
+pub returns-then-n-eq0-clause-reports : goal.returns-then-n-eq0-clause-reports
+returns-then-n-eq0-clause-reports g c = λ bytes w left written.
+    let x : Settings = g.E.ReadingEnd.settings c.args.end in
+    let inv = c.loop-n.invariant in
+    let r = inv.reads in
+    let none = left_none (g.I.Source.left c.args.input.now) (g.I.Source.left c.loop-n.input) (g.I.Source.left c.take.new.self) r.0 r.3 c.in-Ok-take.n (c.in-Ok-take.ensures.ended (omega arith)) c.if-n-eq0.true bytes left in
+    let k = ends_at (g.E.ReadingEnd.settings c.loop-n.end) x inv.settings (g.E.ReadingEnd.stands c.loop-n.end) r.0 r.1 r.2 (g.O.Sink.written c.loop-n.output) (g.O.Sink.written c.finish.new.output) c.finish.result c.finish.ensures.says c.finish.ensures.writes in
+    let k' = k.1 w (r.5 w written) in
+    (k'.0, k'.1, rw none (ended_reports x c.ended.result r.0 w k'.0 c.finish.result c.ended.ensures.judged c.ended.ensures.stopped k'.2 k'.3))
+
+pub returns-then-n-eq0-clause-breaks : goal.returns-then-n-eq0-clause-breaks
+returns-then-n-eq0-clause-breaks g c = λ e. absurd (ended_not_read c.ended.result c.finish.result c.ended.ensures.judged c.ended.ensures.stopped e)
+
+pub returns-then-n-eq0-clause-read_failed : goal.returns-then-n-eq0-clause-read_failed
+returns-then-n-eq0-clause-read_failed g c = λ e. absurd (ended_not_read c.ended.result c.finish.result c.ended.ensures.judged c.ended.ensures.stopped e)
+
+pub returns-then-n-eq0-clause-write_failed : goal.returns-then-n-eq0-clause-write_failed
+returns-then-n-eq0-clause-write_failed g c = λ e.
+    rose_later (g.O.Sink.faults c.args.output.now) (g.O.Sink.faults c.loop-n.output) (g.O.Sink.faults c.finish.new.output) c.loop-n.invariant.output_faults
+    (c.finish.ensures.failed (ended_write c.ended.result c.finish.result c.ended.ensures.judged c.ended.ensures.stopped e))
+
+-- a piece that decides nothing
+pub loop-n-smaller : goal.loop-n-smaller
+loop-n-smaller g c =
+    let x : Settings = g.E.ReadingEnd.settings c.args.end in
+    let inv = c.loop-n.invariant in
+    let r = inv.reads in
+    let y : List ℕ = take c.in-Ok-take.n c.deref.result.now in
+    let came = piece_came (g.I.Source.left c.args.input.now) (g.I.Source.left c.loop-n.input) (g.I.Source.left c.take.new.self) (g.I.Source.taken c.args.input.now) (g.I.Source.taken c.loop-n.input) (g.I.Source.taken c.take.new.self)
+    c.loop-n.room.items c.take.new.room c.deref.result.now c.loop-n.room.len c.in-Ok-take.n inv.room c.loop-n.room.ok.0 (c.take.auto.room ∙ ap length c.deref_mut.ensures.value) c.deref.ensures.value c.in-Ok-take.ensures.within r.0 r.3 r.4 c.in-Ok-take.ensures.moved c.in-Ok-take.ensures.taken in
+    let some : 0 < length y = omega (arith, came.size, c.if-n-eq0.false) in
+    let says = rw c.in-Ok-Going.field-0-is at (says_at (g.E.ReadingEnd.settings c.loop-n.end) x inv.settings (g.E.ReadingEnd.stands c.loop-n.end) r.0 r.1 (g.E.ReadingEnd.stands c.read.new.end) y (Ok c.in-Ok-Going.field-0) c.in-Ok-Going.ensures.says) in
+    less_left x r.0 y (g.E.ReadingEnd.taken c.loop-n.end) (g.E.ReadingEnd.taken c.read.new.end) says.1 (g.met.E.ReadingEnd.counts c.loop-n.end r.0 r.1.stands_for) (g.met.E.ReadingEnd.counts c.read.new.end (r.0 ++ y) says.0) some
+
+pub loop-n-preserved : goal.loop-n-preserved
+loop-n-preserved g c =
+    let x : Settings = g.E.ReadingEnd.settings c.args.end in
+    let inv = c.loop-n.invariant in
+    let r = inv.reads in
+    let y : List ℕ = take c.in-Ok-take.n c.deref.result.now in
+    let came = piece_came (g.I.Source.left c.args.input.now) (g.I.Source.left c.loop-n.input) (g.I.Source.left c.take.new.self) (g.I.Source.taken c.args.input.now) (g.I.Source.taken c.loop-n.input) (g.I.Source.taken c.take.new.self)
+    c.loop-n.room.items c.take.new.room c.deref.result.now c.loop-n.room.len c.in-Ok-take.n inv.room c.loop-n.room.ok.0 (c.take.auto.room ∙ ap length c.deref_mut.ensures.value) c.deref.ensures.value c.in-Ok-take.ensures.within r.0 r.3 r.4 c.in-Ok-take.ensures.moved c.in-Ok-take.ensures.taken in
+    let says = rw c.in-Ok-Going.field-0-is at (says_at (g.E.ReadingEnd.settings c.loop-n.end) x inv.settings (g.E.ReadingEnd.stands c.loop-n.end) r.0 r.1 (g.E.ReadingEnd.stands c.read.new.end) y (Ok c.in-Ok-Going.field-0) c.in-Ok-Going.ensures.says) in
+    record {
+      room = rw (room_is c.loop-n.room.items c.take.new.room c.loop-n.room.len c.loop-n.room.ok.0 came.full) (omega (arith, came.full, inv.room));
+      settings = c.in-Ok-Going.ensures.settings ∙ inv.settings;
+      input_faults = c.in-Ok-take.ensures.good ∙ inv.input_faults;
+      output_faults = c.in-Ok-Going.ensures.good ∙ inv.output_faults;
+      reads = (
+        r.0 ++ y,
+        read_at x (g.E.ReadingEnd.stands c.read.new.end) (r.0 ++ y) says.0 says.1,
+        says.1,
+        came.rest,
+        came.handed,
+        λ w written.
+            let k = writes_at (g.E.ReadingEnd.settings c.loop-n.end) x inv.settings (g.E.ReadingEnd.stands c.loop-n.end) r.0 r.1 y (g.O.Sink.written c.loop-n.output) (g.O.Sink.written c.read.new.output) (Ok c.in-Ok-Going.field-0) c.in-Ok-Going.ensures.writes w (r.5 w written) in
+            let lines = rw c.in-Ok-Going.field-0-is at k.2 in
+            k.1 ∙ ap Some lines,
+      );
+    }
+
+-- a piece that decides the session
+pub returns-in-Ok-Judged-clause-reaches : goal.returns-in-Ok-Judged-clause-reaches
+returns-in-Ok-Judged-clause-reaches g c =
+    let inv = c.loop-n.invariant in
+    let r = inv.reads in
+    let y : List ℕ = take c.in-Ok-take.n c.deref.result.now in
+    let came = piece_came (g.I.Source.left c.args.input.now) (g.I.Source.left c.loop-n.input) (g.I.Source.left c.take.new.self) (g.I.Source.taken c.args.input.now) (g.I.Source.taken c.loop-n.input) (g.I.Source.taken c.take.new.self)
+    c.loop-n.room.items c.take.new.room c.deref.result.now c.loop-n.room.len c.in-Ok-take.n inv.room c.loop-n.room.ok.0 (c.take.auto.room ∙ ap length c.deref_mut.ensures.value) c.deref.ensures.value c.in-Ok-take.ensures.within r.0 r.3 r.4 c.in-Ok-take.ensures.moved c.in-Ok-take.ensures.taken in
+    piece_reaches (g.E.ReadingEnd.settings c.args.end) (g.I.Source.left c.args.input.now) (g.I.Source.left c.take.new.self) (g.I.Source.taken c.args.input.now) (g.I.Source.taken c.take.new.self) (g.O.Sink.written c.args.output.now)
+    (g.O.Sink.written c.loop-n.output) (g.O.Sink.written c.read.new.output) r.0 y r.2 came.short
+    came.rest
+    came.handed r.5 c.in-Ok-Judged.ensures.grows
+
+pub returns-in-Ok-Judged-clause-decides : goal.returns-in-Ok-Judged-clause-decides
+returns-in-Ok-Judged-clause-decides g c = λ o e.
+    let x : Settings = g.E.ReadingEnd.settings c.args.end in
+    let inv = c.loop-n.invariant in
+    let r = inv.reads in
+    let y : List ℕ = take c.in-Ok-take.n c.deref.result.now in
+    let came = piece_came (g.I.Source.left c.args.input.now) (g.I.Source.left c.loop-n.input) (g.I.Source.left c.take.new.self) (g.I.Source.taken c.args.input.now) (g.I.Source.taken c.loop-n.input) (g.I.Source.taken c.take.new.self)
+    c.loop-n.room.items c.take.new.room c.deref.result.now c.loop-n.room.len c.in-Ok-take.n inv.room c.loop-n.room.ok.0 (c.take.auto.room ∙ ap length c.deref_mut.ensures.value) c.deref.ensures.value c.in-Ok-take.ensures.within r.0 r.3 r.4 c.in-Ok-take.ensures.moved c.in-Ok-take.ensures.taken in
+    let says = rw c.in-Ok-Judged.field-0-is at (says_at (g.E.ReadingEnd.settings c.loop-n.end) x inv.settings (g.E.ReadingEnd.stands c.loop-n.end) r.0 r.1 (g.E.ReadingEnd.stands c.read.new.end) y (Ok c.in-Ok-Judged.field-0) c.in-Ok-Judged.ensures.says) in
+    let decides = piece_decides x (g.I.Source.left c.args.input.now) (g.I.Source.left c.take.new.self) (g.I.Source.taken c.args.input.now) (g.I.Source.taken c.take.new.self) (g.O.Sink.written c.args.output.now) (g.O.Sink.written c.read.new.output)
+    r.0 y c.in-Ok-Judged.offence
+    came.rest
+    came.handed
+    says
+    (λ w written.
+    let k = writes_at (g.E.ReadingEnd.settings c.loop-n.end) x inv.settings (g.E.ReadingEnd.stands c.loop-n.end) r.0 r.1 y (g.O.Sink.written c.loop-n.output) (g.O.Sink.written c.read.new.output) (Ok c.in-Ok-Judged.field-0) c.in-Ok-Judged.ensures.writes w (r.5 w written) in
+    (k.0, k.1, rw c.in-Ok-Judged.field-0-is at k.2)) in
+    let same : c.in-Ok-Judged.offence ≡ o = cc in
+    rw same at decides
+
+pub returns-in-Ok-Judged-clause-judges : goal.returns-in-Ok-Judged-clause-judges
+returns-in-Ok-Judged-clause-judges g c = λ bytes left.
+    let x : Settings = g.E.ReadingEnd.settings c.args.end in
+    let inv = c.loop-n.invariant in
+    let r = inv.reads in
+    let y : List ℕ = take c.in-Ok-take.n c.deref.result.now in
+    let came = piece_came (g.I.Source.left c.args.input.now) (g.I.Source.left c.loop-n.input) (g.I.Source.left c.take.new.self) (g.I.Source.taken c.args.input.now) (g.I.Source.taken c.loop-n.input) (g.I.Source.taken c.take.new.self)
+    c.loop-n.room.items c.take.new.room c.deref.result.now c.loop-n.room.len c.in-Ok-take.n inv.room c.loop-n.room.ok.0 (c.take.auto.room ∙ ap length c.deref_mut.ensures.value) c.deref.ensures.value c.in-Ok-take.ensures.within r.0 r.3 r.4 c.in-Ok-take.ensures.moved c.in-Ok-take.ensures.taken in
+    let l = came.rest bytes left in
+    let says = rw c.in-Ok-Judged.field-0-is at (says_at (g.E.ReadingEnd.settings c.loop-n.end) x inv.settings (g.E.ReadingEnd.stands c.loop-n.end) r.0 r.1 (g.E.ReadingEnd.stands c.read.new.end) y (Ok c.in-Ok-Judged.field-0) c.in-Ok-Judged.ensures.says) in
+    ap (offence x) l.2 ∙ says l.0
+
+pub returns-in-Ok-Judged-clause-reports : goal.returns-in-Ok-Judged-clause-reports
+returns-in-Ok-Judged-clause-reports g c = λ bytes w left written.
+    let x : Settings = g.E.ReadingEnd.settings c.args.end in
+    let inv = c.loop-n.invariant in
+    let r = inv.reads in
+    let y : List ℕ = take c.in-Ok-take.n c.deref.result.now in
+    let came = piece_came (g.I.Source.left c.args.input.now) (g.I.Source.left c.loop-n.input) (g.I.Source.left c.take.new.self) (g.I.Source.taken c.args.input.now) (g.I.Source.taken c.loop-n.input) (g.I.Source.taken c.take.new.self)
+    c.loop-n.room.items c.take.new.room c.deref.result.now c.loop-n.room.len c.in-Ok-take.n inv.room c.loop-n.room.ok.0 (c.take.auto.room ∙ ap length c.deref_mut.ensures.value) c.deref.ensures.value c.in-Ok-take.ensures.within r.0 r.3 r.4 c.in-Ok-take.ensures.moved c.in-Ok-take.ensures.taken in
+    let l = came.rest bytes left in
+    let k = writes_at (g.E.ReadingEnd.settings c.loop-n.end) x inv.settings (g.E.ReadingEnd.stands c.loop-n.end) r.0 r.1 y (g.O.Sink.written c.loop-n.output) (g.O.Sink.written c.read.new.output) (Ok c.in-Ok-Judged.field-0) c.in-Ok-Judged.ensures.writes w (r.5 w written) in
+    let all = rw c.in-Ok-Judged.field-0-is at k.2 in
+    (k.0, k.1, all l.0 ∙ ap (λ s. w ++ report x s) (sym l.2))
+
+-- writing failed, or there was no memory
+pub returns-in-Err-clause-reaches : goal.returns-in-Err-clause-reaches
+returns-in-Err-clause-reaches g c =
+    let inv = c.loop-n.invariant in
+    let r = inv.reads in
+    let y : List ℕ = take c.in-Ok-take.n c.deref.result.now in
+    let came = piece_came (g.I.Source.left c.args.input.now) (g.I.Source.left c.loop-n.input) (g.I.Source.left c.take.new.self) (g.I.Source.taken c.args.input.now) (g.I.Source.taken c.loop-n.input) (g.I.Source.taken c.take.new.self)
+    c.loop-n.room.items c.take.new.room c.deref.result.now c.loop-n.room.len c.in-Ok-take.n inv.room c.loop-n.room.ok.0 (c.take.auto.room ∙ ap length c.deref_mut.ensures.value) c.deref.ensures.value c.in-Ok-take.ensures.within r.0 r.3 r.4 c.in-Ok-take.ensures.moved c.in-Ok-take.ensures.taken in
+    piece_reaches (g.E.ReadingEnd.settings c.args.end) (g.I.Source.left c.args.input.now) (g.I.Source.left c.take.new.self) (g.I.Source.taken c.args.input.now) (g.I.Source.taken c.take.new.self) (g.O.Sink.written c.args.output.now)
+    (g.O.Sink.written c.loop-n.output) (g.O.Sink.written c.read.new.output) r.0 y r.2 came.short
+    came.rest
+    came.handed r.5 c.in-Err.ensures.grows
+
+pub returns-in-Err-clause-written_well : goal.returns-in-Err-clause-written_well
+returns-in-Err-clause-written_well g c = λ well.
+    stopped_still c.in-Err.fault (g.O.Sink.faults c.read.new.output ≡ g.O.Sink.faults c.loop-n.output) (λ e. c.in-Err.ensures.memory (ap Err e)) (λ e. well (c.stopped.ensures ∙ e)) ∙ c.loop-n.invariant.output_faults
+
+pub returns-in-Err-clause-judges : goal.returns-in-Err-clause-judges
+returns-in-Err-clause-judges g c = λ bytes left. rw c.stopped.ensures (stopped_judges (g.E.ReadingEnd.settings c.args.end) bytes c.in-Err.fault)
+
+pub returns-in-Err-clause-reports : goal.returns-in-Err-clause-reports
+returns-in-Err-clause-reports g c = λ bytes w left written.
+    let x : Settings = g.E.ReadingEnd.settings c.args.end in
+    let inv = c.loop-n.invariant in
+    let r = inv.reads in
+    let y : List ℕ = take c.in-Ok-take.n c.deref.result.now in
+    let came = piece_came (g.I.Source.left c.args.input.now) (g.I.Source.left c.loop-n.input) (g.I.Source.left c.take.new.self) (g.I.Source.taken c.args.input.now) (g.I.Source.taken c.loop-n.input) (g.I.Source.taken c.take.new.self)
+    c.loop-n.room.items c.take.new.room c.deref.result.now c.loop-n.room.len c.in-Ok-take.n inv.room c.loop-n.room.ok.0 (c.take.auto.room ∙ ap length c.deref_mut.ensures.value) c.deref.ensures.value c.in-Ok-take.ensures.within r.0 r.3 r.4 c.in-Ok-take.ensures.moved c.in-Ok-take.ensures.taken in
+    let l = came.rest bytes left in
+    let k = writes_at (g.E.ReadingEnd.settings c.loop-n.end) x inv.settings (g.E.ReadingEnd.stands c.loop-n.end) r.0 r.1 y (g.O.Sink.written c.loop-n.output) (g.O.Sink.written c.read.new.output) (Err c.in-Err.fault) c.in-Err.ensures.writes w (r.5 w written) in
+    (k.0, k.1, rw c.stopped.ensures (stopped_reports x bytes w k.0 c.in-Err.fault (rw l.2 (k.2 l.0))))
+
+pub returns-in-Err-clause-decides : goal.returns-in-Err-clause-decides
+returns-in-Err-clause-decides g c = λ o e. absurd (stopped_not_judged c.in-Err.fault o (sym c.stopped.ensures ∙ e))
+
+pub returns-in-Err-clause-breaks : goal.returns-in-Err-clause-breaks
+returns-in-Err-clause-breaks g c = λ e. absurd (stopped_not_read c.in-Err.fault (sym c.stopped.ensures ∙ e))
+
+pub returns-in-Err-clause-read_failed : goal.returns-in-Err-clause-read_failed
+returns-in-Err-clause-read_failed g c = λ e. absurd (stopped_not_read c.in-Err.fault (sym c.stopped.ensures ∙ e))
+
+pub returns-in-Err-clause-write_failed : goal.returns-in-Err-clause-write_failed
+returns-in-Err-clause-write_failed g c = λ e.
+    rose_later (g.O.Sink.faults c.args.output.now) (g.O.Sink.faults c.loop-n.output) (g.O.Sink.faults c.read.new.output) c.loop-n.invariant.output_faults
+    (c.in-Err.ensures.failed (ap Err (stopped_write c.in-Err.fault (sym c.stopped.ensures ∙ e))))
