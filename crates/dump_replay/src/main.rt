@@ -14,6 +14,11 @@
 //! streams alone.
 #![tactic(auto)]
 
+ghost use Rattle.std.specs.Prelude.{◌≡◌, ◌≢◌, [], IfOk, IfErr, IsErr, IsOkAnd};
+ghost use Rattle.std.specs.IoError.{error_kind};
+ghost use Rattle.std.specs.Process.{exit_status};
+ghost use Rattle.std.specs.Vec.Iter.{into_iter_items};
+
 mod check;
 pub mod laws;
 mod output;
@@ -24,29 +29,47 @@ pub mod run;
 mod stage;
 
 use io_edges::{ReadSource, WriteSink};
-use std::env;
+use std::alloc::{AllocError, Global};
+use std::env::{self, Args};
 use std::io::{self, ErrorKind};
 use std::process::ExitCode;
 
-fn words(rt: &HostRuntime) -> io::Result<Vec<String>> {
-    match env::args(rt) {
-        Ok(words) => Ok(words.collect(rt.alloc())?),
-        // A word that is no text is none of the program's.
-        Err(error) if error.kind() == ErrorKind::InvalidData => Ok(Vec::new(rt.alloc())),
+// The words that the system told. A word that isn't text is none of the program's, and the words are
+// then as none at all. Any other error is want of memory.
+fn words_of(alloc: Global, told: io::Result<Args>) -> io::Result<Vec<String>>
+    ensures text { IfOk told (λ args. IfOk result (λ words. words.items ≡ into_iter_items args)) }
+    ensures no_text { IfErr told
+        (λ e. error_kind e ≡ ErrorKind.InvalidData → IsOkAnd result (λ words. words.items ≡ [])) }
+    ensures wanted { IfErr told (λ e. error_kind e ≢ ErrorKind.InvalidData → IsErr result) }
+{
+    match told {
+        Ok(words) => Ok(list_of(alloc, words)?),
+        Err(error) if error.kind() == ErrorKind::InvalidData => Ok(Vec::new(alloc)),
         Err(error) => Err(error),
     }
 }
 
+fn list_of(alloc: Global, words: Args) -> Result<Vec<String>, AllocError>
+    ensures { IfOk result (λ list. list.items ≡ into_iter_items words) }
+{
+    words.collect(alloc)
+}
+
+fn exit(status: u8) -> ExitCode
+    ensures { exit_status result ≡ status }
+{
+    ExitCode::from(status)
+}
+
 fn main(rt: HostRuntime) -> ExitCode {
-    let Ok(words) = words(&rt) else {
+    let Ok(words) = words_of(rt.alloc(), env::args(&rt)) else {
         let _ = eprintln!(rt; "out of memory");
-        return ExitCode::from(5);
+        return exit(5);
     };
     let input = ReadSource::new(rt.stdin());
     let output = WriteSink::new(rt.stdout());
     let mut notes = WriteSink::new(rt.stderr());
-    let ran = run::run(rt.alloc(), &words, input, output, &mut notes);
-    ExitCode::from(ran.status)
+    exit(run::run(rt.alloc(), &words, input, output, &mut notes).status)
 }
 
 #[cfg(test)]

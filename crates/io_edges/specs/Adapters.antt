@@ -1,6 +1,12 @@
 -- What contracts see of the adapters over std's readers, writers and files.
-use Rattle.std.specs.Prelude.{ℕ, List, take, Option}
+use Rattle.std.specs.Prelude.{◌≡◌, ◌≢◌, ℕ, List, take, Option, None, Result, Ok, Err, Vec, IsSome, OnOk, IfOk, IfErr, IfSome}
+use Rattle.std.specs.declared.alloc.Global.{Global}
+use Rattle.std.specs.declared.io.Error.{Error}
+use Rattle.std.specs.declared.io.ErrorKind.TheVariants.{NotFound}
+use Rattle.std.specs.IoError.{error_kind}
 use Rattle.std.specs.Io.KnownBytes.{Appends}
+use Rattle.io_edges.specs.declared.ShelfFault.{ShelfFault}
+use Rattle.io_edges.specs.declared.ShelfFault.TheVariants.{Failed}
 use Rattle.io_edges.specs.declared.file_shelf.FileShelf.{FileShelf}
 use Rattle.io_edges.specs.declared.read_source.ReadSource.{ReadSource}
 use Rattle.io_edges.specs.declared.write_sink.WriteSink.{WriteSink}
@@ -29,3 +35,11 @@ shelf_faults shelf = shelf.faults
 pub record AppendsPrefix (old new : Option (List ℕ)) (piece : List ℕ) : Type 0 where
   pub kept : ℕ
   pub grown : Appends old new (take kept piece)
+
+-- what a fetch answers where a file was to be opened: `None` where there is none, else a fault, or all
+-- that the file gives, where it tells that
+pub record AnswersOpened {F : Type 0} (remaining : F → Option (List ℕ)) (opened : Result F Error) (answer : Result (Option (Vec ℕ Global)) ShelfFault) : Type 0 where
+  pub missing : IfErr opened (λ e. error_kind e ≡ NotFound → answer ≡ Ok None)
+  pub broken : IfErr opened (λ e. error_kind e ≢ NotFound → answer ≡ Err Failed)
+  pub found : OnOk opened (IfOk answer IsSome)
+  pub whole : IfOk opened (λ file. IfOk answer (λ found. IfSome found (λ bytes. IfSome (remaining file) (λ left. bytes.items ≡ left))))

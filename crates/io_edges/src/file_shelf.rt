@@ -1,8 +1,8 @@
-ghost use Rattle.std.specs.Prelude.{◌≡◌, ◌≢◌, ◌≤◌, ◌<◌, ◌^◌, ◌++◌, length, None, IsSome, OnOk, OnErr, IfOk, IfErr, IfSome, IsErrOf, IsOkUnless};
-ghost use Rattle.std.specs.IoError.{error_kind};
+ghost use Rattle.std.specs.Prelude.{◌≡◌, ◌≤◌, ◌<◌, ◌^◌, ◌++◌, length, None, OnOk, OnErr, IfOk, IfSome, IsErrOf, IsOkUnless, Result};
+ghost use Rattle.std.specs.declared.io.Error.{Error};
 ghost use Rattle.std.specs.Io.KnownBytes.{Consumes, IsAtEnd};
 ghost use Rattle.io_edges.specs.Faults.{one_more};
-ghost use Rattle.io_edges.specs.Adapters.{shelf_faults};
+ghost use Rattle.io_edges.specs.Adapters.{shelf_faults, AnswersOpened};
 
 use crate::{Shelf, ShelfFault};
 use std::alloc::Global;
@@ -38,6 +38,7 @@ impl<R: Files + AllocGlobal> Shelf for FileShelf<R> {
 
     fn fetch(&mut self, name: &str) -> Result<Option<Vec<u8>>, ShelfFault>
         ensures most { IfOk result (λ found. IfSome found (λ bytes. length bytes.items ≤ 2 ^ 30)) }
+        ensures answer { (opened : Result R.File Error) × AnswersOpened R.File.remaining opened result }
         ensures faults { shelf_faults self.old ≤ shelf_faults self.new }
         ensures good { OnOk result (shelf_faults self.new ≡ shelf_faults self.old) }
         ensures failed { IsErrOf result ShelfFault.Failed
@@ -58,12 +59,7 @@ fn found_file<F: Read + Drop>(
     alloc: Global,
     opened: io::Result<F>,
 ) -> Result<Option<Vec<u8>>, ShelfFault>
-    ensures missing { IfErr opened (λ e. error_kind e ≡ ErrorKind.NotFound → result ≡ Ok None) }
-    ensures broken { IfErr opened
-        (λ e. error_kind e ≢ ErrorKind.NotFound → result ≡ Err ShelfFault.Failed) }
-    ensures found { OnOk opened (IfOk result IsSome) }
-    ensures whole { IfOk opened (λ file. IfOk result (λ found. IfSome found
-        (λ bytes. IfSome (F.remaining file) (λ left. bytes.items ≡ left)))) }
+    ensures answer { AnswersOpened F.remaining opened result }
     ensures most { IfOk result (λ found. IfSome found (λ bytes. length bytes.items ≤ 2 ^ 30)) }
 {
     match opened {

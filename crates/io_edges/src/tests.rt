@@ -1,6 +1,9 @@
 ghost use Rattle.std.specs.Prelude.{◌≡◌, ◌++◌, take, true, Some, IfSome, IfOk, IsErrOf};
 ghost use Rattle.io_edges.specs.Faults.{Rose};
 
+mod adapters;
+mod flaky;
+
 use super::*;
 use std::alloc::Global;
 use std::collections::BTreeMap;
