@@ -134,13 +134,14 @@ module _ (x : Settings) (left left' taken taken' written written' : Option (List
       record {
         bytes = p ++ y;
         offence_is = ap (offence x) (sym all) ∙ says [];
+        settled = inr says;
         stream = known_told (λ all rest. (all ≡ p ++ y ++ rest) × ((rest ≡ []) ⊎ ((more : List ℕ) → offence x (p ++ y ++ more) ≡ o))) left left' (λ bytes e. let k = moved bytes e in (k.0, k.1, (k.2, inr says)));
         took = known_told (λ t t'. t' ≡ t ++ (p ++ y)) taken taken' (λ t e. (t ++ (p ++ y), took t e, refl));
         wrote = known_told (λ w w'. w' ≡ w ++ report x (p ++ y)) written written' (λ w e. let k = wrote w e in (k.0, k.1, k.2 [] ∙ ap (λ l. w ++ report x l) all));
       }
 
   -- the input is over
-  pub end_decides : (mid mid' : Option (List ℕ)) (p room : List ℕ) (n : ℕ) (o : Option Offence) → n ≡ 0
+  pub end_decides : (mid mid' : Option (List ℕ)) (p room : List ℕ) (n : ℕ) (o : Option Offence) → n ≡ 0 → IsPending (stream x) p
       → ((bytes : List ℕ) → left ≡ Some bytes → (rest : List ℕ) × (mid ≡ Some rest) × (bytes ≡ p ++ rest))
       → Told mid left' (λ l l'. Moves l l' room n)
       → Told mid left' (λ l l'. (n ≡ 0) ↔ (l ≡ []))
@@ -149,9 +150,10 @@ module _ (x : Settings) (left left' taken taken' written written' : Option (List
       → offence x p ≡ o
       → ((w : List ℕ) → written ≡ Some w → (w' : List ℕ) × (written' ≡ Some w') × (w' ≡ w ++ report x p))
       → Decides x o left left' taken taken' written written'
-  end_decides mid mid' p room n o zero known moved ended took handed says wrote = record {
+  end_decides mid mid' p room n o zero pending known moved ended took handed says wrote = record {
     bytes = p;
     offence_is = says;
+    settled = inl pending;
     stream = known_told (λ all rest. (all ≡ p ++ rest) × ((rest ≡ []) ⊎ ((more : List ℕ) → offence x (p ++ more) ≡ o))) left left' (λ all e.
         let h = known all e in
         let k = told_some (λ l l'. Moves l l' room n) mid left' h.0 h.1 moved in

@@ -49,17 +49,7 @@ module _ (x : Settings) (from : ℕ) (bytes : List ℕ) (u : StreamUnit) (n : �
   -- where a record is due a record comes
   pub record_comes : (due : Due) → record_at x due from bytes ≡ whole u n → (read : Read) × (u ≡ frame read) × Comes x due bytes read n
   record_comes dues.Over e = cc
-  record_comes dues.Version e = due_comes dues.Version e
-  record_comes dues.Mode e = due_comes dues.Mode e
-  record_comes dues.Via e = due_comes dues.Via e
-  record_comes dues.Encoding e = due_comes dues.Encoding e
-  record_comes dues.PreambleEnd e = due_comes dues.PreambleEnd e
-  record_comes dues.Ack e = due_comes dues.Ack e
-  record_comes dues.Messages e = due_comes dues.Messages e
-  record_comes dues.Envelope e = due_comes dues.Envelope e
-  record_comes dues.Reply e = due_comes dues.Reply e
-  record_comes dues.Chunk e = due_comes dues.Chunk e
-  record_comes dues.End e = due_comes dues.End e
+  record_comes due e = due_comes due e
 
   pub unit_of_record : (due : Due) → unit_in x (stages.Record due) from bytes ≡ whole u n → (read : Read) × (u ≡ frame read) × Comes x due bytes read n
   unfolding unit_in
@@ -77,15 +67,5 @@ unit_of_payload x from bytes u n p e = byte_comes bytes u n e
 
 -- an initiator sends no Fault
 pub no_fault : (due : Due) → MayCome (may_come Initiator due) frames.Fault → ⊥
-no_fault dues.Version e = cc
-no_fault dues.Mode e = cc
-no_fault dues.Via e = cc
-no_fault dues.Encoding e = cc
-no_fault dues.PreambleEnd e = cc
-no_fault dues.Ack e = cc
-no_fault dues.Messages e = cc
-no_fault dues.Envelope e = cc
-no_fault dues.Reply e = cc
-no_fault dues.Chunk e = cc
-no_fault dues.End e = cc
 no_fault dues.Over e = cc
+no_fault _ e = cc

@@ -13,7 +13,7 @@ use Rattle.nmf_records.specs.Reading.{MayCome, frame_at}
 use Rattle.nmf_records.specs.Script.{may_come}
 use Rattle.nmf_records.proofs.Records.{record_read}
 use Rattle.dump_replay.specs.declared.stage.Stage.TheVariants as stages
-use Rattle.dump_replay.specs.Stream.{Settings, frame, reason_of, built, offence_at, unit_in, is_over_in}
+use Rattle.dump_replay.specs.Stream.{Settings, frame, reason_of, built, offence_at, record_at, unit_in, is_over_in}
 
 -- which record is due where one of these types may come
 pub version_due : (due : Due) (major minor : ℕ) → MayCome (may_come Initiator due) (frames.Version major minor) → due ≡ dues.Version
@@ -40,13 +40,16 @@ chunk_due _ size e = cc
 abbrev pub refusing : ℕ → Due → FrameFault → Offence
 refusing from due fault = offence_at from (built (reason_of due fault))
 
+-- where the session isn't over, what is read at a record is the framing's
+pub read_due : (x : Settings) (due : Due) (from : ℕ) (bytes : List ℕ) → is_over_in (stages.Record due) ≡ false
+    → record_at x due from bytes ≡ seen frame (refusing from due) (frame_at x.limits.via (may_come Initiator due) bytes)
+read_due x dues.Over from bytes on = cc
+read_due x _ from bytes on = refl
+
 module _ (x : Settings) (due : Due) (bytes : List ℕ) (from : ℕ) where
   pub reads_due : is_over_in (stages.Record due) ≡ false → unit_in x (stages.Record due) from bytes ≡ seen frame (refusing from due) (frame_at x.limits.via (may_come Initiator due) bytes)
   unfolding unit_in
-  reads_due on = by_due due on where
-    by_due : (due : Due) → is_over_in (stages.Record due) ≡ false → unit_in x (stages.Record due) from bytes ≡ seen frame (refusing from due) (frame_at x.limits.via (may_come Initiator due) bytes)
-    by_due dues.Over on = cc
-    by_due _ on = refl
+  reads_due on = read_due x due from bytes on
 
   -- a record that may come there is a unit
   pub record_unit : (read : Read) → is_over_in (stages.Record due) ≡ false → IsRecord read bytes → MayCome (may_come Initiator due) read.frame → length read.text ≤ x.limits.via

@@ -47,31 +47,11 @@ module _ (x : Settings) where
 
   reads_record : (due : Due) (from : ℕ) → ReadsFront (record_at x due from)
   reads_record dues.Over from = reads_nothing
-  reads_record dues.Version from = reads_due dues.Version from
-  reads_record dues.Mode from = reads_due dues.Mode from
-  reads_record dues.Via from = reads_due dues.Via from
-  reads_record dues.Encoding from = reads_due dues.Encoding from
-  reads_record dues.PreambleEnd from = reads_due dues.PreambleEnd from
-  reads_record dues.Ack from = reads_due dues.Ack from
-  reads_record dues.Messages from = reads_due dues.Messages from
-  reads_record dues.Envelope from = reads_due dues.Envelope from
-  reads_record dues.Reply from = reads_due dues.Reply from
-  reads_record dues.Chunk from = reads_due dues.Chunk from
-  reads_record dues.End from = reads_due dues.End from
+  reads_record due from = reads_due due from
 
   nothing_recorded : (due : Due) (from : ℕ) → record_at x due from [] ≡ begun
   nothing_recorded dues.Over from = refl
-  nothing_recorded dues.Version from = nothing_due dues.Version from
-  nothing_recorded dues.Mode from = nothing_due dues.Mode from
-  nothing_recorded dues.Via from = nothing_due dues.Via from
-  nothing_recorded dues.Encoding from = nothing_due dues.Encoding from
-  nothing_recorded dues.PreambleEnd from = nothing_due dues.PreambleEnd from
-  nothing_recorded dues.Ack from = nothing_due dues.Ack from
-  nothing_recorded dues.Messages from = nothing_due dues.Messages from
-  nothing_recorded dues.Envelope from = nothing_due dues.Envelope from
-  nothing_recorded dues.Reply from = nothing_due dues.Reply from
-  nothing_recorded dues.Chunk from = nothing_due dues.Chunk from
-  nothing_recorded dues.End from = nothing_due dues.End from
+  nothing_recorded due from = nothing_due due from
 
   reads_unit : (stage : Stage) (from : ℕ) → ReadsFront (unit_in x stage from)
   unfolding unit_in

@@ -39,29 +39,14 @@ use Rattle.dump_replay.specs.declared.receiver.Step.{Step}
 use Rattle.dump_replay.specs.declared.receiver.Step.TheVariants as steps
 use Rattle.dump_replay.specs.declared.stage.Stage.{Stage}
 use Rattle.dump_replay.specs.declared.stage.Stage.TheVariants as stages
-use Rattle.dump_replay.specs.Stream.{Settings, Situation, StreamUnit, StreamEvent, opened, message, ended, frame, unexpected, built, reason_of, reason_in, offence_at, record_at, unit_in, after_record, completed_record, is_over_in, after, completed, refused, stream}
+use Rattle.dump_replay.specs.Stream.{Settings, Situation, StreamUnit, StreamEvent, opened, message, ended, frame, unexpected, built, reason_of, reason_in, offence_at, unit_in, after_record, completed_record, is_over_in, after, completed, refused, stream}
 use Rattle.dump_replay.specs.Receiving.{Reached, HasBegun, Failed, ShowsVia, taken_of, failure_of}
 use Rattle.dump_replay.specs.Stepping.{UnitAnswers, BehindAnswers, step_of}
 use Rattle.dump_replay.proofs.Grammar.{readable, short_enough}
 use Rattle.dump_replay.proofs.ReceiverFacts.{over_as_stage}
+use Rattle.dump_replay.proofs.DueRecords.{read_due}
 use Rattle.dump_replay.proofs.PayloadSteps.{reached_between}
 use Rattle.dump_replay.proofs.Vias.{no_via, begun_text, wrong_text, whole_text}
-
--- where the session isn't over, what is read at a record is the framing's
-read_due : (x : Settings) (due : Due) (from : ℕ) (bytes : List ℕ) → is_over_in (stages.Record due) ≡ false
-    → record_at x due from bytes ≡ seen frame (λ fault. offence_at from (built (reason_of due fault))) (frame_at x.limits.via (may_come Initiator due) bytes)
-read_due x dues.Over from bytes on = cc
-read_due x dues.Version from bytes on = refl
-read_due x dues.Mode from bytes on = refl
-read_due x dues.Via from bytes on = refl
-read_due x dues.Encoding from bytes on = refl
-read_due x dues.PreambleEnd from bytes on = refl
-read_due x dues.Ack from bytes on = refl
-read_due x dues.Messages from bytes on = refl
-read_due x dues.Envelope from bytes on = refl
-read_due x dues.Reply from bytes on = refl
-read_due x dues.Chunk from bytes on = refl
-read_due x dues.End from bytes on = refl
 
 -- the faults of records are answered as one
 built_unexpected : (due : Due) (kind : ℕ) → built (unexpected due kind) ≡ reasons.Unbuilt

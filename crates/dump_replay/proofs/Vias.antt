@@ -100,18 +100,9 @@ never_begins types e f (kind ∷ rest) =
 
 -- no text begins where a record comes that isn't a Via
 only_via : (due : Due) → (due ≡ dues.Via) ⊎ ((b : List ℕ) → begins_text (may_come Initiator due) b ≡ false)
-only_via dues.Version = inr (never_begins _ refl refl)
-only_via dues.Mode = inr (never_begins _ refl refl)
 only_via dues.Via = inl refl
-only_via dues.Encoding = inr (never_begins _ refl refl)
-only_via dues.PreambleEnd = inr (never_begins _ refl refl)
-only_via dues.Ack = inr (never_begins _ refl refl)
-only_via dues.Messages = inr (never_begins _ refl refl)
-only_via dues.Envelope = inr (never_begins _ refl refl)
-only_via dues.Reply = inr (never_begins _ refl refl)
 only_via dues.Chunk = inr (λ b. refl)
-only_via dues.End = inr (never_begins _ refl refl)
-only_via dues.Over = inr (never_begins _ refl refl)
+only_via _ = inr (never_begins _ refl refl)
 
 -- where a Via is due no other record comes
 is_via : (f : Frame) → MayCome (may_come Initiator dues.Via) f → f ≡ frames.Via

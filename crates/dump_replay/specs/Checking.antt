@@ -45,11 +45,12 @@ pub record Reaches (x : Settings) (left left' taken taken' written written' : Op
   pub took : Told taken taken' (λ t t'. t' ≡ t ++ before ++ piece)
   pub wrote : Told written written' (λ w w'. Grows (w ++ event_lines x before) w')
 
--- What was read and written of a stream that is judged: bytes that have this offence themselves, and decide it however they go on unless they
--- are all; and their report.
+-- What was read and written of a stream that is judged: bytes that have this offence themselves, and decide it however they go on, unless they
+-- are all and only their end does; and their report.
 pub record Decides (x : Settings) (judged : Option Offence) (left left' taken taken' written written' : Option (List ℕ)) : Type 0 where
   pub bytes : List ℕ
   pub offence_is : offence x bytes ≡ judged
+  pub settled : IsPending (stream x) bytes ⊎ ((more : List ℕ) → offence x (bytes ++ more) ≡ judged)
   pub stream : Told left left' (λ all rest. (all ≡ bytes ++ rest) × ((rest ≡ []) ⊎ ((more : List ℕ) → offence x (bytes ++ more) ≡ judged)))
   pub took : Told taken taken' (λ t t'. t' ≡ t ++ bytes)
   pub wrote : Told written written' (λ w w'. w' ≡ w ++ report x bytes)
