@@ -1,13 +1,12 @@
 -- The grammar of an initiator's stream is one: its units are known by their own bytes, and it ends with the events that end it.
-use Rattle.std.proofs.Common.{◌≡◌, ℕ, ◌<◌, ◌⊎◌, inl, inr, List, [], ◌∷◌, Bool, true, false, Some, None, refl, ap, arith}
+use Rattle.std.proofs.Common.{◌≡◌, ℕ, ◌<◌, inl, List, [], Bool, true, false, Some, None, refl, ap}
 use Rattle.std.specs.Prelude.{nat_le, ◌&&◌, not, if◌then◌else◌}
 use Rattle.std.proofs.lemmas.Bool.{lt-leb}
 use Rattle.unit_streams.specs.Front.{begun, ReadsFront}
-use Rattle.unit_streams.specs.Parts.{seen}
+use Rattle.unit_streams.specs.Parts.{a_byte, seen}
 use Rattle.unit_streams.specs.Grammar.{IsReadable, IsQuietWhenOver}
-use Rattle.unit_streams.proofs.Peeling.{extent}
-use Rattle.unit_streams.proofs.Fronts.{IsDecided, reads_by}
-use Rattle.unit_streams.proofs.Parts.{reads_seen}
+use Rattle.unit_streams.proofs.Fronts.{reads_by}
+use Rattle.unit_streams.proofs.Parts.{reads_byte, reads_seen}
 use Rattle.nbfx_values.specs.declared.refusals.Offence.{Offence}
 use Rattle.nbfx_values.specs.declared.refusals.Reason.TheVariants.{SessionTooLong}
 use Rattle.nmf_records.specs.declared.script.Direction.TheVariants.{Initiator}
@@ -18,7 +17,7 @@ use Rattle.nmf_records.specs.Script.{may_come}
 use Rattle.nmf_records.proofs.Frames.{frame_peels, frames_front}
 use Rattle.dump_replay.specs.declared.stage.Stage.{Stage}
 use Rattle.dump_replay.specs.declared.stage.Stage.TheVariants as stages
-use Rattle.dump_replay.specs.Stream.{Settings, StreamUnit, frame, reason_of, built, offence_at, record_at, payload_at, unit_in, is_over_in, open_from, too_long, cut_off, stream}
+use Rattle.dump_replay.specs.Stream.{Settings, StreamUnit, frame, payload_byte, reason_of, built, offence_at, record_at, payload_at, unit_in, is_over_in, open_from, too_long, cut_off, stream}
 
 -- where nothing is read
 reads_nothing : ReadsFront {A = StreamUnit} {R = Offence} (λ bytes. begun)
@@ -26,16 +25,7 @@ reads_nothing = reads_by (λ bytes. begun) (λ b. inl refl)
 
 -- a payload's byte
 reads_payload : ReadsFront payload_at
-reads_payload = reads_by payload_at cases where
-  cases : (b : List ℕ) → (payload_at b ≡ begun) ⊎ IsDecided payload_at b (extent (payload_at b))
-  cases [] = inl refl
-  cases (x ∷ b) = inr (record {
-    said = λ h. cc;
-    within = omega arith;
-    alone = refl;
-    first = λ j lt. let none : j ≡ 0 = omega arith in rw none refl;
-    stays = λ more. refl;
-  })
+reads_payload = reads_seen payload_byte (λ o. o) a_byte reads_byte
 
 module _ (x : Settings) where
   -- a record that is due

@@ -9,8 +9,6 @@ use Rattle.dump_replay.specs.declared.receiver.Step.{Step}
 use Rattle.dump_replay.specs.declared.receiver.Step.TheVariants as steps
 use Rattle.dump_replay.specs.declared.receiver.Receiver.{Receiver}
 use Rattle.dump_replay.specs.declared.stage.Next.{Next}
-use Rattle.dump_replay.specs.declared.stage.Stage.{Stage}
-use Rattle.dump_replay.specs.declared.stage.Stage.TheVariants as stages
 use Rattle.dump_replay.specs.Stream.{Settings, Situation, StreamEvent, built, reason_in, offence_at, after_record, completed_record, stream}
 use Rattle.dump_replay.specs.Saying.{step_for}
 use Rattle.dump_replay.specs.Receiving.{Reached, Failed}
@@ -54,8 +52,3 @@ BehindAnswers None z event new from (Ok step) = (new.stage ≡ z.stage) × (new.
 BehindAnswers None z event new from (Err o) = ⊥
 BehindAnswers (Some reason) z event new from (Ok step) = ⊥
 BehindAnswers (Some reason) z event new from (Err o) = (o ≡ offence_at from (built reason)) × (new.failure ≡ Some o)
-
--- it is at a payload
-abbrev pub AtPayload : Stage → Type 0
-AtPayload (stages.Payload payload) = Unit {0}
-AtPayload (stages.Record due) = ⊥

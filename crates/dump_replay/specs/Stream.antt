@@ -1,8 +1,8 @@
 -- An initiator's stream in duplex mode, as a grammar of units: a record, where an envelope's is its head, or a byte of a payload.
 use Rattle.std.specs.Prelude.{ℕ, ◌+◌, ◌-◌, List, [], ◌∷◌, Bool, true, false, Option, Some, None, nat_lt, nat_le, ◌==◌, ◌&&◌, ◌||◌, not, if◌then◌else◌}
 use Rattle.std.specs.Option.{option_map}
-use Rattle.unit_streams.specs.Front.{Front, begun, whole}
-use Rattle.unit_streams.specs.Parts.{seen}
+use Rattle.unit_streams.specs.Front.{Front, begun}
+use Rattle.unit_streams.specs.Parts.{a_byte, seen}
 use Rattle.unit_streams.specs.Grammar.{Grammar}
 use Rattle.nbfx_values.specs.Limits.{Limits, usual_limits}
 use Rattle.nbfx_values.specs.declared.session.Mode.{Mode}
@@ -96,8 +96,7 @@ record_at x dues.Over from bytes = begun
 record_at x due from bytes = seen frame (λ fault. offence_at from (built (reason_of due fault))) (frame_at x.limits.via (may_come Initiator due) bytes)
 
 abbrev pub payload_at : List ℕ → Front StreamUnit Offence
-payload_at [] = begun
-payload_at (byte ∷ rest) = whole (payload_byte byte) 1
+payload_at bytes = seen payload_byte (λ o. o) (a_byte bytes)
 
 -- the unit at the front of some bytes
 unfoldable pub unit_in : Settings → Stage → ℕ → List ℕ → Front StreamUnit Offence

@@ -18,3 +18,4 @@ pub mod Pending
 pub mod Units
 pub mod Quiet
 pub mod Along
+pub mod Accepted
