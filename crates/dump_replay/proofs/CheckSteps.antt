@@ -5,7 +5,7 @@ use Rattle.std.specs.Option.{option_or}
 use Rattle.std.proofs.Math.Seq.{take-nil}
 use Rattle.std.proofs.lemmas.Bool.{leb-false}
 use Rattle.std.proofs.lemmas.List.{append-nil, length-take-le, take-append-le, take-append-drop, take_all}
-use Rattle.io_edges.specs.Faults.{Rose}
+use Rattle.io_edges.specs.Faults.{CountsFaults}
 use Rattle.io_edges.specs.Flow.{Told, Moves, GrowsByPrefix}
 use Rattle.io_edges.specs.declared.SinkFault.{SinkFault}
 use Rattle.io_edges.specs.declared.SinkFault.TheVariants as faults
@@ -46,9 +46,18 @@ told_as P Q None new told weaker = tt
 told_as P Q (Some l) None told weaker = absurd told
 told_as P Q (Some l) (Some l') told weaker = weaker l l' told
 
--- a count that stood still and then rose
-pub rose_later : (a b c : ℕ) → b ≡ a → Rose b c → Rose a c
-rose_later a b c still rose = rw still at rose
+-- a count that stood still, and what a call left of it then
+pub counted_later : (a b c : ℕ) (failed : Type 0) → b ≡ a → CountsFaults b c failed → CountsFaults a c failed
+counted_later a b c failed still h = subst (λ (n : ℕ). CountsFaults n c failed) still h
+
+-- the same of a call that fails where another does
+pub counted_with : (a b c : ℕ) (failed other : Type 0) → b ≡ a → CountsFaults b c other → (failed → other) → (other → failed) → CountsFaults a c failed
+counted_with a b c failed other still h to back =
+    counted_later a b c failed still (record { rose = λ f. h.rose (to f); same = λ none. h.same (λ o. none (back o)); grows = h.grows })
+
+-- a count that stood still where nothing failed
+pub counted_none : (a b : ℕ) (failed : Type 0) → b ≡ a → (failed → ⊥) → CountsFaults a b failed
+counted_none a b failed still never = record { rose = λ f. absurd (never f); same = λ none. still; grows = omega (arith, still) }
 
 -- what a full room holds after new bytes of its length were put in it
 pub room_is : (items new : List ℕ) (len : ℕ) → len ≡ length items → length new ≡ length items → take len (new ++ drop (length new) items) ≡ new
@@ -308,9 +317,8 @@ stopped_write faults.Failed e = refl
 stopped_write faults.Memory e = cc
 
 -- what holds where a fault of the output isn't one of writing
-pub stopped_still : (fault : SinkFault) (P : Type 0) → (fault ≡ faults.Memory → P) → (stopped_by fault ≡ endings.WriteFault → ⊥) → P
-stopped_still faults.Failed P memory well = absurd (well refl)
-stopped_still faults.Memory P memory well = memory refl
+pub write_stopped : (fault : SinkFault) → fault ≡ faults.Failed → stopped_by fault ≡ endings.WriteFault
+write_stopped fault e = ap stopped_by e
 
 -- a judgement there is of what was read
 pub ended_judged : (r : Ending) (v : Result (Option Offence) SinkFault) (o : Option Offence) → IfOk v (λ o. r ≡ endings.Judged o) → IfErr v (λ f. r ≡ stopped_by f) → r ≡ endings.Judged o → v ≡ Ok o
@@ -328,9 +336,9 @@ ended_write r (Ok o) judged stopped e = cc
 ended_write r (Err fault) judged stopped e = ap Err (stopped_write fault (sym stopped ∙ e))
 
 -- what holds there where none is one of writing
-pub ended_still : (r : Ending) (v : Result (Option Offence) SinkFault) (P : Type 0) → IfErr v (λ f. r ≡ stopped_by f) → OnOk v P → (v ≡ Err faults.Memory → P) → (r ≡ endings.WriteFault → ⊥) → P
-ended_still r (Ok o) P stopped good memory well = good
-ended_still r (Err fault) P stopped good memory well = stopped_still fault P (λ e. memory (ap Err e)) (λ e. well (stopped ∙ e))
+pub write_ended : (r : Ending) (v : Result (Option Offence) SinkFault) → IfErr v (λ f. r ≡ stopped_by f) → v ≡ Err faults.Failed → r ≡ endings.WriteFault
+write_ended r (Ok o) stopped e = cc
+write_ended r (Err fault) stopped e = let same : fault ≡ faults.Failed = cc in stopped ∙ write_stopped fault same
 
 -- what has come so far, and isn't refused, is read
 pub read_at : (x : Settings) (stands : List ℕ → Type 0) (p : List ℕ) → stands p → IsPending (stream x) p → HasRead stands x p

@@ -130,7 +130,7 @@ loop-answer-preserved g c =
     record {
       within = let b = read_event c.requires.going.0 c.requires.going.1 in omega (arith, b.within, rest_length c.args.piece.now c.loop-answer.used, inv.within);
       settings = c.in-Ok.ensures.settings ∙ inv.settings;
-      faults = c.in_ok-put_event-in_default.ensures.good ∙ inv.faults;
+      faults = c.in_ok-put_event-in_default.ensures.counted.same (λ e. cc) ∙ inv.faults;
       grows = grows_further (g.O.Sink.written c.args.output.now) (g.O.Sink.written c.loop-answer.output) (g.O.Sink.written c.put_event-in_default.new.output) inv.grows c.in_ok-put_event-in_default.ensures.grows;
       reads = λ p read.
           let b = read_event p read in

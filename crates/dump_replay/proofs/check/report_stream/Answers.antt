@@ -9,7 +9,7 @@ use Rattle.dump_replay.specs.Report.{event_lines, report}
 use Rattle.dump_replay.specs.Checking.{Reaches}
 use Rattle.dump_replay.specs.Reading.{HasRead, SaysOf, WritesOf}
 use Rattle.dump_replay.proofs.Lines.{nothing_lines}
-use Rattle.dump_replay.proofs.CheckSteps.{rose_later, room_is, first_read, first_pending, read_at, says_at, writes_at, ends_at, less_left, Came, piece_came, piece_reaches, piece_decides, end_decides, read_breaks, breaks_reach, none_reaches, lines_front, left_none, stopped_judges, stopped_reports, ended_judges, ended_reports, ended_judged, stopped_not_read, stopped_not_judged, stopped_write, ended_not_read, ended_write, stopped_still, ended_still}
+use Rattle.dump_replay.proofs.CheckSteps.{counted_later, counted_with, counted_none, room_is, first_read, first_pending, read_at, says_at, writes_at, ends_at, less_left, Came, piece_came, piece_reaches, piece_decides, end_decides, read_breaks, breaks_reach, none_reaches, lines_front, left_none, stopped_judges, stopped_reports, ended_judges, ended_reports, ended_judged, stopped_not_read, stopped_not_judged, stopped_write, write_stopped, ended_not_read, ended_write, write_ended}
 use Rattle.dump_replay.proofs.check.report_stream.Given.{Over}
 use Rattle.dump_replay.proofs.check.report_stream.Goals as goal
 use Rattle.dump_replay.proofs.check.report_stream.Goals.{After-read, After-finish}
@@ -110,9 +110,12 @@ returns-in_default-take-clause-reports g c = λ bytes w left written.
 pub returns-in_default-take-clause-breaks : goal.returns-in_default-take-clause-breaks
 returns-in_default-take-clause-breaks g c = read_so_far g c
 
-pub returns-in_default-take-clause-read_failed : goal.returns-in_default-take-clause-read_failed
-returns-in_default-take-clause-read_failed g c = λ e.
-    rose_later (g.I.Source.faults c.args.input.now) (g.I.Source.faults c.loop-n.input) (g.I.Source.faults c.take.new.self) c.loop-n.invariant.input_faults c.in_default-take.ensures.failed
+pub returns-in_default-take-clause-reads_counted : goal.returns-in_default-take-clause-reads_counted
+returns-in_default-take-clause-reads_counted g c =
+    counted_with (g.I.Source.faults c.args.input.now) (g.I.Source.faults c.loop-n.input) (g.I.Source.faults c.take.new.self) _ _ c.loop-n.invariant.input_faults c.in_default-take.ensures.counted (λ e. refl) (λ e. refl)
+
+pub returns-in_default-take-clause-writes_counted : goal.returns-in_default-take-clause-writes_counted
+returns-in_default-take-clause-writes_counted g c = counted_none (g.O.Sink.faults c.args.output.now) (g.O.Sink.faults c.loop-n.output) _ c.loop-n.invariant.output_faults (λ e. cc)
 
 -- the input is over
 pub returns-then-n-eq0-clause-reaches : goal.returns-then-n-eq0-clause-reaches
@@ -125,10 +128,6 @@ returns-then-n-eq0-clause-reaches g c =
     (g.O.Sink.written c.loop-n.output) (g.O.Sink.written c.finish.new.output) r.0 _ r.2 came.short
     came.rest
     came.handed r.5 c.finish.ensures.grows
-
-pub returns-then-n-eq0-clause-written_well : goal.returns-then-n-eq0-clause-written_well
-returns-then-n-eq0-clause-written_well g c = λ well.
-    ended_still c.ended.result c.finish.result (g.O.Sink.faults c.finish.new.output ≡ g.O.Sink.faults c.loop-n.output) c.ended.ensures.stopped c.finish.ensures.good c.finish.ensures.memory well ∙ c.loop-n.invariant.output_faults
 
 pub returns-then-n-eq0-clause-decides : goal.returns-then-n-eq0-clause-decides
 returns-then-n-eq0-clause-decides g c = λ o e.
@@ -164,13 +163,15 @@ returns-then-n-eq0-clause-reports g c = λ bytes w left written.
 pub returns-then-n-eq0-clause-breaks : goal.returns-then-n-eq0-clause-breaks
 returns-then-n-eq0-clause-breaks g c = λ e. absurd (ended_not_read c.ended.result c.finish.result c.ended.ensures.judged c.ended.ensures.stopped e)
 
-pub returns-then-n-eq0-clause-read_failed : goal.returns-then-n-eq0-clause-read_failed
-returns-then-n-eq0-clause-read_failed g c = λ e. absurd (ended_not_read c.ended.result c.finish.result c.ended.ensures.judged c.ended.ensures.stopped e)
+pub returns-then-n-eq0-clause-reads_counted : goal.returns-then-n-eq0-clause-reads_counted
+returns-then-n-eq0-clause-reads_counted g c =
+    counted_with (g.I.Source.faults c.args.input.now) (g.I.Source.faults c.loop-n.input) (g.I.Source.faults c.take.new.self) _ _ c.loop-n.invariant.input_faults c.in-Ok-take.ensures.counted
+    (λ e. absurd (ended_not_read c.ended.result c.finish.result c.ended.ensures.judged c.ended.ensures.stopped e)) (λ e. cc)
 
-pub returns-then-n-eq0-clause-write_failed : goal.returns-then-n-eq0-clause-write_failed
-returns-then-n-eq0-clause-write_failed g c = λ e.
-    rose_later (g.O.Sink.faults c.args.output.now) (g.O.Sink.faults c.loop-n.output) (g.O.Sink.faults c.finish.new.output) c.loop-n.invariant.output_faults
-    (c.finish.ensures.failed (ended_write c.ended.result c.finish.result c.ended.ensures.judged c.ended.ensures.stopped e))
+pub returns-then-n-eq0-clause-writes_counted : goal.returns-then-n-eq0-clause-writes_counted
+returns-then-n-eq0-clause-writes_counted g c =
+    counted_with (g.O.Sink.faults c.args.output.now) (g.O.Sink.faults c.loop-n.output) (g.O.Sink.faults c.finish.new.output) _ _ c.loop-n.invariant.output_faults c.finish.ensures.counted
+    (ended_write c.ended.result c.finish.result c.ended.ensures.judged c.ended.ensures.stopped) (write_ended c.ended.result c.finish.result c.ended.ensures.stopped)
 
 -- a piece that decides nothing
 pub loop-n-smaller : goal.loop-n-smaller
@@ -187,8 +188,8 @@ loop-n-preserved g c =
     record {
       room = rw (room_is c.loop-n.room.items c.take.new.room c.loop-n.room.len c.loop-n.room.ok.0 (came g f).full) (omega (arith, (came g f).full, c.loop-n.invariant.room));
       settings = c.in-Ok-Going.ensures.settings ∙ c.loop-n.invariant.settings;
-      input_faults = c.in-Ok-take.ensures.good ∙ c.loop-n.invariant.input_faults;
-      output_faults = c.in-Ok-Going.ensures.good ∙ c.loop-n.invariant.output_faults;
+      input_faults = c.in-Ok-take.ensures.counted.same (λ e. cc) ∙ c.loop-n.invariant.input_faults;
+      output_faults = c.in-Ok-Going.ensures.counted.same (λ e. cc) ∙ c.loop-n.invariant.output_faults;
       reads = (
         p g f ++ y g f,
         read_at (x g f) (g.E.ReadingEnd.stands c.read.new.end) (p g f ++ y g f) says.0 says.1,
@@ -242,10 +243,6 @@ pub returns-in-Err-clause-reaches : goal.returns-in-Err-clause-reaches
 returns-in-Err-clause-reaches g c =
     reaches g (goal.at-returns-in-Err-clause-reaches g c).After-read
 
-pub returns-in-Err-clause-written_well : goal.returns-in-Err-clause-written_well
-returns-in-Err-clause-written_well g c = λ well.
-    stopped_still c.in-Err.fault (g.O.Sink.faults c.read.new.output ≡ g.O.Sink.faults c.loop-n.output) (λ e. c.in-Err.ensures.memory (ap Err e)) (λ e. well (c.stopped.ensures ∙ e)) ∙ c.loop-n.invariant.output_faults
-
 pub returns-in-Err-clause-judges : goal.returns-in-Err-clause-judges
 returns-in-Err-clause-judges g c = λ bytes left. rw c.stopped.ensures (stopped_judges (g.E.ReadingEnd.settings c.args.end) bytes c.in-Err.fault)
 
@@ -262,10 +259,20 @@ returns-in-Err-clause-decides g c = λ o e. absurd (stopped_not_judged c.in-Err.
 pub returns-in-Err-clause-breaks : goal.returns-in-Err-clause-breaks
 returns-in-Err-clause-breaks g c = λ e. absurd (stopped_not_read c.in-Err.fault (sym c.stopped.ensures ∙ e))
 
-pub returns-in-Err-clause-read_failed : goal.returns-in-Err-clause-read_failed
-returns-in-Err-clause-read_failed g c = λ e. absurd (stopped_not_read c.in-Err.fault (sym c.stopped.ensures ∙ e))
+pub returns-in-Err-clause-reads_counted : goal.returns-in-Err-clause-reads_counted
+returns-in-Err-clause-reads_counted g c =
+    counted_with (g.I.Source.faults c.args.input.now) (g.I.Source.faults c.loop-n.input) (g.I.Source.faults c.take.new.self) _ _ c.loop-n.invariant.input_faults c.in-Ok-take.ensures.counted
+    (λ e. absurd (stopped_not_read c.in-Err.fault (sym c.stopped.ensures ∙ e))) (λ e. cc)
 
-pub returns-in-Err-clause-write_failed : goal.returns-in-Err-clause-write_failed
-returns-in-Err-clause-write_failed g c = λ e.
-    rose_later (g.O.Sink.faults c.args.output.now) (g.O.Sink.faults c.loop-n.output) (g.O.Sink.faults c.read.new.output) c.loop-n.invariant.output_faults
-    (c.in-Err.ensures.failed (ap Err (stopped_write c.in-Err.fault (sym c.stopped.ensures ∙ e))))
+pub returns-in-Err-clause-writes_counted : goal.returns-in-Err-clause-writes_counted
+returns-in-Err-clause-writes_counted g c =
+    counted_with (g.O.Sink.faults c.args.output.now) (g.O.Sink.faults c.loop-n.output) (g.O.Sink.faults c.read.new.output) _ _ c.loop-n.invariant.output_faults c.in-Err.ensures.counted
+    (λ e. ap Err (stopped_write c.in-Err.fault (sym c.stopped.ensures ∙ e))) (λ e. c.stopped.ensures ∙ write_stopped c.in-Err.fault cc)
+
+pub returns-in-Ok-Judged-clause-reads_counted : goal.returns-in-Ok-Judged-clause-reads_counted
+returns-in-Ok-Judged-clause-reads_counted g c =
+    counted_with (g.I.Source.faults c.args.input.now) (g.I.Source.faults c.loop-n.input) (g.I.Source.faults c.take.new.self) _ _ c.loop-n.invariant.input_faults c.in-Ok-take.ensures.counted (λ e. cc) (λ e. cc)
+
+pub returns-in-Ok-Judged-clause-writes_counted : goal.returns-in-Ok-Judged-clause-writes_counted
+returns-in-Ok-Judged-clause-writes_counted g c =
+    counted_with (g.O.Sink.faults c.args.output.now) (g.O.Sink.faults c.loop-n.output) (g.O.Sink.faults c.read.new.output) _ _ c.loop-n.invariant.output_faults c.in-Ok-Judged.ensures.counted (λ e. cc) (λ e. cc)
