@@ -22,6 +22,10 @@ settings_of r = record { limits = limits_of r.quotas }
 unfoldable pub taken_of : Receiver → ℕ
 taken_of r = r.taken
 
+-- how many envelopes were whole
+unfoldable pub messages_of : Receiver → ℕ
+messages_of r = r.messages
+
 -- the offence that it answers from now on
 unfoldable pub failure_of : Receiver → Option Offence
 failure_of r = r.failure
@@ -61,11 +65,12 @@ pub counts_taken : (r : Receiver) (p : List ℕ) → StandsFor r p → taken_of 
 unfolding StandsFor taken_of
 counts_taken r p stands = stands.taken
 
--- what a refused receiver shows: the offence, and of the bytes p that show it how many they are and their Via
+-- what a refused receiver shows: the offence, and of the bytes p that show it how many they are, their Via and their envelopes
 pub record Failed (r : Receiver) (x : Settings) (o : Offence) (p : List ℕ) : Type 0 where
   pub failure : failure_of r ≡ Some o
   pub taken : taken_of r ≡ length p
   pub via : ShowsVia r (standing (stream x) p).situation.via
+  pub messages : messages_of r ≡ (standing (stream x) p).situation.messages
 
 unfoldable pub FailedBehind : Receiver → Offence → List ℕ → Type 0
 FailedBehind r o p = Failed r (settings_of r) o p

@@ -48,7 +48,7 @@ pub struct Receiver {
 }
 
 impl Receiver {
-    ghost use Rattle.dump_replay.specs.Receiving.{settings_of, taken_of, failure_of, held_of, StandsFor, FailedBehind, ShowsVia, Reached};
+    ghost use Rattle.dump_replay.specs.Receiving.{settings_of, taken_of, messages_of, failure_of, held_of, StandsFor, FailedBehind, ShowsVia, Reached};
     ghost use Rattle.dump_replay.specs.Saying.{said, said_at_end};
     ghost use Rattle.dump_replay.specs.Stepping.{UnitAnswers, BehindAnswers};
 
@@ -171,9 +171,12 @@ impl Receiver {
         self.taken
     }
 
-    /// How many envelopes are whole.
+    /// How many envelopes are whole; after an offence of `feed`, of the bytes that show it.
     pub fn messages(&self) -> u64
-        ensures { (p : List ℕ) → StandsFor self.now p
+        ensures counted { result ≡ messages_of self.now }
+        ensures stands { (p : List ℕ) → StandsFor self.now p
+            → result ≡ (standing (stream (settings_of self.now)) p).situation.messages }
+        ensures failed { (o : Refusal) (p : List ℕ) → FailedBehind self.now o p
             → result ≡ (standing (stream (settings_of self.now)) p).situation.messages }
     {
         self.messages

@@ -13,7 +13,7 @@ use Rattle.nmf_records.specs.Reader.{ShowsText}
 use Rattle.dump_replay.specs.declared.receiver.Receiver.{Receiver}
 use Rattle.dump_replay.specs.declared.receiver.Step.TheVariants as steps
 use Rattle.dump_replay.specs.Stream.{Settings, open_from, offence_at, is_over_in, stream}
-use Rattle.dump_replay.specs.Receiving.{settings_of, taken_of, failure_of, ShowsVia, StandsFor, Reached, Failed, FailedBehind}
+use Rattle.dump_replay.specs.Receiving.{settings_of, taken_of, messages_of, failure_of, ShowsVia, StandsFor, Reached, Failed, FailedBehind}
 use Rattle.dump_replay.proofs.ReceiverFacts.{not_failed, over_as_stage}
 use Rattle.dump_replay.proofs.FeedSteps.{Along, Fed, FedRefused, along_none, along_more, along_event, along_refused, along_too_long, along_end, some_taken}
 use Rattle.dump_replay.proofs.receiver.Receiver.feed.Goals as goal
@@ -232,7 +232,7 @@ returns-in_default-step c =
 
 -- the session quota is reached
 pub returns-then-self : goal.returns-then-self
-unfolding settings_of failure_of StandsFor FailedBehind taken_of ShowsVia
+unfolding settings_of failure_of StandsFor FailedBehind taken_of messages_of ShowsVia
 returns-then-self c =
     let f : At-loop-used = (goal.at-returns-then-self c).At-loop-used in
     let inv = c.loop-used.invariant in
@@ -249,6 +249,7 @@ returns-then-self c =
       failure = ap (λ (t : Receiver). t.failure) fields;
       taken = ap (λ (t : Receiver). t.taken) fields ∙ a.reached.taken;
       via = shown_by _ _ _ (ap (λ (t : Receiver). t.frames) (sym fields)) a.reached.text;
+      messages = ap (λ (t : Receiver). t.messages) fields ∙ a.reached.messages;
     }) in
     record {
       within = tt;

@@ -104,7 +104,7 @@ returns-in-Err-clause-answers c = λ x p is limits h on.
     record_wrong c.args.self.now x p c.args.bytes.now c.args.due is h on (fits f x p is limits h on) c.refuse.new.self c.in-Err.refusal.fault c.in-Err.refusal.shown_by c.refuse.result read
     (c.refuse.ensures.offence ∙ ap (λ n. offence_at n Unbuilt) h.unit_from)
     (subst (λ (t : FrameReader). ShowsText t (shown_behind x.limits.via (may_come Initiator c.args.due) bytes (standing (stream x) p).situation.via)) (ap (λ (t : Receiver). t.frames) (sym c.refuse.ensures.refused)) (shown f x p is limits h on))
-    taken (ap (λ (t : Receiver). t.failure) c.refuse.ensures.refused)
+    taken (ap (λ (t : Receiver). t.failure) c.refuse.ensures.refused) (ap (λ (t : Receiver). t.messages) c.refuse.ensures.refused)
 
 pub returns-in-Err-clause-refused : goal.returns-in-Err-clause-refused
 unfolding failure_of
