@@ -21,6 +21,7 @@ use Rattle.nbfx_values.specs.QuotasOf.{limits_of}
 use Rattle.nbfx_values.specs.declared.limits.Quotas.{Quotas}
 use Rattle.nbfx_values.specs.declared.refusals.Offence.{Offence}
 use Rattle.nbfx_values.specs.declared.refusals.Reason.TheVariants.{SessionTooLong}
+use Rattle.dump_replay.specs.declared.check.TheConstants.{ROOM}
 use Rattle.dump_replay.specs.declared.stage.Stage.{Stage}
 use Rattle.dump_replay.specs.declared.check.Progress.{Progress}
 use Rattle.dump_replay.specs.declared.check.Ending.{Ending}
@@ -115,7 +116,7 @@ module _ (left before after : Option (List ℕ)) (p : List ℕ)
 
 module _ (x : Settings) (left left' taken taken' written mid written' : Option (List ℕ)) where
   -- what was read, a piece behind it, and what was written then
-  pub piece_reaches : (p y : List ℕ) → IsPending (stream x) p → length y ≤ 65536
+  pub piece_reaches : (p y : List ℕ) → IsPending (stream x) p → length y ≤ ROOM
       → ((bytes : List ℕ) → left ≡ Some bytes → (rest : List ℕ) × (left' ≡ Some rest) × (bytes ≡ p ++ y ++ rest))
       → ((t : List ℕ) → taken ≡ Some t → taken' ≡ Some (t ++ (p ++ y)))
       → ((w : List ℕ) → written ≡ Some w → mid ≡ Some (w ++ event_lines x p))
@@ -255,12 +256,12 @@ taken_grows taken before after p room y n so_far told piece t e =
 pub record Came (left left' taken taken' : Option (List ℕ)) (items new p y : List ℕ) (n : ℕ) : Type 0 where
   pub full : length new ≡ length items
   pub size : length y ≡ n
-  pub short : length y ≤ 65536
+  pub short : length y ≤ ROOM
   pub rest : (bytes : List ℕ) → left ≡ Some bytes → (rest : List ℕ) × (left' ≡ Some rest) × (bytes ≡ p ++ y ++ rest)
   pub handed : (t : List ℕ) → taken ≡ Some t → taken' ≡ Some (t ++ (p ++ y))
 
 pub piece_came : (left before left' taken handed taken' : Option (List ℕ)) (items new room : List ℕ) (len n : ℕ)
-    → length items ≡ 65536 → len ≡ length items → length new ≡ length items → room ≡ take len (new ++ drop (length new) items) → n ≤ length new
+    → length items ≡ ROOM → len ≡ length items → length new ≡ length items → room ≡ take len (new ++ drop (length new) items) → n ≤ length new
     → (p : List ℕ)
     → ((bytes : List ℕ) → left ≡ Some bytes → (rest : List ℕ) × (before ≡ Some rest) × (bytes ≡ p ++ rest))
     → ((t : List ℕ) → taken ≡ Some t → handed ≡ Some (t ++ p))

@@ -9,7 +9,7 @@ use Rattle.unit_streams.proofs.Fronts.{reads_by}
 use Rattle.unit_streams.proofs.Parts.{reads_byte, reads_seen}
 use Rattle.nbfx_values.specs.declared.refusals.Offence.{Offence}
 use Rattle.nbfx_values.specs.declared.refusals.Reason.TheVariants.{SessionTooLong}
-use Rattle.nmf_records.specs.declared.script.Direction.TheVariants.{Initiator}
+use Rattle.nmf_records.specs.declared.script.Direction.TheVariants.{FromInitiator}
 use Rattle.nmf_records.specs.declared.script.Due.{Due}
 use Rattle.nmf_records.specs.declared.script.Due.TheVariants as dues
 use Rattle.nmf_records.specs.Reading.{frame_at}
@@ -29,11 +29,11 @@ reads_payload = reads_seen payload_byte (λ o. o) a_byte reads_byte
 
 module _ (x : Settings) where
   -- a record that is due
-  reads_due : (due : Due) (from : ℕ) → ReadsFront (λ bytes. seen frame (λ fault. offence_at from (built (reason_of due fault))) (frame_at x.limits.via (may_come Initiator due) bytes))
-  reads_due due from = reads_seen frame (λ fault. offence_at from (built (reason_of due fault))) (frame_at x.limits.via (may_come Initiator due)) (frames_front x.limits.via (may_come Initiator due))
+  reads_due : (due : Due) (from : ℕ) → ReadsFront (λ bytes. seen frame (λ fault. offence_at from (built (reason_of due fault))) (frame_at x.limits.via (may_come FromInitiator due) bytes))
+  reads_due due from = reads_seen frame (λ fault. offence_at from (built (reason_of due fault))) (frame_at x.limits.via (may_come FromInitiator due)) (frames_front x.limits.via (may_come FromInitiator due))
 
-  nothing_due : (due : Due) (from : ℕ) → seen frame (λ fault. offence_at from (built (reason_of due fault))) (frame_at x.limits.via (may_come Initiator due) []) ≡ begun
-  nothing_due due from = ap (seen frame (λ fault. offence_at from (built (reason_of due fault)))) (frame_peels x.limits.via (may_come Initiator due)).nothing
+  nothing_due : (due : Due) (from : ℕ) → seen frame (λ fault. offence_at from (built (reason_of due fault))) (frame_at x.limits.via (may_come FromInitiator due) []) ≡ begun
+  nothing_due due from = ap (seen frame (λ fault. offence_at from (built (reason_of due fault)))) (frame_peels x.limits.via (may_come FromInitiator due)).nothing
 
   reads_record : (due : Due) (from : ℕ) → ReadsFront (record_at x due from)
   reads_record dues.Over from = reads_nothing

@@ -28,7 +28,7 @@ use Rattle.nmf_records.specs.declared.frame.FrameStep.{FrameStep}
 use Rattle.nmf_records.specs.declared.frame.FrameStep.TheVariants.{More, Done}
 use Rattle.nmf_records.specs.declared.reader.FrameReader.{FrameReader}
 use Rattle.nmf_records.specs.declared.frame.Expect.{Expect}
-use Rattle.nmf_records.specs.declared.script.Direction.TheVariants.{Initiator}
+use Rattle.nmf_records.specs.declared.script.Direction.TheVariants.{FromInitiator}
 use Rattle.nmf_records.specs.declared.script.Due.{Due}
 use Rattle.nmf_records.specs.declared.script.Due.TheVariants as dues
 use Rattle.nmf_records.specs.Reading.{with_text, frame_at}
@@ -66,27 +66,27 @@ built_fault due (faults.Unexpected kind) = built_unexpected due kind
 built_fault due _ = refl
 
 -- what a reader of records answers and shows, by the limit and what may come
-module _ (limit via : ℕ) (expect : Expect) (due : Due) (l : limit ≡ via) (m : expect ≡ may_come Initiator due) (new : FrameReader) (b y : List ℕ) where
-  by_same : (P : ℕ → Expect → Type 0) → P limit expect → P via (may_come Initiator due)
-  by_same P h = subst (λ (n : ℕ). P n (may_come Initiator due)) l (subst (P limit) m h)
+module _ (limit via : ℕ) (expect : Expect) (due : Due) (l : limit ≡ via) (m : expect ≡ may_come FromInitiator due) (new : FrameReader) (b y : List ℕ) where
+  by_same : (P : ℕ → Expect → Type 0) → P limit expect → P via (may_come FromInitiator due)
+  by_same P h = subst (λ (n : ℕ). P n (may_come FromInitiator due)) l (subst (P limit) m h)
 
-  pub shown_so : (s : List ℕ) → ShowsText new (shown_behind limit expect (b ++ y) s) → ShowsText new (shown_behind via (may_come Initiator due) (b ++ y) s)
+  pub shown_so : (s : List ℕ) → ShowsText new (shown_behind limit expect (b ++ y) s) → ShowsText new (shown_behind via (may_come FromInitiator due) (b ++ y) s)
   shown_so s = by_same (λ n e. ShowsText new (shown_behind n e (b ++ y) s))
 
   pub more_so : (n : ℕ) (step : FrameStep) → step ≡ More → FrameAnswers limit expect b y (Ok (n, step)) → AfterPiece new expect (b ++ y) (Ok (n, step))
-      → (n ≡ length y) × (frame_at via (may_come Initiator due) (b ++ y) ≡ begun) × FrameStandsFor new (may_come Initiator due) (b ++ y)
+      → (n ≡ length y) × (frame_at via (may_come FromInitiator due) (b ++ y) ≡ begun) × FrameStandsFor new (may_come FromInitiator due) (b ++ y)
   more_so n step is said after =
       let a : FrameAnswers limit expect b y (Ok (n, More)) = subst (λ (t : FrameStep). FrameAnswers limit expect b y (Ok (n, t))) is said in
       let f : FrameStandsFor new expect (b ++ y) = subst (λ (t : FrameStep). AfterPiece new expect (b ++ y) (Ok (n, t))) is after in
       (a.0, by_same (λ k e. frame_at k e (b ++ y) ≡ begun) a.1, subst (λ (e : Expect). FrameStandsFor new e (b ++ y)) m f)
 
   pub done_so : (n : ℕ) (step : FrameStep) (f : Frame) → step ≡ Done f → FrameAnswers limit expect b y (Ok (n, step)) → AfterPiece new expect (b ++ y) (Ok (n, step))
-      → (text : List ℕ) × (frame_at via (may_come Initiator due) (b ++ y) ≡ whole (with_text f text) (length b + n)) × ((next : Expect) → FrameStandsFor new next [])
+      → (text : List ℕ) × (frame_at via (may_come FromInitiator due) (b ++ y) ≡ whole (with_text f text) (length b + n)) × ((next : Expect) → FrameStandsFor new next [])
   done_so n step f is said after =
       let a : FrameAnswers limit expect b y (Ok (n, Done f)) = subst (λ (t : FrameStep). FrameAnswers limit expect b y (Ok (n, t))) is said in
       (a.0, by_same (λ k e. frame_at k e (b ++ y) ≡ whole (with_text f a.0) (length b + n)) a.1, subst (λ (t : FrameStep). AfterPiece new expect (b ++ y) (Ok (n, t))) is after)
 
-  pub wrong_so : (refusal : FrameRefusal) → FrameAnswers limit expect b y (Err refusal) → frame_at via (may_come Initiator due) (b ++ y) ≡ wrong refusal.fault refusal.shown_by
+  pub wrong_so : (refusal : FrameRefusal) → FrameAnswers limit expect b y (Err refusal) → frame_at via (may_come FromInitiator due) (b ++ y) ≡ wrong refusal.fault refusal.shown_by
   wrong_so refusal = by_same (λ k e. frame_at k e (b ++ y) ≡ wrong refusal.fault refusal.shown_by)
 
 module _ (r : Receiver) (x : Settings) (p c : List ℕ) (due : Due) (is : r.stage ≡ stages.Record due) (h : Reached r x p) (on : is_over_at (stream x) p ≡ false) (fits : length p + length c ≤ x.limits.session) where
@@ -100,7 +100,7 @@ module _ (r : Receiver) (x : Settings) (p c : List ℕ) (due : Due) (is : r.stag
   begun_here = (standing (stream x) p).begun
 
   abbrev pub expected : Expect
-  expected = may_come Initiator due
+  expected = may_come FromInitiator due
 
   pub stage_here : situation_here.stage ≡ stages.Record due
   stage_here = sym h.stage ∙ is
@@ -201,7 +201,7 @@ module _ (r : Receiver) (x : Settings) (p c : List ℕ) (due : Due) (is : r.stag
 
       no_record : (stage : Stage) → HasBegun stage new.frames []
       no_record (stages.Payload payload) = rw same fresh
-      no_record (stages.Record next) = rw same (fresh (may_come Initiator next))
+      no_record (stages.Record next) = rw same (fresh (may_come FromInitiator next))
 
       reached : Reached new x (p ++ take n c)
       reached =

@@ -13,7 +13,7 @@ use Rattle.nbfx_values.specs.declared.refusals.Reason.{Reason}
 use Rattle.nbfx_values.specs.declared.refusals.Reason.TheVariants.{SessionTooLong}
 use Rattle.nmf_records.specs.declared.frame.Frame.{Frame}
 use Rattle.nmf_records.specs.declared.frame.Frame.TheVariants as frames
-use Rattle.nmf_records.specs.declared.script.Direction.TheVariants.{Initiator}
+use Rattle.nmf_records.specs.declared.script.Direction.TheVariants.{FromInitiator}
 use Rattle.nmf_records.specs.declared.script.Due.{Due}
 use Rattle.nmf_records.specs.declared.script.Due.TheVariants as dues
 use Rattle.nmf_records.specs.Records.{IsRecordOf}
@@ -35,7 +35,7 @@ use Rattle.dump_replay.proofs.Scripts.{right_mode, script_is}
 -- what is left of a script where this is due
 record IsLeft (x : Settings) (due : Due) (bytes : List ℕ) : Type 0 where
   script : List Frame
-  follows : Follows Initiator Duplex due script
+  follows : Follows FromInitiator Duplex due script
   has : HasScript x script bytes
 
 -- what is left of one at a stage
@@ -57,8 +57,8 @@ names_duplex x _ none = tt
 
 -- a record in front of what is left
 module _ (x : Settings) (z : Situation) (from : ℕ) (due : Due) (at : z.stage ≡ stages.Record due) (t c : List ℕ) where
-  one_more : (read : Frame) (text payload rest : List ℕ) → MayCome (may_come Initiator due) read → IsRecordOf read text t → length text ≤ x.limits.via → reason_in x read ≡ None
-      → c ≡ payload ++ rest → length payload ≡ payload_size read → IsLeft x (leads Initiator Duplex due read) rest → IsLeft x due (t ++ c)
+  one_more : (read : Frame) (text payload rest : List ℕ) → MayCome (may_come FromInitiator due) read → IsRecordOf read text t → length text ≤ x.limits.via → reason_in x read ≡ None
+      → c ≡ payload ++ rest → length payload ≡ payload_size read → IsLeft x (leads FromInitiator Duplex due read) rest → IsLeft x due (t ++ c)
   one_more read text payload rest may is low none joined sized next = record {
     script = read ∷ next.script;
     follows = (may, names_duplex x read none, next.follows);
@@ -77,12 +77,12 @@ module _ (x : Settings) (z : Situation) (from : ℕ) (due : Due) (at : z.stage �
   }
 
   -- one without a payload
-  plain_first : (read : Frame) (text : List ℕ) → MayCome (may_come Initiator due) read → IsRecordOf read text t → length text ≤ x.limits.via → reason_in x read ≡ None → payload_size read ≡ 0
+  plain_first : (read : Frame) (text : List ℕ) → MayCome (may_come FromInitiator due) read → IsRecordOf read text t → length text ≤ x.limits.via → reason_in x read ≡ None → payload_size read ≡ 0
       → IsFrom x (led z.stage read) c → IsLeft x due (t ++ c)
   plain_first read text may is low none empty h =
-      one_more read text [] c may is low none refl (sym empty) (subst (λ (d : Due). IsLeft x (leads Initiator Duplex d read) c) (ap due_in at) h)
+      one_more read text [] c may is low none refl (sym empty) (subst (λ (d : Due). IsLeft x (leads FromInitiator Duplex d read) c) (ap due_in at) h)
 
-  head_first : (size : ℕ) (text : List ℕ) (b : Bool) → (size == 0) ≡ b → MayCome (may_come Initiator due) (frames.SizedEnvelope size) → IsRecordOf (frames.SizedEnvelope size) text t → length text ≤ x.limits.via
+  head_first : (size : ℕ) (text : List ℕ) (b : Bool) → (size == 0) ≡ b → MayCome (may_come FromInitiator due) (frames.SizedEnvelope size) → IsRecordOf (frames.SizedEnvelope size) text t → length text ≤ x.limits.via
       → reason_in x (frames.SizedEnvelope size) ≡ None → IsFrom x (if b then message_whole z else record z { stage = stages.Payload (record { from = from; size = size; left = size }) }).stage c
       → IsLeft x due (t ++ c)
   head_first size text true e may is low none h =
@@ -90,7 +90,7 @@ module _ (x : Settings) (z : Situation) (from : ℕ) (due : Due) (at : z.stage �
   head_first size text false e may is low none h =
       one_more (frames.SizedEnvelope size) text h.part h.more may is low none h.joined h.size (subst (λ (d : Due). IsLeft x d h.more) (sym (envelope_due due size may)) h.next)
 
-  record_first : (read : Frame) (text : List ℕ) → MayCome (may_come Initiator due) read → IsRecordOf read text t → length text ≤ x.limits.via → reason_in x read ≡ None
+  record_first : (read : Frame) (text : List ℕ) → MayCome (may_come FromInitiator due) read → IsRecordOf read text t → length text ≤ x.limits.via → reason_in x read ≡ None
       → IsFrom x (after_record z from read text).stage c → IsLeft x due (t ++ c)
   record_first (frames.SizedEnvelope size) text may is low none h = head_first size text _ refl may is low none h
   record_first frames.Via text may is low none h = plain_first frames.Via text may is low none refl h
@@ -192,5 +192,5 @@ module _ (x : Settings) where
       let all : length bytes ≡ length h.0 + length a.rest = ap length h.1 ∙ length-append h.0 a.rest in
       let size = leads_length (stream x) (readable x) a.units beginning 0 bytes a.situation a.rest a.lead in
       let fits = units_within a.units beginning 0 bytes a.situation a.rest (omega arith) a.lead a.units_short in
-      let s = script_is x h.2.script h.0 (way_is_script Initiator Duplex h.2.script h.2.follows) h.2.has (omega (arith, all, size, fits)) in
+      let s = script_is x h.2.script h.0 (way_is_script FromInitiator Duplex h.2.script h.2.follows) h.2.has (omega (arith, all, size, fits)) in
       record { via = s.0; kind = s.1; payloads = s.2; session = h.0; rest = a.rest; joined = h.1; is_session = s.3 }

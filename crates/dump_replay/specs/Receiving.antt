@@ -6,7 +6,7 @@ use Rattle.nbfx_values.specs.QuotasOf.{limits_of}
 use Rattle.nbfx_values.specs.declared.refusals.Offence.{Offence}
 use Rattle.nmf_records.specs.declared.frame.Expect.{Expect}
 use Rattle.nmf_records.specs.declared.reader.FrameReader.{FrameReader}
-use Rattle.nmf_records.specs.declared.script.Direction.TheVariants.{Initiator}
+use Rattle.nmf_records.specs.declared.script.Direction.TheVariants.{FromInitiator}
 use Rattle.nmf_records.specs.Reader.{StandsFor as FrameStandsFor, ShowsText, held_of as text_held_of}
 use Rattle.nmf_records.specs.Script.{may_come}
 use Rattle.dump_replay.specs.declared.receiver.Receiver.{Receiver}
@@ -41,7 +41,7 @@ ShowsVia r via = ShowsText r.frames via
 -- the reader of records has these bytes of one, or, where a payload is passed over, of none
 abbrev pub HasBegun : Stage → FrameReader → List ℕ → Type 0
 HasBegun (stages.Payload p) frames begun = (next : Expect) → FrameStandsFor frames next []
-HasBegun (stages.Record due) frames begun = FrameStandsFor frames (may_come Initiator due) begun
+HasBegun (stages.Record due) frames begun = FrameStandsFor frames (may_come FromInitiator due) begun
 
 -- it has come as far as p, and isn't refused
 pub record Reached (r : Receiver) (x : Settings) (p : List ℕ) : Type 0 where

@@ -62,7 +62,7 @@ impl Receiver {
         Ok(Receiver {
             quotas,
             frames: FrameReader::new(alloc, quotas.via)?,
-            stage: Stage::Record(Due::first(Direction::Initiator)),
+            stage: Stage::Record(Due::first(Direction::FromInitiator)),
             kind: Kind::Session,
             messages: 0,
             taken: 0,
@@ -291,7 +291,10 @@ impl Receiver {
         ensures within { IfOk result (λ answer. answer.0 ≤ length bytes.now) }
         ensures taken { IfOk result (λ answer. self.new.taken ≡ self.old.taken + answer.0) }
     {
-        match self.frames.feed(bytes, due.expect(Direction::Initiator)) {
+        match self
+            .frames
+            .feed(bytes, due.expect(Direction::FromInitiator))
+        {
             Ok((n, FrameStep::More)) => {
                 self.taken += n as u64;
                 Ok((n, Step::More))

@@ -9,7 +9,7 @@ use Rattle.nbfx_values.specs.declared.refusals.Reason.TheVariants.{Unbuilt}
 use Rattle.nmf_records.specs.declared.frame.Expect.{Expect}
 use Rattle.nmf_records.specs.declared.reader.FrameReader.{FrameReader}
 use Rattle.nmf_records.specs.Reader.{limit_of, shown_behind, ShowsText, StandsFor}
-use Rattle.nmf_records.specs.declared.script.Direction.TheVariants.{Initiator}
+use Rattle.nmf_records.specs.declared.script.Direction.TheVariants.{FromInitiator}
 use Rattle.nmf_records.specs.Script.{may_come}
 use Rattle.nmf_records.proofs.Frames.{frames_front}
 use Rattle.dump_replay.specs.declared.receiver.Receiver.{Receiver}
@@ -52,7 +52,7 @@ module _ (f : After-feed) (x : Settings) (p : List ℕ) (is : f.args.self.now.st
   stands : StandsFor r.frames f.expect.result b
   stands = subst (λ (e : Expect). StandsFor r.frames e b) (sym f.expect.ensures) (frames_here r x p y f.args.due is h on fits)
 
-  shown : ShowsText f.feed.new.self (shown_behind x.limits.via (may_come Initiator f.args.due) (b ++ y) z.via)
+  shown : ShowsText f.feed.new.self (shown_behind x.limits.via (may_come FromInitiator f.args.due) (b ++ y) z.via)
   shown = shown_so _ x.limits.via _ f.args.due limit f.expect.ensures f.feed.new.self b y z.via (f.feed.ensures.text b z.via stands h.text)
 
   few : z.messages + 1 < 2 ^ 64
@@ -97,13 +97,13 @@ returns-in-Err-clause-answers c = λ x p is limits h on.
     let bytes : List ℕ = b f x p is limits h on ++ c.args.bytes.now in
     let read = wrong_so _ x.limits.via _ c.args.due (limit f x p is limits h on) c.expect.ensures c.feed.new.self (b f x p is limits h on) c.args.bytes.now c.in-Err.refusal (c.in-Err.ensures.answers _ (stands f x p is limits h on)) in
     let place = standing_length (stream x) (readable x) p in
-    let within = (frames_front x.limits.via (may_come Initiator c.args.due)).wrong_within bytes _ _ read in
+    let within = (frames_front x.limits.via (may_come FromInitiator c.args.due)).wrong_within bytes _ _ read in
     let taken : c.refuse.new.self.taken ≡ (standing (stream x) p).from + c.in-Err.refusal.shown_by
     = ap (λ (t : Receiver). t.taken) c.refuse.ensures.refused
     ∙ omega (arith, c.saturating_add-self.ensures, h.unit_from, place, length-append (b f x p is limits h on) c.args.bytes.now, within, fits f x p is limits h on, session_is _ x.limits limits, c.args.self.now.quotas.good.session_most) in
     record_wrong c.args.self.now x p c.args.bytes.now c.args.due is h on (fits f x p is limits h on) c.refuse.new.self c.in-Err.refusal.fault c.in-Err.refusal.shown_by c.refuse.result read
     (c.refuse.ensures.offence ∙ ap (λ n. offence_at n Unbuilt) h.unit_from)
-    (subst (λ (t : FrameReader). ShowsText t (shown_behind x.limits.via (may_come Initiator c.args.due) bytes (standing (stream x) p).situation.via)) (ap (λ (t : Receiver). t.frames) (sym c.refuse.ensures.refused)) (shown f x p is limits h on))
+    (subst (λ (t : FrameReader). ShowsText t (shown_behind x.limits.via (may_come FromInitiator c.args.due) bytes (standing (stream x) p).situation.via)) (ap (λ (t : Receiver). t.frames) (sym c.refuse.ensures.refused)) (shown f x p is limits h on))
     taken (ap (λ (t : Receiver). t.failure) c.refuse.ensures.refused) (ap (λ (t : Receiver). t.messages) c.refuse.ensures.refused)
 
 pub returns-in-Err-clause-refused : goal.returns-in-Err-clause-refused
