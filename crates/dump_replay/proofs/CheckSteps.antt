@@ -1,9 +1,7 @@
 -- What a check that reads a stream piece by piece knows between two pieces, and where it ends.
-use Rattle.std.proofs.Common.{◌≡◌, ℕ, ◌-◌, ◌≤◌, ◌<◌, ◌⊎◌, inl, inr, List, [], ◌++◌, length, take, drop, Bool, true, false, Option, Some, None, Result, Ok, Err, IfOk, IfErr, OnOk, OnErr, ◌↔◌, lit<, refl, sym, ap, ◌∙◌, subst, arith, append_assoc, length-append}
-use Rattle.std.specs.Prelude.{nat_le, ◌&&◌, if◌then◌else◌}
+use Rattle.std.proofs.Common.{◌≡◌, ℕ, ◌-◌, ◌≤◌, ◌<◌, ◌⊎◌, inl, inr, List, [], ◌++◌, length, take, drop, Option, Some, None, Result, Ok, Err, IfOk, IfErr, OnOk, OnErr, ◌↔◌, lit<, refl, sym, ap, ◌∙◌, subst, arith, append_assoc, length-append}
 use Rattle.std.specs.Option.{option_or}
 use Rattle.std.proofs.Math.Seq.{take-nil}
-use Rattle.std.proofs.lemmas.Bool.{leb-false}
 use Rattle.std.proofs.lemmas.List.{append-nil, length-take-le, take-append-le, take-append-drop, take_all}
 use Rattle.io_edges.specs.Faults.{CountsFaults}
 use Rattle.io_edges.specs.Flow.{Told, Moves, GrowsByPrefix}
@@ -16,22 +14,21 @@ use Rattle.unit_streams.specs.Going.{IsGoing, IsPending, IsOpenAt}
 use Rattle.unit_streams.proofs.Standing.{standing_nothing}
 use Rattle.unit_streams.proofs.Passing.{refusal_from, going_refusal}
 use Rattle.unit_streams.proofs.Pending.{pending_open, pending_unrefused, open_going_on, open_first}
-use Rattle.nbfx_values.specs.Limits.{Limits, usual_limits}
+use Rattle.nbfx_values.specs.Limits.{usual_limits}
 use Rattle.nbfx_values.specs.QuotasOf.{limits_of}
 use Rattle.nbfx_values.specs.declared.limits.Quotas.{Quotas}
 use Rattle.nbfx_values.specs.declared.refusals.Offence.{Offence}
-use Rattle.nbfx_values.specs.declared.refusals.Reason.TheVariants.{SessionTooLong}
 use Rattle.dump_replay.specs.declared.check.TheConstants.{ROOM}
-use Rattle.dump_replay.specs.declared.stage.Stage.{Stage}
 use Rattle.dump_replay.specs.declared.check.Progress.{Progress}
 use Rattle.dump_replay.specs.declared.check.Ending.{Ending}
 use Rattle.dump_replay.specs.declared.check.Ending.TheVariants as endings
-use Rattle.dump_replay.specs.Stream.{Settings, usual, beginning, ends, offence_at, is_over_in, open_from, too_long, stream}
+use Rattle.dump_replay.specs.Stream.{Settings, initiators, IsInitiators, usual, beginning, ends, too_long, stream}
 use Rattle.dump_replay.specs.Judging.{offence}
 use Rattle.dump_replay.specs.Report.{history_lines, report, event_lines}
 use Rattle.dump_replay.specs.Checking.{Judges, Reports, Decides, Breaks, Grows, Reaches}
 use Rattle.dump_replay.specs.Reading.{HasRead, SaysOf, WritesOf, stopped_by}
-use Rattle.dump_replay.proofs.Grammar.{readable, short_enough}
+use Rattle.dump_replay.proofs.Initiators.{set_so}
+use Rattle.dump_replay.proofs.Grammar.{within_quota, readable, short_enough}
 use Rattle.dump_replay.proofs.Ending.{tells}
 use Rattle.dump_replay.proofs.Lines.{nothing_lines, open_report}
 use Rattle.dump_replay.proofs.Writing.{told_some, grown_within}
@@ -69,13 +66,6 @@ option_last : {A : Type 0} (a b v : Option A) → option_or a (option_or b v) �
 option_last None None v e = e
 option_last None (Some s) v e = cc
 option_last (Some s) b v e = cc
-
-within_quota : (x : Settings) (stage : Stage) (from n : ℕ) → is_over_in stage ≡ false → too_long x stage from n ≡ None → n < x.limits.session
-unfolding too_long
-within_quota x stage from n going none = by_test (nat_le x.limits.session n) refl (rw going at none) where
-  by_test : (b : Bool) → nat_le x.limits.session n ≡ b → (if b && true then Some (offence_at (open_from stage from) SessionTooLong) else None) ≡ None → n < x.limits.session
-  by_test true e h = cc
-  by_test false e h = leb-false x.limits.session n e
 
 pub pending_within : (x : Settings) (p : List ℕ) → IsPending (stream x) p → length p < x.limits.session
 unfolding refusal_at is_over_at
@@ -207,15 +197,15 @@ module _ (x : Settings) (left left' taken taken' written written' : Option (List
     wrote = told_as (λ w w'. w' ≡ w ++ event_lines x b.bytes) (λ w w'. Grows (w ++ event_lines x b.bytes) w') written written' b.wrote (λ w w' e. record { more = []; grown = e ∙ sym (append-nil (w ++ event_lines x b.bytes)) });
   }
 
-module _ (x : Settings) (room : 0 < x.limits.session) where
+module _ (x : Settings) (set : IsInitiators x) (room : 0 < x.limits.session) where
   -- a stream of which nothing is read may still go on
   pub first_pending : IsPending (stream x) []
   first_pending = record { unrefused = λ n. ap (refusal_at (stream x)) (take-nil n) ∙ first_unrefused; going_on = first_open.going_on } where
     first_open : IsOpenAt (stream x) []
-    first_open = open_first (stream x) (readable x) ends (tells x)
+    first_open = open_first (stream x) (readable x) ends (tells x set)
 
     first_going : IsGoing (stream x) (standing (stream x) [])
-    first_going = rw (standing_nothing (stream x) (readable x)) (record { next = (readable x).nothing beginning 0; last = refl })
+    first_going = rw (standing_nothing (stream x) (readable x)) (record { next = (readable x).nothing (beginning x) 0; last = refl })
 
     first_unrefused : refusal_at (stream x) [] ≡ None
     first_unrefused =
@@ -346,8 +336,8 @@ pub read_at : (x : Settings) (stands : List ℕ → Type 0) (p : List ℕ) → s
 read_at x stands p here pending = record { stands_for = here; on = pending_open (stream x) p pending }
 
 -- an end that is new has read nothing
-pub first_read : (x : Settings) (stands : List ℕ → Type 0) → 0 < x.limits.session → stands [] → HasRead stands x []
-first_read x stands room here = read_at x stands [] here (first_pending x room)
+pub first_read : (x : Settings) → IsInitiators x → (stands : List ℕ → Type 0) → 0 < x.limits.session → stands [] → HasRead stands x []
+first_read x set stands room here = read_at x stands [] here (first_pending x set room)
 
 -- what is answered by the settings that an end has now, said by those that it had at first
 module _ (now x : Settings) (same : now ≡ x) (stands : List ℕ → Type 0) (p : List ℕ) (read : HasRead stands x p) where
@@ -382,10 +372,14 @@ module _ (now x : Settings) (same : now ≡ x) (stands : List ℕ → Type 0) (p
             (k.0, k.1, subst (λ s. OnOk v (k.0 ≡ w ++ report s p)) same k.2, subst (λ s. OnErr v (GrowsByPrefix w k.0 (report s p))) same k.3),
       )
 
--- the limits where none is said are the usual ones
-pub usual_is : (q : Quotas) → limits_of q ≡ usual_limits → ◌≡◌ {A = Settings} (record { limits = limits_of q }) usual
+-- an end for an initiator's stream within the usual limits is set as where nothing is said
+pub usual_is : (x : Settings) (q : Quotas) → IsInitiators x → x.limits ≡ limits_of q → limits_of q ≡ usual_limits → x ≡ usual
 unfolding usual
-usual_is q h = ap (λ (l : Limits). record { limits = l }) h
+usual_is x q set is h = set_so x set ∙ ap initiators (is ∙ h)
+
+pub usual_set : IsInitiators usual
+unfolding usual
+usual_set = record { direction = refl; mode = refl }
 
 pub usual_room : 0 < usual.limits.session
 unfolding usual

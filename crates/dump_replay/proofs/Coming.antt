@@ -18,9 +18,9 @@ use Rattle.dump_replay.specs.Stream.{Settings, StreamUnit, frame, payload_byte, 
 
 -- the record that a unit is
 pub record Comes (x : Settings) (due : Due) (bytes : List ℕ) (read : Read) (n : ℕ) : Type 0 where
-  pub front : frame_at x.limits.via (may_come FromInitiator due) bytes ≡ whole read n
+  pub front : frame_at x.limits.via (may_come x.direction due) bytes ≡ whole read n
   pub bytes_are : IsRecord read (take n bytes)
-  pub may : MayCome (may_come FromInitiator due) read.frame
+  pub may : MayCome (may_come x.direction due) read.frame
   pub within : n ≤ length bytes
   pub low : length read.text ≤ x.limits.via
 
@@ -30,18 +30,18 @@ module _ (x : Settings) (from : ℕ) (bytes : List ℕ) (u : StreamUnit) (n : �
   seen_whole due (whole read k) e = let size : k ≡ n = cc in let same : frame read ≡ u = cc in (read, ap (whole read) size, sym same)
   seen_whole due (wrong fault k) e = cc
 
-  due_comes : (due : Due) → seen frame (λ fault. offence_at from (built (reason_of due fault))) (frame_at x.limits.via (may_come FromInitiator due) bytes) ≡ whole u n
+  due_comes : (due : Due) → seen frame (λ fault. offence_at from (built (reason_of due fault))) (frame_at x.limits.via (may_come x.direction due) bytes) ≡ whole u n
       → (read : Read) × (u ≡ frame read) × Comes x due bytes read n
   due_comes due e =
-      let w = seen_whole due (frame_at x.limits.via (may_come FromInitiator due) bytes) e in
-      let r = read_record x.limits.via (may_come FromInitiator due) bytes w.0 n w.1 in (
+      let w = seen_whole due (frame_at x.limits.via (may_come x.direction due) bytes) e in
+      let r = read_record x.limits.via (may_come x.direction due) bytes w.0 n w.1 in (
         w.0,
         w.2,
         record {
           front = w.1;
           bytes_are = r.0;
           may = r.1;
-          within = (frames_front x.limits.via (may_come FromInitiator due)).whole_within bytes w.0 n w.1;
+          within = (frames_front x.limits.via (may_come x.direction due)).whole_within bytes w.0 n w.1;
           low = r.2;
         },
       )

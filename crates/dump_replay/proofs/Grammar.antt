@@ -1,7 +1,7 @@
 -- The grammar of an initiator's stream is one: its units are known by their own bytes, and it ends with the events that end it.
 use Rattle.std.proofs.Common.{◌≡◌, ℕ, ◌<◌, inl, List, [], Bool, true, false, Some, None, refl, ap}
 use Rattle.std.specs.Prelude.{nat_le, ◌&&◌, not, if◌then◌else◌}
-use Rattle.std.proofs.lemmas.Bool.{lt-leb}
+use Rattle.std.proofs.lemmas.Bool.{lt-leb, leb-false}
 use Rattle.unit_streams.specs.Front.{begun, ReadsFront}
 use Rattle.unit_streams.specs.Parts.{a_byte, seen}
 use Rattle.unit_streams.specs.Grammar.{IsReadable, IsQuietWhenOver}
@@ -9,7 +9,6 @@ use Rattle.unit_streams.proofs.Fronts.{reads_by}
 use Rattle.unit_streams.proofs.Parts.{reads_byte, reads_seen}
 use Rattle.nbfx_values.specs.declared.refusals.Offence.{Offence}
 use Rattle.nbfx_values.specs.declared.refusals.Reason.TheVariants.{SessionTooLong}
-use Rattle.nmf_records.specs.declared.script.Direction.TheVariants.{FromInitiator}
 use Rattle.nmf_records.specs.declared.script.Due.{Due}
 use Rattle.nmf_records.specs.declared.script.Due.TheVariants as dues
 use Rattle.nmf_records.specs.Reading.{frame_at}
@@ -29,11 +28,11 @@ reads_payload = reads_seen payload_byte (λ o. o) a_byte reads_byte
 
 module _ (x : Settings) where
   -- a record that is due
-  reads_due : (due : Due) (from : ℕ) → ReadsFront (λ bytes. seen frame (λ fault. offence_at from (built (reason_of due fault))) (frame_at x.limits.via (may_come FromInitiator due) bytes))
-  reads_due due from = reads_seen frame (λ fault. offence_at from (built (reason_of due fault))) (frame_at x.limits.via (may_come FromInitiator due)) (frames_front x.limits.via (may_come FromInitiator due))
+  reads_due : (due : Due) (from : ℕ) → ReadsFront (λ bytes. seen frame (λ fault. offence_at from (built (reason_of due fault))) (frame_at x.limits.via (may_come x.direction due) bytes))
+  reads_due due from = reads_seen frame (λ fault. offence_at from (built (reason_of due fault))) (frame_at x.limits.via (may_come x.direction due)) (frames_front x.limits.via (may_come x.direction due))
 
-  nothing_due : (due : Due) (from : ℕ) → seen frame (λ fault. offence_at from (built (reason_of due fault))) (frame_at x.limits.via (may_come FromInitiator due) []) ≡ begun
-  nothing_due due from = ap (seen frame (λ fault. offence_at from (built (reason_of due fault)))) (frame_peels x.limits.via (may_come FromInitiator due)).nothing
+  nothing_due : (due : Due) (from : ℕ) → seen frame (λ fault. offence_at from (built (reason_of due fault))) (frame_at x.limits.via (may_come x.direction due) []) ≡ begun
+  nothing_due due from = ap (seen frame (λ fault. offence_at from (built (reason_of due fault)))) (frame_peels x.limits.via (may_come x.direction due)).nothing
 
   reads_record : (due : Due) (from : ℕ) → ReadsFront (record_at x due from)
   reads_record dues.Over from = reads_nothing
@@ -70,7 +69,7 @@ module _ (x : Settings) where
     no true = refl
     no false = refl
 
-  any_end_over : (stage : Stage) (from : ℕ) → is_over_in stage ≡ true → cut_off stage from ≡ None
+  any_end_over : (stage : Stage) (from : ℕ) → is_over_in stage ≡ true → cut_off x stage from ≡ None
   unfolding cut_off
   any_end_over (stages.Record dues.Over) from e = refl
   any_end_over (stages.Record _) from e = cc
@@ -87,3 +86,11 @@ module _ (x : Settings) where
   pub short_enough : (stage : Stage) (from n : ℕ) → n < x.limits.session → too_long x stage from n ≡ None
   unfolding too_long
   short_enough stage from n lt = rw (lt-leb x.limits.session n lt) refl
+
+  -- where one isn't, of a session that isn't over, it is below the quota
+  pub within_quota : (stage : Stage) (from n : ℕ) → is_over_in stage ≡ false → too_long x stage from n ≡ None → n < x.limits.session
+  unfolding too_long
+  within_quota stage from n going none = by_test (nat_le x.limits.session n) refl (rw going at none) where
+    by_test : (b : Bool) → nat_le x.limits.session n ≡ b → (if b && true then Some (offence_at (open_from stage from) SessionTooLong) else None) ≡ None → n < x.limits.session
+    by_test true e h = cc
+    by_test false e h = leb-false x.limits.session n e

@@ -19,12 +19,12 @@ use Rattle.nmf_records.specs.declared.script.Due.TheVariants as dues
 use Rattle.nmf_records.specs.Records.{Read}
 use Rattle.nmf_records.specs.Reading.{frame_at}
 use Rattle.nmf_records.specs.Script.{may_come}
-use Rattle.dump_replay.specs.Stream.{Settings, usual, reason_of, reason_in, unit_in, after, completed, refused, too_long, cut_off}
+use Rattle.dump_replay.specs.Stream.{Settings, initiators, usual, reason_of, reason_in, unit_in, after, completed, refused, too_long, cut_off}
 use Rattle.dump_replay.specs.Report.{quoted, offence_line, report}
 
 -- with these quotas
 abbrev set_to : ℕ → ℕ → ℕ → Settings
-set_to payload via session = record { limits = limits payload 32 2048 262144 via session }
+set_to payload via session = initiators (limits payload 32 2048 262144 via session)
 
 -- with this session quota
 abbrev pub of_session : ℕ → Settings

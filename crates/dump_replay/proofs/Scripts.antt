@@ -7,13 +7,14 @@ use Rattle.nbfx_values.specs.declared.session.Kind.{Kind}
 use Rattle.nbfx_values.specs.declared.session.Kind.TheVariants.{Plain, Session}
 use Rattle.nbfx_values.specs.declared.session.Mode.TheVariants.{Duplex}
 use Rattle.nbfx_values.specs.declared.refusals.Reason.TheVariants as reasons
-use Rattle.nbfx_values.specs.Session.{kind_number}
+use Rattle.nbfx_values.specs.Limits.{Limits}
+use Rattle.nbfx_values.specs.Session.{mode_number, kind_number}
 use Rattle.nmf_records.specs.declared.frame.Frame.{Frame}
 use Rattle.nmf_records.specs.declared.frame.Frame.TheVariants as frames
 use Rattle.nmf_records.specs.declared.script.Direction.TheVariants.{FromInitiator}
 use Rattle.nmf_records.specs.Records.{IsRecordOf}
 use Rattle.nmf_records.specs.Script.{IsScript}
-use Rattle.dump_replay.specs.Stream.{Settings, reason_in}
+use Rattle.dump_replay.specs.Stream.{Settings, initiators, reason_in}
 use Rattle.dump_replay.specs.Sessions.{IsBare, CarriesPayloads, IsSession, payload_size, BeginsWith, HasScript}
 
 -- a record that isn't refused
@@ -21,8 +22,8 @@ right_version : (major minor : ℕ) (b : Bool) → ((major == 1) && (minor == 0)
 right_version major minor true e none = let h = and_parts (major == 1) (minor == 0) e in (eqb-true major 1 h.0, eqb-true minor 0 h.1)
 right_version major minor false e none = cc
 
-pub right_mode : (mode : ℕ) (b : Bool) → (mode == 2) ≡ b → (if b then None else Some reasons.BadMode) ≡ None → mode ≡ 2
-right_mode mode true e none = eqb-true mode 2 e
+pub right_mode : (mode : ℕ) (b : Bool) → (mode == mode_number Duplex) ≡ b → (if b then None else Some reasons.BadMode) ≡ None → mode ≡ mode_number Duplex
+right_mode mode true e none = eqb-true mode (mode_number Duplex) e
 right_mode mode false e none = cc
 
 right_encoding : (encoding : ℕ) (b : Bool) → ((encoding == 7) || (encoding == 8)) ≡ b → (if b then None else Some reasons.BadEncoding) ≡ None → (kind : Kind) × (encoding ≡ kind_number kind)
@@ -42,7 +43,10 @@ known : (x : Settings) (kind : Kind) → reason_in x (frames.KnownEncoding (kind
 known x Plain = refl
 known x Session = refl
 
-module _ (x : Settings) where
+module _ (l : Limits) where
+  abbrev x : Settings
+  x = initiators l
+
   -- from a script
 
   -- a record without a payload

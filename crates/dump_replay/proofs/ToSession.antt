@@ -1,16 +1,16 @@
 -- A stream whose units lead to where the input may end begins with a session.
-use Rattle.std.proofs.Common.{◌≡◌, ℕ, ◌+◌, ◌-◌, ◌<◌, ◌≤◌, inl, inr, List, [], ◌∷◌, ◌++◌, length, take, drop, Bool, true, false, Option, Some, None, refl, sym, ap, ◌∙◌, subst, arith, append_assoc, length-append}
-use Rattle.std.specs.Prelude.{nat_lt, nat_le, ◌==◌, ◌&&◌, not, if◌then◌else◌}
+use Rattle.std.proofs.Common.{◌≡◌, ℕ, ◌+◌, ◌-◌, ◌<◌, ◌≤◌, List, [], ◌∷◌, ◌++◌, length, take, drop, Bool, true, false, Option, Some, None, refl, sym, ap, ◌∙◌, subst, arith, append_assoc, length-append}
+use Rattle.std.specs.Prelude.{nat_lt, ◌==◌, if◌then◌else◌}
 use Rattle.std.specs.Option.{option_map}
-use Rattle.std.proofs.lemmas.Bool.{cases_lt, eqb-true, le-leb, ltb-true, ltb-false}
+use Rattle.std.proofs.lemmas.Bool.{eqb-true, ltb-true, ltb-false}
 use Rattle.std.proofs.lemmas.List.{take-append-drop}
 use Rattle.unit_streams.specs.Front.{whole}
 use Rattle.unit_streams.specs.Units.{Counted, UnitsLead, AreShort, size_of, IsAccepted}
 use Rattle.unit_streams.proofs.Fronts.{whole_some}
 use Rattle.unit_streams.proofs.Accepted.{leads_length}
+use Rattle.nbfx_values.specs.Limits.{Limits}
 use Rattle.nbfx_values.specs.declared.session.Mode.TheVariants.{Duplex}
 use Rattle.nbfx_values.specs.declared.refusals.Reason.{Reason}
-use Rattle.nbfx_values.specs.declared.refusals.Reason.TheVariants.{SessionTooLong}
 use Rattle.nmf_records.specs.declared.frame.Frame.{Frame}
 use Rattle.nmf_records.specs.declared.frame.Frame.TheVariants as frames
 use Rattle.nmf_records.specs.declared.script.Direction.TheVariants.{FromInitiator}
@@ -24,9 +24,9 @@ use Rattle.nmf_records.proofs.WaysAreScripts.{script_is as way_is_script}
 use Rattle.dump_replay.specs.declared.stage.Payload.{Payload}
 use Rattle.dump_replay.specs.declared.stage.Stage.{Stage}
 use Rattle.dump_replay.specs.declared.stage.Stage.TheVariants as stages
-use Rattle.dump_replay.specs.Stream.{Settings, Situation, beginning, due_in, led, StreamUnit, StreamEvent, offence_at, built, reason_in, message_whole, after_record, after, refused, unit_in, is_over_in, open_from, too_long, cut_off, stream}
+use Rattle.dump_replay.specs.Stream.{Settings, initiators, Situation, beginning, due_in, led, StreamUnit, offence_at, built, reason_in, message_whole, after_record, after, refused, unit_in, is_over_in, cut_off, stream}
 use Rattle.dump_replay.specs.Sessions.{IsClosed, payload_size, HasScript}
-use Rattle.dump_replay.proofs.Grammar.{readable}
+use Rattle.dump_replay.proofs.Grammar.{readable, within_quota}
 use Rattle.dump_replay.proofs.Coming.{unit_of_record, unit_of_payload}
 use Rattle.dump_replay.proofs.Situations.{HasLeft, IsSound, sound_unit}
 use Rattle.dump_replay.proofs.DueRecords.{envelope_due}
@@ -51,17 +51,17 @@ IsFrom x (stages.Record due) bytes = IsLeft x due bytes
 IsFrom x (stages.Payload payload) bytes = IsWithin x payload.left bytes
 
 -- a Mode record that isn't refused names the mode
-names_duplex : (x : Settings) (read : Frame) → reason_in x read ≡ None → NamesMode Duplex read
-names_duplex x (frames.Mode mode) none = right_mode mode _ refl none
-names_duplex x _ none = tt
+names_duplex : (l : Limits) (read : Frame) → reason_in (initiators l) read ≡ None → NamesMode Duplex read
+names_duplex l (frames.Mode mode) none = right_mode mode _ refl none
+names_duplex l _ none = tt
 
 -- a record in front of what is left
-module _ (x : Settings) (z : Situation) (from : ℕ) (due : Due) (at : z.stage ≡ stages.Record due) (t c : List ℕ) where
-  one_more : (read : Frame) (text payload rest : List ℕ) → MayCome (may_come FromInitiator due) read → IsRecordOf read text t → length text ≤ x.limits.via → reason_in x read ≡ None
-      → c ≡ payload ++ rest → length payload ≡ payload_size read → IsLeft x (leads FromInitiator Duplex due read) rest → IsLeft x due (t ++ c)
+module _ (l : Limits) (z : Situation) (from : ℕ) (due : Due) (at : z.stage ≡ stages.Record due) (t c : List ℕ) where
+  one_more : (read : Frame) (text payload rest : List ℕ) → MayCome (may_come FromInitiator due) read → IsRecordOf read text t → length text ≤ l.via → reason_in (initiators l) read ≡ None
+      → c ≡ payload ++ rest → length payload ≡ payload_size read → IsLeft (initiators l) (leads FromInitiator Duplex due read) rest → IsLeft (initiators l) due (t ++ c)
   one_more read text payload rest may is low none joined sized next = record {
     script = read ∷ next.script;
-    follows = (may, names_duplex x read none, next.follows);
+    follows = (may, names_duplex l read none, next.follows);
     has = record {
       text = text;
       head = t;
@@ -77,21 +77,21 @@ module _ (x : Settings) (z : Situation) (from : ℕ) (due : Due) (at : z.stage �
   }
 
   -- one without a payload
-  plain_first : (read : Frame) (text : List ℕ) → MayCome (may_come FromInitiator due) read → IsRecordOf read text t → length text ≤ x.limits.via → reason_in x read ≡ None → payload_size read ≡ 0
-      → IsFrom x (led z.stage read) c → IsLeft x due (t ++ c)
+  plain_first : (read : Frame) (text : List ℕ) → MayCome (may_come FromInitiator due) read → IsRecordOf read text t → length text ≤ l.via → reason_in (initiators l) read ≡ None → payload_size read ≡ 0
+      → IsFrom (initiators l) (led (initiators l) z.stage read) c → IsLeft (initiators l) due (t ++ c)
   plain_first read text may is low none empty h =
-      one_more read text [] c may is low none refl (sym empty) (subst (λ (d : Due). IsLeft x (leads FromInitiator Duplex d read) c) (ap due_in at) h)
+      one_more read text [] c may is low none refl (sym empty) (subst (λ (d : Due). IsLeft (initiators l) (leads FromInitiator Duplex d read) c) (ap due_in at) h)
 
-  head_first : (size : ℕ) (text : List ℕ) (b : Bool) → (size == 0) ≡ b → MayCome (may_come FromInitiator due) (frames.SizedEnvelope size) → IsRecordOf (frames.SizedEnvelope size) text t → length text ≤ x.limits.via
-      → reason_in x (frames.SizedEnvelope size) ≡ None → IsFrom x (if b then message_whole z else record z { stage = stages.Payload (record { from = from; size = size; left = size }) }).stage c
-      → IsLeft x due (t ++ c)
+  head_first : (size : ℕ) (text : List ℕ) (b : Bool) → (size == 0) ≡ b → MayCome (may_come FromInitiator due) (frames.SizedEnvelope size) → IsRecordOf (frames.SizedEnvelope size) text t → length text ≤ l.via
+      → reason_in (initiators l) (frames.SizedEnvelope size) ≡ None → IsFrom (initiators l) (if b then message_whole z else record z { stage = stages.Payload (record { from = from; size = size; left = size }) }).stage c
+      → IsLeft (initiators l) due (t ++ c)
   head_first size text true e may is low none h =
-      one_more (frames.SizedEnvelope size) text [] c may is low none refl (sym (eqb-true size 0 e)) (subst (λ (d : Due). IsLeft x d c) (sym (envelope_due due size may)) h)
+      one_more (frames.SizedEnvelope size) text [] c may is low none refl (sym (eqb-true size 0 e)) (subst (λ (d : Due). IsLeft (initiators l) d c) (sym (envelope_due FromInitiator due size may)) h)
   head_first size text false e may is low none h =
-      one_more (frames.SizedEnvelope size) text h.part h.more may is low none h.joined h.size (subst (λ (d : Due). IsLeft x d h.more) (sym (envelope_due due size may)) h.next)
+      one_more (frames.SizedEnvelope size) text h.part h.more may is low none h.joined h.size (subst (λ (d : Due). IsLeft (initiators l) d h.more) (sym (envelope_due FromInitiator due size may)) h.next)
 
-  record_first : (read : Frame) (text : List ℕ) → MayCome (may_come FromInitiator due) read → IsRecordOf read text t → length text ≤ x.limits.via → reason_in x read ≡ None
-      → IsFrom x (after_record z from read text).stage c → IsLeft x due (t ++ c)
+  record_first : (read : Frame) (text : List ℕ) → MayCome (may_come FromInitiator due) read → IsRecordOf read text t → length text ≤ l.via → reason_in (initiators l) read ≡ None
+      → IsFrom (initiators l) (after_record (initiators l) z from read text).stage c → IsLeft (initiators l) due (t ++ c)
   record_first (frames.SizedEnvelope size) text may is low none h = head_first size text _ refl may is low none h
   record_first frames.Via text may is low none h = plain_first frames.Via text may is low none refl h
   record_first (frames.KnownEncoding encoding) text may is low none h = plain_first (frames.KnownEncoding encoding) text may is low none refl h
@@ -112,14 +112,17 @@ none_mapped : {A B : Type 0} (f : A → B) (v : Option A) → option_map f v ≡
 none_mapped f None e = refl
 none_mapped f (Some a) e = cc
 
-module _ (x : Settings) where
+module _ (l : Limits) where
+  abbrev x : Settings
+  x = initiators l
+
   unit_first : (stage : Stage) (z : Situation) (from : ℕ) (bytes : List ℕ) (u : StreamUnit) (n : ℕ) (c : List ℕ) → z.stage ≡ stage → HasLeft stage → unit_in x stage from bytes ≡ whole u n → refused x from u ≡ None
-      → IsFrom x (after z from u).stage c → IsFrom x stage (take n bytes ++ c)
+      → IsFrom x (after x z from u).stage c → IsFrom x stage (take n bytes ++ c)
   unfolding after refused
   unit_first (stages.Record due) z from bytes u n c at left e ok h =
       let r = unit_of_record x from bytes u n due e in
       let none : option_map (λ reason. offence_at from (built reason)) (reason_in x r.0.frame) ≡ None = ap (refused x from) (sym r.1) ∙ ok in
-      record_first x z from due at (take n bytes) c r.0.frame r.0.text r.2.may r.2.bytes_are r.2.low (none_mapped (λ (reason : Reason). offence_at from (built reason)) (reason_in x r.0.frame) none) (rw r.1 at h)
+      record_first l z from due at (take n bytes) c r.0.frame r.0.text r.2.may r.2.bytes_are r.2.low (none_mapped (λ (reason : Reason). offence_at from (built reason)) (reason_in x r.0.frame) none) (rw r.1 at h)
   unit_first (stages.Payload payload) z from bytes u n c at left e ok h =
       let r = unit_of_payload x from bytes u n payload e in
       let front : take n bytes ≡ r.0 ∷ [] = ap (λ k. take k bytes) r.4 ∙ ap (take 1) r.2 in
@@ -132,7 +135,7 @@ module _ (x : Settings) where
   over_is (stages.Payload payload) e = cc
 
   -- each situation is sound, so of a payload something is left
-  has_left : (z : Situation) (from : ℕ) (bytes : List ℕ) (u : StreamUnit) (n : ℕ) → unit_in x z.stage from bytes ≡ whole u n → IsSound z from → IsSound (after z from u) (from + n)
+  has_left : (z : Situation) (from : ℕ) (bytes : List ℕ) (u : StreamUnit) (n : ℕ) → unit_in x z.stage from bytes ≡ whole u n → IsSound z from → IsSound (after x z from u) (from + n)
   has_left z from bytes u n e h = sound_unit x z from u n (whole_some (unit_in x z.stage from) ((readable x).reads z from) ((readable x).nothing z from) bytes u n e).0 h
 
   -- whole units up to an end are what is left of a session
@@ -141,22 +144,11 @@ module _ (x : Settings) where
   unfolding UnitsLead
   units_first [] z from bytes z' rest sound l over = ([], l.1, over_is z.stage (ap (λ (z : Situation). is_over_in z.stage) l.0 ∙ over))
   units_first (one ∷ units) z from bytes z' rest sound l over =
-      let behind = units_first units (after z from one.unit) (from + one.size) (drop one.size bytes) z' rest (has_left z from bytes one.unit one.size l.0 sound) l.2 over in (
+      let behind = units_first units (after x z from one.unit) (from + one.size) (drop one.size bytes) z' rest (has_left z from bytes one.unit one.size l.0 sound) l.2 over in (
         take one.size bytes ++ behind.0,
         sym (take-append-drop one.size bytes) ∙ ap (λ b. take one.size bytes ++ b) behind.1 ∙ sym (append_assoc (take one.size bytes) behind.0 rest),
         unit_first z.stage z from bytes one.unit one.size behind.0 refl sound.left l.0 l.1 behind.2,
       )
-
-  -- below the session quota no length is too great, and from there on each is
-  quota_above : (stage : Stage) (from n : ℕ) → is_over_in stage ≡ false → too_long x stage from n ≡ None → n < x.limits.session
-  unfolding too_long
-  quota_above stage from n on none =
-      elim (cases_lt n x.limits.session) [
-        | inl lt ↦ lt
-        | inr le ↦
-            let some : (if nat_le x.limits.session n && not (is_over_in stage) then Some (offence_at (open_from stage from) SessionTooLong) else None) ≡ Some (offence_at (open_from stage from) SessionTooLong) = rw (le-leb x.limits.session n le, on) refl in
-            cc
-      ]
 
   -- where a unit is read the session isn't over
   unit_going : (stage : Stage) (from : ℕ) (bytes : List ℕ) (u : StreamUnit) (n : ℕ) → unit_in x stage from bytes ≡ whole u n → is_over_in stage ≡ false
@@ -173,12 +165,12 @@ module _ (x : Settings) where
   units_within (one ∷ units) z from bytes z' rest low l short =
       let some = (whole_some (unit_in x z.stage from) ((readable x).reads z from) ((readable x).nothing z from) bytes one.unit one.size l.0).0 in
       let last : ℕ = from + one.size - 1 in
-      let below = quota_above z.stage from last (unit_going z.stage from bytes one.unit one.size l.0) (short.0 last (omega (arith, some)) (omega (arith, some))) in
-      let more = units_within units (after z from one.unit) (from + one.size) (drop one.size bytes) z' rest (omega (arith, some, below)) l.2 short.1 in
+      let below = within_quota x z.stage from last (unit_going z.stage from bytes one.unit one.size l.0) (short.0 last (omega (arith, some)) (omega (arith, some))) in
+      let more = units_within units (after x z from one.unit) (from + one.size) (drop one.size bytes) z' rest (omega (arith, some, below)) l.2 short.1 in
       omega (arith, more)
 
   -- the input may end where the session is over
-  end_over : (stage : Stage) (from : ℕ) → cut_off stage from ≡ None → is_over_in stage ≡ true
+  end_over : (stage : Stage) (from : ℕ) → cut_off x stage from ≡ None → is_over_in stage ≡ true
   unfolding cut_off
   end_over (stages.Record dues.Over) from e = refl
   end_over (stages.Record _) from e = cc
@@ -188,9 +180,9 @@ module _ (x : Settings) where
   pub accepted_closed : (bytes : List ℕ) → IsAccepted (stream x) bytes → IsClosed x bytes
   accepted_closed bytes a =
       let over = end_over a.situation.stage (size_of a.units) a.may_end in
-      let h = units_first a.units beginning 0 bytes a.situation a.rest (record { messages_within = omega arith; left = tt }) a.lead over in
+      let h = units_first a.units (beginning x) 0 bytes a.situation a.rest (record { messages_within = omega arith; left = tt }) a.lead over in
       let all : length bytes ≡ length h.0 + length a.rest = ap length h.1 ∙ length-append h.0 a.rest in
-      let size = leads_length (stream x) (readable x) a.units beginning 0 bytes a.situation a.rest a.lead in
-      let fits = units_within a.units beginning 0 bytes a.situation a.rest (omega arith) a.lead a.units_short in
-      let s = script_is x h.2.script h.0 (way_is_script FromInitiator Duplex h.2.script h.2.follows) h.2.has (omega (arith, all, size, fits)) in
+      let size = leads_length (stream x) (readable x) a.units (beginning x) 0 bytes a.situation a.rest a.lead in
+      let fits = units_within a.units (beginning x) 0 bytes a.situation a.rest (omega arith) a.lead a.units_short in
+      let s = script_is l h.2.script h.0 (way_is_script FromInitiator Duplex h.2.script h.2.follows) h.2.has (omega (arith, all, size, fits)) in
       record { via = s.0; kind = s.1; payloads = s.2; session = h.0; rest = a.rest; joined = h.1; is_session = s.3 }

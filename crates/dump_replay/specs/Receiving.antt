@@ -1,5 +1,5 @@
 -- What a receiver stands for, and what it shows. It keeps of the bytes that it used no more than the framing's text.
-use Rattle.std.specs.Prelude.{◌≡◌, ℕ, ◌≤◌, List, [], length, Option, Some, None}
+use Rattle.std.specs.Prelude.{◌≡◌, ℕ, ◌≤◌, List, [], length, Option, Some, None, refl}
 use Rattle.unit_streams.specs.Grammar.{standing}
 use Rattle.unit_streams.specs.Going.{IsGoing}
 use Rattle.nbfx_values.specs.QuotasOf.{limits_of}
@@ -12,11 +12,16 @@ use Rattle.nmf_records.specs.Script.{may_come}
 use Rattle.dump_replay.specs.declared.receiver.Receiver.{Receiver}
 use Rattle.dump_replay.specs.declared.stage.Stage.{Stage}
 use Rattle.dump_replay.specs.declared.stage.Stage.TheVariants as stages
-use Rattle.dump_replay.specs.Stream.{Settings, stream}
+use Rattle.dump_replay.specs.Stream.{Settings, initiators, IsInitiators, stream}
 
 -- what the receiver is set to
 unfoldable pub settings_of : Receiver → Settings
-settings_of r = record { limits = limits_of r.quotas }
+settings_of r = initiators (limits_of r.quotas)
+
+-- it reads an initiator's stream
+pub reads_initiators : (r : Receiver) → IsInitiators (settings_of r)
+unfolding settings_of
+reads_initiators r = record { direction = refl; mode = refl }
 
 -- how many bytes it has used, or that show its offence
 unfoldable pub taken_of : Receiver → ℕ

@@ -37,7 +37,7 @@ AnsweredBy (Some reason) z event (Err told) = told ≡ built reason
 
 -- what a whole record is answered with that begins at this offset in this situation
 abbrev pub RecordAnswers : Settings → Situation → ℕ → Frame → List ℕ → Result Next Reason → Type 0
-RecordAnswers x z from frame text result = AnsweredBy (reason_in x frame) (after_record z from frame text) (completed_record z from frame) result
+RecordAnswers x z from frame text result = AnsweredBy (reason_in x frame) (after_record x z from frame text) (completed_record x z from frame) result
 
 -- what bytes of one unit behind p are answered with
 abbrev pub UnitAnswers : Settings → List ℕ → List ℕ → Receiver → Result (ℕ × Step) Offence → Type 0

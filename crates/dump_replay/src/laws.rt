@@ -1,5 +1,6 @@
-//! What holds of an initiator's streams by their definitions alone. Each function does nothing: its
-//! contract is a law, which a caller has where it calls the function.
+//! What holds of streams by their definitions alone. Each function does nothing: its contract is a
+//! law, which a caller has where it calls the function. What a law says of sessions, or of a stream
+//! that is cut off, it says of settings for an initiator's stream in duplex mode.
 
 ghost use Rattle.unit_streams.specs.Laws.{StandingsGoOn, AnswersAreFirst, CutsChangeNothing, HistoryIsAnswers, NoUnitGoesOn, EndsAreClosed, OffencesAreFirst, AcceptedOrOffended};
 ghost use Rattle.unit_streams.specs.Refusals.{RefusalsAreThree};

@@ -3,7 +3,7 @@
 ghost use Rattle.std.specs.Prelude.{◌≡◌, ℕ, ◌≤◌, List, ◌++◌, length, take, IfOk, Some, false};
 ghost use Rattle.std.specs.String.{string_bytes};
 ghost use Rattle.unit_streams.specs.Judging.{answer, event_at, is_over_at, ending_at};
-ghost use Rattle.dump_replay.specs.Stream.{Settings, StreamEvent, stream};
+ghost use Rattle.dump_replay.specs.Stream.{Settings, IsInitiators, StreamEvent, stream};
 ghost use Rattle.dump_replay.specs.Report.{event_line};
 ghost use Rattle.dump_replay.specs.Saying.{said, said_at_end, step_for};
 
@@ -43,4 +43,7 @@ pub trait ReadingEnd {
 
     /// It has used the bytes that it stands for.
     ghost counts: { (end : Self) (p : List ℕ) → stands end p → taken end ≡ length p };
+
+    /// It reads an initiator's stream in duplex mode.
+    ghost initiators: { (end : Self) → IsInitiators (settings end) };
 }

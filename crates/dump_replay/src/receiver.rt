@@ -4,10 +4,11 @@ ghost use Rattle.std.specs.Prelude.{◌≡◌, ℕ, ◌+◌, ◌^◌, ◌≤◌,
 ghost use Rattle.unit_streams.specs.Grammar.{standing};
 ghost use Rattle.unit_streams.specs.Judging.{answer, used, is_over_at, ending_at};
 ghost use Rattle.unit_streams.specs.Going.{IsGoing};
+ghost use Rattle.nbfx_values.specs.Limits.{Limits};
 ghost use Rattle.nbfx_values.specs.QuotasOf.{limits_of};
 ghost use Rattle.nbfx_values.specs.declared.refusals.Offence.{Offence as Refusal};
 ghost use Rattle.nmf_records.specs.Reader.{limit_of};
-ghost use Rattle.dump_replay.specs.Stream.{Settings, Situation, stream, reason_in, after_record, completed_record, open_from, offence_at, is_over_in};
+ghost use Rattle.dump_replay.specs.Stream.{Situation, initiators, IsInitiators, stream, reason_in, after_record, completed_record, open_from, offence_at, is_over_in};
 
 use crate::reading::ReadingEnd;
 use crate::report;
@@ -56,8 +57,9 @@ impl Receiver {
     pub fn new(alloc: Global, quotas: Quotas) -> Result<Receiver, Memory>
         ensures stands { IfOk result (λ receiver. StandsFor receiver []) }
         ensures via { IfOk result (λ receiver. ShowsVia receiver []) }
-        ensures settings { IfOk result
-            (λ receiver. settings_of receiver ≡ record { limits = limits_of quotas }) }
+        ensures settings { IfOk result (λ receiver. IsInitiators (settings_of receiver)) }
+        ensures limits { IfOk result
+            (λ receiver. (settings_of receiver).limits ≡ limits_of quotas) }
     {
         Ok(Receiver {
             quotas,
@@ -239,9 +241,9 @@ impl Receiver {
     fn unit(&mut self, bytes: &[u8]) -> Result<(usize, Step), Offence>
         requires some { 0 < length bytes.now }
         requires fits { self.old.taken + length bytes.now ≤ self.old.quotas.session }
-        ensures answers { (x : Settings) (p : List ℕ) → limits_of self.old.quotas ≡ x.limits
-            → Reached self.old x p → is_over_at (stream x) p ≡ false
-            → UnitAnswers x p bytes.now self.new result }
+        ensures answers { (l : Limits) (p : List ℕ) → limits_of self.old.quotas ≡ l
+            → Reached self.old (initiators l) p → is_over_at (stream (initiators l)) p ≡ false
+            → UnitAnswers (initiators l) p bytes.now self.new result }
         ensures refused { IfErr result (λ o. failure_of self.new ≡ Some o) }
         ensures quotas { self.new.quotas ≡ self.old.quotas }
         ensures within { IfOk result (λ answer. answer.0 ≤ length bytes.now) }
@@ -257,10 +259,10 @@ impl Receiver {
     fn payload(&mut self, payload: Payload, len: usize) -> (usize, Step)
         requires some { 0 < len }
         requires fits { self.old.taken + len ≤ self.old.quotas.session }
-        ensures answers { (x : Settings) (p c : List ℕ) → length c ≡ len
+        ensures answers { (l : Limits) (p c : List ℕ) → length c ≡ len
             → self.old.stage ≡ Stage.Payload payload
-            → limits_of self.old.quotas ≡ x.limits → Reached self.old x p
-            → UnitAnswers x p c self.new (Ok result) }
+            → limits_of self.old.quotas ≡ l → Reached self.old (initiators l) p
+            → UnitAnswers (initiators l) p c self.new (Ok result) }
         ensures quotas { self.new.quotas ≡ self.old.quotas }
         ensures within { result.0 ≤ len }
         ensures taken { self.new.taken ≡ self.old.taken + result.0 }
@@ -283,9 +285,10 @@ impl Receiver {
     fn record(&mut self, due: Due, bytes: &[u8]) -> Result<(usize, Step), Offence>
         requires some { 0 < length bytes.now }
         requires fits { self.old.taken + length bytes.now ≤ self.old.quotas.session }
-        ensures answers { (x : Settings) (p : List ℕ) → self.old.stage ≡ Stage.Record due
-            → limits_of self.old.quotas ≡ x.limits → Reached self.old x p
-            → is_over_at (stream x) p ≡ false → UnitAnswers x p bytes.now self.new result }
+        ensures answers { (l : Limits) (p : List ℕ) → self.old.stage ≡ Stage.Record due
+            → limits_of self.old.quotas ≡ l → Reached self.old (initiators l) p
+            → is_over_at (stream (initiators l)) p ≡ false
+            → UnitAnswers (initiators l) p bytes.now self.new result }
         ensures refused { IfErr result (λ o. failure_of self.new ≡ Some o) }
         ensures quotas { self.new.quotas ≡ self.old.quotas }
         ensures within { IfOk result (λ answer. answer.0 ≤ length bytes.now) }
@@ -313,12 +316,14 @@ impl Receiver {
 
     // Goes on behind a whole record.
     fn behind(&mut self, due: Due, frame: Frame) -> Result<Step, Offence>
-        ensures answers { (x : Settings) (z : Situation) (text : List ℕ)
-            → limits_of self.old.quotas ≡ x.limits → z.stage ≡ Stage.Record due
+        ensures answers { (l : Limits) (z : Situation) (text : List ℕ)
+            → limits_of self.old.quotas ≡ l → z.stage ≡ Stage.Record due
             → z.kind ≡ self.old.kind
             → z.messages ≡ self.old.messages → z.messages + 1 < 2 ^ 64
-            → BehindAnswers (reason_in x frame) (after_record z self.old.unit_from frame text)
-            (completed_record z self.old.unit_from frame) self.new self.old.unit_from result }
+            → BehindAnswers (reason_in (initiators l) frame)
+            (after_record (initiators l) z self.old.unit_from frame text)
+            (completed_record (initiators l) z self.old.unit_from frame) self.new self.old.unit_from
+            result }
         ensures refused { IfErr result (λ o. failure_of self.new ≡ Some o) }
         ensures frames { self.new.frames ≡ self.old.frames }
         ensures quotas { self.new.quotas ≡ self.old.quotas }
@@ -342,7 +347,7 @@ impl Receiver {
 }
 
 impl ReadingEnd for Receiver {
-    ghost use Rattle.dump_replay.specs.Receiving.{settings_of, taken_of, StandsFor, counts_taken};
+    ghost use Rattle.dump_replay.specs.Receiving.{settings_of, taken_of, StandsFor, counts_taken, reads_initiators};
 
     ghost settings = { settings_of };
 
@@ -351,6 +356,8 @@ impl ReadingEnd for Receiver {
     ghost taken = { taken_of };
 
     ghost counts = { counts_taken };
+
+    ghost initiators = { reads_initiators };
 
     fn feed(&mut self, piece: &[u8]) -> Result<(usize, Step), Offence> {
         Receiver::feed(self, piece)

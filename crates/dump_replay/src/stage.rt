@@ -3,8 +3,9 @@
 ghost use Rattle.std.specs.Prelude.{◌≡◌, ℕ, List, ◌==◌, ◌||◌};
 ghost use Rattle.nbfx_values.specs.declared.session.Kind.TheVariants.{Plain, Session};
 ghost use Rattle.nbfx_values.specs.Session.{kind_number};
+ghost use Rattle.nbfx_values.specs.Limits.{Limits};
 ghost use Rattle.nbfx_values.specs.QuotasOf.{limits_of};
-ghost use Rattle.dump_replay.specs.Stream.{Settings, Situation, reason_in, after_record, completed_record};
+ghost use Rattle.dump_replay.specs.Stream.{Situation, initiators, reason_in, after_record, completed_record};
 ghost use Rattle.dump_replay.specs.Stepping.{RecordAnswers, RefusedAs, step_of};
 
 use crate::receiver::Step;
@@ -41,7 +42,8 @@ pub struct Next {
 
 /// Why what a whole record says is refused.
 fn refused(quotas: &Quotas, frame: Frame) -> Option<Reason>
-    ensures { (x : Settings) → limits_of quotas.now ≡ x.limits → RefusedAs (reason_in x frame) result }
+    ensures { (l : Limits) → limits_of quotas.now ≡ l
+        → RefusedAs (reason_in (initiators l) frame) result }
 {
     match frame {
         Frame::Version { major: 1, minor: 0 } => None,
@@ -67,8 +69,9 @@ pub fn behind_record(
     from: u64,
     frame: Frame,
 ) -> Result<Next, Reason>
-    ensures { (x : Settings) (z : Situation) (text : List ℕ) → limits_of quotas.now ≡ x.limits → z.kind ≡ kind → z.stage ≡ Stage.Record due
-        → RecordAnswers x z from frame text result }
+    ensures { (l : Limits) (z : Situation) (text : List ℕ) → limits_of quotas.now ≡ l
+        → z.kind ≡ kind → z.stage ≡ Stage.Record due
+        → RecordAnswers (initiators l) z from frame text result }
 {
     if let Some(reason) = refused(quotas, frame) {
         return Err(reason);
@@ -81,7 +84,8 @@ pub fn behind_record(
 }
 
 fn stage_behind(due: Due, from: u64, frame: Frame) -> Stage
-    ensures { (z : Situation) (text : List ℕ) → z.stage ≡ Stage.Record due → result ≡ (after_record z from frame text).stage }
+    ensures { (l : Limits) (z : Situation) (text : List ℕ) → z.stage ≡ Stage.Record due
+        → result ≡ (after_record (initiators l) z from frame text).stage }
 {
     match frame {
         Frame::SizedEnvelope(0) => Stage::Record(Due::Messages),
@@ -95,7 +99,8 @@ fn stage_behind(due: Due, from: u64, frame: Frame) -> Stage
 }
 
 fn kind_behind(kind: Kind, frame: Frame) -> Kind
-    ensures { (z : Situation) (from : ℕ) (text : List ℕ) → z.kind ≡ kind → result ≡ (after_record z from frame text).kind }
+    ensures { (l : Limits) (z : Situation) (from : ℕ) (text : List ℕ) → z.kind ≡ kind
+        → result ≡ (after_record (initiators l) z from frame text).kind }
 {
     match frame {
         Frame::KnownEncoding(encoding) if encoding == Kind::Plain.number() => Kind::Plain,
@@ -105,7 +110,8 @@ fn kind_behind(kind: Kind, frame: Frame) -> Kind
 }
 
 fn step_behind(kind: Kind, frame: Frame) -> Step
-    ensures { (z : Situation) (from : ℕ) → z.kind ≡ kind → result ≡ step_of (completed_record z from frame) }
+    ensures { (l : Limits) (z : Situation) (from : ℕ) → z.kind ≡ kind
+        → result ≡ step_of (completed_record (initiators l) z from frame) }
 {
     match frame {
         Frame::PreambleEnd => Step::Opened {

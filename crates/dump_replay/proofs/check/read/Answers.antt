@@ -7,7 +7,7 @@ use Rattle.unit_streams.specs.Going.{IsOpenAt}
 use Rattle.nbfx_values.specs.declared.refusals.Offence.{Offence}
 use Rattle.dump_replay.specs.declared.receiver.Step.{Step}
 use Rattle.dump_replay.specs.declared.receiver.Step.TheVariants.{More}
-use Rattle.dump_replay.specs.Stream.{Settings, StreamEvent, stream}
+use Rattle.dump_replay.specs.Stream.{Settings, IsInitiators, StreamEvent, stream}
 use Rattle.dump_replay.specs.Report.{event_line, event_lines, offence_line}
 use Rattle.dump_replay.specs.Reading.{HasRead}
 use Rattle.dump_replay.specs.Saying.{step_for, said}
@@ -24,6 +24,9 @@ rest_length piece used = ap length (take_rest piece used) ∙ length-drop used p
 module _ (g : Over) (f : After-feed g) (p : List ℕ) (read : HasRead (g.E.ReadingEnd.stands f.args.end.now) (g.E.ReadingEnd.settings f.args.end.now) p) where
   abbrev x : Settings
   x = g.E.ReadingEnd.settings f.args.end.now
+
+  set : IsInitiators x
+  set = g.met.E.ReadingEnd.initiators f.args.end.now
 
   abbrev used : ℕ
   used = f.loop-answer.used
@@ -48,7 +51,7 @@ module _ (g : Over) (f : After-feed g) (p : List ℕ) (read : HasRead (g.E.Readi
   told r answers = told_at (g.E.ReadingEnd.settings f.loop-answer.end) x f.loop-answer.invariant.settings q rest r so_far.on (answers q so_far.stands_for)
 
   event : (n : ℕ) (step : Step) → (step ≡ More → ⊥) → Said (Ok (n, step)) → ReadsEvent x p piece used n step
-  event n step not_more answers = event_answered (g.E.ReadingEnd.settings f.loop-answer.end) x f.loop-answer.invariant.settings (g.E.ReadingEnd.stands f.loop-answer.end) p piece used so_far n step not_more answers
+  event n step not_more answers = event_answered (g.E.ReadingEnd.settings f.loop-answer.end) x f.loop-answer.invariant.settings set (g.E.ReadingEnd.stands f.loop-answer.end) p piece used so_far n step not_more answers
 
   -- what is put behind the lines before
   module _ (w : List ℕ) (e : g.O.Sink.written f.args.output.now ≡ Some (w ++ event_lines x p)) where
@@ -72,14 +75,14 @@ pub returns-in-More-clause-says : goal.returns-in-More-clause-says
 returns-in-More-clause-says g c = λ p read.
     let f : After-feed g = (goal.at-returns-in-More-clause-says g c).After-feed in
     let h = so_far g f p read in
-    let m = read_more (x g f p read) p (piece g f p read) (used g f p read) h.on c.in-Ok.answer.0 (rw c.in-More.is at (told g f p read (Ok c.in-Ok.answer) c.in-Ok.ensures.answers)) in
+    let m = read_more (x g f p read) p (piece g f p read) (used g f p read) (set g f p read) h.on c.in-Ok.answer.0 (rw c.in-More.is at (told g f p read (Ok c.in-Ok.answer) c.in-Ok.ensures.answers)) in
     (subst (g.E.ReadingEnd.stands c.feed.new.self) m.0 (c.in-Ok.ensures.stands _ h.stands_for), m.1)
 
 pub returns-in-More-clause-writes : goal.returns-in-More-clause-writes
 returns-in-More-clause-writes g c = λ p w read e.
     let f : After-feed g = (goal.at-returns-in-More-clause-writes g c).After-feed in
     let h = so_far g f p read in
-    let m = read_more (x g f p read) p (piece g f p read) (used g f p read) h.on c.in-Ok.answer.0 (rw c.in-More.is at (told g f p read (Ok c.in-Ok.answer) c.in-Ok.ensures.answers)) in
+    let m = read_more (x g f p read) p (piece g f p read) (used g f p read) (set g f p read) h.on c.in-Ok.answer.0 (rw c.in-More.is at (told g f p read (Ok c.in-Ok.answer) c.in-Ok.ensures.answers)) in
     (w ++ event_lines (x g f p read) (q g f p read), lines g f p read w e, ap (λ l. w ++ l) (sym m.2))
 
 -- an end
@@ -149,7 +152,7 @@ loop-answer-preserved g c =
 pub returns-in-Err-clause-says : goal.returns-in-Err-clause-says
 returns-in-Err-clause-says g c = λ p read more.
     let f : After-feed g = (goal.at-returns-in-Err-clause-says g c).After-feed in
-    (offence_read (x g f p read) p c.args.piece.now c.loop-answer.used (so_far g f p read).on c.in-Err.offence (told g f p read (Err c.in-Err.offence) c.in-Err.ensures.answers) more).1
+    (offence_read (x g f p read) p c.args.piece.now c.loop-answer.used (set g f p read) (so_far g f p read).on c.in-Err.offence (told g f p read (Err c.in-Err.offence) c.in-Err.ensures.answers) more).1
 
 pub returns-in-Err-clause-writes : goal.returns-in-Err-clause-writes
 returns-in-Err-clause-writes g c = λ p w read e.
@@ -160,7 +163,7 @@ returns-in-Err-clause-writes g c = λ p w read e.
       put.1,
       λ more.
           put_behind w put.0 _ line _ put.2
-          (offence_read (x g f p read) p c.args.piece.now c.loop-answer.used (so_far g f p read).on c.in-Err.offence (told g f p read (Err c.in-Err.offence) c.in-Err.ensures.answers) more).0,
+          (offence_read (x g f p read) p c.args.piece.now c.loop-answer.used (set g f p read) (so_far g f p read).on c.in-Err.offence (told g f p read (Err c.in-Err.offence) c.in-Err.ensures.answers) more).0,
     )
 
 pub returns-in_err-put_line-in-Err-clause-writes : goal.returns-in_err-put_line-in-Err-clause-writes
@@ -174,5 +177,5 @@ returns-in_err-put_line-in-Err-clause-writes g c = λ p w read e.
       put.1,
       λ more.
           cut_behind w put.0 _ line _ put.2
-          (offence_read (x g f p read) p c.args.piece.now c.loop-answer.used (so_far g f p read).on c.in-Err.offence (told g f p read (Err c.in-Err.offence) c.in-Err.ensures.answers) more).0,
+          (offence_read (x g f p read) p c.args.piece.now c.loop-answer.used (set g f p read) (so_far g f p read).on c.in-Err.offence (told g f p read (Err c.in-Err.offence) c.in-Err.ensures.answers) more).0,
     )

@@ -9,7 +9,7 @@ use Rattle.dump_replay.specs.Report.{event_lines, report}
 use Rattle.dump_replay.specs.Checking.{Reaches}
 use Rattle.dump_replay.specs.Reading.{HasRead, SaysOf, WritesOf}
 use Rattle.dump_replay.proofs.Lines.{nothing_lines}
-use Rattle.dump_replay.proofs.CheckSteps.{counted_later, counted_with, counted_none, room_is, first_read, first_pending, read_at, says_at, writes_at, ends_at, less_left, Came, piece_came, piece_reaches, piece_decides, end_decides, read_breaks, breaks_reach, none_reaches, lines_front, left_none, stopped_judges, stopped_reports, ended_judges, ended_reports, ended_judged, stopped_not_read, stopped_not_judged, stopped_write, write_stopped, ended_not_read, ended_write, write_ended}
+use Rattle.dump_replay.proofs.CheckSteps.{counted_with, counted_none, room_is, first_read, first_pending, read_at, says_at, writes_at, ends_at, less_left, Came, piece_came, piece_reaches, piece_decides, end_decides, read_breaks, breaks_reach, none_reaches, lines_front, left_none, stopped_judges, stopped_reports, ended_judges, ended_reports, ended_judged, stopped_not_read, stopped_not_judged, stopped_write, write_stopped, ended_not_read, ended_write, write_ended}
 use Rattle.dump_replay.proofs.check.report_stream.Given.{Over}
 use Rattle.dump_replay.proofs.check.report_stream.Goals as goal
 use Rattle.dump_replay.proofs.check.report_stream.Goals.{After-read, After-finish}
@@ -76,8 +76,8 @@ loop-n-init g c =
       output_faults = refl;
       reads = (
         [],
-        first_read x (g.E.ReadingEnd.stands c.args.end) c.requires.room c.requires.fresh,
-        first_pending x c.requires.room,
+        first_read x (g.met.E.ReadingEnd.initiators c.args.end) (g.E.ReadingEnd.stands c.args.end) c.requires.room c.requires.fresh,
+        first_pending x (g.met.E.ReadingEnd.initiators c.args.end) c.requires.room,
         λ bytes e. (bytes, e, refl),
         λ t e. e ∙ ap Some (sym (append-nil t)),
         λ w e. e ∙ ap Some (sym (append-nil w) ∙ ap (λ l. w ++ l) (sym (nothing_lines x))),
@@ -86,7 +86,7 @@ loop-n-init g c =
 
 -- there was no memory to begin with
 pub returns-in_default-clause-reaches : goal.returns-in_default-clause-reaches
-returns-in_default-clause-reaches g c = none_reaches (g.E.ReadingEnd.settings c.args.end) c.requires.room (g.I.Source.left c.args.input.now) (g.I.Source.taken c.args.input.now) (g.O.Sink.written c.args.output.now)
+returns-in_default-clause-reaches g c = none_reaches (g.E.ReadingEnd.settings c.args.end) (g.met.E.ReadingEnd.initiators c.args.end) c.requires.room (g.I.Source.left c.args.input.now) (g.I.Source.taken c.args.input.now) (g.O.Sink.written c.args.output.now)
 
 -- reading failed
 -- what was read then

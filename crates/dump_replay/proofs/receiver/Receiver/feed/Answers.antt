@@ -12,15 +12,15 @@ use Rattle.nmf_records.specs.declared.reader.FrameReader.{FrameReader}
 use Rattle.nmf_records.specs.Reader.{ShowsText}
 use Rattle.dump_replay.specs.declared.receiver.Receiver.{Receiver}
 use Rattle.dump_replay.specs.declared.receiver.Step.TheVariants as steps
-use Rattle.dump_replay.specs.Stream.{Settings, open_from, offence_at, is_over_in, stream}
-use Rattle.dump_replay.specs.Receiving.{settings_of, taken_of, messages_of, failure_of, ShowsVia, StandsFor, Reached, Failed, FailedBehind}
+use Rattle.dump_replay.specs.Stream.{initiators, Settings, open_from, offence_at, is_over_in, stream}
+use Rattle.dump_replay.specs.Receiving.{reads_initiators, settings_of, taken_of, messages_of, failure_of, ShowsVia, StandsFor, Reached, Failed, FailedBehind}
 use Rattle.dump_replay.proofs.ReceiverFacts.{not_failed, over_as_stage}
 use Rattle.dump_replay.proofs.FeedSteps.{Along, Fed, FedRefused, along_none, along_more, along_event, along_refused, along_too_long, along_end, some_taken}
 use Rattle.dump_replay.proofs.receiver.Receiver.feed.Goals as goal
 use Rattle.dump_replay.proofs.receiver.Receiver.feed.Goals.{At-loop-used}
 
 abbrev settings_from : Quotas → Settings
-settings_from q = record { limits = limits_of q }
+settings_from q = initiators (limits_of q)
 
 session_is : (a b : Quotas) → a ≡ b → a.session ≡ b.session
 session_is a b e = ap (λ (q : Quotas). q.session) e
@@ -64,7 +64,7 @@ loop-used-init c = record {
   within = omega arith;
   quotas = refl;
   taken = omega arith;
-  along = λ p stands on. along_none (settings_of c.args.self.now) p c.args.piece.now c.args.self.now stands on;
+  along = λ p stands on. along_none (settings_of c.args.self.now) (reads_initiators c.args.self.now) p c.args.piece.now c.args.self.now stands on;
 }
 
 -- the bytes that a unit is read from, and those behind them
@@ -106,8 +106,8 @@ loop-used-preserved c =
       taken = omega (arith, c.in_ok-n.ensures.taken, inv.taken);
       along = λ p stands on.
           let a = inv.along p stands on in
-          let u = rw c.in-More.is at (c.in_ok-n.ensures.answers x (p ++ take used piece) (ap limits_of inv.quotas) a.reached a.on) in
-          along_more x p piece c.loop-used.self used a (here piece used room) (behind piece used room) (split piece used room) c.unit.new.self c.in_ok-n.n u;
+          let u = rw c.in-More.is at (c.in_ok-n.ensures.answers (limits_of c.args.self.now.quotas) (p ++ take used piece) (ap limits_of inv.quotas) a.reached a.on) in
+          along_more x (reads_initiators c.args.self.now) p piece c.loop-used.self used a (here piece used room) (behind piece used room) (split piece used room) c.unit.new.self c.in_ok-n.n u;
     }
 
 -- where it hasn't ended the session isn't over
@@ -165,8 +165,8 @@ returns-in_err-n c =
     let told : (p : List ℕ) → StandsFor c.args.self.now p → FedRefused c.unit.new.self (x f) p (piece f) c.in_err-n.field-0.0
     = λ p stands.
     let a = so_far f p stands in
-    let u = c.in_err-n.ensures.answers (x f) (p ++ take (used f) (piece f)) (ap limits_of inv.quotas) a.reached a.on in
-    along_refused (x f) p (piece f) c.loop-used.self (used f) a (here (piece f) (used f) room) (behind (piece f) (used f) room) (split (piece f) (used f) room) c.unit.new.self c.in_err-n.field-0.0 u in
+    let u = c.in_err-n.ensures.answers (limits_of c.args.self.now.quotas) (p ++ take (used f) (piece f)) (ap limits_of inv.quotas) a.reached a.on in
+    along_refused (x f) (reads_initiators c.args.self.now) p (piece f) c.loop-used.self (used f) a (here (piece f) (used f) room) (behind (piece f) (used f) room) (split (piece f) (used f) room) c.unit.new.self c.in_err-n.field-0.0 u in
     rw (q.1, q.2) (record {
       within = tt;
       answers = λ p stands not_over. sym (told p stands).0;
@@ -189,8 +189,8 @@ returns-then-n-eq0 c =
     let never : (p : List ℕ) → StandsFor c.args.self.now p → ⊥
     = λ p stands.
     let a = so_far f p stands in
-    let u = c.in_ok-n.ensures.answers (x f) (p ++ take (used f) (piece f)) (ap limits_of inv.quotas) a.reached a.on in
-    let some = some_taken (x f) p (piece f) c.loop-used.self (used f) a (here (piece f) (used f) room) (behind (piece f) (used f) room) (split (piece f) (used f) room) c.unit.new.self c.in_ok-n.n c.in_ok-n.step u in
+    let u = c.in_ok-n.ensures.answers (limits_of c.args.self.now.quotas) (p ++ take (used f) (piece f)) (ap limits_of inv.quotas) a.reached a.on in
+    let some = some_taken (x f) (reads_initiators c.args.self.now) p (piece f) c.loop-used.self (used f) a (here (piece f) (used f) room) (behind (piece f) (used f) room) (split (piece f) (used f) room) c.unit.new.self c.in_ok-n.n c.in_ok-n.step u in
     omega (arith, some, c.if-n-eq0.true) in
     record {
       within = let len = here_len (piece f) (used f) room inv.within c.room-room.ensures.within in omega (arith, c.in_ok-n.ensures.within, inv.within, len, c.room-room.ensures.within);
@@ -216,8 +216,8 @@ returns-in_default-step c =
     let told : (p : List ℕ) → StandsFor c.args.self.now p → Fed c.unit.new.self (x f) p (piece f) ((used f) + n) c.in_ok-n.step
     = λ p stands.
     let a = so_far f p stands in
-    let u = c.in_ok-n.ensures.answers (x f) (p ++ take (used f) (piece f)) (ap limits_of inv.quotas) a.reached a.on in
-    along_event (x f) p (piece f) c.loop-used.self (used f) a (here (piece f) (used f) room) (behind (piece f) (used f) room) (split (piece f) (used f) room) c.unit.new.self n c.in_ok-n.step c.in_default-step.not-More u in
+    let u = c.in_ok-n.ensures.answers (limits_of c.args.self.now.quotas) (p ++ take (used f) (piece f)) (ap limits_of inv.quotas) a.reached a.on in
+    along_event (x f) (reads_initiators c.args.self.now) p (piece f) c.loop-used.self (used f) a (here (piece f) (used f) room) (behind (piece f) (used f) room) (split (piece f) (used f) room) c.unit.new.self n c.in_ok-n.step c.in_default-step.not-More u in
     record {
       within = let len = here_len (piece f) (used f) room inv.within c.room-room.ensures.within in omega (arith, c.in_ok-n.ensures.within, inv.within, len, c.room-room.ensures.within);
       answers = λ p stands not_over. sym (told p stands).0;
@@ -243,7 +243,7 @@ returns-then-self c =
     = λ p stands.
     let a = so_far f p stands in
     let long : (x f).limits.session ≤ length (p ++ take (used f) (piece f)) = omega (arith, c.if-self.true, a.reached.taken, session_is _ _ inv.quotas) in
-    along_too_long (x f) p (piece f) c.loop-used.self (used f) a new c.refuse.result long
+    along_too_long (x f) (reads_initiators c.args.self.now) p (piece f) c.loop-used.self (used f) a new c.refuse.result long
     (c.refuse.ensures.offence ∙ ap (λ n. offence_at n SessionTooLong) (c.open_from-from.ensures ∙ ap (λ s. open_from s c.loop-used.self.unit_from) a.reached.stage ∙ ap (open_from (standing (stream (x f)) (p ++ take (used f) (piece f))).situation.stage) a.reached.unit_from))
     (record {
       failure = ap (λ (t : Receiver). t.failure) fields;
@@ -277,7 +277,7 @@ returns c =
     let told : (p : List ℕ) → StandsFor c.args.self.now p → Fed c.loop-used.self (x f) p (piece f) (used f) steps.More
     = λ p stands.
     let a = so_far f p stands in
-    along_end (x f) p (piece f) c.loop-used.self (used f) a steps.More all (omega (arith, c.if-self.false, a.reached.taken, session_is _ _ inv.quotas)) refl in
+    along_end (x f) (reads_initiators c.args.self.now) p (piece f) c.loop-used.self (used f) a steps.More all (omega (arith, c.if-self.false, a.reached.taken, session_is _ _ inv.quotas)) refl in
     record {
       within = omega (arith, all);
       answers = λ p stands not_over. sym (told p stands).0;
