@@ -18,32 +18,27 @@ use Rattle.dump_replay.specs.Stream.{Settings, frame, reason_of, built, offence_
 
 -- which record is due where one of these types may come
 pub version_due : (direction : Direction) (due : Due) (major minor : ℕ) → MayCome (may_come direction due) (frames.Version major minor) → due ≡ dues.Version
-version_due FromInitiator dues.Version major minor e = refl
-version_due FromReceiver dues.Version major minor e = refl
+version_due direction dues.Version major minor e = refl
 version_due FromInitiator _ major minor e = cc
 version_due FromReceiver _ major minor e = cc
 
 pub mode_due : (direction : Direction) (due : Due) (mode : ℕ) → MayCome (may_come direction due) (frames.Mode mode) → due ≡ dues.Mode
-mode_due FromInitiator dues.Mode mode e = refl
-mode_due FromReceiver dues.Mode mode e = refl
+mode_due direction dues.Mode mode e = refl
 mode_due FromInitiator _ mode e = cc
 mode_due FromReceiver _ mode e = cc
 
 pub encoding_due : (direction : Direction) (due : Due) (encoding : ℕ) → MayCome (may_come direction due) (frames.KnownEncoding encoding) → due ≡ dues.Encoding
-encoding_due FromInitiator dues.Encoding encoding e = refl
-encoding_due FromReceiver dues.Encoding encoding e = refl
+encoding_due direction dues.Encoding encoding e = refl
 encoding_due FromInitiator _ encoding e = cc
 encoding_due FromReceiver _ encoding e = cc
 
 pub envelope_due : (direction : Direction) (due : Due) (size : ℕ) → MayCome (may_come direction due) (frames.SizedEnvelope size) → due ≡ dues.Messages
-envelope_due FromInitiator dues.Messages size e = refl
-envelope_due FromReceiver dues.Messages size e = refl
+envelope_due direction dues.Messages size e = refl
 envelope_due FromInitiator _ size e = cc
 envelope_due FromReceiver _ size e = cc
 
 pub chunk_due : (direction : Direction) (due : Due) (size : ℕ) → MayCome (may_come direction due) (frames.Chunk size) → due ≡ dues.Chunk
-chunk_due FromInitiator dues.Chunk size e = refl
-chunk_due FromReceiver dues.Chunk size e = refl
+chunk_due direction dues.Chunk size e = refl
 chunk_due FromInitiator _ size e = cc
 chunk_due FromReceiver _ size e = cc
 

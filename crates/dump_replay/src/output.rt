@@ -12,9 +12,11 @@ use std::alloc::AllocError;
 /// Puts a line, where there was memory to make it.
 pub fn put_line<O: Sink>(output: &mut O, line: Result<String, AllocError>) -> Result<(), SinkFault>
     ensures written { (text : List ℕ) → IfOk line (λ made. string_bytes made ≡ text)
-        → OnOk result (Told (O.written output.old) (O.written output.new) (λ w w'. w' ≡ w ++ text)) }
+        → OnOk result (Told (O.written output.old) (O.written output.new)
+        (λ w w'. w' ≡ w ++ text)) }
     ensures refused { (text : List ℕ) → IfOk line (λ made. string_bytes made ≡ text)
-        → OnErr result (Told (O.written output.old) (O.written output.new) (λ w w'. GrowsByPrefix w w' text)) }
+        → OnErr result (Told (O.written output.old) (O.written output.new)
+        (λ w w'. GrowsByPrefix w w' text)) }
     ensures grows { Told (O.written output.old) (O.written output.new) Grows }
     ensures counted { CountsFaults (O.faults output.old) (O.faults output.new)
         (IsErrOf result SinkFault.Failed) }

@@ -26,19 +26,23 @@ pub trait ReadingEnd {
     /// how many they are.
     fn feed(&mut self, piece: &[u8]) -> Result<(usize, Step), Offence>
         ensures within { IfOk result (λ answer. answer.0 ≤ length piece.now) }
-        ensures answers { (p : List ℕ) → stands self.old p → is_over_at (stream (settings self.old)) p ≡ false
+        ensures answers { (p : List ℕ) → stands self.old p
+            → is_over_at (stream (settings self.old)) p ≡ false
             → result ≡ said (length piece.now) (answer (stream (settings self.old)) p piece.now) }
-        ensures stands { (p : List ℕ) → stands self.old p → IfOk result (λ step. stands self.new (p ++ take step.0 piece.now)) }
+        ensures stands { (p : List ℕ) → stands self.old p
+            → IfOk result (λ step. stands self.new (p ++ take step.0 piece.now)) }
         ensures settings { settings self.new ≡ settings self.old };
 
     /// Says that the input is over.
     fn end_of_input(&mut self) -> Result<(), Offence>
-        ensures answers { (p : List ℕ) → stands self.old p → result ≡ said_at_end (ending_at (stream (settings self.old)) p) }
+        ensures answers { (p : List ℕ) → stands self.old p
+            → result ≡ said_at_end (ending_at (stream (settings self.old)) p) }
         ensures settings { settings self.new ≡ settings self.old };
 
     /// The line of an event that the bytes used have just completed.
     fn line(&self, alloc: Global, step: Step) -> Result<String, AllocError>
-        ensures { (p : List ℕ) (event : StreamEvent) → stands self.now p → event_at (stream (settings self.now)) p ≡ Some event → step ≡ step_for event
+        ensures { (p : List ℕ) (event : StreamEvent) → stands self.now p
+            → event_at (stream (settings self.now)) p ≡ Some event → step ≡ step_for event
             → IfOk result (λ line. string_bytes line ≡ event_line event) };
 
     /// It has used the bytes that it stands for.
