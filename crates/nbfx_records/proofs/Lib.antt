@@ -22,3 +22,4 @@ pub mod NumberFacts
 pub mod PutFacts
 pub mod ChosenScalars
 pub mod ChosenNodes
+pub mod MeaningFacts

@@ -1,10 +1,15 @@
 -- What holds of records by their definitions alone, whatever bytes they are read from.
-use Rattle.std.specs.Prelude.{◌≡◌, ℕ, ◌≤◌, ◌↔◌, List, [], ◌++◌, length, take, IsTrue}
+use Rattle.std.specs.Prelude.{◌≡◌, ℕ, ◌≤◌, ◌↔◌, List, [], ◌++◌, length, take, IsTrue, IsUtf8, Option, Some, None, Contains}
+use Rattle.std.specs.List.{list_all}
+use Rattle.nbfx_values.specs.Items.{is_valid_item}
+use Rattle.nbfx_values.specs.declared.content.Item.{Item}
+use Rattle.string_tables.specs.StringTable.{Names, StringTable, named_text}
 use Rattle.unit_streams.specs.Front.{begun, whole}
 use Rattle.nbfx_records.specs.declared.nodes.Node.{Node}
 use Rattle.nbfx_records.specs.declared.nodes.NodePlace.{NodePlace}
 use Rattle.nbfx_records.specs.declared.resume.Resume.{Resume}
 use Rattle.nbfx_records.specs.Chosen.{chosen_bytes}
+use Rattle.nbfx_records.specs.Meaning.{Means, identifiers, items_of}
 use Rattle.nbfx_records.specs.Places.{Stands}
 use Rattle.nbfx_records.specs.Reading.{node_at}
 use Rattle.nbfx_records.specs.Records.{IsNode}
@@ -37,3 +42,20 @@ ChosenIsRead = (place : NodePlace) (node : Node) (next : List ℕ) → IsTrue (i
 -- where bytes were looked at, they needn't be looked at again when more of them came
 abbrev pub StillFits : Type 0
 StillFits = (resume : Resume) (bytes next : List ℕ) → Fits resume bytes → Fits resume (bytes ++ next)
+
+-- the items that are found for a node are those that it says
+abbrev pub MeaningsAreFound : Type 0
+MeaningsAreFound = (table : StringTable) (node : Node) (said : List Item) → (items_of table node ≡ Some said) ↔ Means table node said
+
+-- it says nothing where one of its identifiers names no string, and only there
+abbrev pub NothingWithoutNames : Type 0
+NothingWithoutNames = (table : StringTable) (node : Node)
+    → (items_of table node ≡ None) ↔ ((id : ℕ) × Contains (identifiers node) id × (named_text table id ≡ None))
+
+abbrev pub MeansOnce : Type 0
+MeansOnce = (table : StringTable) (node : Node) (said others : List Item) → Means table node said → Means table node others → said ≡ others
+
+-- where the table's strings are text, the items of a valid node are valid
+abbrev pub MeaningsAreValid : Type 0
+MeaningsAreValid = (table : StringTable) (node : Node) (said : List Item) → ((id : ℕ) (text : List ℕ) → Names table id text → IsUtf8 text)
+    → IsTrue (is_valid_node node) → Means table node said → IsTrue (list_all is_valid_item said)

@@ -14,3 +14,4 @@ pub mod Answers
 pub mod Chosen
 pub mod Valid
 pub mod Putting
+pub mod Meaning

@@ -4,7 +4,7 @@
 ghost use Rattle.unit_streams.specs.Front.{ReadsFront};
 ghost use Rattle.nbfx_records.specs.declared.nodes.NodePlace.{NodePlace};
 ghost use Rattle.nbfx_records.specs.Reading.{node_at};
-ghost use Rattle.nbfx_records.specs.Laws.{NothingIsBegun, RecordsAreRead, NoRecordGoesOn, ChosenIsRecord, ChosenIsRead, StillFits};
+ghost use Rattle.nbfx_records.specs.Laws.{NothingIsBegun, RecordsAreRead, NoRecordGoesOn, ChosenIsRecord, ChosenIsRead, StillFits, MeaningsAreFound, NothingWithoutNames, MeansOnce, MeaningsAreValid};
 
 /// A record is known by its own bytes: it is wrong or whole at the byte that shows it, whatever follows,
 /// and has only begun before that.
@@ -29,4 +29,14 @@ pub fn written()
 /// What was seen of a record that isn't whole holds when more of its bytes came.
 pub fn resumed()
     ensures { StillFits }
+{}
+
+/// What a node says where a string table is given is at most one list of items. There is none exactly where
+/// one of its identifiers names no string. Where the table's strings are text, the items of a valid node are
+/// valid.
+pub fn meanings()
+    ensures found { MeaningsAreFound }
+    ensures unnamed { NothingWithoutNames }
+    ensures one { MeansOnce }
+    ensures valid { MeaningsAreValid }
 {}
