@@ -66,7 +66,7 @@ attribute_head_there form Identified (Id id) prefix byte bytes name_bytes e n p 
 attribute_head_there form Inlined (Id id) prefix byte bytes name_bytes e n p t = absurd n
 attribute_head_there form Identified (Inline s) prefix byte bytes name_bytes e n p t = absurd n
 
-attribute_head_back : (prefix : List ℕ) (name : NameRef) (bytes : List ℕ) → IsAttributeHead prefix name bytes → IsBegun (λ form. records.Attribute form (form_of name)) prefix bytes
+pub attribute_head_back : (prefix : List ℕ) (name : NameRef) (bytes : List ℕ) → IsAttributeHead prefix name bytes → IsBegun (λ form. records.Attribute form (form_of name)) prefix bytes
 attribute_head_back prefix (Inline s) bytes h =
     let it = head_back 0x04 0x05 0x26 prefix bytes h in
     begun_by (λ form. records.Attribute form Inlined) 0x04 0x05 0x26 prefix bytes true it (attribute_byte it.form).0 (attribute_form it.form Inlined)
@@ -94,7 +94,7 @@ element_head_there form Identified (Id id) prefix byte bytes name_bytes e n p t 
 element_head_there form Inlined (Id id) prefix byte bytes name_bytes e n p t = absurd n
 element_head_there form Identified (Inline s) prefix byte bytes name_bytes e n p t = absurd n
 
-element_head_back : (prefix : List ℕ) (name : NameRef) (bytes : List ℕ) → IsElementHead prefix name bytes → IsBegun (λ form. records.Element form (form_of name)) prefix bytes
+pub element_head_back : (prefix : List ℕ) (name : NameRef) (bytes : List ℕ) → IsElementHead prefix name bytes → IsBegun (λ form. records.Element form (form_of name)) prefix bytes
 element_head_back prefix (Inline s) bytes h =
     let it = head_back 0x40 0x41 0x5e prefix bytes h in
     begun_by (λ form. records.Element form Inlined) 0x40 0x41 0x5e prefix bytes true it (element_byte it.form).0 (element_form it.form Inlined)
@@ -126,7 +126,7 @@ declaration_head_there form Identified (Id id) prefix byte bytes name_bytes e n 
 declaration_head_there form Inlined (Id id) prefix byte bytes name_bytes e n p t = absurd n
 declaration_head_there form Identified (Inline s) prefix byte bytes name_bytes e n p t = absurd n
 
-declaration_head_back : (prefix : List ℕ) (name : NameRef) (bytes : List ℕ) → IsDeclarationHead prefix name bytes → IsBegun (λ form. records.Declaration form (form_of name)) prefix bytes
+pub declaration_head_back : (prefix : List ℕ) (name : NameRef) (bytes : List ℕ) → IsDeclarationHead prefix name bytes → IsBegun (λ form. records.Declaration form (form_of name)) prefix bytes
 declaration_head_back prefix (Inline s) bytes h =
     let it = head_only_back 0x08 0x09 prefix bytes h in
     begun_by (λ form. records.Declaration form Inlined) 0x08 0x09 0 prefix bytes false it (declaration_byte it.form it.real).0 (declaration_form it.form Inlined)

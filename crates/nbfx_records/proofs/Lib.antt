@@ -23,3 +23,4 @@ pub mod PutFacts
 pub mod ChosenScalars
 pub mod ChosenNodes
 pub mod MeaningFacts
+pub mod ValidFacts

@@ -1,5 +1,5 @@
 -- What a node says is found, and nothing else; nothing is found where an identifier names no string; what is found is valid.
-use Rattle.std.proofs.Common.{◌≡◌, ℕ, ◌<◌, List, [], ◌∷◌, ◌++◌, length, zero, suc, Bool, true, false, Option, Some, None, refl, sym, ap, ◌∙◌, subst, inl, inr, arith, ◌⊎◌}
+use Rattle.std.proofs.Common.{◌≡◌, ℕ, List, [], ◌∷◌, ◌++◌, length, zero, suc, Bool, true, false, Option, Some, None, refl, sym, ap, ◌∙◌, subst, inl, inr, arith, ◌⊎◌}
 use Rattle.std.specs.Prelude.{◌↔◌, ◌&&◌, nat_le, nat_lt, Contains, IsUtf8, flat_map}
 use Rattle.std.specs.List.{list_all}
 use Rattle.std.specs.Option.{option_map}
@@ -91,7 +91,7 @@ module _ (table : StringTable) where
   array_found : (a : ArrayNode) → Finds (meant_array table a) (ArrayMeans table a)
   array_found a item =
       let it = both_find (array_with a) (name_text table a.name) (each (meant_part table) a.attrs) (NameMeans table a.name) (EachMeans (PartMeans table) a.attrs)
-          (name_found a.name) (each_finds (meant_part table) (PartMeans table) part_found a.attrs) item in (
+      (name_found a.name) (each_finds (meant_part table) (PartMeans table) part_found a.attrs) item in (
         λ e. let h = it.0 e in record { local = h.0; parts = h.1; named = h.2; attributed = h.3; is = h.4 },
         λ h. it.1 (h.local, h.parts, h.named, h.attributed, h.is),
       )

@@ -1,5 +1,5 @@
 -- What is answered to bytes at whose front a record is read.
-use Rattle.std.specs.Prelude.{◌≡◌, ⊤, ℕ, ◌<◌, List, ◌++◌, length, Result, Ok, Err}
+use Rattle.std.specs.Prelude.{◌≡◌, ⊤, ℕ, ◌<◌, List, ◌++◌, length, IsTrue, Result, Ok, Err}
 use Rattle.unit_streams.specs.Front.{begun, whole, wrong}
 use Rattle.nbfx_records.specs.declared.cursor.Stop.{Stop}
 use Rattle.nbfx_records.specs.declared.cursor.Stop.TheVariants as stops
@@ -11,6 +11,7 @@ use Rattle.nbfx_records.specs.declared.read.NodeRead.TheVariants.{More, Done}
 use Rattle.nbfx_records.specs.declared.read.ReadFault.{ReadFault}
 use Rattle.nbfx_records.specs.declared.read.ReadFault.TheVariants.{Fault, Memory}
 use Rattle.nbfx_records.specs.Reading.{node_at}
+use Rattle.nbfx_records.specs.Valid.{is_valid_node}
 
 -- the answer is what stands at the front; want of memory comes only where that is decided
 abbrev pub Answers : NodePlace → List ℕ → Result NodeRead ReadFault → Type 0
@@ -27,6 +28,11 @@ pub record WaitsFor (place : NodePlace) (bytes : List ℕ) (wants : ℕ) : Type 
 abbrev pub Wants : NodePlace → List ℕ → Result NodeRead ReadFault → Type 0
 Wants place bytes (Ok (More wants)) = WaitsFor place bytes wants
 Wants place bytes _ = ⊤
+
+-- a node that is read is one whose values records can hold
+abbrev pub ReadsValid : Result NodeRead ReadFault → Type 0
+ReadsValid (Ok (Done used node)) = IsTrue (is_valid_node node)
+ReadsValid _ = ⊤
 
 -- what a whole record of so many bytes says
 abbrev pub Gives : Result NodeRead ReadFault → Result Node NodeFault → ℕ → Type 0

@@ -1,9 +1,10 @@
 -- What holds of records by their definitions alone, whatever bytes they are read from.
-use Rattle.std.specs.Prelude.{◌≡◌, ℕ, ◌≤◌, ◌↔◌, List, [], ◌++◌, length, take, IsTrue, IsUtf8, Option, Some, None, Contains}
+use Rattle.std.specs.Prelude.{◌≡◌, ℕ, ◌≤◌, ◌↔◌, List, [], ◌++◌, length, take, IsTrue, IsUtf8, Some, None, Contains}
 use Rattle.std.specs.List.{list_all}
 use Rattle.nbfx_values.specs.Items.{is_valid_item}
 use Rattle.nbfx_values.specs.declared.content.Item.{Item}
 use Rattle.string_tables.specs.StringTable.{Names, StringTable, named_text}
+use Rattle.multibyte_ints.specs.Integer.{IsBytes}
 use Rattle.unit_streams.specs.Front.{begun, whole}
 use Rattle.nbfx_records.specs.declared.nodes.Node.{Node}
 use Rattle.nbfx_records.specs.declared.nodes.NodePlace.{NodePlace}
@@ -29,6 +30,10 @@ RecordsAreRead = (place : NodePlace) (bytes : List ℕ) (node : Node) (n : ℕ)
 abbrev pub NoRecordGoesOn : Type 0
 NoRecordGoesOn = (place : NodePlace) (one other : Node) (bytes more : List ℕ) → Stands place one → Stands place other
     → IsNode one bytes → IsNode other (bytes ++ more) → (more ≡ []) × (one ≡ other)
+
+-- a record of bytes is one of a node whose values records can hold
+abbrev pub RecordsAreValid : Type 0
+RecordsAreValid = (node : Node) (bytes : List ℕ) → IsBytes bytes → IsNode node bytes → IsTrue (is_valid_node node)
 
 -- what is written of a node is a record of it
 abbrev pub ChosenIsRecord : Type 0

@@ -4,7 +4,7 @@
 ghost use Rattle.unit_streams.specs.Front.{ReadsFront};
 ghost use Rattle.nbfx_records.specs.declared.nodes.NodePlace.{NodePlace};
 ghost use Rattle.nbfx_records.specs.Reading.{node_at};
-ghost use Rattle.nbfx_records.specs.Laws.{NothingIsBegun, RecordsAreRead, NoRecordGoesOn, ChosenIsRecord, ChosenIsRead, StillFits, MeaningsAreFound, NothingWithoutNames, MeansOnce, MeaningsAreValid};
+ghost use Rattle.nbfx_records.specs.Laws.{NothingIsBegun, RecordsAreRead, NoRecordGoesOn, RecordsAreValid, ChosenIsRecord, ChosenIsRead, StillFits, MeaningsAreFound, NothingWithoutNames, MeansOnce, MeaningsAreValid};
 
 /// A record is known by its own bytes: it is wrong or whole at the byte that shows it, whatever follows,
 /// and has only begun before that.
@@ -14,10 +14,11 @@ pub fn record_fronts()
 {}
 
 /// The records that are read are those that the bytes are, where they may stand. No record begins a longer
-/// one that may stand in its place, and none is two.
+/// one that may stand in its place, and none is two. A record of bytes is one of a valid node.
 pub fn records()
     ensures read { RecordsAreRead }
     ensures none_goes_on { NoRecordGoesOn }
+    ensures valid { RecordsAreValid }
 {}
 
 /// What `put_node` writes of a node is a record of it, and reading gives the node back where it may stand.

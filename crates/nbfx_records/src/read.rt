@@ -1,7 +1,7 @@
 //! The record at the front of some bytes.
 
 ghost use Rattle.std.specs.Prelude.{◌≡◌};
-ghost use Rattle.nbfx_records.specs.Answers.{Answers, Gives, Wants, stopped_by};
+ghost use Rattle.nbfx_records.specs.Answers.{Answers, Gives, ReadsValid, Wants, stopped_by};
 ghost use Rattle.nbfx_records.specs.Resuming.{Fits};
 ghost use Rattle.nbfx_records.specs.Contents.{contents};
 ghost use Rattle.nbfx_records.specs.Views.{IsSoundRecord, record_seen};
@@ -70,6 +70,7 @@ pub fn read_node_on(
     requires { Fits resume.old bytes.now }
     ensures read { Answers place bytes.now result }
     ensures wants { Wants place bytes.now result }
+    ensures valid { ReadsValid result }
     ensures fits { Fits resume.new bytes.now }
 {
     match shape_at(place, bytes, resume) {
@@ -84,6 +85,7 @@ pub fn read_node_on(
 pub fn read_node(alloc: Global, bytes: &[u8], place: NodePlace) -> Result<NodeRead, ReadFault>
     ensures read { Answers place bytes.now result }
     ensures wants { Wants place bytes.now result }
+    ensures valid { ReadsValid result }
 {
     read_node_on(alloc, bytes, place, &mut Resume::new())
 }
