@@ -1,4 +1,6 @@
-mod Worked
+mod WorkedTexts
+mod WorkedRecords
+mod WorkedRefusals
 pub mod OnLiterals
 pub mod ShapeFronts
 pub mod ShapeBytes
@@ -24,3 +26,4 @@ pub mod ChosenScalars
 pub mod ChosenNodes
 pub mod MeaningFacts
 pub mod ValidFacts
+pub mod ResumeFacts

@@ -14,22 +14,22 @@ use Rattle.nbfx_records.specs.Resuming.{AreMore, Passes}
 use Rattle.nbfx_records.proofs.CursorFacts.{further_whole, further_begun, further_wrong, further_more}
 
 module _ {A B : Type 0} (turn : Reader (Turn A B) NodeFault) (reads : ReadsFront turn) (nothing : turn [] ≡ begun) where
-  many_stop : (b : List ℕ) (e : B) (k : ℕ) → turn b ≡ whole (stop e) k → many turn b ≡ whole (record { items = []; last = e }) k
+  pub many_stop : (b : List ℕ) (e : B) (k : ℕ) → turn b ≡ whole (stop e) k → many turn b ≡ whole (record { items = []; last = e }) k
   unfolding many repeated
   many_stop b e k h = then_whole turn (turned (repeated (length b) turn)) b (stop e) k h ∙ ap (whole (record { items = []; last = e })) (omega arith)
 
-  many_more : (b : List ℕ) (a : A) (k : ℕ) → turn b ≡ whole (more a) k → many turn b ≡ further k (seen (with_first a) (λ r. r) (many turn (drop k b)))
+  pub many_more : (b : List ℕ) (a : A) (k : ℕ) → turn b ≡ whole (more a) k → many turn b ≡ further k (seen (with_first a) (λ r. r) (many turn (drop k b)))
   unfolding many repeated
   many_more b a k h =
       let some = whole_some turn reads nothing b (more a) k h in
       then_whole turn (turned (repeated (length b) turn)) b (more a) k h
       ∙ ap (λ v. further k (seen (with_first a) (λ r. r) v)) (sym (many_is turn reads nothing (length b) (drop k b) (omega (arith, some.0, some.1, length-drop k b))))
 
-  many_begun : (b : List ℕ) → turn b ≡ begun → many turn b ≡ begun
+  pub many_begun : (b : List ℕ) → turn b ≡ begun → many turn b ≡ begun
   unfolding many repeated
   many_begun b h = then_begun turn (turned (repeated (length b) turn)) b h
 
-  many_wrong : (b : List ℕ) (r : NodeFault) (k : ℕ) → turn b ≡ wrong r k → many turn b ≡ wrong r k
+  pub many_wrong : (b : List ℕ) (r : NodeFault) (k : ℕ) → turn b ≡ wrong r k → many turn b ≡ wrong r k
   unfolding many repeated
   many_wrong b r k h = then_wrong turn (turned (repeated (length b) turn)) b r k h
 

@@ -84,8 +84,8 @@ pub fn array_turn_at<'a>(
     array_part(record_kind(byte), bytes, at, resume)
 }
 
-// The attributes and declarations of an array's element: their bytes, with that of their end. What was
-// seen of them is kept in `resume`.
+// The attributes and declarations of an array's element: their bytes, with that of their end. What
+// was seen of them is kept in `resume`.
 fn parts_at<'a>(
     bytes: &'a [u8],
     from: usize,

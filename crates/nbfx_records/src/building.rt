@@ -97,7 +97,8 @@ fn are_texts(list: &[u8]) -> bool
     true
 }
 
-// One value, where others come behind it: a text of them that isn't UTF-8 goes before a wrong value.
+// One value, where others come behind it: a text of them that isn't UTF-8 goes before a wrong
+// value.
 fn scalar_before(alloc: Global, part: &ScalarPart, rest: &[u8]) -> Result<RawScalar, Unfit>
     requires { IsList rest.now }
     ensures { Makes result (spec.behind_texts (list_all spec.scalar_is_text (listed rest.now)) (spec.scalar_judged (scalar_seen part.now))) }
@@ -241,7 +242,8 @@ fn parts_have_text(parts: &[u8]) -> bool
     true
 }
 
-// An attribute, where others come behind it: a text of them that isn't UTF-8 goes before a wrong value.
+// An attribute, where others come behind it: a text of them that isn't UTF-8 goes before a wrong
+// value.
 fn attribute_before(alloc: Global, part: &AttributePart, rest: &[u8]) -> Result<AttrNode, Unfit>
     requires sound { IsSoundAttribute part.now }
     requires rest { AreParts rest.now }

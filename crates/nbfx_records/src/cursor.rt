@@ -1,5 +1,5 @@
-//! The smallest parts of a record, each read from an offset on: it is whole up to another one, or it is wrong, or the bytes end
-//! within it.
+//! The smallest parts of a record, each read from an offset on: it is whole up to another one, or
+//! it is wrong, or the bytes end within it.
 
 ghost use Rattle.std.specs.Prelude.{◌≡◌, ◌^◌, ◌<◌, ◌≤◌, IfOk, length};
 ghost use Rattle.unit_streams.specs.Parts.{a_byte, some_bytes};

@@ -98,7 +98,8 @@ pub fn list_turn_at(
     turn_of(holder, record_kind(byte), bytes, at)
 }
 
-/// A list behind its type byte: its bytes with those of its end, and whether the element that holds it ends.
+/// A list behind its type byte: its bytes with those of its end, and whether the element that holds
+/// it ends.
 #[derive(Clone, Copy, Debug)]
 pub struct ListPart<'a> {
     pub bytes: &'a [u8],

@@ -89,7 +89,8 @@ pub enum Node {
 #[derive(Clone, Copy, Debug, PartialEq, Eq)]
 pub enum NodePlace {
     BeforeRoot,
-    /// Within the root: whether an attribute may stand here, and whether one more element may be opened.
+    /// Within the root: whether an attribute may stand here, and whether one more element may be
+    /// opened.
     Within { attributes: bool, deeper: bool },
     AfterRoot,
 }

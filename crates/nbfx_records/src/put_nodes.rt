@@ -170,7 +170,8 @@ fn put_cells(kind: ArrayKind, values: &[Scalar], out: &mut Vec<u8>) -> Result<()
     Ok(())
 }
 
-// Appends what follows the attributes of an array's element: a type byte, the number of values, these.
+// Appends what follows the attributes of an array's element: a type byte, the number of values,
+// these.
 fn put_counted_cells(array: &ArrayNode, out: &mut Vec<u8>) -> Result<(), Memory>
     requires valid { IsTrue (list_all (fits_kind array.now.kind) array.now.values) }
     requires fits { length array.now.values < 2 ^ 31 }
@@ -218,7 +219,8 @@ fn put(node: &Node, out: &mut Vec<u8>) -> Result<(), Memory>
     }
 }
 
-/// Appends the record of a node, in its chosen spelling. Want of memory leaves the bytes as they were.
+/// Appends the record of a node, in its chosen spelling. Want of memory leaves the bytes as they
+/// were.
 pub fn put_node(node: &Node, out: &mut Vec<u8>) -> Result<(), Memory>
     requires valid { IsTrue (is_valid_node node.now) }
     requires fits { IsTrue (fits_node node.now) }

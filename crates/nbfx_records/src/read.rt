@@ -57,10 +57,10 @@ fn stopped(stop: Stop) -> Result<NodeRead, ReadFault>
     }
 }
 
-/// Reads the record at the front of the bytes, where it may stand at this place, as [`read_node`] does. `resume`
-/// is what was seen of the same bytes, or of fewer of them, when they were read before: a list and an
-/// array's attributes are read on from where they were left. What is seen now is kept in it, so that bytes that
-/// come one by one are looked at twice at most.
+/// Reads the record at the front of the bytes, where it may stand at this place, as [`read_node`]
+/// does. `resume` is what was seen of the same bytes, or of fewer of them, when they were read
+/// before: a list and an array's attributes are read on from where they were left. What is seen now
+/// is kept in it, so that bytes that come one by one are looked at twice at most.
 pub fn read_node_on(
     alloc: Global,
     bytes: &[u8],
@@ -79,9 +79,9 @@ pub fn read_node_on(
     }
 }
 
-/// Reads the record at the front of the bytes, where it may stand at this place. It is `Done` exactly where a
-/// record of the bytes is whole, `More` where none is and none is wrong, and else the fault, unless there is no
-/// memory.
+/// Reads the record at the front of the bytes, where it may stand at this place. It is `Done`
+/// exactly where a record of the bytes is whole, `More` where none is and none is wrong, and else
+/// the fault, unless there is no memory.
 pub fn read_node(alloc: Global, bytes: &[u8], place: NodePlace) -> Result<NodeRead, ReadFault>
     ensures read { Answers place bytes.now result }
     ensures wants { Wants place bytes.now result }

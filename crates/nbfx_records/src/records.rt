@@ -97,7 +97,8 @@ fn record_at<'a>(
     }
 }
 
-// Whether a record may come that opens an element, ends a list, or stands only behind an element's start.
+// Whether a record may come that opens an element, ends a list, or stands only behind an element's
+// start.
 fn misplaced_within(attributes: bool, deeper: bool, kind: RecordKind) -> Option<NodeFault>
     ensures { result ≡ spec.misplaced (NodePlace.Within attributes deeper) kind }
 {
@@ -151,8 +152,8 @@ fn placed<'a>(
     }
 }
 
-/// The record at the front of the bytes, where it may come at this place. What was seen of one that isn't
-/// whole is kept in `resume`.
+/// The record at the front of the bytes, where it may come at this place. What was seen of one that
+/// isn't whole is kept in `resume`.
 pub fn shape_at<'a>(
     place: NodePlace,
     bytes: &'a [u8],
