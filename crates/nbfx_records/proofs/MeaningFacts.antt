@@ -1,12 +1,10 @@
 -- What a node says is found, and nothing else; nothing is found where an identifier names no string; what is found is valid.
-use Rattle.std.proofs.Common.{◌≡◌, ℕ, List, [], ◌∷◌, ◌++◌, length, zero, suc, Bool, true, false, Option, Some, None, refl, sym, ap, ◌∙◌, subst, inl, inr, arith, ◌⊎◌}
-use Rattle.std.specs.Prelude.{◌↔◌, ◌&&◌, nat_le, nat_lt, Contains, IsUtf8, flat_map}
+use Rattle.std.proofs.Common.{◌≡◌, ℕ, List, [], ◌∷◌, ◌++◌, length, Bool, true, false, Option, Some, refl, sym, ap, ◌∙◌}
+use Rattle.std.specs.Prelude.{◌↔◌, ◌&&◌, nat_le, nat_lt, IsUtf8, flat_map}
 use Rattle.std.specs.List.{list_all}
 use Rattle.std.specs.Option.{option_map}
 use Rattle.std.specs.Str.{is_utf8}
 use Rattle.std.proofs.lemmas.Bool.{and_parts, and_from}
-use Rattle.std.proofs.lemmas.List.Concat.{flat_map-cons}
-use Rattle.std.proofs.lemmas.List.Elements.{Contains-append_left, Contains-append_right, Contains-append_cases}
 use Rattle.std.proofs.lemmas.Str.{is_utf8-from_IsUtf8}
 use Rattle.nbfx_values.specs.Items as items_spec
 use Rattle.nbfx_values.specs.Items.{are_texts, fits_kind, is_valid_attribute, is_valid_item}
@@ -37,6 +35,7 @@ use Rattle.nbfx_records.specs.Contents.{each}
 use Rattle.nbfx_records.specs.Laws.{MeaningsAreFound, NothingWithoutNames, MeansOnce, MeaningsAreValid}
 use Rattle.nbfx_records.specs.Meaning.{ArrayMeans, EachMeans, Means, NameMeans, PartMeans, ScalarMeans, ValueMeans, array_with, closing, identifiers, ids_of_name, ids_of_part, ids_of_scalar, ids_of_value, items_of, meant_array, meant_part, meant_scalar, meant_value, name_text, with_both}
 use Rattle.nbfx_records.specs.Valid.{are_valid_names, is_valid_known, is_valid_name, is_valid_node, is_valid_part, is_valid_raw, is_valid_text}
+use Rattle.nbfx_records.proofs.Missing.{NoneFor, both_none, each_none, looked_up, mapped_none, there}
 use Rattle.nbfx_records.proofs.ValueBytes.{mapped_some, bound_some}
 
 -- what an option has is what is meant
@@ -115,87 +114,36 @@ means_once table node said others one other =
     let second = (node_found table node others).1 other in
     cc (first, second)
 
--- an identifier of some that names no string
-abbrev Lacks : StringTable → List ℕ → Type 0
-Lacks table ids = (id : ℕ) × Contains ids id × (named_text table id ≡ None)
-
-abbrev NoneFor : {A : Type 0} → StringTable → Option A → List ℕ → Type 0
-NoneFor table o ids = (o ≡ None) ↔ Lacks table ids
-
+-- what it says is missing where an identifier names no string
 module _ (table : StringTable) where
-  there : {A : Type 0} (x : A) → NoneFor table (Some x) []
-  there x = (λ e. cc, λ h. absurd (omega (arith, h.1.1)))
+  name_none : (name : NameRef) → NoneFor (named_text table) (name_text table name) (ids_of_name name)
+  name_none (Inline s) = there (named_text table) s
+  name_none (Id id) = looked_up (named_text table) id
 
-  looked_up : (id : ℕ) → NoneFor table (named_text table id) (id ∷ [])
-  looked_up id = (λ e. (id, (0, omega arith, refl), e), λ h. only h.0 h.1 ∙ h.2)
-    where
-      only : (other : ℕ) → Contains (id ∷ []) other → named_text table id ≡ named_text table other
-      only other (zero, lt, is) = ap (named_text table) is
-      only other (suc k, lt, is) = absurd (omega (arith, lt))
+  scalar_none : (raw : RawScalar) → NoneFor (named_text table) (meant_scalar table raw) (ids_of_scalar raw)
+  scalar_none (Known value) = there (named_text table) value
+  scalar_none (Dictionary id) = mapped_none (named_text table) scalars.Text (named_text table id) (id ∷ []) (looked_up (named_text table) id)
+  scalar_none (QName letter id) = mapped_none (named_text table) (scalars.QName letter) (named_text table id) (id ∷ []) (looked_up (named_text table) id)
 
-  mapped_none : {A B : Type 0} (f : A → B) (o : Option A) (ids : List ℕ) → NoneFor table o ids → NoneFor table (option_map f o) ids
-  mapped_none f None ids h = (λ e. h.0 refl, λ lacks. refl)
-  mapped_none f (Some x) ids h = (λ e. cc, λ lacks. let none = h.1 lacks in cc)
+  value_none : (raw : RawValue) → NoneFor (named_text table) (meant_value table raw) (ids_of_value raw)
+  value_none (One raw) = mapped_none (named_text table) values.One (meant_scalar table raw) (ids_of_scalar raw) (scalar_none raw)
+  value_none (ListOf raws) = mapped_none (named_text table) values.List (each (meant_scalar table) raws) (flat_map ids_of_scalar raws) (each_none (named_text table) (meant_scalar table) ids_of_scalar scalar_none raws)
 
-  left : (ids others : List ℕ) → Lacks table ids → Lacks table (ids ++ others)
-  left ids others h = (h.0, Contains-append_left ids others h.0 h.1, h.2)
+  part_none : (part : AttrNode) → NoneFor (named_text table) (meant_part table part) (ids_of_part part)
+  part_none (attribute_nodes.Attribute prefix name raw) = both_none (named_text table) (attributes.Attr prefix) (name_text table name) (meant_value table raw) (ids_of_name name) (ids_of_value raw) (name_none name) (value_none raw)
+  part_none (attribute_nodes.Xmlns prefix name) = mapped_none (named_text table) (attributes.Xmlns prefix) (name_text table name) (ids_of_name name) (name_none name)
 
-  right : (ids others : List ℕ) → Lacks table others → Lacks table (ids ++ others)
-  right ids others h = (h.0, Contains-append_right ids others h.0 h.1, h.2)
-
-  either : (ids others : List ℕ) → Lacks table (ids ++ others) → Lacks table ids ⊎ Lacks table others
-  either ids others (id, is, none) =
-      elim (Contains-append_cases ids others id is) [
-        | inl here ↦ inl (id, here, none)
-        | inr behind ↦ inr (id, behind, none)
-      ]
-
-  both_none : {A B C : Type 0} (make : A → B → C) (first : Option A) (second : Option B) (ids others : List ℕ) → NoneFor table first ids → NoneFor table second others
-      → NoneFor table (with_both make first second) (ids ++ others)
-  both_none make None second ids others f s = (λ e. left ids others (f.0 refl), λ lacks. refl)
-  both_none make (Some a) None ids others f s = (λ e. right ids others (s.0 refl), λ lacks. refl)
-  both_none make (Some a) (Some b) ids others f s = (
-    λ e. cc,
-    λ lacks. elim (either ids others lacks) [
-      | inl here ↦ let none = f.1 here in cc
-      | inr behind ↦ let none = s.1 behind in cc
-    ],
-  )
-
-  each_none : {A B : Type 0} (f : A → Option B) (ids_of : A → List ℕ) → ((x : A) → NoneFor table (f x) (ids_of x)) → (xs : List A) → NoneFor table (each f xs) (flat_map ids_of xs)
-  each_none f ids_of none [] = there []
-  each_none f ids_of none (x ∷ xs) =
-      subst (NoneFor table (each f (x ∷ xs))) (sym (flat_map-cons ids_of x xs))
-      (both_none (λ y rest. y ∷ rest) (f x) (each f xs) (ids_of x) (flat_map ids_of xs) (none x) (each_none f ids_of none xs))
-
-  name_none : (name : NameRef) → NoneFor table (name_text table name) (ids_of_name name)
-  name_none (Inline s) = there s
-  name_none (Id id) = looked_up id
-
-  scalar_none : (raw : RawScalar) → NoneFor table (meant_scalar table raw) (ids_of_scalar raw)
-  scalar_none (Known value) = there value
-  scalar_none (Dictionary id) = mapped_none scalars.Text (named_text table id) (id ∷ []) (looked_up id)
-  scalar_none (QName letter id) = mapped_none (scalars.QName letter) (named_text table id) (id ∷ []) (looked_up id)
-
-  value_none : (raw : RawValue) → NoneFor table (meant_value table raw) (ids_of_value raw)
-  value_none (One raw) = mapped_none values.One (meant_scalar table raw) (ids_of_scalar raw) (scalar_none raw)
-  value_none (ListOf raws) = mapped_none values.List (each (meant_scalar table) raws) (flat_map ids_of_scalar raws) (each_none (meant_scalar table) ids_of_scalar scalar_none raws)
-
-  part_none : (part : AttrNode) → NoneFor table (meant_part table part) (ids_of_part part)
-  part_none (attribute_nodes.Attribute prefix name raw) = both_none (attributes.Attr prefix) (name_text table name) (meant_value table raw) (ids_of_name name) (ids_of_value raw) (name_none name) (value_none raw)
-  part_none (attribute_nodes.Xmlns prefix name) = mapped_none (attributes.Xmlns prefix) (name_text table name) (ids_of_name name) (name_none name)
-
-  node_none : (node : Node) → NoneFor table (items_of table node) (identifiers node)
-  node_none EndElement = there (items.Close ∷ [])
-  node_none (Comment text) = there (items.Comment text ∷ [])
+  node_none : (node : Node) → NoneFor (named_text table) (items_of table node) (identifiers node)
+  node_none EndElement = there (named_text table) (items.Close ∷ [])
+  node_none (Comment text) = there (named_text table) (items.Comment text ∷ [])
   node_none (Array a) =
-      mapped_none (λ item. items.Array item ∷ []) (meant_array table a) (ids_of_name a.name ++ flat_map ids_of_part a.attrs)
-      (both_none (array_with a) (name_text table a.name) (each (meant_part table) a.attrs) (ids_of_name a.name) (flat_map ids_of_part a.attrs) (name_none a.name) (each_none (meant_part table) ids_of_part part_none a.attrs))
+      mapped_none (named_text table) (λ item. items.Array item ∷ []) (meant_array table a) (ids_of_name a.name ++ flat_map ids_of_part a.attrs)
+      (both_none (named_text table) (array_with a) (name_text table a.name) (each (meant_part table) a.attrs) (ids_of_name a.name) (flat_map ids_of_part a.attrs) (name_none a.name) (each_none (named_text table) (meant_part table) ids_of_part part_none a.attrs))
   node_none (Attribute prefix name raw) =
-      both_none (λ local value. items.Attr prefix local value ∷ []) (name_text table name) (meant_value table raw) (ids_of_name name) (ids_of_value raw) (name_none name) (value_none raw)
-  node_none (Xmlns prefix name) = mapped_none (λ uri. items.Xmlns prefix uri ∷ []) (name_text table name) (ids_of_name name) (name_none name)
-  node_none (Element prefix name) = mapped_none (λ local. items.Start prefix local ∷ []) (name_text table name) (ids_of_name name) (name_none name)
-  node_none (Text raw ends) = mapped_none (λ value. items.Text value ∷ closing ends) (meant_value table raw) (ids_of_value raw) (value_none raw)
+      both_none (named_text table) (λ local value. items.Attr prefix local value ∷ []) (name_text table name) (meant_value table raw) (ids_of_name name) (ids_of_value raw) (name_none name) (value_none raw)
+  node_none (Xmlns prefix name) = mapped_none (named_text table) (λ uri. items.Xmlns prefix uri ∷ []) (name_text table name) (ids_of_name name) (name_none name)
+  node_none (Element prefix name) = mapped_none (named_text table) (λ local. items.Start prefix local ∷ []) (name_text table name) (ids_of_name name) (name_none name)
+  node_none (Text raw ends) = mapped_none (named_text table) (λ value. items.Text value ∷ closing ends) (meant_value table raw) (ids_of_value raw) (value_none raw)
 
 pub nothing_without_names : NothingWithoutNames
 nothing_without_names table node = node_none table node

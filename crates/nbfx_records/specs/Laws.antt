@@ -1,14 +1,17 @@
 -- What holds of records by their definitions alone, whatever bytes they are read from.
-use Rattle.std.specs.Prelude.{◌≡◌, ℕ, ◌≤◌, ◌↔◌, List, [], ◌++◌, length, take, IsTrue, IsUtf8, Some, None, Contains}
+use Rattle.std.specs.Prelude.{◌≡◌, ◌≢◌, ℕ, ◌≤◌, ◌↔◌, List, [], ◌++◌, length, take, IsTrue, IsUtf8, Some, None, Contains}
 use Rattle.std.specs.List.{list_all}
 use Rattle.nbfx_values.specs.Items.{is_valid_item}
 use Rattle.nbfx_values.specs.declared.content.Item.{Item}
 use Rattle.string_tables.specs.StringTable.{Names, StringTable, named_text}
 use Rattle.multibyte_ints.specs.Integer.{IsBytes}
-use Rattle.unit_streams.specs.Front.{begun, whole}
+use Rattle.unit_streams.specs.Front.{begun, whole, wrong}
 use Rattle.nbfx_records.specs.declared.nodes.Node.{Node}
 use Rattle.nbfx_records.specs.declared.nodes.NodePlace.{NodePlace}
 use Rattle.nbfx_records.specs.declared.resume.Resume.{Resume}
+use Rattle.nbfx_records.specs.declared.nodes.NodeFault.{NodeFault}
+use Rattle.nbfx_records.specs.declared.nodes.NodeFault.TheVariants as faults
+use Rattle.nbfx_records.specs.Causes.{Caused, HasBadText, HasBadValue, InRecord}
 use Rattle.nbfx_records.specs.Chosen.{chosen_bytes}
 use Rattle.nbfx_records.specs.Meaning.{Means, identifiers, items_of}
 use Rattle.nbfx_records.specs.Places.{Stands}
@@ -30,6 +33,18 @@ RecordsAreRead = (place : NodePlace) (bytes : List ℕ) (node : Node) (n : ℕ)
 abbrev pub NoRecordGoesOn : Type 0
 NoRecordGoesOn = (place : NodePlace) (one other : Node) (bytes more : List ℕ) → Stands place one → Stands place other
     → IsNode one bytes → IsNode other (bytes ++ more) → (more ≡ []) × (one ≡ other)
+
+-- A fault of the structure comes by the first part that is wrong,
+abbrev pub WrongByPart : Type 0
+WrongByPart = (place : NodePlace) (bytes : List ℕ) (fault : NodeFault) (n : ℕ) → fault ≢ faults.BadUtf8 → fault ≢ faults.BadValue
+    → (node_at place bytes ≡ wrong fault n) ↔ Caused (InRecord place) fault bytes n
+
+-- and one of the contents by a text or a value of a whole record
+abbrev pub WrongByText : Type 0
+WrongByText = (place : NodePlace) (bytes : List ℕ) (n : ℕ) → (node_at place bytes ≡ wrong faults.BadUtf8 n) ↔ HasBadText place bytes n
+
+abbrev pub WrongByValue : Type 0
+WrongByValue = (place : NodePlace) (bytes : List ℕ) (n : ℕ) → (node_at place bytes ≡ wrong faults.BadValue n) ↔ HasBadValue place bytes n
 
 -- a record of bytes is one of a node whose values records can hold
 abbrev pub RecordsAreValid : Type 0

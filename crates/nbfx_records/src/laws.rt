@@ -4,7 +4,7 @@
 ghost use Rattle.unit_streams.specs.Front.{ReadsFront};
 ghost use Rattle.nbfx_records.specs.declared.nodes.NodePlace.{NodePlace};
 ghost use Rattle.nbfx_records.specs.Reading.{node_at};
-ghost use Rattle.nbfx_records.specs.Laws.{NothingIsBegun, RecordsAreRead, NoRecordGoesOn, RecordsAreValid, ChosenIsRecord, ChosenIsRead, StillFits, MeaningsAreFound, NothingWithoutNames, MeansOnce, MeaningsAreValid};
+ghost use Rattle.nbfx_records.specs.Laws.{NothingIsBegun, RecordsAreRead, NoRecordGoesOn, RecordsAreValid, WrongByPart, WrongByText, WrongByValue, ChosenIsRecord, ChosenIsRead, StillFits, MeaningsAreFound, NothingWithoutNames, MeansOnce, MeaningsAreValid};
 
 /// A record is known by its own bytes: it is wrong or whole at the byte that shows it, whatever
 /// follows, and has only begun before that.
@@ -20,6 +20,15 @@ pub fn records()
     ensures read { RecordsAreRead }
     ensures none_goes_on { NoRecordGoesOn }
     ensures valid { RecordsAreValid }
+{}
+
+/// Bytes are no record that may stand there by a type byte, a number or a length, each of which
+/// shows what is wrong where it comes; or by a text of the whole record that isn't UTF-8; or, where
+/// all are, by a value that is none of its kind.
+pub fn faults()
+    ensures by_part { WrongByPart }
+    ensures bad_utf8 { WrongByText }
+    ensures bad_value { WrongByValue }
 {}
 
 /// What `put_node` writes of a node is a record of it, and reading gives the node back where it may
