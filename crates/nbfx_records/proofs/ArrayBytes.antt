@@ -47,7 +47,7 @@ cell_there : (kind : ArrayKind) (cell : List ℕ) (value : Scalar) → length ce
 cell_there kind cell value size v =
     spelled_there (text_kind_in kind) (bytes_of (text_kind_in kind) cell) (Known value) cell (cell_is kind cell size) (rw (cell_plain kind) refl) (ap (option_map Known) v)
 
-cells_there : (kind : ArrayKind) (count : ℕ) (bytes : List ℕ) (values : List Scalar) → length bytes ≡ count * width_of kind → each (scalar_of (text_kind_in kind)) (cells count (width_of kind) bytes) ≡ Some values
+pub cells_there : (kind : ArrayKind) (count : ℕ) (bytes : List ℕ) (values : List Scalar) → length bytes ≡ count * width_of kind → each (scalar_of (text_kind_in kind)) (cells count (width_of kind) bytes) ≡ Some values
     → AreCells kind values bytes × (length values ≡ count)
 cells_there kind zero bytes values size v =
     let none : [] ≡ values = cc in
@@ -122,7 +122,7 @@ kind_back arrays.Bool = refl
 kind_back kind = refl
 
 -- what stands between an array's element and its values
-one_there : (shape : AttributeShape) (byte : ℕ) (rest : List ℕ) (k : Option RecordKind) → record_kind byte ≡ k → ArrayPartIs k (more shape) rest → (kind : RecordKind) × (record_kind byte ≡ Some kind) × PartIs kind shape rest
+pub one_there : (shape : AttributeShape) (byte : ℕ) (rest : List ℕ) (k : Option RecordKind) → record_kind byte ≡ k → ArrayPartIs k (more shape) rest → (kind : RecordKind) × (record_kind byte ≡ Some kind) × PartIs kind shape rest
 one_there shape byte rest (Some (records.Attribute form name)) e (s, h, same) =
     (records.Attribute form name, e, let is : s ≡ shape = cc in subst (λ (a : AttributeShape). PartIs (records.Attribute form name) a rest) is h)
 one_there shape byte rest (Some (records.Declaration form name)) e (s, h, same) =
@@ -214,12 +214,12 @@ repeated_there it byte rest bytes None e joined h p n = absurd h
 repeated_there it byte rest bytes (Some _) e joined h p n = absurd h
 
 -- the values behind their kind
-record AreCounted (byte : ℕ) (shape : CellsShape) (bytes : List ℕ) : Type 0 where
-  kind : ArrayKind
-  is_kind : byte ≡ array_byte kind
-  counted : CellsAre kind shape bytes
+pub record AreCounted (byte : ℕ) (shape : CellsShape) (bytes : List ℕ) : Type 0 where
+  pub kind : ArrayKind
+  pub is_kind : byte ≡ array_byte kind
+  pub counted : CellsAre kind shape bytes
 
-counted_there : (byte : ℕ) (shape : CellsShape) (bytes : List ℕ) (k : Option ArrayKind) → array_kind byte ≡ k → CellsOf k shape bytes → AreCounted byte shape bytes
+pub counted_there : (byte : ℕ) (shape : CellsShape) (bytes : List ℕ) (k : Option ArrayKind) → array_kind byte ≡ k → CellsOf k shape bytes → AreCounted byte shape bytes
 counted_there byte shape bytes None e h = absurd h
 counted_there byte shape bytes (Some kind) e h = record { kind = kind; is_kind = kind_there byte kind e; counted = h }
 

@@ -31,6 +31,8 @@ pub mod NumberFacts
 pub mod PutFacts
 pub mod ChosenScalars
 pub mod ChosenNodes
+pub mod ChosenShort
+pub mod ChosenLengths
 -- What a node means.
 pub mod Missing
 pub mod MeaningFacts

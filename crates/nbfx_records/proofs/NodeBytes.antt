@@ -41,7 +41,7 @@ use Rattle.nbfx_records.proofs.AttributeBytes.{PartIs, part_there, part_back, el
 use Rattle.nbfx_records.proofs.ArrayBytes.{array_there, array_back}
 
 -- what a whole shape says, by its texts and its values
-contents_parts : (shape : Shape) (node : Node) → contents shape ≡ Ok node → (is_text shape ≡ true) × (node_of shape ≡ Some node)
+pub contents_parts : (shape : Shape) (node : Node) → contents shape ≡ Ok node → (is_text shape ≡ true) × (node_of shape ≡ Some node)
 unfolding contents
 contents_parts shape node e = by (is_text shape) (node_of shape) e
   where

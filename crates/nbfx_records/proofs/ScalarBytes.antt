@@ -267,7 +267,7 @@ decimal_content (a ∷ b ∷ []) scale false upper lower size low four =
     let back : drop 4 (upper ++ lower) ≡ lower = ap (λ n. drop n (upper ++ lower)) (sym four) ∙ drop-append_seam upper lower in
     rw (le-leb scale 28 low, front, back) refl
 
-decimal_size : (d : Scalar) (content : List ℕ) → IsDecimal d content → length content ≡ 16
+pub decimal_size : (d : Scalar) (content : List ℕ) → IsDecimal d content → length content ≡ 16
 decimal_size d content is =
     ap length is.joined ∙ length-append is.reserved _
     ∙ omega (arith, is.is_reserved, length-append is.upper is.lower, is.is_upper.size, is.is_lower.size)

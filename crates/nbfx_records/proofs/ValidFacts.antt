@@ -45,16 +45,16 @@ use Rattle.nbfx_records.proofs.NodeBytes.{records_are_read}
 use Rattle.nbfx_records.proofs.NumberFacts.{signed_true}
 
 -- parts of bytes are bytes
-bytes_front : (a b : List ℕ) → IsBytes (a ++ b) → IsBytes a
+pub bytes_front : (a b : List ℕ) → IsBytes (a ++ b) → IsBytes a
 bytes_front [] b h i = omega arith
 bytes_front (x ∷ a) b h zero = h zero
 bytes_front (x ∷ a) b h (suc i) = bytes_front a b (λ j. h (suc j)) i
 
-bytes_rest : (a b : List ℕ) → IsBytes (a ++ b) → IsBytes b
+pub bytes_rest : (a b : List ℕ) → IsBytes (a ++ b) → IsBytes b
 bytes_rest [] b h = h
 bytes_rest (x ∷ a) b h = bytes_rest a b (λ j. h (suc j))
 
-bytes_behind : (bytes : List ℕ) → IsBytes bytes → IsBytes (drop 1 bytes)
+pub bytes_behind : (bytes : List ℕ) → IsBytes bytes → IsBytes (drop 1 bytes)
 bytes_behind [] h = h
 bytes_behind (x ∷ bytes) h = λ i. h (suc i)
 
@@ -63,20 +63,20 @@ all_bytes [] h = refl
 all_bytes (x ∷ bytes) h = and_from (is_unsigned 8 x) (are_bytes bytes) (lt-ltb x (2 ^ 8) (h zero)) (all_bytes bytes (λ i. h (suc i)))
 
 -- what the bytes of a number say
-below_8 : (b : List ℕ) → IsBytes b → from_le_bytes w8 b < 2 ^ 8
+pub below_8 : (b : List ℕ) → IsBytes b → from_le_bytes w8 b < 2 ^ 8
 below_8 b h = omega (arith, h 0)
 
-below_16 : (b : List ℕ) → IsBytes b → from_le_bytes w16 b < 2 ^ 16
+pub below_16 : (b : List ℕ) → IsBytes b → from_le_bytes w16 b < 2 ^ 16
 below_16 b h = omega (arith, h 0, h 1)
 
-below_32 : (b : List ℕ) → IsBytes b → from_le_bytes w32 b < 2 ^ 32
+pub below_32 : (b : List ℕ) → IsBytes b → from_le_bytes w32 b < 2 ^ 32
 below_32 b h = omega (arith, h 0, h 1, h 2, h 3)
 
-below_64 : (b : List ℕ) → IsBytes b → from_le_bytes w64 b < 2 ^ 64
+pub below_64 : (b : List ℕ) → IsBytes b → from_le_bytes w64 b < 2 ^ 64
 below_64 b h = omega (arith, h 0, h 1, h 2, h 3, h 4, h 5, h 6, h 7)
 
 -- a number behind a type byte
-number_below : (w : Width) (top : ℕ) → ((b : List ℕ) → IsBytes b → from_le_bytes w b < top) → (byte n : ℕ) (bytes : List ℕ) → IsBytes (drop 1 bytes) → IsFixed byte w n bytes → n < top
+pub number_below : (w : Width) (top : ℕ) → ((b : List ℕ) → IsBytes b → from_le_bytes w b < top) → (byte n : ℕ) (bytes : List ℕ) → IsBytes (drop 1 bytes) → IsFixed byte w n bytes → n < top
 number_below w top below byte n bytes are (number, is, joined) =
     let own : IsBytes number = subst IsBytes (ap (drop 1) joined) are in subst (λ (m : ℕ). m < top) is.value (below number own)
 
@@ -133,13 +133,13 @@ utf16_is_text bytes s are e =
 signed_valid : (w : Width) (n top : ℕ) → n < top → (n < top → FitsSigned w64 (cast_signed w n)) → (value : RawScalar) → value ≡ Known (Number (cast_signed w n)) → is_valid_raw value ≡ true
 signed_valid w n top lt fits value is = ap is_valid_raw is ∙ number_within (cast_signed w n) (fits lt)
 
-in_8 : (n : ℕ) → n < 2 ^ 8 → FitsSigned w8 (cast_signed w8 n)
+pub in_8 : (n : ℕ) → n < 2 ^ 8 → FitsSigned w8 (cast_signed w8 n)
 in_8 n lt = sfits_to_z {w = w8} {n = n} (record { fits = lt })
 
-in_16 : (n : ℕ) → n < 2 ^ 16 → FitsSigned w16 (cast_signed w16 n)
+pub in_16 : (n : ℕ) → n < 2 ^ 16 → FitsSigned w16 (cast_signed w16 n)
 in_16 n lt = sfits_to_z {w = w16} {n = n} (record { fits = lt })
 
-in_32 : (n : ℕ) → n < 2 ^ 32 → FitsSigned w32 (cast_signed w32 n)
+pub in_32 : (n : ℕ) → n < 2 ^ 32 → FitsSigned w32 (cast_signed w32 n)
 in_32 n lt = sfits_to_z {w = w32} {n = n} (record { fits = lt })
 
 in_64 : (n : ℕ) → n < 2 ^ 64 → FitsSigned w64 (cast_signed w64 n)
@@ -255,7 +255,7 @@ parts_valid (part ∷ parts) bytes are (front, rest, joined, first, others) =
     and_from (is_valid_part part) (list_all is_valid_part parts) (part_valid part front (bytes_front front rest own) first) (parts_valid parts rest (bytes_rest front rest own) others)
 
 -- the values of an array
-known_inj : (one other : Scalar) → Known one ≡ Known other → one ≡ other
+pub known_inj : (one other : Scalar) → Known one ≡ Known other → one ≡ other
 known_inj one other e = cc e
 
 cell_valid : (kind : ArrayKind) (value : Scalar) (bytes : List ℕ) → IsBytes (drop 1 bytes) → SpellsAs (text_kind_in kind) (Known value) bytes → fits_kind kind value ≡ true

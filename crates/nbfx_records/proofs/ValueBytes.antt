@@ -46,12 +46,12 @@ end_byte false = 0xa6
 end_byte true = 0xa7
 
 -- a value in a list
-record IsItem (scalar : ScalarShape) (byte : ℕ) (rest : List ℕ) : Type 0 where
-  kind : TextKind
-  byte_is : byte ≡ text_byte kind
-  is : ScalarIs kind scalar rest
+pub record IsItem (scalar : ScalarShape) (byte : ℕ) (rest : List ℕ) : Type 0 where
+  pub kind : TextKind
+  pub byte_is : byte ≡ text_byte kind
+  pub is : ScalarIs kind scalar rest
 
-item_there : (may_close : Bool) (scalar : ScalarShape) (byte : ℕ) (rest : List ℕ) (k : Option RecordKind) → record_kind byte ≡ k → TurnIs may_close k (more scalar) rest → IsItem scalar byte rest
+pub item_there : (may_close : Bool) (scalar : ScalarShape) (byte : ℕ) (rest : List ℕ) (k : Option RecordKind) → record_kind byte ≡ k → TurnIs may_close k (more scalar) rest → IsItem scalar byte rest
 item_there may_close scalar byte rest (Some (records.Text texts.EndList false)) e h = cc h.0
 item_there may_close scalar byte rest (Some (records.Text texts.EndList true)) e h = cc h.1
 item_there may_close scalar byte rest (Some (records.Text kind false)) e h =

@@ -30,7 +30,7 @@ use Rattle.nbfx_records.specs.declared.nodes.Node.{Node}
 use Rattle.nbfx_records.specs.declared.nodes.Node.TheVariants.{EndElement, Comment, Array, Attribute, Xmlns, Element, Text}
 use Rattle.nbfx_records.specs.Kinds.{text_kind_in}
 use Rattle.nbfx_records.specs.TypeBytes.{byte_of, form_of, is_letter, text_byte}
-use Rattle.nbfx_records.specs.Shapes.{width_in}
+use Rattle.nbfx_records.specs.Shapes.{ScalarShape, bytes_of, width_in}
 
 -- a text record: its kind, and what follows its type byte
 pub record TextRecord : Type 0 where
@@ -180,3 +180,10 @@ chosen_bytes (Attribute prefix name value) = attribute_bytes prefix name value
 chosen_bytes (Xmlns prefix uri) = declaration_bytes prefix uri
 chosen_bytes (Element prefix name) = element_bytes prefix name
 chosen_bytes (Text value ends) = value_bytes ends value
+
+-- a text that is spelled in UTF-16
+abbrev pub is_utf16 : ScalarShape → Bool
+is_utf16 (bytes_of texts.UnicodeChars8 bytes) = true
+is_utf16 (bytes_of texts.UnicodeChars16 bytes) = true
+is_utf16 (bytes_of texts.UnicodeChars32 bytes) = true
+is_utf16 _ = false

@@ -1,5 +1,5 @@
 -- What holds of records by their definitions alone, whatever bytes they are read from.
-use Rattle.std.specs.Prelude.{◌≡◌, ◌≢◌, ℕ, ◌≤◌, ◌↔◌, List, [], ◌++◌, length, take, IsTrue, IsUtf8, Some, None, Contains}
+use Rattle.std.specs.Prelude.{◌≡◌, ◌≢◌, ℕ, ◌≤◌, ◌↔◌, List, [], ◌++◌, length, take, IsTrue, IsUtf8, not, Ok, Some, None, Contains}
 use Rattle.std.specs.List.{list_all}
 use Rattle.nbfx_values.specs.Items.{is_valid_item}
 use Rattle.nbfx_values.specs.declared.content.Item.{Item}
@@ -11,13 +11,15 @@ use Rattle.nbfx_records.specs.declared.nodes.NodePlace.{NodePlace}
 use Rattle.nbfx_records.specs.declared.resume.Resume.{Resume}
 use Rattle.nbfx_records.specs.declared.nodes.NodeFault.{NodeFault}
 use Rattle.nbfx_records.specs.declared.nodes.NodeFault.TheVariants as faults
-use Rattle.nbfx_records.specs.Causes.{Caused, HasBadText, HasBadValue, InRecord}
-use Rattle.nbfx_records.specs.Chosen.{chosen_bytes}
+use Rattle.nbfx_records.specs.Causes.{Caused, HasBadText, HasBadValue, InRecord, scalars_in}
+use Rattle.nbfx_records.specs.Chosen.{chosen_bytes, is_utf16}
+use Rattle.nbfx_records.specs.Contents.{contents}
 use Rattle.nbfx_records.specs.Meaning.{Means, identifiers, items_of}
 use Rattle.nbfx_records.specs.Places.{Stands}
 use Rattle.nbfx_records.specs.Reading.{node_at}
 use Rattle.nbfx_records.specs.Records.{IsNode}
 use Rattle.nbfx_records.specs.Resuming.{Fits}
+use Rattle.nbfx_records.specs.Shapes.{Shape, shape_at}
 use Rattle.nbfx_records.specs.Valid.{fits_node, is_valid_node}
 
 -- no byte is judged where there is none
@@ -58,6 +60,11 @@ ChosenIsRecord = (node : Node) → IsTrue (is_valid_node node) → IsTrue (fits_
 abbrev pub ChosenIsRead : Type 0
 ChosenIsRead = (place : NodePlace) (node : Node) (next : List ℕ) → IsTrue (is_valid_node node) → IsTrue (fits_node node) → Stands place node
     → node_at place (chosen_bytes node ++ next) ≡ whole node (length (chosen_bytes node))
+
+-- no record of it is shorter whose texts are in UTF-8
+abbrev pub ChosenIsShortest : Type 0
+ChosenIsShortest = (place : NodePlace) (bytes : List ℕ) (shape : Shape) (node : Node) (n : ℕ) → IsBytes bytes → shape_at place bytes ≡ whole shape n → contents shape ≡ Ok node
+    → IsTrue (list_all (λ scalar. not (is_utf16 scalar)) (scalars_in shape)) → length (chosen_bytes node) ≤ n
 
 -- where bytes were looked at, they needn't be looked at again when more of them came
 abbrev pub StillFits : Type 0

@@ -4,7 +4,7 @@
 ghost use Rattle.unit_streams.specs.Front.{ReadsFront};
 ghost use Rattle.nbfx_records.specs.declared.nodes.NodePlace.{NodePlace};
 ghost use Rattle.nbfx_records.specs.Reading.{node_at};
-ghost use Rattle.nbfx_records.specs.Laws.{NothingIsBegun, RecordsAreRead, NoRecordGoesOn, RecordsAreValid, WrongByPart, WrongByText, WrongByValue, ChosenIsRecord, ChosenIsRead, StillFits, MeaningsAreFound, NothingWithoutNames, MeansOnce, MeaningsAreValid};
+ghost use Rattle.nbfx_records.specs.Laws.{NothingIsBegun, RecordsAreRead, NoRecordGoesOn, RecordsAreValid, WrongByPart, WrongByText, WrongByValue, ChosenIsRecord, ChosenIsRead, ChosenIsShortest, StillFits, MeaningsAreFound, NothingWithoutNames, MeansOnce, MeaningsAreValid};
 
 /// A record is known by its own bytes: it is wrong or whole at the byte that shows it, whatever
 /// follows, and has only begun before that.
@@ -32,10 +32,11 @@ pub fn faults()
 {}
 
 /// What `put_node` writes of a node is a record of it, and reading gives the node back where it may
-/// stand.
+/// stand. No record of it is shorter, unless that has a text in UTF-16.
 pub fn written()
     ensures is_record { ChosenIsRecord }
     ensures read_back { ChosenIsRead }
+    ensures shortest { ChosenIsShortest }
 {}
 
 /// What was seen of a record that isn't whole holds when more of its bytes came.
