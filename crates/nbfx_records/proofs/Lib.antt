@@ -2,6 +2,7 @@
 pub mod OnLiterals
 mod WorkedTexts
 mod WorkedRecords
+mod WorkedLengths
 mod WorkedRefusals
 -- What is read rests on its own bytes.
 pub mod ShapeFronts
