@@ -1,7 +1,7 @@
 ghost use Rattle.std.specs.Prelude.{◌≤◌, length};
 
 use super::*;
-use nbfx_values::{Scalar, Txt};
+use nbfx_values::{Copied, Scalar, Txt};
 use std::alloc::Global;
 use std::test::Fail;
 use unit_streams::Memory;
@@ -222,5 +222,38 @@ fn each_fault_comes(rt: HostRuntime) -> Result<(), Fail> {
         let want = ReadFault::Fault { fault, shown_by };
         assert_eq!(rt; read.err(), Some(want), "{bytes:?}");
     }
+    Ok(())
+}
+
+// A list with one declaration.
+fn declarations(alloc: Global) -> Result<AttrNodes, Memory> {
+    let mut declarations = AttrNodes::new(alloc);
+    declarations.push(AttrNode::Xmlns {
+        prefix: Txt::of(alloc, "s")?,
+        uri: NameRef::Id(4),
+    })?;
+    Ok(declarations)
+}
+
+#[test]
+fn lists_are_copied(rt: HostRuntime) -> Result<(), Fail> {
+    let mut values = RawValues::new(rt.alloc());
+    values
+        .push(RawScalar::Dictionary(3))
+        .map_err(|_| "no memory")?;
+    values
+        .push(RawScalar::QName(1, 5))
+        .map_err(|_| "no memory")?;
+    let copied = values.copy().map_err(|_| "no memory")?;
+    assert_eq!(rt;
+        format!(in rt.alloc(); "{copied:?}")?,
+        format!(in rt.alloc(); "{values:?}")?
+    );
+    let declared = declarations(rt.alloc()).map_err(|_| "no memory")?;
+    let copied = declared.copy().map_err(|_| "no memory")?;
+    assert_eq!(rt;
+        format!(in rt.alloc(); "{copied:?}")?,
+        format!(in rt.alloc(); "{declared:?}")?
+    );
     Ok(())
 }
