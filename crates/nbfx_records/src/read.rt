@@ -60,7 +60,7 @@ fn stopped(stop: Stop) -> Result<NodeRead, ReadFault>
 /// Reads the record at the front of the bytes, where it may stand at this place, as [`read_node`]
 /// does. `resume` is what was seen of the same bytes, or of fewer of them, when they were read
 /// before: a list and an array's attributes are read on from where they were left. What is seen now
-/// is kept in it, so that bytes that come one by one are looked at twice at most.
+/// is kept in it, so that a long list isn't gone through again for each piece of it.
 pub fn read_node_on(
     alloc: Global,
     bytes: &[u8],
