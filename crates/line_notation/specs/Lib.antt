@@ -1,0 +1,15 @@
+pub mod Forms
+pub mod Judging
+pub mod Lines
+pub mod Numerals
+pub mod Options
+pub mod Parts
+pub mod Placing
+pub mod Puts
+pub mod Quoted
+pub mod Reading
+pub mod Scalars
+pub mod Standing
+pub mod Steps
+pub mod Values
+pub mod Words
