@@ -45,12 +45,12 @@ IsSome (values written) = 0 < how_many written
 IsSome _ = Unit {0}
 
 -- a form that is neither refused for a text nor for its range
-record IsJudged (kind : Option ArrayKind) (form : Form) (line : Line) : Type 0 where
-  texts : has_bad_text form ≡ false
-  range : is_out_of_range kind form ≡ false
-  said_is : said kind form ≡ Ok line
+pub record IsJudged (kind : Option ArrayKind) (form : Form) (line : Line) : Type 0 where
+  pub texts : has_bad_text form ≡ false
+  pub range : is_out_of_range kind form ≡ false
+  pub said_is : said kind form ≡ Ok line
 
-is_judged : (kind : Option ArrayKind) (form : Form) (line : Line) → judged kind form ≡ Ok line → IsJudged kind form line
+pub is_judged : (kind : Option ArrayKind) (form : Form) (line : Line) → judged kind form ≡ Ok line → IsJudged kind form line
 is_judged kind form line e = go (has_bad_text form) (is_out_of_range kind form) refl refl e
   where
     go : (bad out : Bool) → has_bad_text form ≡ bad → is_out_of_range kind form ≡ out → (if bad then Err BadText else if out then Err OutOfRange else said kind form) ≡ Ok line → IsJudged kind form line
@@ -58,7 +58,7 @@ is_judged kind form line e = go (has_bad_text form) (is_out_of_range kind form) 
     go false true f g e = absurd cc
     go false false f g e = record { texts = f; range = g; said_is = e }
 
-not-false : (t : Bool) → not t ≡ false → t ≡ true
+pub not-false : (t : Bool) → not t ≡ false → t ≡ true
 not-false true e = refl
 not-false false e = absurd cc
 

@@ -5,6 +5,7 @@ pub mod GatherSteps
 pub mod HeldFacts
 pub mod HexFacts
 pub mod IdentifierFacts
+pub mod LinesRead
 pub mod NaturalFacts
 pub mod NumeralsFacts
 pub mod OnLiterals
@@ -12,11 +13,13 @@ pub mod PartsFacts
 pub mod PiecesFacts
 pub mod PlacingFacts
 pub mod PrintFacts
+pub mod PutForms
 pub mod PutsFacts
 pub mod QuotedFacts
 pub mod ReadingFacts
 pub mod ScalarFacts
 pub mod SpacedFacts
+pub mod StepFacts
 pub mod TextsFacts
 pub mod TokenFacts
 pub mod ValidFacts

@@ -1,7 +1,7 @@
 -- What fits an array is a value that records can hold.
-use Rattle.std.proofs.Common.{◌≡◌, ℤ, pos, negsuc, true, List, [], ◌∷◌, refl, arith}
+use Rattle.std.proofs.Common.{◌≡◌, ◌<◌, ℤ, pos, negsuc, true, List, [], ◌∷◌, length, nat_lt, refl, arith}
 use Rattle.std.specs.List.{list_all}
-use Rattle.std.proofs.lemmas.Bool.{and_parts}
+use Rattle.std.proofs.lemmas.Bool.{and_parts, ltb-true}
 use Rattle.std.proofs.lemmas.Bool.Decides.{nat_tests}
 use Rattle.nbfx_values.specs.declared.content.ArrayItem.{ArrayItem}
 use Rattle.nbfx_values.specs.declared.content.ArrayKind.{ArrayKind}
@@ -19,7 +19,7 @@ number-32 : (n : ℤ) → is_signed 32 n ≡ true → is_number n ≡ true
 number-32 (pos n) h = grind (arith, nat_tests)
 number-32 (negsuc n) h = grind (arith, nat_tests)
 
-number-64 : (n : ℤ) → is_signed 64 n ≡ true → is_number n ≡ true
+pub number-64 : (n : ℤ) → is_signed 64 n ≡ true → is_number n ≡ true
 number-64 (pos n) h = grind (arith, nat_tests)
 number-64 (negsuc n) h = grind (arith, nat_tests)
 
@@ -55,3 +55,10 @@ array_parts a h =
     let q = and_parts (list_all is_valid_attribute a.attrs) _ p.1 in
     let r = and_parts _ (list_all (fits_kind a.kind) a.values) q.1 in
     record { texts = p.0; attributes = q.0; fit = r.1; valid = fit-valid a.kind a.values r.1 }
+
+pub array-some : (a : ArrayItem) → is_valid_array a ≡ true → 0 < length a.values
+array-some a h =
+    let p = and_parts (are_texts a.prefix a.local) _ h in
+    let q = and_parts (list_all is_valid_attribute a.attrs) _ p.1 in
+    let r = and_parts (nat_lt 0 (length a.values)) (list_all (fits_kind a.kind) a.values) q.1 in
+    ltb-true 0 (length a.values) r.0
