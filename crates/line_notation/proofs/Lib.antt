@@ -5,6 +5,7 @@ pub mod GatherSteps
 pub mod HeldFacts
 pub mod HexFacts
 pub mod IdentifierFacts
+pub mod LinesAre
 pub mod LinesRead
 pub mod NaturalFacts
 pub mod NumeralsFacts

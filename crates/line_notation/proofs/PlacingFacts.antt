@@ -36,7 +36,7 @@ place-on items some unfinished = go (position_of items) refl
     go (Some After) e = absurd (unfinished (position_of-document items e))
 
 -- a line that isn't passed over is read
-outcome-read : (items : List Item) (array : Option ArrayItem) (line : List ℕ) → is_passed_over items array line ≡ false → outcome items array line ≡ outcome_of items array (form_of line)
+pub outcome-read : (items : List Item) (array : Option ArrayItem) (line : List ℕ) → is_passed_over items array line ≡ false → outcome items array line ≡ outcome_of items array (form_of line)
 outcome-read [] None [] read = absurd cc
 outcome-read [] None (b ∷ line) read = refl
 outcome-read [] (Some a) line read = refl

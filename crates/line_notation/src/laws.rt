@@ -1,11 +1,11 @@
 //! Laws over the definitions alone. Each is the contract of a function that does nothing.
 
-ghost use Rattle.std.specs.Prelude.{◌≡◌, ◌↔◌, ℕ, List, [], ◌∷◌, Some, None, length};
+ghost use Rattle.std.specs.Prelude.{◌≡◌, ◌↔◌, ℕ, List, [], ◌∷◌, Some, None, Ok, length};
 ghost use Rattle.nbfx_values.specs.declared.content.Item.{Item};
 ghost use Rattle.nbfx_values.specs.Documents.{IsDocument};
 ghost use Rattle.line_notation.specs.Forms.{Form, IsLine, form_of};
-ghost use Rattle.line_notation.specs.Lines.{lines_of};
-ghost use Rattle.line_notation.specs.Standing.{documents_of, going, standing};
+ghost use Rattle.line_notation.specs.Lines.{AreLinesOf, lines_of};
+ghost use Rattle.line_notation.specs.Standing.{documents_of, ending, going, standing};
 
 /// A line has a form exactly where that form is read out of it, so it has one at most.
 pub fn a_line_has_one_form()
@@ -16,4 +16,9 @@ pub fn a_line_has_one_form()
 pub fn lines_give_their_document()
     ensures document { (doc : List Item) → IsDocument doc → documents_of (lines_of doc) ≡ doc ∷ [] }
     ensures ended { (doc : List Item) → IsDocument doc → standing (lines_of doc) ≡ going (length (lines_of doc)) [] None }
+{}
+
+/// X
+pub fn lines_are_of_documents()
+    ensures { (docs : List (List Item)) (lines : List (List ℕ)) → AreLinesOf docs lines ↔ ((documents_of lines ≡ docs) × (ending (standing lines) ≡ Ok tt)) }
 {}
