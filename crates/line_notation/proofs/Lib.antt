@@ -18,6 +18,7 @@ pub mod PutForms
 pub mod PutsFacts
 pub mod QuotedFacts
 pub mod ReadingFacts
+pub mod RefusalFacts
 pub mod ScalarFacts
 pub mod SpacedFacts
 pub mod StepFacts

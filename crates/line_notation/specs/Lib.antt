@@ -8,6 +8,7 @@ pub mod Placing
 pub mod Puts
 pub mod Quoted
 pub mod Reading
+pub mod Refusals
 pub mod Scalars
 pub mod Standing
 pub mod Steps
