@@ -29,4 +29,6 @@ pub mod ValueFacts
 pub mod ValuesFacts
 pub mod WordsFacts
 pub mod Worked
+pub mod WorkedLines
+pub mod WorkedRefusals
 pub mod WrittenFacts
