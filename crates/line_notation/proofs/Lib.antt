@@ -1,4 +1,5 @@
 pub mod ClosedFacts
+pub mod Counting
 pub mod FormFacts
 pub mod GatherFacts
 pub mod GatherSteps

@@ -152,7 +152,10 @@ abbrev pub UnlessMemory : {T : Type 0} → Result T LineFault → Type 0 → Typ
 UnlessMemory (Err Memory) claim = Unit {0}
 UnlessMemory _ claim = claim
 
--- how many lines were read, unless one was refused
+-- fewer lines than so many were read, unless one was refused
+abbrev pub HasReadFewer : ℕ → Standing → Type 0
+HasReadFewer most (failed fault) = Unit {0}
+HasReadFewer most (going n items array) = n < most
+
 abbrev pub HasRoom : Standing → Type 0
-HasRoom (failed fault) = Unit {0}
-HasRoom (going n items array) = n < 2 ^ 63
+HasRoom = HasReadFewer (2 ^ 63)

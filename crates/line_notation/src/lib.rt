@@ -21,3 +21,6 @@ mod words;
 pub use printing::print;
 pub use puts::quote;
 pub use reader::{LineFault, LineKind, LineReader, LineStep};
+
+#[cfg(test)]
+mod tests;
