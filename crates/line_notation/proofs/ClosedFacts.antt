@@ -51,6 +51,12 @@ digit-shown c h = go (digit_in c) refl h
     go None e h = absurd cc
     go (Some d) e h = let i = is_digit c d e in subst IsShown (sym i.glyph) (glyph-shown d i.small)
 
+pub glyph-plain : (d : ℕ) → d < 16 → is_plain (digit_glyph false d) ≡ true
+glyph-plain d small = (glyph-shown d small).plain
+
+pub digit-plain : (c : ℕ) → is_some (digit_in c) ≡ true → is_plain c ≡ true
+digit-plain c h = (digit-shown c h).plain
+
 digits-bare : (word : List ℕ) → are_digits word ≡ true → list_all is_bare word ≡ true
 digits-bare [] h = refl
 digits-bare (c ∷ word) h =
@@ -118,15 +124,7 @@ first-closed word rest words e h = ap (λ w. words_of (spaced w)) e ∙ words_of
 
 kind-closes : (kind : ArrayKind) → closes false (array_kind_word kind) ≡ true
 kind-closes arrays.Bool = refl
-kind-closes arrays.Int16 = refl
-kind-closes arrays.Int32 = refl
-kind-closes arrays.Int64 = refl
-kind-closes arrays.Float = refl
-kind-closes arrays.Double = refl
-kind-closes arrays.Decimal = refl
-kind-closes arrays.DateTime = refl
-kind-closes arrays.TimeSpan = refl
-kind-closes arrays.Uuid = refl
+kind-closes _ = refl
 
 pub form-words : (form : Form) (words : List (List ℕ)) → IsForm form words → words_of (spaced words) ≡ words
 form-words (start prefix local) words (a, b, e, (q, r)) =

@@ -24,15 +24,7 @@ two-read first second a b rest (q, r) = rw (quoted_in-quoted first a q, quoted_i
 
 kind-read : (kind : ArrayKind) → array_kind_in (array_kind_word kind) ≡ Some kind
 kind-read arrays.Bool = refl
-kind-read arrays.Int16 = refl
-kind-read arrays.Int32 = refl
-kind-read arrays.Int64 = refl
-kind-read arrays.Float = refl
-kind-read arrays.Double = refl
-kind-read arrays.Decimal = refl
-kind-read arrays.DateTime = refl
-kind-read arrays.TimeSpan = refl
-kind-read arrays.Uuid = refl
+kind-read _ = refl
 
 -- the form that words have is read out of them
 form-read : (form : Form) (words : List (List ℕ)) → IsForm form words → form_in words ≡ Some form

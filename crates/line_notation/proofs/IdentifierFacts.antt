@@ -135,13 +135,13 @@ is_identifier-word word bytes e =
 glyph-bare : (d : ℕ) → d < 16 → is_bare (hex_digit lower d) ≡ true
 glyph-bare d small = grind (arith, nat_tests)
 
-bare-listed : (n : ℕ) (f : ℕ → ℕ) → ((k : ℕ) → is_bare (f k) ≡ true) → list_all is_bare (by_index n f) ≡ true
+pub all-listed : (test : ℕ → Bool) (n : ℕ) (f : ℕ → ℕ) → ((k : ℕ) → test (f k) ≡ true) → list_all test (by_index n f) ≡ true
 unfolding by_index
-bare-listed zero f h = refl
-bare-listed (suc n) f h = list_all-append is_bare (by_index n f) (f n ∷ []) ∙ rw (bare-listed n f h, h n) refl
+all-listed test zero f h = refl
+all-listed test (suc n) f h = list_all-append test (by_index n f) (f n ∷ []) ∙ rw (all-listed test n f h, h n) refl
 
 pub identifier-bare : (bytes : List ℕ) → list_all is_bare (identifier_word bytes) ≡ true
-identifier-bare bytes = bare-listed 36 _ (λ k. go k (is_hyphen_place k))
+identifier-bare bytes = all-listed is_bare 36 _ (λ k. go k (is_hyphen_place k))
   where
     fields : List ℕ
     fields = swap_fields bytes

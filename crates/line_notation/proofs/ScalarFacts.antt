@@ -128,17 +128,7 @@ bytes-are word bytes e =
 token-named : (kind : ScalarKind) (words rest : List (List ℕ)) (s : Scalar) → scalar_at kind words ≡ Some (s, rest)
     → token_at (scalar_kind_word kind ∷ words) ≡ Some (scalar s, rest)
 token-named kinds.Number words rest s e = ap (λ read. read >>= λ s. Some (scalar s.0, s.1)) e
-token-named kinds.Truth words rest s e = ap (λ read. read >>= λ s. Some (scalar s.0, s.1)) e
-token-named kinds.Float words rest s e = ap (λ read. read >>= λ s. Some (scalar s.0, s.1)) e
-token-named kinds.Double words rest s e = ap (λ read. read >>= λ s. Some (scalar s.0, s.1)) e
-token-named kinds.Decimal words rest s e = ap (λ read. read >>= λ s. Some (scalar s.0, s.1)) e
-token-named kinds.DateTime words rest s e = ap (λ read. read >>= λ s. Some (scalar s.0, s.1)) e
-token-named kinds.TimeSpan words rest s e = ap (λ read. read >>= λ s. Some (scalar s.0, s.1)) e
-token-named kinds.Text words rest s e = ap (λ read. read >>= λ s. Some (scalar s.0, s.1)) e
-token-named kinds.Bytes words rest s e = ap (λ read. read >>= λ s. Some (scalar s.0, s.1)) e
-token-named kinds.UniqueId words rest s e = ap (λ read. read >>= λ s. Some (scalar s.0, s.1)) e
-token-named kinds.Uuid words rest s e = ap (λ read. read >>= λ s. Some (scalar s.0, s.1)) e
-token-named kinds.QName words rest s e = ap (λ read. read >>= λ s. Some (scalar s.0, s.1)) e
+token-named _ words rest s e = ap (λ read. read >>= λ s. Some (scalar s.0, s.1)) e
 
 -- a value's words in front of others
 decimal-read : (d : Dec) (scale magnitude : List ℕ) (rest : List (List ℕ)) → natural_in scale ≡ Some d.scale → natural_in magnitude ≡ Some d.magnitude

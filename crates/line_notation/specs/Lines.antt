@@ -1,6 +1,6 @@
 -- The lines of documents.
-use Rattle.std.specs.Prelude.{◌≡◌, ℕ, List, [], ◌∷◌, ◌++◌, map}
-use Rattle.std.specs.List.{flat_map}
+use Rattle.std.specs.Prelude.{◌≡◌, ℕ, List, [], ◌∷◌, ◌++◌, Bool, not, ◌==◌, if◌then◌else◌, map}
+use Rattle.std.specs.List.{flat_map, list_all}
 use Rattle.nbfx_values.specs.declared.content.AttrItem.{AttrItem}
 use Rattle.nbfx_values.specs.declared.content.AttrItem.TheVariants.{Xmlns as DeclaresOn, Attr as AttrOn}
 use Rattle.nbfx_values.specs.declared.content.Item.{Item}
@@ -38,6 +38,20 @@ with_line_feed line = line ++ 10 ∷ []
 
 unfoldable pub text_of : List Item → List ℕ
 text_of items = flat_map with_line_feed (lines_of items)
+
+-- whether no byte is a line feed
+abbrev pub has_no_feed : List ℕ → Bool
+has_no_feed = list_all (λ b. not (b == 10))
+
+-- a byte before the first line, or before what is left where there is none
+abbrev pub cut_before : ℕ → List (List ℕ) × List ℕ → List (List ℕ) × List ℕ
+cut_before b ([], rest) = ([], b ∷ rest)
+cut_before b (line ∷ lines, rest) = ((b ∷ line) ∷ lines, rest)
+
+-- the lines of a text, each up to its line feed, and what is left behind the last
+abbrev pub cut : List ℕ → List (List ℕ) × List ℕ
+cut [] = ([], [])
+cut (b ∷ bytes) = let more = cut bytes in if b == 10 then ([] ∷ more.0, more.1) else cut_before b more
 
 -- the bytes of a line, by what it says, and of an item's lines
 abbrev pub form_text : Form → List ℕ

@@ -1,35 +1,39 @@
-//! Laws over the definitions alone. Each is the contract of a function that does nothing.
+//! What holds of lines and documents by their definitions alone. Each function does nothing: its
+//! contract is a law, which a caller has where it calls the function.
 
-ghost use Rattle.std.specs.Prelude.{◌≡◌, ◌↔◌, ℕ, List, [], ◌∷◌, Some, None, Ok, length};
-ghost use Rattle.nbfx_values.specs.declared.content.Item.{Item};
-ghost use Rattle.nbfx_values.specs.Documents.{IsDocument};
-ghost use Rattle.line_notation.specs.Forms.{Form, IsLine, form_of};
-ghost use Rattle.line_notation.specs.Lines.{AreLinesOf, lines_of};
+ghost use Rattle.line_notation.specs.Laws.{AreCutAgain, AreOfWhatTheyBring, BringTheirDocument, HaveOneForm, HoldNoFeed, LeaveNothingUnfinished};
 ghost use Rattle.line_notation.specs.Refusals.{RefusedForNoForm, RefusedForNothingElse, RefusedForPlace, RefusedForRange, RefusedForText};
-ghost use Rattle.line_notation.specs.Standing.{documents_of, ending, going, standing};
 
 /// A line has a form exactly where that form is read out of it, so it has one at most.
-pub fn a_line_has_one_form()
-    ensures { (form : Form) (line : List ℕ) → IsLine form line ↔ (form_of line ≡ Some form) }
+pub fn one_form()
+    ensures { HaveOneForm }
 {}
 
 /// Reading the lines that are put for a document gives that document, and no more.
-pub fn lines_give_their_document()
-    ensures document { (doc : List Item) → IsDocument doc → documents_of (lines_of doc) ≡ doc ∷ [] }
-    ensures ended { (doc : List Item) → IsDocument doc → standing (lines_of doc) ≡ going (length (lines_of doc)) [] None }
+pub fn read_back()
+    ensures document { BringTheirDocument }
+    ensures ended { LeaveNothingUnfinished }
 {}
 
-/// X
-pub fn lines_are_of_documents()
-    ensures { (docs : List (List Item)) (lines : List (List ℕ)) → AreLinesOf docs lines ↔ ((documents_of lines ≡ docs) × (ending (standing lines) ≡ Ok tt)) }
+/// Documents are read exactly where the lines are theirs, in any spelling, with empty lines before,
+/// between and behind them.
+pub fn documents()
+    ensures { AreOfWhatTheyBring }
 {}
 
-/// A line is refused for having no form, or else for a text that isn't UTF-8, or else for a value out of its range, or
-/// else for its place, exactly where that holds of it, and for nothing else.
-pub fn lines_are_refused_for_the_first_reason()
+/// A line is refused for having no form, or else for a text that isn't UTF-8, or else for a value out
+/// of its range, or else for its place. Each refusal comes exactly where that holds, and no other.
+pub fn refusals()
     ensures no_form { RefusedForNoForm }
     ensures text { RefusedForText }
     ensures range { RefusedForRange }
     ensures place { RefusedForPlace }
     ensures nothing_else { RefusedForNothingElse }
+{}
+
+/// No line has a line feed in it, so the text that is put for items is cut at its line feeds into their
+/// lines.
+pub fn texts()
+    ensures no_feed { HoldNoFeed }
+    ensures cut { AreCutAgain }
 {}

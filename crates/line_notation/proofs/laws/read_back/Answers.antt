@@ -1,5 +1,5 @@
 use Rattle.line_notation.proofs.LinesRead.{put-read}
-use Rattle.line_notation.proofs.laws.lines_give_their_document.Goals as goal
+use Rattle.line_notation.proofs.laws.read_back.Goals as goal
 
 pub returns-clause-document : goal.returns-clause-document
 returns-clause-document c doc d = (put-read doc d).brings

@@ -2,7 +2,7 @@ use Rattle.std.proofs.Common.{ap, ◌∙◌}
 use Rattle.line_notation.specs.Standing.{ending}
 use Rattle.line_notation.proofs.LinesAre.{read-documents}
 use Rattle.line_notation.proofs.LinesRead.{documents-read}
-use Rattle.line_notation.proofs.laws.lines_are_of_documents.Goals as goal
+use Rattle.line_notation.proofs.laws.documents.Goals as goal
 
 pub returns : goal.returns
 returns c docs lines =

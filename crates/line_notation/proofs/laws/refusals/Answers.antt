@@ -1,5 +1,5 @@
 use Rattle.line_notation.proofs.RefusalFacts.{no_line-refused, nothing-else, place-refused, range-refused, refused-no_line, refused-place, refused-range, refused-text, text-refused}
-use Rattle.line_notation.proofs.laws.lines_are_refused_for_the_first_reason.Goals as goal
+use Rattle.line_notation.proofs.laws.refusals.Goals as goal
 
 pub returns-clause-no_form : goal.returns-clause-no_form
 returns-clause-no_form c items opened line = (refused-no_line items opened line, no_line-refused items opened line)
