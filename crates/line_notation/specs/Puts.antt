@@ -24,6 +24,11 @@ pub record PutsAll (bytes : List ℕ) (result : Result (Unit {0}) SinkFault) (w 
   pub settled : m' ≡ m
   pub rising : f ≤ f'
 
+-- the same of a sink that was like this and is like that now, by what it tells
+abbrev pub Puts : {S : Type 0} → (S → Option (List ℕ)) → (S → ℕ) → (S → Bool) → S → S → List ℕ → Result (Unit {0}) SinkFault → Type 0
+Puts written faults may_want old new bytes result =
+    PutsAll bytes result (written old) (written new) (faults old) (faults new) (may_want old) (may_want new)
+
 -- a word's bytes
 abbrev pub word_bytes : Word → List ℕ
 word_bytes (Plain text) = text.now

@@ -3,7 +3,7 @@ ghost use Rattle.std.specs.Prelude.{◌≡◌, ◌≤◌, ◌<◌, ◌^◌, ◌�
 ghost use Rattle.std.specs.Fmt.{decimal, digit_glyph, signed_decimal};
 ghost use Rattle.std.specs.List.{flat_map};
 ghost use Rattle.hex.specs.Hex.{encode_lower};
-ghost use Rattle.line_notation.specs.Puts.{IsPuttable, PutsAll, spaced_word, spaced_words, word_bytes};
+ghost use Rattle.line_notation.specs.Puts.{IsPuttable, Puts, spaced_word, spaced_words, word_bytes};
 ghost use Rattle.line_notation.specs.Quoted.{escape, is_plain, quoted, quoted_byte};
 ghost use Rattle.line_notation.specs.Scalars.{digits_in_quotes, identifier_word, letter_word};
 
@@ -39,8 +39,7 @@ pub fn is_plain(byte: u8) -> bool
 
 // Puts bytes by one call.
 pub fn put<K: Sink>(bytes: &[u8], sink: &mut K) -> Result<(), SinkFault>
-    ensures { PutsAll bytes.now result (K.written sink.old) (K.written sink.new)
-        (K.faults sink.old) (K.faults sink.new) (K.may_want sink.old) (K.may_want sink.new) }
+    ensures { Puts K.written K.faults K.may_want sink.old sink.new bytes.now result }
 {
     sink.put(bytes)
 }
@@ -59,8 +58,7 @@ fn digit(bits: u8) -> u8
 
 // Puts a backslash and the byte's digits.
 fn put_escape<K: Sink>(byte: u8, sink: &mut K) -> Result<(), SinkFault>
-    ensures { PutsAll (escape byte) result (K.written sink.old) (K.written sink.new)
-        (K.faults sink.old) (K.faults sink.new) (K.may_want sink.old) (K.may_want sink.new) }
+    ensures { Puts K.written K.faults K.may_want sink.old sink.new (escape byte) result }
 {
     put(&[b'\\', digit(byte / 16), digit(byte % 16)], sink)
 }
@@ -74,9 +72,8 @@ pub fn plain_count(bytes: &[u8]) -> usize
 
 // Puts the bytes of a quoted text.
 fn put_pieces<K: Sink>(bytes: &[u8], sink: &mut K) -> Result<(), SinkFault>
-    ensures { PutsAll (flat_map quoted_byte bytes.now) result
-        (K.written sink.old) (K.written sink.new)
-        (K.faults sink.old) (K.faults sink.new) (K.may_want sink.old) (K.may_want sink.new) }
+    ensures { Puts K.written K.faults K.may_want sink.old sink.new
+        (flat_map quoted_byte bytes.now) result }
 {
     let mut rest = bytes;
     while !rest.is_empty() {
@@ -94,11 +91,11 @@ fn put_pieces<K: Sink>(bytes: &[u8], sink: &mut K) -> Result<(), SinkFault>
     Ok(())
 }
 
-/// Puts a text in double quotes. A printable byte of ASCII stands as it is, and any other, the quote
-/// and the backslash as a backslash and two hexadecimal digits. A refusal has put the first bytes.
+/// Puts a text in double quotes. A printable byte of ASCII stands as it is, and any other, the
+/// quote and the backslash as a backslash and two hexadecimal digits. A refusal has put the first
+/// bytes. No memory is taken but the sink's.
 pub fn quote<K: Sink>(text: &str, sink: &mut K) -> Result<(), SinkFault>
-    ensures { PutsAll (quoted text.now) result (K.written sink.old) (K.written sink.new)
-        (K.faults sink.old) (K.faults sink.new) (K.may_want sink.old) (K.may_want sink.new) }
+    ensures { Puts K.written K.faults K.may_want sink.old sink.new (quoted text.now) result }
 {
     put(b"\"", sink)?;
     put_pieces(text.as_bytes(), sink)?;
@@ -110,8 +107,7 @@ const CHUNK: usize = 32;
 // Puts the hexadecimal digits of a few bytes.
 fn put_chunk<K: Sink>(bytes: &[u8], sink: &mut K) -> Result<(), SinkFault>
     requires { length bytes.now ≤ CHUNK }
-    ensures { PutsAll (encode_lower bytes.now) result (K.written sink.old) (K.written sink.new)
-        (K.faults sink.old) (K.faults sink.new) (K.may_want sink.old) (K.may_want sink.new) }
+    ensures { Puts K.written K.faults K.may_want sink.old sink.new (encode_lower bytes.now) result }
 {
     let mut digits = [0; 2 * CHUNK];
     let room = &mut digits[..2 * bytes.len()];
@@ -121,8 +117,7 @@ fn put_chunk<K: Sink>(bytes: &[u8], sink: &mut K) -> Result<(), SinkFault>
 
 // Puts the hexadecimal digits of bytes.
 fn put_digits<K: Sink>(bytes: &[u8], sink: &mut K) -> Result<(), SinkFault>
-    ensures { PutsAll (encode_lower bytes.now) result (K.written sink.old) (K.written sink.new)
-        (K.faults sink.old) (K.faults sink.new) (K.may_want sink.old) (K.may_want sink.new) }
+    ensures { Puts K.written K.faults K.may_want sink.old sink.new (encode_lower bytes.now) result }
 {
     let mut rest = bytes;
     while !rest.is_empty() {
@@ -134,8 +129,8 @@ fn put_digits<K: Sink>(bytes: &[u8], sink: &mut K) -> Result<(), SinkFault>
 }
 
 fn put_digits_in_quotes<K: Sink>(bytes: &[u8], sink: &mut K) -> Result<(), SinkFault>
-    ensures { PutsAll (digits_in_quotes bytes.now) result (K.written sink.old) (K.written sink.new)
-        (K.faults sink.old) (K.faults sink.new) (K.may_want sink.old) (K.may_want sink.new) }
+    ensures { Puts K.written K.faults K.may_want sink.old sink.new
+        (digits_in_quotes bytes.now) result }
 {
     put(b"\"", sink)?;
     put_digits(bytes, sink)?;
@@ -143,24 +138,22 @@ fn put_digits_in_quotes<K: Sink>(bytes: &[u8], sink: &mut K) -> Result<(), SinkF
 }
 
 fn put_natural<K: Sink>(n: u128, sink: &mut K) -> Result<(), SinkFault>
-    ensures { PutsAll (decimal n) result (K.written sink.old) (K.written sink.new)
-        (K.faults sink.old) (K.faults sink.new) (K.may_want sink.old) (K.may_want sink.new) }
+    ensures { Puts K.written K.faults K.may_want sink.old sink.new (decimal n) result }
 {
     let mut buffer = Buffer::new();
     put(buffer.format(n).as_bytes(), sink)
 }
 
 fn put_integer<K: Sink>(n: i128, sink: &mut K) -> Result<(), SinkFault>
-    ensures { PutsAll (signed_decimal n) result (K.written sink.old) (K.written sink.new)
-        (K.faults sink.old) (K.faults sink.new) (K.may_want sink.old) (K.may_want sink.new) }
+    ensures { Puts K.written K.faults K.may_want sink.old sink.new (signed_decimal n) result }
 {
     let mut buffer = Buffer::new();
     put(buffer.format(n).as_bytes(), sink)
 }
 
 fn put_identifier<K: Sink>(bytes: &[u8; 16], sink: &mut K) -> Result<(), SinkFault>
-    ensures { PutsAll (identifier_word bytes.now) result (K.written sink.old) (K.written sink.new)
-        (K.faults sink.old) (K.faults sink.new) (K.may_want sink.old) (K.may_want sink.new) }
+    ensures { Puts K.written K.faults K.may_want sink.old sink.new
+        (identifier_word bytes.now) result }
 {
     let mut buffer = Uuid::encode_buffer();
     let id = Uuid::from_bytes_le(*bytes);
@@ -169,8 +162,7 @@ fn put_identifier<K: Sink>(bytes: &[u8; 16], sink: &mut K) -> Result<(), SinkFau
 
 fn put_word<K: Sink>(word: &Word, sink: &mut K) -> Result<(), SinkFault>
     requires { IsPuttable word.now }
-    ensures { PutsAll (word_bytes word.now) result (K.written sink.old) (K.written sink.new)
-        (K.faults sink.old) (K.faults sink.new) (K.may_want sink.old) (K.may_want sink.new) }
+    ensures { Puts K.written K.faults K.may_want sink.old sink.new (word_bytes word.now) result }
 {
     match word {
         Word::Plain(text) => put(text.as_bytes(), sink),
@@ -187,8 +179,7 @@ fn put_word<K: Sink>(word: &Word, sink: &mut K) -> Result<(), SinkFault>
 // Puts a space and a word.
 fn put_spaced_word<K: Sink>(word: &Word, sink: &mut K) -> Result<(), SinkFault>
     requires { IsPuttable word.now }
-    ensures { PutsAll (spaced_word word.now) result (K.written sink.old) (K.written sink.new)
-        (K.faults sink.old) (K.faults sink.new) (K.may_want sink.old) (K.may_want sink.new) }
+    ensures { Puts K.written K.faults K.may_want sink.old sink.new (spaced_word word.now) result }
 {
     put(b" ", sink)?;
     put_word(word, sink)
@@ -197,8 +188,7 @@ fn put_spaced_word<K: Sink>(word: &Word, sink: &mut K) -> Result<(), SinkFault>
 // Puts words, each behind a space.
 pub fn put_words<K: Sink>(words: &[Word], sink: &mut K) -> Result<(), SinkFault>
     requires { All IsPuttable words.now }
-    ensures { PutsAll (spaced_words words.now) result (K.written sink.old) (K.written sink.new)
-        (K.faults sink.old) (K.faults sink.new) (K.may_want sink.old) (K.may_want sink.new) }
+    ensures { Puts K.written K.faults K.may_want sink.old sink.new (spaced_words words.now) result }
 {
     for word in words {
         put_spaced_word(word, sink)?;

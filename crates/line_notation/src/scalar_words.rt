@@ -1,9 +1,11 @@
 // A value out of words.
 ghost use Rattle.std.specs.Prelude.{◌≡◌, ◌≤◌, ◌<◌, ◌^◌, IfOk, IfSome};
+ghost use Rattle.std.specs.Int.{w64};
 ghost use Rattle.nbfx_values.specs.Scalars.{is_valid_scalar};
 ghost use Rattle.line_notation.specs.declared.scalars.ScalarKind.TheVariants as kinds;
 ghost use Rattle.line_notation.specs.Parts.{integer_up_to, judged_at, kept, natural_up_to};
-ghost use Rattle.line_notation.specs.Scalars.{letter_in, one_word, scalar_at, sign_in, truth_in};
+ghost use Rattle.line_notation.specs.Numerals.{hexadecimal_in};
+ghost use Rattle.line_notation.specs.Scalars.{identifier_in, letter_in, one_word, scalar_at, sign_in, truth_in};
 ghost use Rattle.line_notation.specs.Steps.{Gives};
 
 use crate::digits;
@@ -156,20 +158,27 @@ fn float(words: &mut Words) -> Result<Judged<Scalar>, Stop>
     Ok(judged(Scalar::Float(u32::from_be_bytes(bytes))))
 }
 
-fn double(words: &mut Words) -> Result<Judged<Scalar>, Stop>
-    ensures { Gives (λ s. s) result words.new (judged_at (scalar_at kinds.Double words.old)) }
+// The next word as a bit pattern of 64 bits.
+fn pattern(words: &mut Words) -> Result<u64, Stop>
+    ensures { Gives (λ n. n) result words.new (one_word (hexadecimal_in w64) words.old) }
 {
     let word = words.next()?;
     let bytes = digits::bytes_sized::<8>(word).ok_or(Stop::NotALine)?;
-    Ok(judged(Scalar::Double(u64::from_be_bytes(bytes))))
+    Ok(u64::from_be_bytes(bytes))
+}
+
+fn double(words: &mut Words) -> Result<Judged<Scalar>, Stop>
+    ensures { Gives (λ s. s) result words.new (judged_at (scalar_at kinds.Double words.old)) }
+{
+    let bits = pattern(words)?;
+    Ok(judged(Scalar::Double(bits)))
 }
 
 fn date_time(words: &mut Words) -> Result<Judged<Scalar>, Stop>
     ensures { Gives (λ s. s) result words.new (judged_at (scalar_at kinds.DateTime words.old)) }
 {
-    let word = words.next()?;
-    let bytes = digits::bytes_sized::<8>(word).ok_or(Stop::NotALine)?;
-    Ok(judged(Scalar::DateTime(u64::from_be_bytes(bytes))))
+    let pattern = pattern(words)?;
+    Ok(judged(Scalar::DateTime(pattern)))
 }
 
 fn text_value(alloc: Global, words: &mut Words) -> Result<Judged<Scalar>, Stop>
@@ -190,20 +199,26 @@ fn bytes(alloc: Global, words: &mut Words) -> Result<Judged<Scalar>, Stop>
     Ok(judged(Scalar::Bytes(Blob::from(bytes))))
 }
 
+// The bytes of the identifier that the next word is.
+fn identifier(words: &mut Words) -> Result<[u8; 16], Stop>
+    ensures { Gives (λ id. id) result words.new (one_word identifier_in words.old) }
+{
+    let word = words.next()?;
+    digits::identifier(word).ok_or(Stop::NotALine)
+}
+
 fn unique_id(words: &mut Words) -> Result<Judged<Scalar>, Stop>
     ensures { Gives (λ s. s) result words.new (judged_at (scalar_at kinds.UniqueId words.old)) }
 {
-    let word = words.next()?;
-    let bytes = digits::identifier(word).ok_or(Stop::NotALine)?;
-    Ok(judged(Scalar::UniqueId(bytes)))
+    let id = identifier(words)?;
+    Ok(judged(Scalar::UniqueId(id)))
 }
 
 fn uuid(words: &mut Words) -> Result<Judged<Scalar>, Stop>
     ensures { Gives (λ s. s) result words.new (judged_at (scalar_at kinds.Uuid words.old)) }
 {
-    let word = words.next()?;
-    let bytes = digits::identifier(word).ok_or(Stop::NotALine)?;
-    Ok(judged(Scalar::Uuid(bytes)))
+    let id = identifier(words)?;
+    Ok(judged(Scalar::Uuid(id)))
 }
 
 // The value of a kind in front of words.
