@@ -1,5 +1,5 @@
 -- The words of a line of a form have no space outside quotes, so that the line has just these words.
-use Rattle.std.proofs.Common.{◌≡◌, ◌∙◌, ◌==◌, ◌<◌, ◌≤◌, ◌+◌, ◌⊎◌, inl, inr, ℕ, List, [], ◌∷◌, ◌++◌, Bool, true, false, not, ◌&&◌, if◌then◌else◌, Option, None, Some, is_some, refl, sym, ap, subst, arith, codes}
+use Rattle.std.proofs.Common.{◌≡◌, ◌∙◌, ◌==◌, ◌<◌, ◌≤◌, ◌+◌, ◌⊎◌, inl, inr, ℕ, List, [], ◌∷◌, Bool, true, false, ◌&&◌, Option, None, Some, is_some, refl, sym, ap, subst, arith, codes}
 use Rattle.std.specs.Fmt.{digit_glyph}
 use Rattle.std.specs.Int.{Width, byte_len, to_be_bytes, w32, w64}
 use Rattle.std.specs.List.{list_all}
@@ -12,7 +12,7 @@ use Rattle.nbfx_values.specs.declared.scalars.Scalar.{Scalar}
 use Rattle.nbfx_values.specs.declared.scalars.Scalar.TheVariants.{Number, Truth, Float, Double, Decimal, DateTime, TimeSpan, Text, Bytes, UniqueId, Uuid, QName}
 use Rattle.nbfx_values.specs.Scalars.{are_bytes}
 use Rattle.line_notation.specs.Forms.{Form, start, ns, attr, text, comment, array, values, close, IsForm, array_kind_word}
-use Rattle.line_notation.specs.Numerals.{IsNatural, are_digits, hexadecimal}
+use Rattle.line_notation.specs.Numerals.{are_digits, hexadecimal}
 use Rattle.line_notation.specs.Quoted.{ArePieces, digit_in, is_plain}
 use Rattle.line_notation.specs.Scalars.{IsScalar, digits_in_quotes, identifier_word, letter_word, sign_word, truth_word}
 use Rattle.line_notation.specs.Values.{AreValues, Written, how_many, list, no_more, one}
@@ -20,7 +20,7 @@ use Rattle.line_notation.specs.Words.{spaced, words_of}
 use Rattle.line_notation.proofs.HexFacts.{encoded-digits, high-bytes}
 use Rattle.line_notation.proofs.IdentifierFacts.{identifier-bare}
 use Rattle.line_notation.proofs.NaturalFacts.{integer-bare, natural-bare}
-use Rattle.line_notation.proofs.PiecesFacts.{IsDigit, is_digit, plain-pieces, quoted-closes}
+use Rattle.line_notation.proofs.PiecesFacts.{is_digit, plain-pieces, quoted-closes}
 use Rattle.line_notation.proofs.SpacedFacts.{AreClosed, bare-closes, closes, is_bare, words_of-spaced}
 use Rattle.line_notation.proofs.ValueFacts.{eqb-other}
 

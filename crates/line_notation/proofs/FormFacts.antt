@@ -1,15 +1,15 @@
 -- A line has a form exactly where the form is read out of it.
-use Rattle.std.proofs.Common.{◌≡◌, ◌∙◌, ℕ, List, [], ◌∷◌, ◌++◌, Option, None, Some, refl, sym, ap, subst, codes}
+use Rattle.std.proofs.Common.{◌≡◌, ◌∙◌, ℕ, List, [], ◌∷◌, Option, None, Some, refl, sym, ap, subst, codes}
 use Rattle.nbfx_values.specs.declared.content.ArrayKind.{ArrayKind}
 use Rattle.nbfx_values.specs.declared.content.ArrayKind.TheVariants as arrays
 use Rattle.line_notation.specs.declared.line.Keyword.{Keyword}
 use Rattle.line_notation.specs.declared.line.Keyword.TheVariants as keywords
 use Rattle.line_notation.specs.Forms.{AreQuoted, Form, start, ns, attr, text, comment, array, values, close, IsForm, IsLine, array_kind_in, array_kind_word, array_kinds, form_behind, form_in, form_of, keyword_in, keyword_word, keywords_of_lines, two_texts_at}
 use Rattle.line_notation.specs.Options.{alone, ◌>>=◌}
-use Rattle.line_notation.specs.Quoted.{IsQuoted, quoted_in}
+use Rattle.line_notation.specs.Quoted.{quoted_in}
 use Rattle.line_notation.specs.Scalars.{one_word}
-use Rattle.line_notation.specs.Values.{Written, if_some, value_in, values_in}
-use Rattle.line_notation.specs.Words.{next_in, spaced, words_of}
+use Rattle.line_notation.specs.Values.{if_some, value_in, values_in}
+use Rattle.line_notation.specs.Words.{words_of}
 use Rattle.line_notation.proofs.ClosedFacts.{form-words}
 use Rattle.line_notation.proofs.GatherFacts.{some_same}
 use Rattle.line_notation.proofs.PiecesFacts.{quoted-quoted_in, quoted_in-quoted}

@@ -1,10 +1,10 @@
 -- Hexadecimal words.
-use Rattle.std.proofs.Common.{◌≡◌, ◌∙◌, ◌==◌, ◌<◌, ◌≤◌, ◌+◌, ◌-◌, ◌*◌, ◌/◌, ◌%◌, ◌^◌, ◌⊎◌, inl, inr, ℕ, suc, zero, List, [], ◌∷◌, ◌++◌, length, get_or, slice_index, Bool, true, false, not, ◌&&◌, if◌then◌else◌, nat_le, nat_lt, Option, None, Some, Result, Ok, Err, IsTrue, refl, sym, ap, subst, arith}
+use Rattle.std.proofs.Common.{◌≡◌, ◌∙◌, ◌==◌, ◌<◌, ◌≤◌, ◌+◌, ◌-◌, ◌*◌, ◌/◌, ◌%◌, ◌^◌, ◌⊎◌, inl, inr, ℕ, suc, zero, List, [], ◌∷◌, length, slice_index, Bool, true, false, ◌&&◌, if◌then◌else◌, nat_lt, Option, None, Some, Result, Ok, Err, refl, sym, ap, subst, arith}
 use Rattle.std.specs.Fmt.{digit_glyph}
-use Rattle.std.specs.Int.{Width, byte_at, byte_len, bytes_high_first, from_be_bytes, to_be_bytes, w32, w64}
-use Rattle.std.specs.List.{All, list_all}
+use Rattle.std.specs.Int.{Width, byte_at, bytes_high_first, from_be_bytes, to_be_bytes, w32, w64}
+use Rattle.std.specs.List.{All}
 use Rattle.std.specs.Prelude.{is_some}
-use Rattle.std.proofs.lemmas.Bool.{and_parts, cases_lt, eqb-true, eq-eqb, le-leb, leb-true, lt-leb, lt-ltb, ltb-true, le-ltb, not-true}
+use Rattle.std.proofs.lemmas.Bool.{and_parts, cases_lt, le-leb, lt-leb, lt-ltb, ltb-true, le-ltb}
 use Rattle.std.proofs.lemmas.Nat.{be_bytes_4, be_bytes_8, from_be_bytes-to_be_bytes_4, from_be_bytes-to_be_bytes_8}
 use Rattle.hex.specs.Hex.{IsBytes, decode_of, decode_pairs, decode_sized, encode_lower, encode_with, hex_digit_value, lower_digits, pair_value}
 use Rattle.hex.specs.declared.error.FromHexError.{FromHexError}
@@ -20,9 +20,7 @@ use Rattle.line_notation.specs.Quoted.{digit_in}
 use Rattle.line_notation.proofs.GatherFacts.{some_same}
 use Rattle.line_notation.proofs.HeldFacts.{ok_same}
 use Rattle.line_notation.proofs.PiecesFacts.{IsDigit, digit_in-glyph, is_digit}
-use Rattle.line_notation.proofs.SpacedFacts.{closes, is_bare}
-use Rattle.line_notation.proofs.TokenFacts.{Found, found}
-use Rattle.line_notation.proofs.ValueFacts.{eqb-other}
+use Rattle.line_notation.proofs.TokenFacts.{found}
 
 -- bytes, one by one
 pub bytes-each : (bytes : List ℕ) → are_bytes bytes ≡ true → IsBytes bytes

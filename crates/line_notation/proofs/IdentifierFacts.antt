@@ -1,5 +1,5 @@
 -- A word writes an identifier exactly where the identifier is read out of it.
-use Rattle.std.proofs.Common.{◌≡◌, ◌∙◌, ◌==◌, ◌<◌, ◌≤◌, ◌⊎◌, ◌*◌, ◌+◌, ◌&&◌, ℕ, suc, zero, List, [], ◌∷◌, ◌++◌, length, map, slice_index, Bool, true, false, not, if◌then◌else◌, Option, None, Some, inl, inr, refl, sym, ap, subst, arith, All}
+use Rattle.std.proofs.Common.{◌≡◌, ◌∙◌, ◌==◌, ◌<◌, ◌≤◌, ◌⊎◌, ◌*◌, ◌+◌, ◌&&◌, ℕ, suc, zero, List, [], ◌∷◌, length, map, slice_index, Bool, true, false, if◌then◌else◌, None, Some, inl, inr, refl, sym, ap, subst, arith, All}
 use Rattle.std.specs.List.{list_all}
 use Rattle.std.specs.Str.{bytes_eq}
 use Rattle.std.proofs.lemmas.Bool.{and_parts, cases_lt, eqb-true, lt-ltb}

@@ -1,5 +1,5 @@
 -- A reader gives documents for their lines alone.
-use Rattle.std.proofs.Common.{◌≡◌, ◌∙◌, ◌+◌, ◌<◌, ◌==◌, ℕ, zero, suc, List, [], ◌∷◌, ◌++◌, length, map, Bool, true, false, ◌&&◌, Option, None, Some, Result, Ok, Err, refl, sym, ap, subst, append_assoc, append-nil, arith}
+use Rattle.std.proofs.Common.{◌≡◌, ◌∙◌, ◌+◌, ℕ, suc, List, [], ◌∷◌, ◌++◌, length, map, Bool, true, Option, None, Some, Result, Ok, Err, refl, sym, ap, subst, append_assoc, append-nil, arith}
 use Rattle.std.proofs.lemmas.Bool.{and_parts}
 use Rattle.std.proofs.lemmas.Grind.{flat_map-append}
 use Rattle.std.proofs.lemmas.List.{length-append, map-append}
@@ -12,14 +12,11 @@ use Rattle.nbfx_values.specs.declared.content.Item.TheVariants.{Start, Xmlns, At
 use Rattle.nbfx_values.specs.declared.position.Position.{Position}
 use Rattle.nbfx_values.specs.declared.position.Position.TheVariants.{Before, Within, After}
 use Rattle.nbfx_values.specs.declared.scalars.Scalar.{Scalar}
-use Rattle.nbfx_values.specs.declared.scalars.Value.TheVariants.{One, List as ListOf}
 use Rattle.nbfx_values.specs.Documents.{IsDocument}
 use Rattle.nbfx_values.specs.Positions.{position_of}
 use Rattle.nbfx_values.specs.Scalars.{is_valid_scalar}
 use Rattle.nbfx_values.proofs.Walks.{position_of-document}
 use Rattle.line_notation.specs.declared.line.Line.{Line}
-use Rattle.line_notation.specs.declared.line.Line.TheVariants as says
-use Rattle.line_notation.specs.declared.reader.LineFault.{LineFault}
 use Rattle.line_notation.specs.declared.reader.LineKind.{LineKind}
 use Rattle.line_notation.specs.Forms.{Form, start, ns, attr, text, comment, array, values, close, IsForm, IsLine, form_of}
 use Rattle.line_notation.specs.Judging.{are_in_range, are_scalars, begun_array, fits, judged, scalars_of, value_of}
@@ -27,9 +24,7 @@ use Rattle.line_notation.specs.Lines.{AreBlank, AreLines, AreLinesOf, attribute_
 use Rattle.line_notation.specs.Standing.{Placed, Standing, after, answer, answer_of, document_of, documents_from, ending, failed, going, kind_of, led, on, ends, outcome, outcome_of, placed, placed_array, placed_at, placed_item, standing_from, standing_of, with_attribute}
 use Rattle.line_notation.specs.Values.{Written, no_more, one, list, how_many, written_scalars, written_value}
 use Rattle.line_notation.proofs.FormFacts.{read-line}
-use Rattle.line_notation.proofs.GatherFacts.{some_same}
 use Rattle.line_notation.proofs.HeldFacts.{IsJudged, is_judged, not-false, ok_same}
-use Rattle.line_notation.proofs.PlacingFacts.{outcome-read}
 
 -- values without a list among them, and the one value
 scalars-written : (test : Scalar → Bool) (written : Written) → are_scalars test written ≡ true → written_scalars (scalars_of written) ≡ written

@@ -1,5 +1,5 @@
 -- The lines of documents are read as these documents.
-use Rattle.std.proofs.Common.{◌≡◌, ◌∙◌, ◌+◌, ◌<◌, ℕ, zero, suc, List, [], ◌∷◌, ◌++◌, length, map, Bool, true, false, not, ◌&&◌, if◌then◌else◌, nat_lt, Option, None, Some, Result, Ok, Err, refl, sym, ap, subst, append_assoc, append-nil, arith}
+use Rattle.std.proofs.Common.{◌≡◌, ◌∙◌, ◌+◌, ℕ, suc, List, [], ◌∷◌, ◌++◌, length, map, Bool, true, false, not, ◌&&◌, if◌then◌else◌, Option, None, Some, Result, Ok, Err, refl, sym, ap, subst, append_assoc, append-nil, arith}
 use Rattle.std.specs.List.{list_all}
 use Rattle.std.specs.Str.{is_utf8}
 use Rattle.std.proofs.lemmas.Bool.{and_parts}
@@ -25,17 +25,17 @@ use Rattle.nbfx_values.proofs.Walks.{document-position}
 use Rattle.line_notation.specs.declared.line.Line.{Line}
 use Rattle.line_notation.specs.declared.line.Line.TheVariants as says
 use Rattle.line_notation.specs.declared.reader.LineKind.{LineKind}
-use Rattle.line_notation.specs.declared.reader.LineKind.TheVariants.{BadText, OutOfRange}
+use Rattle.line_notation.specs.declared.reader.LineKind.TheVariants.{BadText}
 use Rattle.line_notation.specs.Forms.{Form, start, ns, attr, text, comment, array, values, close, IsLine, form_of}
-use Rattle.line_notation.specs.Judging.{are_in_range, are_scalars, begun_array, fits, has_good_text, have_good_texts, judged, said, scalars_of, value_of}
+use Rattle.line_notation.specs.Judging.{are_in_range, are_scalars, begun_array, has_good_text, have_good_texts, judged, scalars_of, value_of}
 use Rattle.line_notation.specs.Lines.{AreBlank, AreLines, AreLinesOf, attribute_form, forms_of, item_forms, lines_of}
-use Rattle.line_notation.specs.Standing.{Placed, Standing, answer_of, document_of, going, kind_of, led, on, ends, outcome, outcome_of, placed, placed_array, placed_at, placed_item, standing_of, with_attribute}
-use Rattle.line_notation.specs.Values.{Written, written_scalars, written_value}
+use Rattle.line_notation.specs.Standing.{Placed, answer_of, document_of, going, kind_of, led, on, outcome, outcome_of, placed, placed_array, placed_at, standing_of, with_attribute}
+use Rattle.line_notation.specs.Values.{written_scalars, written_value}
 use Rattle.line_notation.proofs.FormFacts.{line-read}
 use Rattle.line_notation.proofs.GatherFacts.{some_same}
 use Rattle.line_notation.proofs.PutForms.{lines_of-lines}
-use Rattle.line_notation.proofs.StepFacts.{Leads, counted-then, leads-nowhere, leads-then, line-ends, line-goes_on, line-leads}
-use Rattle.line_notation.proofs.ValidFacts.{IsArray, array-some, array_parts, fits-valid}
+use Rattle.line_notation.proofs.StepFacts.{Leads, counted-then, leads-nowhere, leads-then, line-goes_on, line-leads}
+use Rattle.line_notation.proofs.ValidFacts.{array_parts}
 
 -- what a line of a form leads to
 pub outcome-form : (items : List Item) (open_array : Option ArrayItem) (line : List ℕ) (form : Form) → form_of line ≡ Some form

@@ -1,5 +1,5 @@
 -- A word writes a number exactly where the number is read out of it.
-use Rattle.std.proofs.Common.{◌≡◌, ◌∙◌, ◌==◌, ◌<◌, ◌≤◌, ◌+◌, ◌-◌, ◌*◌, ◌/◌, ◌%◌, ◌^◌, ◌⊎◌, inl, inr, ℕ, suc, zero, List, [], ◌∷◌, ◌++◌, length, get_or, slice_index, Bool, true, false, not, ◌&&◌, ◌||◌, if◌then◌else◌, nat_le, nat_lt, Option, None, Some, refl, sym, ap, subst, append_assoc, append-nil, arith, ℤ, pos, negsuc}
+use Rattle.std.proofs.Common.{◌≡◌, ◌∙◌, ◌==◌, ◌<◌, ◌≤◌, ◌+◌, ◌-◌, ◌*◌, ◌/◌, ◌%◌, ◌^◌, ◌⊎◌, inl, inr, ℕ, suc, zero, List, [], ◌∷◌, ◌++◌, length, get_or, slice_index, Bool, true, false, ◌&&◌, ◌||◌, if◌then◌else◌, nat_le, nat_lt, Option, None, Some, refl, sym, ap, subst, append_assoc, append-nil, arith, ℤ, pos, negsuc}
 use Rattle.std.specs.Char.{digit_value, is_ascii_digit}
 use Rattle.std.specs.Fmt.{decimal, digit_glyph, digits, digits_onto, signed_decimal}
 use Rattle.std.specs.Int.Signed.{mag}
@@ -7,18 +7,17 @@ use Rattle.std.specs.List.{list_all}
 use Rattle.std.specs.Option.{option_map}
 use Rattle.std.specs.Str.{all_ascii_digits}
 use Rattle.std.specs.Str.Parse.{AllDigits, digits_value}
-use Rattle.std.proofs.lemmas.Bool.{and_parts, cases_lt, eqb-true, eq-eqb, le-leb, leb-true, lt-leb, lt-ltb, ltb-true, le-ltb, not-true}
+use Rattle.std.proofs.lemmas.Bool.{and_parts, cases_lt, eqb-true, eq-eqb, leb-true, lt-ltb, le-ltb}
 use Rattle.std.proofs.lemmas.Int.Digits.{digits_push, digits_value_push}
 use Rattle.std.proofs.lemmas.List.{get_or_append_left, length-append}
-use Rattle.std.proofs.lemmas.Str.Parse.{IsNumeralModel}
 use Rattle.std.proofs.Math.Bool.{and-false}
 use Rattle.std.proofs.Math.Nat.{pow-suc}
 use Rattle.line_notation.specs.Numerals.{IsInteger, IsNatural, counted, has_zero_in_front, integer_in, is_natural, less_than_zero, natural_in}
 use Rattle.line_notation.specs.Options.{◌>>=◌}
 use Rattle.line_notation.proofs.GatherFacts.{some_same}
-use Rattle.line_notation.proofs.NumeralsFacts.{AreDigits, all-digits, natural_parts, own}
-use Rattle.line_notation.proofs.SpacedFacts.{closes, is_bare, bare-closes}
-use Rattle.line_notation.proofs.TokenFacts.{Found, found}
+use Rattle.line_notation.proofs.NumeralsFacts.{all-digits, natural_parts, own}
+use Rattle.line_notation.proofs.SpacedFacts.{is_bare}
+use Rattle.line_notation.proofs.TokenFacts.{found}
 use Rattle.line_notation.proofs.ValueFacts.{eqb-other}
 
 -- the digits of a number

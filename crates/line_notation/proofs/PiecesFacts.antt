@@ -1,19 +1,18 @@
 -- A word writes a text exactly where the text is read out of it.
-use Rattle.std.proofs.Common.{◌≡◌, ◌∙◌, ◌==◌, ◌<◌, ◌≤◌, ◌+◌, ◌-◌, ◌*◌, ◌/◌, ◌%◌, ◌⊎◌, inl, inr, ℕ, suc, List, [], ◌∷◌, ◌++◌, length, take, drop, get_or, slice_index, Bool, true, false, not, ◌&&◌, if◌then◌else◌, flat_map, nat_le, nat_lt, Option, None, Some, IsTrue, refl, sym, ap, subst, append_assoc, append-nil, arith}
+use Rattle.std.proofs.Common.{◌≡◌, ◌∙◌, ◌==◌, ◌<◌, ◌≤◌, ◌+◌, ◌-◌, ◌*◌, ◌/◌, ◌%◌, ◌⊎◌, inl, inr, ℕ, suc, List, [], ◌∷◌, ◌++◌, length, take, get_or, slice_index, Bool, true, false, not, ◌&&◌, if◌then◌else◌, flat_map, nat_le, nat_lt, None, Some, refl, sym, ap, subst, append_assoc, arith}
 use Rattle.std.specs.Fmt.{digit_glyph}
 use Rattle.std.specs.List.{list_all}
-use Rattle.std.proofs.lemmas.Bool.{and_parts, cases_lt, eqb-true, eq-eqb, le-leb, leb-true, lt-leb, lt-ltb, ltb-true, le-ltb, not-true}
+use Rattle.std.proofs.lemmas.Bool.{and_parts, cases_lt, eqb-true, eq-eqb, le-leb, leb-true, lt-ltb, ltb-true, le-ltb, not-true}
 use Rattle.std.proofs.lemmas.List.{length-append, take_all, take_more}
 use Rattle.std.proofs.Math.Seq.{get_or-append_seam, take-append_seam}
 use Rattle.std.proofs.Math.Bool.{and-false}
 use Rattle.line_notation.specs.Options.{◌>>=◌}
 use Rattle.line_notation.specs.Quoted.{ArePieces, IsPiece, IsQuoted, between_quotes, digit_in, escape, is_in_quotes, is_plain, pair_in, quoted, quoted_byte, quoted_in, unescaped}
-use Rattle.line_notation.specs.Words.{goes_on_within}
 use Rattle.line_notation.proofs.GatherFacts.{some_same}
 use Rattle.line_notation.proofs.SpacedFacts.{closes}
 use Rattle.line_notation.proofs.ValueFacts.{eqb-other}
 use Rattle.line_notation.proofs.TextsFacts.{before, unescaped-plain}
-use Rattle.line_notation.proofs.TokenFacts.{Found, found}
+use Rattle.line_notation.proofs.TokenFacts.{found}
 
 -- a digit and its value
 pub digit_in-glyph : (d : ℕ) → d < 16 → digit_in (digit_glyph false d) ≡ Some d

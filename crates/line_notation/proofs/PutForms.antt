@@ -1,10 +1,10 @@
 -- The lines that are put have the forms that they say, where records can hold what they say.
-use Rattle.std.proofs.Common.{◌≡◌, ◌∙◌, ◌<◌, ◌≤◌, ◌+◌, ◌/◌, ◌%◌, ◌^◌, ◌⊎◌, inl, inr, ℕ, suc, List, [], ◌∷◌, ◌++◌, length, map, Bool, true, false, ◌&&◌, cond, nat_le, nat_lt, refl, sym, ap, subst, append-nil, arith, ℤ, pos, negsuc, codes}
+use Rattle.std.proofs.Common.{◌≡◌, ◌∙◌, ◌<◌, ◌≤◌, ◌+◌, ◌/◌, ◌%◌, ◌^◌, ◌⊎◌, inl, inr, ℕ, List, [], ◌∷◌, ◌++◌, length, map, Bool, true, false, cond, nat_le, nat_lt, refl, sym, ap, arith, ℤ, pos, negsuc}
 use Rattle.std.specs.Int.Signed.{mag}
 use Rattle.std.specs.List.{list_all}
 use Rattle.std.specs.Str.{is_utf8}
 use Rattle.std.proofs.Math.Utf8.{encode, encodes, next, scalar, scalar_cases, scalars}
-use Rattle.std.proofs.lemmas.Bool.{and_parts, leb-true, lt-ltb, ltb-false, ltb-true}
+use Rattle.std.proofs.lemmas.Bool.{and_parts, leb-true, lt-ltb, ltb-true}
 use Rattle.std.proofs.lemmas.Bool.Decides.{nat_tests}
 use Rattle.std.proofs.lemmas.List.Folds.{list_all-append}
 use Rattle.std.proofs.lemmas.Str.{IsUtf8-from_is_utf8}
@@ -18,12 +18,12 @@ use Rattle.nbfx_values.specs.declared.scalars.Scalar.TheVariants.{Number, Truth,
 use Rattle.nbfx_values.specs.declared.scalars.Value.{Value}
 use Rattle.nbfx_values.specs.declared.scalars.Value.TheVariants.{One, List as ListOf}
 use Rattle.nbfx_values.specs.Items.{are_texts, is_valid_array, is_valid_attribute, is_valid_item}
-use Rattle.nbfx_values.specs.Scalars.{is_number, is_signed, is_unsigned, is_valid_scalar, is_valid_value}
+use Rattle.nbfx_values.specs.Scalars.{is_number, is_unsigned, is_valid_scalar, is_valid_value}
 use Rattle.line_notation.specs.Forms.{AreQuoted, Form, start, ns, attr, text, comment, array, values, close, IsForm, IsLine, form_words, line_of}
 use Rattle.line_notation.specs.Lines.{AreLines, attribute_form, forms_of, item_forms, lines_of}
 use Rattle.line_notation.specs.Quoted.{IsQuoted, quoted}
 use Rattle.line_notation.specs.Scalars.{IsScalar, scalar_words}
-use Rattle.line_notation.specs.Values.{AreSomeValues, AreValues, IsOneValue, how_many, value_words, written_scalars, written_value}
+use Rattle.line_notation.specs.Values.{AreValues, IsOneValue, how_many, value_words, written_scalars, written_value}
 use Rattle.line_notation.proofs.NaturalFacts.{counted-natural, decimal-integer, decimal-natural}
 use Rattle.line_notation.proofs.PiecesFacts.{quoted-quoted}
 use Rattle.line_notation.proofs.PrintFacts.{how_many-scalars}

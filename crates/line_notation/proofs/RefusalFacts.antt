@@ -1,27 +1,24 @@
 -- Why a line is refused.
-use Rattle.std.proofs.Common.{◌≡◌, ◌∙◌, ℕ, List, [], ◌∷◌, ◌++◌, Bool, true, false, if◌then◌else◌, Option, None, Some, Result, Ok, Err, refl, sym, ap, subst, IsSome}
+use Rattle.std.proofs.Common.{◌≡◌, ◌∙◌, ℕ, List, [], ◌∷◌, ◌++◌, Bool, true, false, if◌then◌else◌, Option, None, Some, Result, Ok, Err, refl, sym, ap}
 use Rattle.nbfx_values.specs.declared.content.ArrayItem.{ArrayItem}
 use Rattle.nbfx_values.specs.declared.content.ArrayKind.TheVariants.{Bool as Bools}
 use Rattle.nbfx_values.specs.declared.content.Item.{Item}
-use Rattle.nbfx_values.specs.declared.content.Item.TheVariants.{Start, Xmlns, Attr, Text as TextItem, Comment, Array, Close}
+use Rattle.nbfx_values.specs.declared.content.Item.TheVariants.{Start, Xmlns, Comment, Array, Close}
 use Rattle.nbfx_values.specs.declared.position.Position.{Position}
 use Rattle.nbfx_values.specs.declared.position.Position.TheVariants.{Before, Within, After}
 use Rattle.nbfx_values.specs.declared.scalars.Scalar.TheVariants.{Truth}
-use Rattle.nbfx_values.specs.Documents.{IsFront}
-use Rattle.nbfx_values.specs.Items.{is_valid_array, is_valid_item}
-use Rattle.nbfx_values.specs.Positions.{moved, next_position, position_from, position_of}
+use Rattle.nbfx_values.specs.Items.{is_valid_array}
+use Rattle.nbfx_values.specs.Positions.{position_from, position_of}
 use Rattle.nbfx_values.proofs.OnLiterals.{values_on_literals}
 use Rattle.nbfx_values.proofs.Positions.{position_from-append, position_of-push}
 use Rattle.nbfx_values.proofs.Walks.{none-no_front, position_of-front}
-use Rattle.line_notation.specs.declared.line.Line.{Line}
-use Rattle.line_notation.specs.declared.line.Line.TheVariants as says
 use Rattle.line_notation.specs.declared.reader.LineKind.{LineKind}
 use Rattle.line_notation.specs.declared.reader.LineKind.TheVariants.{NotALine, BadText, OutOfRange, OutOfPlace, Cut, WrongCount}
 use Rattle.line_notation.specs.Forms.{Form, start, ns, attr, text, comment, array, values, close, IsLine, form_of}
 use Rattle.line_notation.specs.Judging.{begun_array, has_bad_text, is_out_of_range, judged, said}
 use Rattle.line_notation.specs.Placing.{is_passed_over}
 use Rattle.line_notation.specs.Refusals.{CannotFollow, CannotStand, HasBadText, IsNoLine, IsOutOfPlace, IsOutOfRange, IsRefusedForNothingElse}
-use Rattle.line_notation.specs.Standing.{Placed, on, kind_of, led, outcome, outcome_of, placed, placed_array, placed_at, placed_item}
+use Rattle.line_notation.specs.Standing.{Placed, on, kind_of, led, outcome, outcome_of, placed_array, placed_at, placed_item}
 use Rattle.line_notation.proofs.FormFacts.{line-read, read-line}
 use Rattle.line_notation.proofs.LinesRead.{outcome-form}
 use Rattle.line_notation.proofs.PlacingFacts.{outcome-read}

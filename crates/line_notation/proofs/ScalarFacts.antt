@@ -1,10 +1,9 @@
 -- Words write a value that is no list exactly where it is read out of them.
-use Rattle.std.proofs.Common.{◌≡◌, ◌∙◌, ◌==◌, ◌<◌, ◌≤◌, ◌+◌, ◌-◌, ℕ, suc, List, [], ◌∷◌, ◌++◌, length, Bool, true, false, not, ◌&&◌, if◌then◌else◌, nat_le, nat_lt, Option, None, Some, IsTrue, refl, sym, ap, subst, arith, codes}
+use Rattle.std.proofs.Common.{◌≡◌, ◌∙◌, ◌<◌, ◌≤◌, ◌+◌, ◌-◌, ℕ, List, [], ◌∷◌, ◌++◌, Bool, true, false, ◌&&◌, if◌then◌else◌, nat_le, nat_lt, Option, None, Some, refl, sym, ap, subst, arith, codes}
 use Rattle.std.specs.Int.{w32, w64}
-use Rattle.std.specs.List.{find, list_all}
+use Rattle.std.specs.List.{find}
 use Rattle.std.specs.Str.{bytes_eq}
 use Rattle.std.proofs.lemmas.Bool.{and_parts, le-leb, leb-true, lt-ltb, ltb-true}
-use Rattle.std.proofs.lemmas.Bool.Decides.{nat_tests}
 use Rattle.std.proofs.lemmas.Slice.Eq.{bytes_eq-Decides}
 use Rattle.hex.specs.Hex.{encode_lower}
 use Rattle.nbfx_values.specs.declared.scalars.Dec.{Dec}
@@ -18,7 +17,6 @@ use Rattle.line_notation.specs.Options.{◌>>=◌}
 use Rattle.line_notation.specs.Quoted.{between_quotes, quoted_in}
 use Rattle.line_notation.specs.Scalars.{IsScalar, bytes_in_quotes, decimal_at, decimal_of, digits_in_quotes, identifier_in, identifier_word, letter_in, letter_word, name_at, one_word, scalar_at, scalar_kind_in, scalar_kind_word, scalar_kinds, sign_in, sign_word, truth_in, truth_word, valued}
 use Rattle.line_notation.specs.Values.{Token, plain_at, scalar, token_at}
-use Rattle.line_notation.specs.Words.{next_in}
 use Rattle.line_notation.proofs.GatherFacts.{some_same}
 use Rattle.line_notation.proofs.HexFacts.{bytes_in-encoded, encoded-bytes_in, hexadecimal_in-32, hexadecimal_in-64, is_hexadecimal-32, is_hexadecimal-64}
 use Rattle.line_notation.proofs.IdentifierFacts.{identifier_in-word, is_identifier-word}

@@ -1,5 +1,5 @@
 -- No line of a form has a line feed in it, so that the text of lines is cut at its line feeds.
-use Rattle.std.proofs.Common.{◌≡◌, ◌∙◌, ◌==◌, ◌<◌, ◌≤◌, ◌+◌, ◌/◌, ◌%◌, inl, inr, ℕ, ℤ, pos, negsuc, suc, zero, List, [], ◌∷◌, ◌++◌, Bool, true, false, not, ◌&&◌, if◌then◌else◌, flat_map, map, nat_le, nat_lt, Option, None, Some, is_some, refl, sym, ap, subst, append_assoc, arith, codes}
+use Rattle.std.proofs.Common.{◌≡◌, ◌∙◌, ◌==◌, ◌<◌, ◌+◌, ◌/◌, ◌%◌, inl, inr, ℕ, ℤ, pos, negsuc, suc, List, [], ◌∷◌, ◌++◌, Bool, true, false, not, ◌&&◌, if◌then◌else◌, flat_map, nat_le, nat_lt, is_some, refl, ap, append_assoc, arith}
 use Rattle.std.specs.Char.{is_ascii_digit}
 use Rattle.std.specs.Fmt.{digit_glyph}
 use Rattle.std.specs.Int.{Width, byte_len, to_be_bytes, w32, w64}
@@ -8,7 +8,7 @@ use Rattle.std.proofs.lemmas.Bool.{and_parts, le-leb, leb-true, not-true}
 use Rattle.std.proofs.lemmas.Bool.Decides.{nat_tests}
 use Rattle.std.proofs.lemmas.List.Folds.{list_all-append}
 use Rattle.uuid.specs.Parts.{swap_fields}
-use Rattle.uuid.specs.Text.{by_index, digit_place, hex_digit, is_hyphen_place, lower, nibble}
+use Rattle.uuid.specs.Text.{digit_place, hex_digit, is_hyphen_place, lower, nibble}
 use Rattle.uuid.proofs.TextLemmas.{nibble_small}
 use Rattle.hex.specs.Hex.{encode_lower}
 use Rattle.nbfx_values.specs.declared.content.ArrayKind.{ArrayKind}
@@ -18,7 +18,7 @@ use Rattle.nbfx_values.specs.declared.scalars.Scalar.{Scalar}
 use Rattle.nbfx_values.specs.declared.scalars.Scalar.TheVariants.{Number, Truth, Float, Double, Decimal, DateTime, TimeSpan, Text, Bytes, UniqueId, Uuid, QName}
 use Rattle.nbfx_values.specs.Items.{is_valid_item}
 use Rattle.nbfx_values.specs.Scalars.{are_bytes}
-use Rattle.line_notation.specs.Forms.{AreQuoted, Form, start, ns, attr, text, comment, array, values, close, IsForm, IsLine, array_kind_word}
+use Rattle.line_notation.specs.Forms.{Form, start, ns, attr, text, comment, array, values, close, IsForm, IsLine, array_kind_word}
 use Rattle.line_notation.specs.Lines.{AreLines, cut, cut_before, forms_of, has_no_feed, lines_of, text_of, with_line_feed}
 use Rattle.line_notation.specs.Numerals.{IsInteger, IsNatural, are_digits, hexadecimal}
 use Rattle.line_notation.specs.Quoted.{ArePieces, IsPiece, IsQuoted, digit_in, is_plain}

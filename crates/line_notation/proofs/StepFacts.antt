@@ -1,10 +1,10 @@
 -- What lines lead to, one after the other.
-use Rattle.std.proofs.Common.{◌≡◌, ◌∙◌, ◌+◌, ℕ, List, [], ◌∷◌, ◌++◌, length, Option, None, Some, Result, Ok, Err, refl, sym, ap, append_assoc, arith}
+use Rattle.std.proofs.Common.{◌≡◌, ◌∙◌, ◌+◌, ℕ, List, [], ◌∷◌, ◌++◌, length, Option, None, Result, Ok, refl, sym, ap, append_assoc, arith}
 use Rattle.std.proofs.lemmas.List.{length-append}
 use Rattle.nbfx_values.specs.declared.content.ArrayItem.{ArrayItem}
 use Rattle.nbfx_values.specs.declared.content.Item.{Item}
 use Rattle.line_notation.specs.declared.reader.LineKind.{LineKind}
-use Rattle.line_notation.specs.Standing.{Placed, Standing, after, answer, answer_of, document_of, documents_from, going, kind_of, on, ends, outcome, standing_from, standing_of}
+use Rattle.line_notation.specs.Standing.{Placed, Standing, after, answer, answer_of, document_of, documents_from, going, on, ends, outcome, standing_from, standing_of}
 
 -- behind these lines a reader stands there, and they brought these documents
 pub record Leads (z : Standing) (lines : List (List ℕ)) (z' : Standing) (docs : List (List Item)) : Type 0 where

@@ -1,10 +1,10 @@
 -- Worked cases: a line of each form, and one of each kind of value, as it is put and read.
-use Rattle.std.proofs.Common.{◌≡◌, ◌-◌, ◌^◌, ℕ, List, [], ◌∷◌, Bool, true, false, Option, None, Some, ℤ, pos, negsuc, codes, refl}
+use Rattle.std.proofs.Common.{◌≡◌, ◌-◌, ◌^◌, ℕ, List, [], ◌∷◌, true, false, Some, pos, negsuc, codes, refl}
 use Rattle.nbfx_values.specs.declared.content.ArrayKind.TheVariants as arrays
 use Rattle.nbfx_values.specs.declared.scalars.Scalar.{Scalar}
 use Rattle.nbfx_values.specs.declared.scalars.Scalar.TheVariants.{Number, Truth, Float, Double, Decimal, DateTime, TimeSpan, Text, Bytes, UniqueId, Uuid, QName}
 use Rattle.line_notation.specs.Forms.{Form, start, ns, attr, text, comment, array, values, close, form_of, line_of}
-use Rattle.line_notation.specs.Values.{Written, no_more, one, list}
+use Rattle.line_notation.specs.Values.{no_more, one, list}
 use Rattle.line_notation.proofs.OnLiterals.{lines_on_literals}
 
 -- the line that is put for a form, out of which the form is read

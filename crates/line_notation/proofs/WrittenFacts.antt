@@ -1,12 +1,12 @@
 -- Words write values exactly where these are read out of them.
-use Rattle.std.proofs.Common.{◌≡◌, ◌∙◌, ◌==◌, ◌<◌, ◌≤◌, ◌+◌, ℕ, suc, zero, List, [], ◌∷◌, ◌++◌, length, Bool, true, false, if◌then◌else◌, nat_le, nat_lt, Option, None, Some, refl, sym, ap, subst, append_assoc, append-nil, arith, codes}
+use Rattle.std.proofs.Common.{◌≡◌, ◌∙◌, ◌==◌, ◌<◌, ◌≤◌, ℕ, suc, zero, List, [], ◌∷◌, ◌++◌, length, Bool, true, false, if◌then◌else◌, nat_le, nat_lt, None, Some, refl, sym, ap, subst, append_assoc, append-nil, arith, codes}
 use Rattle.std.specs.Str.{bytes_eq}
 use Rattle.std.proofs.lemmas.Bool.{eq-eqb, eqb-true, le-leb, leb-true, lt-ltb, ltb-true}
 use Rattle.std.proofs.lemmas.Slice.Eq.{bytes_eq-Decides}
 use Rattle.nbfx_values.specs.declared.scalars.Scalar.{Scalar}
 use Rattle.line_notation.specs.Numerals.{IsNatural, natural_in}
 use Rattle.line_notation.specs.Options.{◌>>=◌}
-use Rattle.line_notation.specs.Scalars.{IsScalar, scalar_at, scalar_kind_in}
+use Rattle.line_notation.specs.Scalars.{scalar_at, scalar_kind_in}
 use Rattle.line_notation.specs.Values.{AreSomeValues, AreValues, IsOneValue, Token, Written, behind, count_at, first, how_many, if_one, if_some, list, listed, no_more, one, plain_at, scalar, taken, token_at, tokens_within, value_in, values_in}
 use Rattle.line_notation.proofs.GatherFacts.{put, some_same}
 use Rattle.line_notation.proofs.NaturalFacts.{natural-natural_in, natural_in-natural}

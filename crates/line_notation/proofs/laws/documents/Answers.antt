@@ -1,4 +1,4 @@
-use Rattle.std.proofs.Common.{ap, ◌∙◌}
+use Rattle.std.proofs.Common.{ap}
 use Rattle.line_notation.specs.Standing.{ending}
 use Rattle.line_notation.proofs.LinesAre.{read-documents}
 use Rattle.line_notation.proofs.LinesRead.{documents-read}
