@@ -1,8 +1,8 @@
 -- A word writes an identifier exactly where the identifier is read out of it.
-use Rattle.std.proofs.Common.{◌≡◌, ◌∙◌, ◌==◌, ◌<◌, ◌≤◌, ◌⊎◌, ◌*◌, ◌+◌, ◌&&◌, ℕ, suc, zero, List, [], ◌∷◌, length, map, slice_index, Bool, true, false, if◌then◌else◌, None, Some, inl, inr, refl, sym, ap, subst, arith, All}
+use Rattle.std.proofs.Common.{◌≡◌, ◌∙◌, ◌==◌, ◌<◌, ◌≤◌, ◌⊎◌, ◌*◌, ◌+◌, ◌-◌, ◌&&◌, ℕ, suc, zero, List, [], ◌∷◌, length, map, slice_index, Bool, true, false, if◌then◌else◌, None, Some, inl, inr, refl, sym, ap, subst, arith, All}
 use Rattle.std.specs.List.{list_all}
 use Rattle.std.specs.Str.{bytes_eq}
-use Rattle.std.proofs.lemmas.Bool.{and_parts, cases_lt, eqb-true, lt-ltb}
+use Rattle.std.proofs.lemmas.Bool.{and_parts, cases_lt, eqb-true, le-ltb, lt-ltb}
 use Rattle.std.proofs.lemmas.Bool.Decides.{nat_tests}
 use Rattle.std.proofs.lemmas.List.{get_or_default, get_or_past}
 use Rattle.std.proofs.lemmas.List.Folds.{list_all-append}
@@ -17,7 +17,7 @@ use Rattle.line_notation.specs.Options.{◌>>=◌}
 use Rattle.line_notation.specs.Scalars.{identifier_in, identifier_word, if_identifier}
 use Rattle.line_notation.proofs.GatherFacts.{some_same}
 use Rattle.line_notation.proofs.HexFacts.{bytes-each}
-use Rattle.line_notation.proofs.SpacedFacts.{is_bare}
+use Rattle.line_notation.proofs.SpacedFacts.{is_solid, solid}
 use Rattle.line_notation.proofs.TokenFacts.{found}
 
 -- bytes, by their places
@@ -131,21 +131,26 @@ is_identifier-word word bytes e =
         inner fields same (parsed-fields word fields count read) (some_same e)
     go fields false f read e = absurd cc
 
--- such a word has no space and no quote
-glyph-bare : (d : ℕ) → d < 16 → is_bare (hex_digit lower d) ≡ true
-glyph-bare d small = grind (arith, nat_tests)
+-- the bytes of such a word
+digit-solid : (d : ℕ) → d < 16 → is_solid (hex_digit lower d) ≡ true
+digit-solid d small = go (cases_lt d 10)
+  where
+    go : (d < 10) ⊎ (10 ≤ d) → is_solid (hex_digit lower d) ≡ true
+    go (inl low) = rw (lt-ltb d 10 low) (solid (48 + d) (omega arith) (omega arith) (λ e. omega (arith, e)) (λ e. omega (arith, e, low)))
+    go (inr high) =
+        rw (le-ltb d 10 high) (solid (97 + d - 10) (omega arith) (omega arith) (λ e. omega (arith, e, high)) (λ e. omega (arith, e, high)))
 
-pub all-listed : (test : ℕ → Bool) (n : ℕ) (f : ℕ → ℕ) → ((k : ℕ) → test (f k) ≡ true) → list_all test (by_index n f) ≡ true
+all-listed : (test : ℕ → Bool) (n : ℕ) (f : ℕ → ℕ) → ((k : ℕ) → test (f k) ≡ true) → list_all test (by_index n f) ≡ true
 unfolding by_index
 all-listed test zero f h = refl
 all-listed test (suc n) f h = list_all-append test (by_index n f) (f n ∷ []) ∙ rw (all-listed test n f h, h n) refl
 
-pub identifier-bare : (bytes : List ℕ) → list_all is_bare (identifier_word bytes) ≡ true
-identifier-bare bytes = all-listed is_bare 36 _ (λ k. go k (is_hyphen_place k))
+pub identifier-solid : (bytes : List ℕ) → list_all is_solid (identifier_word bytes) ≡ true
+identifier-solid bytes = all-listed is_solid 36 _ (λ k. go k (is_hyphen_place k))
   where
     fields : List ℕ
     fields = swap_fields bytes
 
-    go : (k : ℕ) (t : Bool) → is_bare (if t then 45 else hex_digit lower (nibble fields (digit_place k))) ≡ true
+    go : (k : ℕ) (t : Bool) → is_solid (if t then 45 else hex_digit lower (nibble fields (digit_place k))) ≡ true
     go k true = refl
-    go k false = glyph-bare (nibble fields (digit_place k)) (nibble_small fields (digit_place k))
+    go k false = digit-solid (nibble fields (digit_place k)) (nibble_small fields (digit_place k))

@@ -26,11 +26,12 @@ pub mod ValuesFacts
 pub mod WordsFacts
 -- what is written is what is read: lines and words (SpacedFacts), texts (PiecesFacts), numbers
 -- (NaturalFacts, HexFacts), identifiers (IdentifierFacts), values (ScalarFacts, WrittenFacts), forms (FormFacts), whose words
--- have no space outside quotes (ClosedFacts)
+-- are solid or quoted (LineWords), with no space outside quotes (ClosedFacts)
 pub mod ClosedFacts
 pub mod FormFacts
 pub mod HexFacts
 pub mod IdentifierFacts
+pub mod LineWords
 pub mod NaturalFacts
 pub mod PiecesFacts
 pub mod ScalarFacts

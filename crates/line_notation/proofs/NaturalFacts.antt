@@ -16,7 +16,7 @@ use Rattle.line_notation.specs.Numerals.{IsInteger, IsNatural, counted, has_zero
 use Rattle.line_notation.specs.Options.{◌>>=◌}
 use Rattle.line_notation.proofs.GatherFacts.{some_same}
 use Rattle.line_notation.proofs.NumeralsFacts.{all-digits, natural_parts, own}
-use Rattle.line_notation.proofs.SpacedFacts.{is_bare}
+use Rattle.line_notation.proofs.SpacedFacts.{is_solid, solid}
 use Rattle.line_notation.proofs.TokenFacts.{found}
 use Rattle.line_notation.proofs.ValueFacts.{eqb-other}
 
@@ -191,21 +191,22 @@ integer-integer_in z (c ∷ word) e = go (c == 45) refl e
     go false f e = above (natural_in (c ∷ word)) refl e
 
 -- such words have no space and no quote
-digits-bare : (word : List ℕ) → list_all is_ascii_digit word ≡ true → list_all is_bare word ≡ true
-digits-bare [] h = refl
-digits-bare (c ∷ word) h =
+digits-solid : (word : List ℕ) → list_all is_ascii_digit word ≡ true → list_all is_solid word ≡ true
+digits-solid [] h = refl
+digits-solid (c ∷ word) h =
     let p = and_parts (is_ascii_digit c) (list_all is_ascii_digit word) h in
-    rw (bare c p.0, digits-bare word p.1) refl
+    rw (digit c p.0, digits-solid word p.1) refl
   where
-    bare : (c : ℕ) → is_ascii_digit c ≡ true → is_bare c ≡ true
-    bare c digit =
-        let p = and_parts (nat_le 48 c) (nat_le c 57) digit in
+    digit : (c : ℕ) → is_ascii_digit c ≡ true → is_solid c ≡ true
+    digit c is =
+        let p = and_parts (nat_le 48 c) (nat_le c 57) is in
         let least = leb-true 48 c p.0 in
-        rw (eqb-other c 32 (λ e. omega (arith, e, least)), eqb-other c 34 (λ e. omega (arith, e, least))) refl
+        let most = leb-true c 57 p.1 in
+        solid c (omega arith) (omega arith) (λ e. omega (arith, e, least)) (λ e. omega (arith, e, most))
 
-pub natural-bare : (n : ℕ) (word : List ℕ) → IsNatural n word → list_all is_bare word ≡ true
-natural-bare n word h = digits-bare word (all-digits word ∙ own.from word h.digits.1)
+pub natural-solid : (n : ℕ) (word : List ℕ) → IsNatural n word → list_all is_solid word ≡ true
+natural-solid n word h = digits-solid word (all-digits word ∙ own.from word h.digits.1)
 
-pub integer-bare : (z : ℤ) (word : List ℕ) → IsInteger z word → list_all is_bare word ≡ true
-integer-bare (pos n) word h = natural-bare n word h
-integer-bare (negsuc n) word (digits, e, h) = ap (list_all is_bare) e ∙ natural-bare (suc n) digits h
+pub integer-solid : (z : ℤ) (word : List ℕ) → IsInteger z word → list_all is_solid word ≡ true
+integer-solid (pos n) word h = natural-solid n word h
+integer-solid (negsuc n) word (digits, e, h) = ap (list_all is_solid) e ∙ natural-solid (suc n) digits h

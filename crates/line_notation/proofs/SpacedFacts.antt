@@ -1,8 +1,10 @@
 -- The words of a line that has these words, and the line of the words that a line has.
-use Rattle.std.proofs.Common.{◌≡◌, ◌∙◌, ◌==◌, ℕ, List, [], ◌∷◌, ◌++◌, Bool, true, false, not, ◌&&◌, if◌then◌else◌, refl, sym, ap, append-nil}
+use Rattle.std.proofs.Common.{◌≡◌, ◌∙◌, ◌==◌, ◌<◌, ◌≤◌, ℕ, List, [], ◌∷◌, ◌++◌, Bool, true, false, not, ◌&&◌, if◌then◌else◌, nat_le, nat_lt, refl, sym, ap, append-nil, arith}
 use Rattle.std.specs.List.{list_all}
-use Rattle.std.proofs.lemmas.Bool.{and_parts, eqb-true}
+use Rattle.std.proofs.lemmas.Bool.{and_parts, eqb-true, le-leb, lt-ltb, not-true}
+use Rattle.line_notation.specs.Quoted.{is_plain}
 use Rattle.line_notation.specs.Words.{behind_spaces, goes_on_within, onto_first, spaced, words_from, words_of}
+use Rattle.line_notation.proofs.ValueFacts.{eqb-other}
 
 -- a line has a first word
 record HasFirst (words : List (List ℕ)) : Type 0 where
@@ -92,19 +94,23 @@ words_of-spaced word (next ∷ words) h =
     let p = and_parts (closes false word) (list_all (closes false) (next ∷ words)) h in
     closed-goes_on false word (spaced (next ∷ words)) p.0 ∙ ap (λ ws. word ∷ ws) (words_of-spaced next words p.1)
 
--- a word without a space and a quote
-abbrev pub is_bare : ℕ → Bool
-is_bare b = not (b == 32) && not (b == 34)
+-- a byte that a word may have out of quotes
+abbrev pub is_solid : ℕ → Bool
+is_solid b = is_plain b && not (b == 32)
 
-pub bare-closes : (word : List ℕ) → list_all is_bare word ≡ true → closes false word ≡ true
-bare-closes [] h = refl
-bare-closes (b ∷ word) h =
-    let p = and_parts (is_bare b) (list_all is_bare word) h in
-    let q = and_parts (not (b == 32)) (not (b == 34)) p.0 in
-    let inner = bare-closes word p.1 in
-    go (b == 32) (b == 34) q.0 q.1 inner
-  where
-    go : (s t : Bool) → not s ≡ true → not t ≡ true → closes false word ≡ true → (not (s && true) && closes (if t then true else false) word) ≡ true
-    go true t f g h = absurd cc
-    go false true f g h = absurd cc
-    go false false f g h = h
+pub solid : (b : ℕ) → 33 ≤ b → b < 127 → (b ≡ 34 → ⊥) → (b ≡ 92 → ⊥) → is_solid b ≡ true
+solid b least most quote slash =
+    rw (le-leb 32 b (omega arith), lt-ltb b 127 most, eqb-other b 34 quote, eqb-other b 92 slash, eqb-other b 32 (λ e. omega (arith, e, least))) refl
+
+-- a plain byte is no quote
+pub plain-no_quote : (b : ℕ) → is_plain b ≡ true → (b == 34) ≡ false
+plain-no_quote b plain =
+    let p = and_parts (nat_le 32 b && nat_lt b 127 && not (b == 34)) (not (b == 92)) plain in
+    not-true (b == 34) (and_parts (nat_le 32 b && nat_lt b 127) (not (b == 34)) p.0).1
+
+pub solid-closes : (word : List ℕ) → list_all is_solid word ≡ true → closes false word ≡ true
+solid-closes [] h = refl
+solid-closes (b ∷ word) h =
+    let p = and_parts (is_solid b) (list_all is_solid word) h in
+    let q = and_parts (is_plain b) (not (b == 32)) p.0 in
+    rw (not-true (b == 32) q.1, plain-no_quote b q.0) (solid-closes word p.1)
