@@ -1,0 +1,271 @@
+-- All values of a line, token by token.
+use Rattle.std.proofs.Common.{◌≡◌, ◌∙◌, ◌<◌, ◌≤◌, ◌^◌, ◌-◌, ◌+◌, ◌==◌, ◌⊎◌, inl, inr, ℕ, suc, zero, List, [], ◌∷◌, ◌++◌, Bool, true, false, ◌&&◌, if◌then◌else◌, Option, None, Some, Result, Ok, Err, refl, sym, ap, append_assoc, append-nil, arith, nat_le}
+use Rattle.std.proofs.lemmas.Bool.{cases_lt, eqb-true, eqb-false, leb-false, le-leb, lt-leb}
+use Rattle.nbfx_values.specs.declared.content.ArrayKind.{ArrayKind}
+use Rattle.nbfx_values.specs.declared.scalars.Scalar.{Scalar}
+use Rattle.nbfx_values.specs.Items.{fits_kind}
+use Rattle.nbfx_values.specs.Scalars.{is_valid_scalar}
+use Rattle.line_notation.specs.declared.reader.LineKind.{LineKind}
+use Rattle.line_notation.specs.declared.reader.LineKind.TheVariants.{NotALine, BadText, OutOfRange, OutOfPlace, Cut, WrongCount}
+use Rattle.line_notation.specs.declared.values.Gathering.{Gathering}
+use Rattle.line_notation.specs.declared.values.JudgedToken.TheVariants as tokens
+use Rattle.line_notation.specs.declared.values.Tally.{Tally}
+use Rattle.line_notation.specs.Judging.{are_scalars, fits, has_good_text, have_good_texts, scalars_of}
+use Rattle.line_notation.specs.Options.{◌>>=◌}
+use Rattle.line_notation.specs.Parts.{IsTooMuch, both, first_of, judged_scalar, judged_scalars, judged_token, mapped, refit, tallied, with_list, with_scalar, with_token}
+use Rattle.line_notation.specs.Values.{Token, scalar, listed, Written, no_more, one, list, behind, first, how_many, taken}
+use Rattle.line_notation.proofs.ValidFacts.{fits-valid}
+
+-- which refusal goes first, of three
+first_of-first_of : (a b c : LineKind) → first_of (first_of a b) c ≡ first_of a (first_of b c)
+first_of-first_of a b BadText = refl
+first_of-first_of a b NotALine = refl
+first_of-first_of a b OutOfRange = refl
+first_of-first_of a b OutOfPlace = refl
+first_of-first_of a b Cut = refl
+first_of-first_of a b WrongCount = refl
+
+-- values and further values
+abbrev pub joined : Result (List Scalar) LineKind → Result (List Scalar) LineKind → Result (List Scalar) LineKind
+joined a b = mapped (λ p. p.0 ++ p.1) (both a b)
+
+-- a value and further values
+abbrev pub before : Result Scalar LineKind → Result (List Scalar) LineKind → Result (List Scalar) LineKind
+before s more = mapped (λ p. p.0 ∷ p.1) (both s more)
+
+-- a list, which is out of range, and further values
+abbrev pub list_before : Result (List Scalar) LineKind → Result (List Scalar) LineKind
+list_before (Ok more) = Err OutOfRange
+list_before (Err kind) = Err (first_of OutOfRange kind)
+
+pub joined-none : (values : Result (List Scalar) LineKind) → joined values (Ok []) ≡ values
+joined-none (Ok values) = ap Ok (append-nil values)
+joined-none (Err kind) = refl
+
+pub none-joined : (values : Result (List Scalar) LineKind) → joined (Ok []) values ≡ values
+none-joined (Ok values) = refl
+none-joined (Err kind) = refl
+
+joined-scalar : (values : Result (List Scalar) LineKind) (s : Result Scalar LineKind) (more : Result (List Scalar) LineKind) → joined values (before s more) ≡ joined (with_scalar values s) more
+joined-scalar (Ok values) (Ok s) (Ok more) = ap Ok (sym (append_assoc values (s ∷ []) more))
+joined-scalar (Ok values) (Ok s) (Err kind) = refl
+joined-scalar (Ok values) (Err kind) (Ok more) = refl
+joined-scalar (Ok values) (Err kind) (Err other) = refl
+joined-scalar (Err refusal) (Ok s) (Ok more) = refl
+joined-scalar (Err refusal) (Ok s) (Err kind) = refl
+joined-scalar (Err refusal) (Err kind) (Ok more) = refl
+joined-scalar (Err refusal) (Err kind) (Err other) = ap Err (sym (first_of-first_of refusal kind other))
+
+joined-list : (values more : Result (List Scalar) LineKind) → joined values (list_before more) ≡ joined (with_list values) more
+joined-list (Ok values) (Ok more) = refl
+joined-list (Ok values) (Err kind) = refl
+joined-list (Err refusal) (Ok more) = refl
+joined-list (Err refusal) (Err kind) = ap Err (sym (first_of-first_of refusal OutOfRange kind))
+
+-- a value that doesn't fit doesn't
+fits-held : (kind : Option ArrayKind) (s : Scalar) → is_valid_scalar s ≡ false → fits kind s ≡ false
+fits-held None s h = h
+fits-held (Some kind) s h = go (fits_kind kind s) refl
+  where
+    go : (t : Bool) → fits_kind kind s ≡ t → t ≡ false
+    go true e = let v = fits-valid kind s e in cc
+    go false e = refl
+
+judged-fit : (kind : Option ArrayKind) (s : Scalar) → refit kind (judged_scalar s) ≡ (if has_good_text s then (if fits kind s then Ok s else Err OutOfRange) else Err BadText)
+judged-fit None s = refl
+judged-fit (Some kind) s = go (has_good_text s) (is_valid_scalar s) refl
+  where
+    go : (good valid : Bool) → is_valid_scalar s ≡ valid
+        → refit (Some kind) (if good then (if valid then Ok s else Err OutOfRange) else Err BadText)
+        ≡ (if good then (if fits_kind kind s then Ok s else Err OutOfRange) else Err BadText)
+    go true true e = refl
+    go true false e = rw (fits-held (Some kind) s e) refl
+    go false valid e = refl
+
+-- one value more in front
+judged-parts : (good goods fit fits : Bool) (s : Scalar) (more : List Scalar)
+    → (if good && goods then (if fit && fits then Ok (s ∷ more) else Err OutOfRange) else Err BadText)
+    ≡ before (if good then (if fit then Ok s else Err OutOfRange) else Err BadText) (if goods then (if fits then Ok more else Err OutOfRange) else Err BadText)
+judged-parts true true true true s more = refl
+judged-parts true true true false s more = refl
+judged-parts true true false true s more = refl
+judged-parts true true false false s more = refl
+judged-parts true false true fits s more = refl
+judged-parts true false false fits s more = refl
+judged-parts false true fit true s more = refl
+judged-parts false true fit false s more = refl
+judged-parts false false fit fits s more = refl
+
+judged-one : (kind : Option ArrayKind) (s : Scalar) (more : Written) → judged_scalars kind (one s more) ≡ before (refit kind (judged_scalar s)) (judged_scalars kind more)
+judged-one kind s more =
+    judged-parts (has_good_text s) (have_good_texts more) (fits kind s) (are_scalars (fits kind) more) s (scalars_of more)
+    ∙ ap (λ r. before r (judged_scalars kind more)) (sym (judged-fit kind s))
+
+-- a list in front
+and_assoc : (a b c : Bool) → ((a && b) && c) ≡ (a && (b && c))
+and_assoc true b c = refl
+and_assoc false b c = refl
+
+good-split : (n : ℕ) (more : Written) → (have_good_texts (first n more) && have_good_texts (behind n more)) ≡ have_good_texts more
+good-split zero more = refl
+good-split (suc n) no_more = refl
+good-split (suc n) (one s more) = and_assoc (has_good_text s) (have_good_texts (first n more)) (have_good_texts (behind n more)) ∙ ap (λ t. has_good_text s && t) (good-split n more)
+good-split (suc n) (list within more) = and_assoc (have_good_texts within) (have_good_texts (first n more)) (have_good_texts (behind n more)) ∙ ap (λ t. have_good_texts within && t) (good-split n more)
+
+judged-list : (kind : Option ArrayKind) (n : ℕ) (more : Written) → judged_scalars kind (list (first n more) (behind n more)) ≡ list_before (judged_scalars kind more)
+judged-list kind n more =
+    ap (λ t. if t then Err OutOfRange else Err BadText) (good-split n more) ∙ go (have_good_texts more) (are_scalars (fits kind) more) (scalars_of more)
+  where
+    go : (goods fits : Bool) (ss : List Scalar) → (if goods then Err OutOfRange else Err BadText) ≡ list_before (if goods then (if fits then Ok ss else Err OutOfRange) else Err BadText)
+    go true true ss = refl
+    go true false ss = refl
+    go false fits ss = refl
+
+-- how many are behind the first
+pub how_many-behind : (n : ℕ) (more : Written) → how_many (behind n more) ≡ how_many more - n
+how_many-behind zero more = omega arith
+how_many-behind (suc n) no_more = omega arith
+how_many-behind (suc n) (one s more) = omega (arith, how_many-behind n more)
+how_many-behind (suc n) (list within more) = omega (arith, how_many-behind n more)
+
+-- what so many values make that are due in front of others
+abbrev pub finished : (count due : ℕ) → ℕ → Result (List Scalar) LineKind → Option (ℕ × Result (List Scalar) LineKind)
+finished count due more values = if nat_le due more then Some (count + (more - due), values) else None
+
+pub finished-few : (count due more : ℕ) (values : Result (List Scalar) LineKind) → more < due → finished count due more values ≡ None
+finished-few count due more values few = rw (lt-leb due more few) refl
+
+pub finished-enough : (count due more : ℕ) (values : Result (List Scalar) LineKind) → due ≤ more → finished count due more values ≡ Some (count + (more - due), values)
+finished-enough count due more values enough = rw (le-leb due more enough) refl
+
+finished-same : (count due more count' due' more' : ℕ) (values values' : Result (List Scalar) LineKind) → (due ≤ more → due' ≤ more') → (due' ≤ more' → due ≤ more)
+    → (due ≤ more → count + (more - due) ≡ count' + (more' - due')) → values ≡ values' → finished count due more values ≡ finished count' due' more' values'
+finished-same count due more count' due' more' values values' to from same e = go (cases_lt more due)
+  where
+    few_too : more < due → (more' < due') ⊎ (due' ≤ more') → more' < due'
+    few_too few (inl h) = h
+    few_too few (inr h) = absurd (let g = from h in omega arith)
+
+    told : ℕ → Result (List Scalar) LineKind → Option (ℕ × Result (List Scalar) LineKind)
+    told n values = Some (n, values)
+
+    go : (more < due) ⊎ (due ≤ more) → finished count due more values ≡ finished count' due' more' values'
+    go (inl few) = finished-few count due more values few ∙ sym (finished-few count' due' more' values' (few_too few (cases_lt more' due')))
+    go (inr enough) =
+        finished-enough count due more values enough ∙ ap (λ n. told n values) (same enough) ∙ ap (told (count' + (more' - due'))) e
+        ∙ sym (finished-enough count' due' more' values' (to enough))
+
+-- what a value with so many due in it changes
+pub record BeginsOne (t t' : Tally) (n : ℕ) : Type 0 where
+  pub none : t.due ≡ 0
+  pub due : t'.due ≡ n
+  pub count : t'.count ≡ t.count + 1
+
+pub record IsInOne (t t' : Tally) (n : ℕ) : Type 0 where
+  pub some : 0 < t.due
+  pub due : t'.due ≡ t.due - 1 + n
+  pub count : t'.count ≡ t.count
+
+pub tallied-either : (t : Tally) (n : ℕ) → BeginsOne t (tallied t n) n ⊎ IsInOne t (tallied t n) n
+tallied-either t n = go (t.due == 0) refl
+  where
+    go : (none : Bool) → (t.due == 0) ≡ none → BeginsOne t (tallied t n) n ⊎ IsInOne t (tallied t n) n
+    go true e = inl (record { none = eqb-true t.due 0 e; due = rw e refl; count = rw e refl })
+    go false e = inr (record { some = (let f = eqb-false t.due 0 e in omega arith); due = rw e refl; count = rw e refl })
+
+-- a value with so many due in it, before others
+pub record IsTallied (t : Tally) (n more : ℕ) : Type 0 where
+  pub to : t.due ≤ suc (more - n) → (tallied t n).due ≤ more
+  pub from : (tallied t n).due ≤ more → t.due ≤ suc (more - n)
+  pub same : t.due ≤ suc (more - n) → t.count + (suc (more - n) - t.due) ≡ (tallied t n).count + (more - (tallied t n).due)
+
+is_tallied : (t : Tally) (n more : ℕ) → n ≤ more → IsTallied t n more
+is_tallied t n more enough = go (tallied-either t n)
+  where
+    go : BeginsOne t (tallied t n) n ⊎ IsInOne t (tallied t n) n → IsTallied t n more
+    go (inl h) = record { to = λ l. omega (arith, h.due, h.none); from = λ l. omega (arith, h.due, h.none); same = λ l. omega (arith, h.due, h.none, h.count) }
+    go (inr h) = record { to = λ l. omega (arith, h.due, h.some); from = λ l. omega (arith, h.due, h.some); same = λ l. omega (arith, h.due, h.some, h.count) }
+
+-- at least so many are due then
+tallied-least : (t : Tally) (n : ℕ) → n ≤ (tallied t n).due
+tallied-least t n = go (tallied-either t n)
+  where
+    go : BeginsOne t (tallied t n) n ⊎ IsInOne t (tallied t n) n → n ≤ (tallied t n).due
+    go (inl h) = omega (arith, h.due)
+    go (inr h) = omega (arith, h.due)
+
+-- what the values that have come make with those that follow
+abbrev pub finish : Option ArrayKind → Gathering → Option Written → Option (ℕ × Result (List Scalar) LineKind)
+finish kind g None = None
+finish kind g (Some more) = finished g.tally.count g.tally.due (how_many more) (joined g.values (judged_scalars kind more))
+
+pub some_same : {A : Type 0} {a b : A} → Some a ≡ Some b → a ≡ b
+some_same e = cc
+
+-- no more values than a program can count
+unfoldable pub Few : Option Written → Type 0
+Few None = Unit {0}
+Few (Some written) = how_many written < 2 ^ 64
+
+-- a token in front of values
+abbrev pub put : Token → Written → Option Written
+put (scalar s) more = Some (one s more)
+put (listed n) more = taken n more
+
+-- a value that is no list
+finish-scalar : (kind : Option ArrayKind) (g : Gathering) (s : Scalar) (read : Option Written)
+    → finish kind g (read >>= put (scalar s)) ≡ finish kind (record { tally = tallied g.tally 0; values = with_scalar g.values (refit kind (judged_scalar s)) }) read
+finish-scalar kind g s None = refl
+finish-scalar kind g s (Some more) =
+    let t = is_tallied g.tally 0 (how_many more) (omega arith) in
+    let all : how_many more - 0 ≡ how_many more = omega arith in
+    finished-same g.tally.count g.tally.due (suc (how_many more)) (tallied g.tally 0).count (tallied g.tally 0).due (how_many more) _ _ (rw all at t.to) (rw all at t.from)
+    (rw all at t.same)
+    (ap (joined g.values) (judged-one kind s more) ∙ joined-scalar g.values (refit kind (judged_scalar s)) (judged_scalars kind more))
+
+-- a list
+finish-list : (kind : Option ArrayKind) (g : Gathering) (n : ℕ) (read : Option Written)
+    → finish kind g (read >>= put (listed n)) ≡ finish kind (record { tally = tallied g.tally n; values = with_list g.values }) read
+finish-list kind g n None = refl
+finish-list kind g n (Some more) = go (cases_lt (how_many more) n)
+  where
+    go : (how_many more < n) ⊎ (n ≤ how_many more)
+        → finish kind g (taken n more) ≡ finish kind (record { tally = tallied g.tally n; values = with_list g.values }) (Some more)
+    go (inl few) =
+        rw (lt-leb n (how_many more) few)
+        (sym (finished-few (tallied g.tally n).count (tallied g.tally n).due (how_many more) _ (let h = tallied-least g.tally n in omega arith)))
+    go (inr enough) =
+        let t = is_tallied g.tally n (how_many more) enough in
+        rw (le-leb n (how_many more) enough, how_many-behind n more)
+        (finished-same g.tally.count g.tally.due (suc (how_many more - n)) (tallied g.tally n).count (tallied g.tally n).due (how_many more) _ _ t.to t.from t.same
+        (ap (joined g.values) (judged-list kind n more) ∙ joined-list g.values (judged_scalars kind more)))
+
+-- a token, where it may come
+pub finish-step : (kind : Option ArrayKind) (g g' : Gathering) (t : Token) (read : Option Written) → with_token kind g (judged_token t) ≡ Some g'
+    → finish kind g (read >>= put t) ≡ finish kind g' read
+finish-step kind g g' (scalar s) read e = finish-scalar kind g s read ∙ ap (λ h. finish kind h read) (some_same e)
+finish-step kind g g' (listed n) read e = go (nat_le n (2 ^ 64 - 1)) e
+  where
+    go : (t : Bool) → with_token kind g (tokens.Count (if t then Ok n else Err OutOfRange)) ≡ Some g' → finish kind g (read >>= put (listed n)) ≡ finish kind g' read
+    go true h = finish-list kind g n read ∙ ap (λ h. finish kind h read) (some_same h)
+    go false h = absurd cc
+
+finish-due : (kind : Option ArrayKind) (g : Gathering) (read : Option Written) → 2 ^ 64 ≤ g.tally.due → Few read → finish kind g read ≡ None
+unfolding Few
+finish-due kind g None h few = refl
+finish-due kind g (Some more) h few = finished-few g.tally.count g.tally.due (how_many more) (joined g.values (judged_scalars kind more)) (omega arith)
+
+-- and where it may not
+pub finish-too_much : (kind : Option ArrayKind) (g : Gathering) (t : Token) (read : Option Written) → IsTooMuch (with_token kind g (judged_token t)) → Few read
+    → finish kind g (read >>= put t) ≡ None
+unfolding Few
+finish-too_much kind g (scalar s) read h few = finish-scalar kind g s read ∙ finish-due kind _ read h few
+finish-too_much kind g (listed n) read h few = go (nat_le n (2 ^ 64 - 1)) refl h
+  where
+    go : (t : Bool) → nat_le n (2 ^ 64 - 1) ≡ t → IsTooMuch (with_token kind g (tokens.Count (if t then Ok n else Err OutOfRange))) → finish kind g (read >>= put (listed n)) ≡ None
+    go true e h = finish-list kind g n read ∙ finish-due kind _ read h few
+    go false e h = taken-none (leb-false n (2 ^ 64 - 1) e) read few
+      where
+        taken-none : 2 ^ 64 - 1 < n → (read : Option Written) → Few read → finish kind g (read >>= put (listed n)) ≡ None
+        taken-none over None few = refl
+        taken-none over (Some more) few = rw (lt-leb n (how_many more) (omega arith)) refl

@@ -1,0 +1,63 @@
+-- The texts of items, part by part.
+use Rattle.std.proofs.Common.{◌≡◌, ◌∙◌, ◌<◌, ◌^◌, ℕ, suc, false, List, [], ◌∷◌, ◌++◌, length, map, refl, sym, ap, append_assoc, append-nil, flat_map, arith, rules, codes}
+use Rattle.std.specs.Fmt.{decimal, digits_onto}
+use Rattle.std.proofs.lemmas.Fmt.{decimal_from_prepends, length-decimal-le_succ}
+use Rattle.std.proofs.lemmas.Grind.{flat_map-append}
+use Rattle.nbfx_values.specs.declared.content.ArrayItem.{ArrayItem}
+use Rattle.nbfx_values.specs.declared.content.Item.TheVariants.{Array}
+use Rattle.nbfx_values.specs.declared.scalars.Scalar.{Scalar}
+use Rattle.std.proofs.lemmas.List.Folds.{flat_map-map}
+use Rattle.nbfx_values.specs.declared.content.Item.{Item}
+use Rattle.line_notation.specs.Forms.{array, line_of, values}
+use Rattle.line_notation.specs.Lines.{attribute_form, form_text, forms_of, item_forms, item_text, text_of, with_line_feed}
+use Rattle.line_notation.specs.Numerals.{counted}
+use Rattle.line_notation.specs.Scalars.{scalar_words}
+use Rattle.nbfx_values.specs.declared.scalars.Value.TheVariants.{List as ListOf}
+use Rattle.line_notation.specs.Values.{how_many, value_words, written_scalars, written_value}
+use Rattle.line_notation.specs.Words.{behind_spaces}
+
+-- a list of lists, and what is made of each
+pub flat_map-flat_map : {A B C : Type 0} (f : B → List C) (g : A → List B) (xs : List A) → flat_map f (flat_map g xs) ≡ flat_map (λ x. flat_map f (g x)) xs
+flat_map-flat_map f g [] = refl
+flat_map-flat_map f g (x ∷ xs) = flat_map-append f (g x) (flat_map g xs) ∙ ap (λ l. flat_map f (g x) ++ l) (flat_map-flat_map f g xs)
+
+pub value_words-scalars : (ss : List Scalar) → value_words (written_scalars ss) ≡ flat_map scalar_words ss
+value_words-scalars [] = refl
+value_words-scalars (s ∷ ss) = ap (λ l. scalar_words s ++ l) (value_words-scalars ss)
+
+pub how_many-scalars : (ss : List Scalar) → how_many (written_scalars ss) ≡ length ss
+how_many-scalars [] = refl
+how_many-scalars (s ∷ ss) = ap suc (how_many-scalars ss)
+
+pub behind_spaces-scalars : (ss : List Scalar) → behind_spaces (flat_map scalar_words ss) ≡ flat_map (λ s. behind_spaces (scalar_words s)) ss
+behind_spaces-scalars ss = flat_map-flat_map (λ word. 32 ∷ word) scalar_words ss
+
+-- a count that a program can have is put as std puts it
+pub counted-decimal : (n : ℕ) → n < 2 ^ 64 → counted n ≡ decimal n
+counted-decimal n small =
+    decimal_from_prepends (λ k m acc. digits_onto k 10 false m acc) (search rules) (suc n) n [] small (let h = length-decimal-le_succ n small in omega (arith, h))
+    ∙ append-nil (decimal n)
+
+-- a list's words
+pub list_words : (ss : List Scalar) → length ss < 2 ^ 64
+    → behind_spaces (value_words (written_value (ListOf ss))) ≡ behind_spaces (codes "list" ∷ decimal (length ss) ∷ []) ++ behind_spaces (flat_map scalar_words ss)
+list_words ss small =
+    ap (λ l. behind_spaces (codes "list" ∷ counted (how_many (written_scalars ss)) ∷ l)) (append-nil (value_words (written_scalars ss)) ∙ value_words-scalars ss)
+    ∙ ap (λ n. behind_spaces (codes "list" ∷ n ∷ flat_map scalar_words ss)) (ap counted (how_many-scalars ss) ∙ counted-decimal (length ss) small)
+    ∙ flat_map-append (λ word. 32 ∷ word) (codes "list" ∷ decimal (length ss) ∷ []) (flat_map scalar_words ss)
+
+-- the lines of items, item by item
+pub text-items : (items : List Item) → text_of items ≡ flat_map item_text items
+unfolding text_of
+text-items items = flat_map-map with_line_feed line_of (forms_of items) ∙ flat_map-flat_map form_text item_forms items
+
+-- an array's lines
+pub array_text : (a : ArrayItem)
+    → item_text (Array a)
+    ≡ form_text (array a.kind a.prefix a.local) ++ flat_map form_text (map attribute_form a.attrs) ++ form_text (values (written_scalars a.values))
+array_text a =
+    let start = form_text (array a.kind a.prefix a.local) in
+    let attributes = flat_map form_text (map attribute_form a.attrs) in
+    ap (λ l. start ++ l) (flat_map-append form_text (map attribute_form a.attrs) (values (written_scalars a.values) ∷ []))
+    ∙ ap (λ l. start ++ (attributes ++ l)) (append-nil (form_text (values (written_scalars a.values))))
+    ∙ sym (append_assoc start attributes (form_text (values (written_scalars a.values))))

@@ -1,0 +1,185 @@
+-- Puts, one behind the other.
+use Rattle.std.proofs.Common.{◌≡◌, ◌∙◌, ◌≤◌, ◌<◌, ◌+◌, inl, inr, ℕ, min, List, [], ◌∷◌, ◌++◌, length, take, drop, Bool, refl, sym, ap, append_assoc, append-nil, arith, Option, None, Some, Result, Ok, Err}
+use Rattle.std.proofs.Common.{drop-cons, get_or, subst, slice_index, ◌/◌, ◌%◌, flat_map}
+use Rattle.std.proofs.lemmas.Grind.{flat_map-append}
+use Rattle.hex.specs.Hex.{encode_lower, encode_with, lower_digits}
+use Rattle.std.proofs.Math.Seq.{take-append-add, take-append_seam}
+use Rattle.std.proofs.lemmas.Bool.{cases_lt}
+use Rattle.std.proofs.lemmas.List.{drop-drop, drop_all, take_all, take-append-drop, take-append-le}
+use Rattle.io_edges.specs.Faults.{Rose}
+use Rattle.io_edges.specs.Flow.{Told, GrowsByPrefix}
+use Rattle.io_edges.specs.declared.SinkFault.{SinkFault}
+use Rattle.line_notation.specs.Puts.{PutsAll}
+
+-- nothing was put
+told_nothing : (w : Option (List ℕ)) → Told w w (λ w w'. w' ≡ w ++ [])
+told_nothing None = tt
+told_nothing (Some w) = sym (append-nil w)
+
+pub PutsAll-nothing : (w : Option (List ℕ)) (f : ℕ) (m : Bool) → PutsAll [] (Ok tt) w w f f m m
+PutsAll-nothing w f m = record {
+  written = told_nothing w;
+  refused = tt;
+  good = refl;
+  failed = λ e. cc;
+  memory = λ e. cc;
+  wanted = λ e. cc;
+  settled = refl;
+  rising = omega arith;
+}
+
+told_then : (a b : List ℕ) (w w1 w2 : Option (List ℕ)) → Told w w1 (λ w w'. w' ≡ w ++ a) → Told w1 w2 (λ w w'. w' ≡ w ++ b) → Told w w2 (λ w w'. w' ≡ w ++ (a ++ b))
+told_then a b None w1 w2 h k = tt
+told_then a b (Some w) None w2 h k = absurd h
+told_then a b (Some w) (Some v) None h k = absurd k
+told_then a b (Some w) (Some v) (Some u) h k = k ∙ ap (λ l. l ++ b) h ∙ append_assoc w a b
+
+prefix_then : (a b : List ℕ) (w w1 w2 : Option (List ℕ)) → Told w w1 (λ w w'. w' ≡ w ++ a) → Told w1 w2 (λ w w'. GrowsByPrefix w w' b) → Told w w2 (λ w w'. GrowsByPrefix w w' (a ++ b))
+prefix_then a b None w1 w2 h k = tt
+prefix_then a b (Some w) None w2 h k = absurd h
+prefix_then a b (Some w) (Some v) None h k = absurd k
+prefix_then a b (Some w) (Some v) (Some u) h k = record {
+  kept = length a + k.kept;
+  grown = k.grown ∙ ap (λ l. l ++ take k.kept b) h ∙ append_assoc w a (take k.kept b) ∙ ap (λ l. w ++ l) (sym (take-append-add a b k.kept));
+}
+
+shorter_take : (a b : List ℕ) (n : ℕ) → take n a ≡ take (min n (length a)) (a ++ b)
+shorter_take a b n =
+    elim (cases_lt n (length a)) [
+      | inl below ↦
+          let e : min n (length a) ≡ n = omega arith in
+          let h : n ≤ length a = omega arith in
+          rw (e, take-append-le) refl
+      | inr beyond ↦
+          let e : min n (length a) ≡ length a = omega arith in
+          rw e (take_all n a beyond ∙ sym (take-append_seam a b))
+    ]
+
+prefix_longer : (a b : List ℕ) (w w1 : Option (List ℕ)) → Told w w1 (λ w w'. GrowsByPrefix w w' a) → Told w w1 (λ w w'. GrowsByPrefix w w' (a ++ b))
+prefix_longer a b None w1 h = tt
+prefix_longer a b (Some w) None h = absurd h
+prefix_longer a b (Some w) (Some v) h = record {
+  kept = min h.kept (length a);
+  grown = h.grown ∙ ap (λ l. w ++ l) (shorter_take a b h.kept);
+}
+
+-- one behind the other
+pub PutsAll-then : {a b : List ℕ} (r : Result (Unit {0}) SinkFault) {w w1 w2 : Option (List ℕ)} {f f1 f2 : ℕ} {m m1 m2 : Bool}
+    → PutsAll a (Ok tt) w w1 f f1 m m1 → PutsAll b r w1 w2 f1 f2 m1 m2 → PutsAll (a ++ b) r w w2 f f2 m m2
+PutsAll-then {a = a} {b = b} (Ok u) {w = w} {w1 = w1} {w2 = w2} {f = f} {f1 = f1} {f2 = f2} {m = m} {m1 = m1} {m2 = m2} h k = record {
+  written = told_then a b w w1 w2 h.written k.written;
+  refused = tt;
+  good = k.good ∙ h.good;
+  failed = λ e. cc;
+  memory = λ e. cc;
+  wanted = λ e. cc;
+  settled = k.settled ∙ h.settled;
+  rising = omega (arith, h.rising, k.rising);
+}
+PutsAll-then {a = a} {b = b} (Err fault) {w = w} {w1 = w1} {w2 = w2} {f = f} {f1 = f1} {f2 = f2} {m = m} {m1 = m1} {m2 = m2} h k = record {
+  written = tt;
+  refused = prefix_then a b w w1 w2 h.written k.refused;
+  good = tt;
+  failed = λ e. subst (λ n. Rose n f2) h.good (k.failed e);
+  memory = λ e. k.memory e ∙ h.good;
+  wanted = λ e. sym h.settled ∙ k.wanted e;
+  settled = k.settled ∙ h.settled;
+  rising = omega (arith, h.rising, k.rising);
+}
+
+-- what was cut short is cut short of more
+pub PutsAll-cut : {a : List ℕ} (b : List ℕ) {e : SinkFault} {w w1 : Option (List ℕ)} {f f1 : ℕ} {m m1 : Bool}
+    → PutsAll a (Err e) w w1 f f1 m m1 → PutsAll (a ++ b) (Err e) w w1 f f1 m m1
+PutsAll-cut {a = a} b {w = w} {w1 = w1} h = record {
+  written = tt;
+  refused = prefix_longer a b w w1 h.refused;
+  good = tt;
+  failed = h.failed;
+  memory = h.memory;
+  wanted = h.wanted;
+  settled = h.settled;
+  rising = h.rising;
+}
+
+-- what is said of lists is said of one list behind another
+pub record Joins {A : Type 0} (spell : List A → List ℕ) : Type 0 where
+  pub none : spell [] ≡ []
+  pub both : (xs ys : List A) → spell (xs ++ ys) ≡ spell xs ++ spell ys
+
+-- all before the rest was put
+pub record HavePut {A : Type 0} (spell : List A → List ℕ) (all rest : List A) (w w' : Option (List ℕ)) (f f' : ℕ) (m m' : Bool) : Type 0 where
+  pub done : List A
+  pub whole : all ≡ done ++ rest
+  pub put : PutsAll (spell done) (Ok tt) w w' f f' m m'
+
+pub HavePut-none : {A : Type 0} {spell : List A → List ℕ} (all : List A) (w : Option (List ℕ)) (f : ℕ) (m : Bool) → Joins spell → HavePut spell all all w w f f m m
+HavePut-none all w f m j = record { done = []; whole = refl; put = rw j.none (PutsAll-nothing w f m) }
+
+-- and then the first of the rest
+pub HavePut-more : {A : Type 0} {spell : List A → List ℕ} {all left : List A} (n : ℕ) {w w1 w2 : Option (List ℕ)} {f f1 f2 : ℕ} {m m1 m2 : Bool} → Joins spell
+    → HavePut spell all left w w1 f f1 m m1 → PutsAll (spell (take n left)) (Ok tt) w1 w2 f1 f2 m1 m2 → HavePut spell all (drop n left) w w2 f f2 m m2
+HavePut-more {left = left} n j h k = record {
+  done = h.done ++ take n left;
+  whole = h.whole ∙ ap (λ l. h.done ++ l) (sym (take-append-drop n left)) ∙ sym (append_assoc h.done (take n left) (drop n left));
+  put = rw j.both (PutsAll-then (Ok tt) h.put k);
+}
+
+-- or less than these
+pub HavePut-cut : {A : Type 0} {spell : List A → List ℕ} {all left : List A} (n : ℕ) {e : SinkFault} {w w1 w2 : Option (List ℕ)} {f f1 f2 : ℕ} {m m1 m2 : Bool} → Joins spell
+    → HavePut spell all left w w1 f f1 m m1 → PutsAll (spell (take n left)) (Err e) w1 w2 f1 f2 m1 m2 → PutsAll (spell all) (Err e) w w2 f f2 m m2
+HavePut-cut {spell = spell} {all = all} {left = left} n {e = e} j h k =
+    let shape : spell all ≡ (spell h.done ++ spell (take n left)) ++ spell (drop n left) =
+    ap spell (h.whole ∙ ap (λ l. h.done ++ l) (sym (take-append-drop n left))) ∙ j.both h.done (take n left ++ drop n left)
+    ∙ ap (λ l. spell h.done ++ l) (j.both (take n left) (drop n left)) ∙ sym (append_assoc (spell h.done) (spell (take n left)) (spell (drop n left))) in
+    rw shape (PutsAll-cut (spell (drop n left)) (PutsAll-then (Err e) h.put k))
+
+pub HavePut-all : {A : Type 0} {spell : List A → List ℕ} {all left : List A} {w w1 : Option (List ℕ)} {f f1 : ℕ} {m m1 : Bool}
+    → HavePut spell all left w w1 f f1 m m1 → left ≡ [] → PutsAll (spell all) (Ok tt) w w1 f f1 m m1
+HavePut-all h e = rw (h.whole ∙ ap (λ l. h.done ++ l) e ∙ append-nil h.done) h.put
+
+-- the digits of bytes
+encode_with-append : (t xs ys : List ℕ) → encode_with t (xs ++ ys) ≡ encode_with t xs ++ encode_with t ys
+unfolding encode_with
+encode_with-append t [] ys = refl
+encode_with-append t (x ∷ xs) ys = ap (λ l. slice_index t (x / 16) ∷ slice_index t (x % 16) ∷ l) (encode_with-append t xs ys)
+
+pub encode_lower-joins : Joins encode_lower
+unfolding encode_with
+encode_lower-joins = record { none = refl; both = encode_with-append lower_digits }
+
+pub flat_map-joins : {A : Type 0} (f : A → List ℕ) → Joins (flat_map f)
+flat_map-joins f = record { none = refl; both = flat_map-append f }
+
+-- in a loop over a list: one more, or less than one more
+one_of : {A : Type 0} (f : A → List ℕ) (all : List A) (i : ℕ) (d : A) → i < length all → flat_map f (take 1 (drop i all)) ≡ f (get_or all i d)
+one_of f all i d below = ap (λ l. flat_map f (take 1 l)) (drop-cons all i d below) ∙ append-nil (f (get_or all i d))
+
+pub HavePut-one : {A : Type 0} (f : A → List ℕ) {all : List A} (i : ℕ) (d : A) {w w1 w2 : Option (List ℕ)} {f0 f1 f2 : ℕ} {m m1 m2 : Bool} → i < length all
+    → HavePut (flat_map f) all (drop i all) w w1 f0 f1 m m1 → PutsAll (f (get_or all i d)) (Ok tt) w1 w2 f1 f2 m1 m2
+    → HavePut (flat_map f) all (drop (i + 1) all) w w2 f0 f2 m m2
+HavePut-one f {all = all} i d {w2 = w2} {f2 = f2} {m2 = m2} below h k =
+    let more = HavePut-more 1 {w2 = w2} {f2 = f2} {m2 = m2} (flat_map-joins f) h (rw (one_of f all i d below) k) in
+    rw drop-drop at more
+
+pub HavePut-one_cut : {A : Type 0} (f : A → List ℕ) {all : List A} (i : ℕ) (d : A) {e : SinkFault} {w w1 w2 : Option (List ℕ)} {f0 f1 f2 : ℕ} {m m1 m2 : Bool} → i < length all
+    → HavePut (flat_map f) all (drop i all) w w1 f0 f1 m m1 → PutsAll (f (get_or all i d)) (Err e) w1 w2 f1 f2 m1 m2
+    → PutsAll (flat_map f all) (Err e) w w2 f0 f2 m m2
+HavePut-one_cut f {all = all} i d below h k = HavePut-cut 1 (flat_map-joins f) h (rw (one_of f all i d below) k)
+
+-- the same of an element that owns memory
+pub HavePut-item : {A : Type 0} (f : A → List ℕ) {all : List A} (i : ℕ) (x : A) {w w1 w2 : Option (List ℕ)} {f0 f1 f2 : ℕ} {m m1 m2 : Bool} → i < length all → x ≡ get_or all i x
+    → HavePut (flat_map f) all (drop i all) w w1 f0 f1 m m1 → PutsAll (f x) (Ok tt) w1 w2 f1 f2 m1 m2
+    → HavePut (flat_map f) all (drop (i + 1) all) w w2 f0 f2 m m2
+HavePut-item f {all = all} i x {w1 = w1} {w2 = w2} {f1 = f1} {f2 = f2} {m1 = m1} {m2 = m2} below e h k =
+    HavePut-one f i x below h (subst (λ y. PutsAll (f y) (Ok tt) w1 w2 f1 f2 m1 m2) e k)
+
+pub HavePut-item_cut : {A : Type 0} (f : A → List ℕ) {all : List A} (i : ℕ) (x : A) {e : SinkFault} {w w1 w2 : Option (List ℕ)} {f0 f1 f2 : ℕ} {m m1 m2 : Bool} → i < length all → x ≡ get_or all i x
+    → HavePut (flat_map f) all (drop i all) w w1 f0 f1 m m1 → PutsAll (f x) (Err e) w1 w2 f1 f2 m1 m2
+    → PutsAll (flat_map f all) (Err e) w w2 f0 f2 m m2
+HavePut-item_cut f {all = all} i x {e = e} {w1 = w1} {w2 = w2} {f1 = f1} {f2 = f2} {m1 = m1} {m2 = m2} below same h k =
+    HavePut-one_cut f i x below h (subst (λ y. PutsAll (f y) (Err e) w1 w2 f1 f2 m1 m2) same k)
+
+-- at the loop's end
+pub HavePut-list : {A : Type 0} (f : A → List ℕ) {all : List A} (i : ℕ) {w w1 : Option (List ℕ)} {f0 f1 : ℕ} {m m1 : Bool} → length all ≤ i
+    → HavePut (flat_map f) all (drop i all) w w1 f0 f1 m m1 → PutsAll (flat_map f all) (Ok tt) w w1 f0 f1 m m1
+HavePut-list f {all = all} i over h = HavePut-all h (drop_all i all over)

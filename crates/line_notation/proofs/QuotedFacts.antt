@@ -1,0 +1,34 @@
+-- Plain bytes in quotes.
+use Rattle.std.specs.List.{prefix_len}
+use Rattle.std.proofs.lemmas.List.Folds.{length-prefix_len}
+use Rattle.std.proofs.Common.{arith, get_or, ◌≡◌, ◌∙◌, ◌<◌, ◌+◌, ℕ, suc, List, [], ◌∷◌, length, take, take_while, Bool, true, false, if◌then◌else◌, refl, sym, ap, flat_map}
+use Rattle.line_notation.specs.Quoted.{is_plain, quoted_byte, escape}
+
+-- a plain byte, and another one
+pub quoted_byte-plain : (b : ℕ) → is_plain b ≡ true → quoted_byte b ≡ b ∷ []
+quoted_byte-plain b h = ap (λ t. if t then b ∷ [] else escape b) h
+
+pub quoted_byte-other : (b : ℕ) → is_plain b ≡ false → quoted_byte b ≡ escape b
+quoted_byte-other b h = ap (λ t. if t then b ∷ [] else escape b) h
+
+-- plain bytes are shown as they are
+plain-shown : (bytes : List ℕ) → flat_map quoted_byte (take_while is_plain bytes) ≡ take_while is_plain bytes
+plain-shown [] = refl
+plain-shown (b ∷ bytes) = go (is_plain b) refl (plain-shown bytes)
+  where
+    go : (t : Bool) → is_plain b ≡ t → flat_map quoted_byte (take_while is_plain bytes) ≡ take_while is_plain bytes → flat_map quoted_byte (take_while is_plain (b ∷ bytes)) ≡ take_while is_plain (b ∷ bytes)
+    go true e h = let one : 1 + prefix_len is_plain bytes ≡ suc (prefix_len is_plain bytes) = omega arith in rw (e, one) (rw (quoted_byte-plain b e) (ap (λ l. b ∷ l) h))
+    go false e h = rw e refl
+
+-- so many at the front are plain
+pub front-shown : (bytes : List ℕ) (n : ℕ) → n ≡ length (take_while is_plain bytes) → flat_map quoted_byte (take n bytes) ≡ take n bytes
+front-shown bytes n e = rw (e ∙ length-prefix_len is_plain bytes) (plain-shown bytes)
+
+-- none at the front is plain
+none-plain : (b : ℕ) (bytes : List ℕ) (t : Bool) → is_plain b ≡ t → length (take_while is_plain (b ∷ bytes)) ≡ 0 → t ≡ false
+none-plain b bytes true e h = absurd (let f : 1 + prefix_len is_plain bytes ≡ 0 = rw e at (sym (length-prefix_len is_plain (b ∷ bytes)) ∙ h) in omega (arith, f))
+none-plain b bytes false e h = refl
+
+pub first-escaped : (bytes : List ℕ) → 0 < length bytes → length (take_while is_plain bytes) ≡ 0 → flat_map quoted_byte (take 1 bytes) ≡ escape (get_or (take 1 bytes) 0 0)
+first-escaped [] some none = absurd (omega arith)
+first-escaped (b ∷ bytes) some none = rw (quoted_byte-other b (none-plain b bytes (is_plain b) refl none)) refl

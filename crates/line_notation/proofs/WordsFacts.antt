@@ -1,0 +1,105 @@
+-- The words of a line.
+use Rattle.std.specs.Prelude.{◌↔◌}
+use Rattle.std.proofs.Common.{Option, None, Some, IsTrue, is_some, option_map, ◌≡◌, ◌∙◌, ◌<◌, ◌≤◌, ◌+◌, ◌^◌, ◌==◌, ℕ, suc, List, [], ◌∷◌, ◌++◌, length, take, drop, get_or, Bool, true, false, not, ◌&&◌, if◌then◌else◌, refl, sym, ap, append_assoc, append-nil, drop-cons, arith}
+use Rattle.std.proofs.lemmas.List.{drop_all, take_more}
+use Rattle.line_notation.specs.Steps.{CutsWord, words_behind}
+use Rattle.line_notation.specs.Words.{goes_on_within, onto_first, words_from, words_left, words_of}
+
+-- bytes before the first word
+abbrev pub prepended : List ℕ → List (List ℕ) → List (List ℕ)
+prepended front [] = front ∷ []
+prepended front (word ∷ words) = (front ++ word) ∷ words
+
+prepended-onto_first : (front : List ℕ) (b : ℕ) (words : List (List ℕ)) → prepended front (onto_first b words) ≡ prepended (front ++ b ∷ []) words
+prepended-onto_first front b [] = refl
+prepended-onto_first front b (word ∷ words) = ap (λ w. w ∷ words) (sym (append_assoc front (b ∷ []) word))
+
+-- the words of a line, of which so many bytes belong to the first one
+pub record WithinWord (line : List ℕ) (within : Bool) (at : ℕ) : Type 0 where
+  pub words : words_of line ≡ prepended (take at line) (words_from within (drop at line))
+
+onto_first-prepended : (b : ℕ) (words : List (List ℕ)) → onto_first b words ≡ prepended [] (onto_first b words)
+onto_first-prepended b [] = refl
+onto_first-prepended b (word ∷ words) = refl
+
+words_from-prepended : (within : Bool) (line : List ℕ) → words_from within line ≡ prepended [] (words_from within line)
+words_from-prepended within [] = refl
+words_from-prepended within (b ∷ line) = go (b == 32 && not within)
+  where
+    more : List (List ℕ)
+    more = words_from (goes_on_within within b) line
+
+    go : (t : Bool) → (if t then [] ∷ more else onto_first b more) ≡ prepended [] (if t then [] ∷ more else onto_first b more)
+    go true = refl
+    go false = onto_first-prepended b more
+
+pub word-begins : (line : List ℕ) → WithinWord line false 0
+word-begins line = record { words = words_from-prepended false line }
+
+pub word-goes_on : (line : List ℕ) (within : Bool) (at : ℕ) → at < length line → (get_or line at 0 == 32 && not within) ≡ false → WithinWord line within at
+    → WithinWord line (goes_on_within within (get_or line at 0)) (at + 1)
+word-goes_on line within at below inner h = record {
+  words =
+      let b = get_or line at 0 in
+      let front = take at line in
+      let one : at + 1 ≡ suc at = omega arith in
+      let more = words_from (goes_on_within within b) (drop (suc at) line) in
+      h.words ∙ ap (λ l. prepended front (words_from within l)) (drop-cons line at 0 below)
+      ∙ ap (λ t. prepended front (if t then [] ∷ more else onto_first b more)) inner ∙ prepended-onto_first front b more
+      ∙ ap (λ l. prepended l more) (sym (take_more line at 0 below))
+      ∙ ap (λ n. prepended (take (at + 1) line) (words_from (goes_on_within within b) (drop n line))) (sym one);
+}
+
+pub word-ends : (line : List ℕ) (within : Bool) (at : ℕ) → at < length line → get_or line at 0 ≡ 32 → within ≡ false → WithinWord line within at → CutsWord line at
+word-ends line within at below space out h = record {
+  within = omega arith;
+  words =
+      let behind = drop (suc at) line in
+      let shape : drop at line ≡ 32 ∷ behind = drop-cons line at 0 below ∙ ap (λ b. b ∷ behind) space in
+      h.words ∙ ap (λ t. prepended (take at line) (words_from t (drop at line))) out
+      ∙ ap (λ l. prepended (take at line) (words_from false l)) shape
+      ∙ ap (λ l. l ∷ words_of behind) (append-nil (take at line))
+      ∙ ap (λ l. take at line ∷ words_behind l) (sym shape);
+}
+
+pub line-ends : (line : List ℕ) (within : Bool) (at : ℕ) → at ≤ length line → length line ≤ at → WithinWord line within at → CutsWord line (length line)
+line-ends line within at below end h = record {
+  within = omega arith;
+  words =
+      let same : at ≡ length line = omega arith in
+      let none : drop (length line) line ≡ [] = drop_all (length line) line (omega arith) in
+      h.words ∙ ap (λ n. prepended (take n line) (words_from within (drop n line))) same
+      ∙ ap (λ l. prepended (take (length line) line) (words_from within l)) none ∙ ap (λ l. l ∷ []) (append-nil (take (length line) line))
+      ∙ ap (λ l. take (length line) line ∷ words_behind l) (sym none);
+}
+
+-- a line has a word, be it an empty one
+words_of-some : (line : List ℕ) → words_of line ≡ [] → ⊥
+words_of-some line none = absurd (prepended-some (words_of line) (sym (words_from-prepended false line) ∙ none))
+  where
+    prepended-some : (words : List (List ℕ)) → prepended [] words ≡ [] → ⊥
+    prepended-some [] e = cc
+    prepended-some (word ∷ words) e = cc
+
+-- none is left exactly where the line is used up
+pub words_left-none : {A : Type 0} (seen : A → List ℕ) (line : Option A) (r : Bool) → is_some line ≡ not r → IsTrue r ↔ (words_left (option_map seen line) ≡ [])
+words_left-none seen None true h = (λ t. refl, λ e. refl)
+words_left-none seen None false h = cc
+words_left-none seen (Some line) true h = cc
+words_left-none seen (Some line) false h = (λ t. absurd (let e : false ≡ true = t in cc), λ e. absurd (words_of-some (seen line) e))
+
+-- a line has no more words than bytes and one
+onto_first-length : (b : ℕ) (words : List (List ℕ)) (n : ℕ) → length words ≤ n + 1 → length (onto_first b words) ≤ n + 1
+onto_first-length b [] n h = omega arith
+onto_first-length b (word ∷ words) n h = h
+
+words_from-length : (within : Bool) (line : List ℕ) → length (words_from within line) ≤ length line + 1
+words_from-length within [] = omega arith
+words_from-length within (b ∷ line) = go (b == 32 && not within) (words_from (goes_on_within within b) line) (words_from-length (goes_on_within within b) line)
+  where
+    go : (t : Bool) (more : List (List ℕ)) → length more ≤ length line + 1 → length (if t then [] ∷ more else onto_first b more) ≤ length (b ∷ line) + 1
+    go true more h = omega arith
+    go false more h = onto_first-length b more (length (b ∷ line)) (omega arith)
+
+pub words_of-few : (line : List ℕ) → length line < 2 ^ 63 → length (words_of line) ≤ 2 ^ 63
+words_of-few line few = omega (arith, words_from-length false line)

@@ -1,0 +1,140 @@
+-- The parts of a line, read and judged at once, for private calls.
+use Rattle.std.specs.Prelude.{ℕ, ◌+◌, ◌-◌, ◌^◌, ◌++◌, List, [], ◌∷◌, ℤ, pos, Bool, Option, None, Some, Result, Ok, Err, nat_le, ◌≤◌, ◌==◌, if◌then◌else◌}
+use Rattle.std.specs.Str.{is_utf8}
+use Rattle.nbfx_values.specs.declared.scalars.Scalar.{Scalar}
+use Rattle.nbfx_values.specs.Items.{fits_kind}
+use Rattle.nbfx_values.specs.Scalars.{is_between, is_valid_scalar, least_signed}
+use Rattle.line_notation.specs.declared.reader.LineKind.{LineKind}
+use Rattle.line_notation.specs.declared.reader.LineKind.TheVariants.{BadText, OutOfRange}
+use Rattle.line_notation.specs.declared.values.Gathering.{Gathering}
+use Rattle.line_notation.specs.declared.values.JudgedToken.{JudgedToken}
+use Rattle.line_notation.specs.declared.values.JudgedToken.TheVariants as tokens
+use Rattle.line_notation.specs.declared.values.Tally.{Tally}
+use Rattle.nbfx_values.specs.declared.content.ArrayKind.{ArrayKind}
+use Rattle.nbfx_values.specs.declared.scalars.Value.{Value}
+use Rattle.nbfx_values.specs.declared.scalars.Value.TheVariants.{One, List as ListOf}
+use Rattle.line_notation.specs.Judging.{are_in_range, are_scalars, fits, has_good_text, have_good_texts, scalars_of, value_of}
+use Rattle.line_notation.specs.Numerals.{integer_in, natural_in}
+use Rattle.line_notation.specs.Options.{◌>>=◌}
+use Rattle.line_notation.specs.Quoted.{pair_in, quoted_in}
+use Rattle.line_notation.specs.Scalars.{one_word}
+use Rattle.line_notation.specs.Values.{Token, Written, how_many, listed, scalar, value_in, values_in}
+
+-- a value, where a test holds of it
+abbrev pub kept : {A : Type 0} → LineKind → (A → Bool) → A → Result A LineKind
+kept kind test a = if test a then Ok a else Err kind
+
+abbrev pub natural_up_to : ℕ → List ℕ → Option (Result ℕ LineKind)
+natural_up_to most word = natural_in word >>= λ n. Some (kept OutOfRange (λ n. nat_le n most) n)
+
+abbrev pub integer_up_to : ℕ → List ℕ → Option (Result ℤ LineKind)
+integer_up_to most word = integer_in word >>= λ n. Some (kept OutOfRange (is_between (least_signed 64) (pos most)) n)
+
+-- the byte that an escape in front of pieces writes
+abbrev pub escape_at : List ℕ → Option ℕ
+escape_at [] = None
+escape_at (b ∷ []) = None
+escape_at (b ∷ c ∷ []) = None
+escape_at (b ∷ c ∷ d ∷ rest) = if b == 92 then pair_in c d else None
+
+abbrev pub judged_text : List ℕ → Result (List ℕ) LineKind
+judged_text = kept BadText is_utf8
+
+abbrev pub judged_text_in : List ℕ → Option (Result (List ℕ) LineKind)
+judged_text_in word = quoted_in word >>= λ text. Some (judged_text text)
+
+abbrev pub judged_scalar : Scalar → Result Scalar LineKind
+judged_scalar s = if has_good_text s then kept OutOfRange is_valid_scalar s else Err BadText
+
+abbrev pub judged_at : Option (Scalar × List (List ℕ)) → Option (Result Scalar LineKind × List (List ℕ))
+judged_at read = read >>= λ one. Some (judged_scalar one.0, one.1)
+
+-- of two refusals the one that goes first: a text's
+abbrev pub first_of : LineKind → LineKind → LineKind
+first_of kind BadText = BadText
+first_of kind other = kind
+
+-- both, unless the line is refused for one of them
+abbrev pub both : {A B : Type 0} → Result A LineKind → Result B LineKind → Result (A × B) LineKind
+both (Ok a) (Ok b) = Ok (a, b)
+both (Ok a) (Err kind) = Err kind
+both (Err kind) (Ok b) = Err kind
+both (Err kind) (Err other) = Err (first_of kind other)
+
+-- what is made of a value that isn't refused
+abbrev pub mapped : {A B : Type 0} → (A → B) → Result A LineKind → Result B LineKind
+mapped make (Ok a) = Ok (make a)
+mapped make (Err kind) = Err kind
+
+-- two texts in front of words
+abbrev pub judged_texts_at : List (List ℕ) → Option (Result (List ℕ × List ℕ) LineKind × List (List ℕ))
+judged_texts_at words = do
+  a ← one_word judged_text_in words
+  b ← one_word judged_text_in a.1
+  Some (both a.0 b.0, b.1)
+
+-- a value that is no list, or how many values a list has, if that isn't too much
+abbrev pub judged_token : Token → JudgedToken
+judged_token (scalar s) = tokens.Scalar (judged_scalar s)
+judged_token (listed n) = tokens.Count (kept OutOfRange (λ n. nat_le n (2 ^ 64 - 1)) n)
+
+abbrev pub judged_token_at : Option (Token × List (List ℕ)) → Option (JudgedToken × List (List ℕ))
+judged_token_at read = read >>= λ token. Some (judged_token token.0, token.1)
+
+-- a value as one of an array's
+abbrev pub judged_fit : Option ArrayKind → Scalar → Result Scalar LineKind
+judged_fit kind s = if has_good_text s then kept OutOfRange (fits kind) s else Err BadText
+
+-- an array's values, or a list's
+abbrev pub judged_scalars : Option ArrayKind → Written → Result (List Scalar) LineKind
+judged_scalars kind written =
+    if have_good_texts written then (if are_scalars (fits kind) written then Ok (scalars_of written) else Err OutOfRange) else Err BadText
+
+abbrev pub judged_value : Written → Result Value LineKind
+judged_value written = if have_good_texts written then (if are_in_range written then Ok (value_of written) else Err OutOfRange) else Err BadText
+
+-- one value more, with so many due in it
+abbrev pub tallied : Tally → ℕ → Tally
+tallied t n = if t.due == 0 then record { count = t.count + 1; due = n } else record { count = t.count; due = t.due - 1 + n }
+
+-- one value more in front of what is left
+abbrev pub with_scalar : Result (List Scalar) LineKind → Result Scalar LineKind → Result (List Scalar) LineKind
+with_scalar values s = mapped (λ p. p.0 ++ p.1 ∷ []) (both values s)
+
+abbrev pub with_list : Result (List Scalar) LineKind → Result (List Scalar) LineKind
+with_list (Ok values) = Err OutOfRange
+with_list (Err kind) = Err (first_of kind OutOfRange)
+
+-- a value that can be held, where it fits an array too
+abbrev pub refit : Option ArrayKind → Result Scalar LineKind → Result Scalar LineKind
+refit None s = s
+refit (Some kind) (Ok s) = kept OutOfRange (fits_kind kind) s
+refit (Some kind) (Err refusal) = Err refusal
+
+-- nothing has come
+abbrev pub no_values : Gathering
+no_values = record { tally = record { count = 0; due = 0 }; values = Ok [] }
+
+-- a token more
+abbrev pub with_token : Option ArrayKind → Gathering → JudgedToken → Option Gathering
+with_token kind g (tokens.Scalar s) = Some (record { tally = tallied g.tally 0; values = with_scalar g.values (refit kind s) })
+with_token kind g (tokens.Count (Ok n)) = Some (record { tally = tallied g.tally n; values = with_list g.values })
+with_token kind g (tokens.Count (Err refusal)) = None
+
+-- no value can have come, or too many are due
+abbrev pub IsTooMuch : Option Gathering → Type 0
+IsTooMuch None = Unit {0}
+IsTooMuch (Some g) = 2 ^ 64 ≤ g.tally.due
+
+-- all values in words, judged
+abbrev pub gathered_in : Option ArrayKind → List (List ℕ) → Option (ℕ × Result (List Scalar) LineKind)
+gathered_in kind words = values_in words >>= λ written. Some (how_many written, judged_scalars kind written)
+
+-- a value, by its first token and all that is behind it
+abbrev pub value_from : JudgedToken → ℕ → Result (List Scalar) LineKind → Option (Result Value LineKind)
+value_from (tokens.Scalar s) n values = if n == 0 then Some (mapped One s) else None
+value_from (tokens.Count (Ok m)) n values = if n == m then Some (mapped ListOf values) else None
+value_from (tokens.Count (Err refusal)) n values = None
+
+abbrev pub judged_value_in : List (List ℕ) → Option (Result Value LineKind)
+judged_value_in words = value_in words >>= λ written. Some (judged_value written)

@@ -1,0 +1,67 @@
+-- What a reader makes of what a line says, for private calls.
+use Rattle.std.specs.Prelude.{◌≡◌, ℕ, List, [], Bool, true, false, ◌&&◌, Option, None, Some, Result, Ok, Err, nat_lt, length, IsTrue}
+use Rattle.std.specs.List.{list_all}
+use Rattle.nbfx_values.specs.declared.content.ArrayItem.{ArrayItem}
+use Rattle.nbfx_values.specs.declared.content.ArrayKind.{ArrayKind}
+use Rattle.nbfx_values.specs.declared.content.AttrItem.{AttrItem}
+use Rattle.nbfx_values.specs.declared.content.AttrItem.TheVariants.{Xmlns as DeclaresOn, Attr as AttrOn}
+use Rattle.nbfx_values.specs.declared.content.Item.{Item}
+use Rattle.nbfx_values.specs.declared.content.Item.TheVariants.{Xmlns, Attr}
+use Rattle.nbfx_values.specs.Items.{are_texts, fits_kind, is_valid_attribute, is_valid_item}
+use Rattle.line_notation.specs.declared.line.Line.{Line}
+use Rattle.line_notation.specs.declared.line.Line.TheVariants as says
+use Rattle.line_notation.specs.declared.placing.Refusal.{Refusal}
+use Rattle.line_notation.specs.declared.placing.Refusal.TheVariants.{Kind, Memory}
+use Rattle.line_notation.specs.declared.reader.LineFault.{LineFault}
+use Rattle.line_notation.specs.declared.reader.LineFault.TheVariants as faults
+use Rattle.line_notation.specs.declared.reader.LineFault.TheVariants.{Bad}
+use Rattle.line_notation.specs.declared.reader.LineKind.{LineKind}
+use Rattle.line_notation.specs.declared.reader.LineKind.TheVariants.{NotALine}
+use Rattle.line_notation.specs.declared.reader.LineStep.{LineStep}
+use Rattle.line_notation.specs.declared.reader.LineStep.TheVariants.{More, Done}
+use Rattle.line_notation.specs.declared.words.Stop.{Stop}
+use Rattle.line_notation.specs.declared.words.Stop.TheVariants as stops
+use Rattle.line_notation.specs.Standing.{Placed, on, ends}
+
+-- where a step of reading stopped
+abbrev pub stopped : Stop → Refusal
+stopped stops.NotALine = Kind NotALine
+stopped stops.Memory = Memory
+
+-- a refusal, by the number of the line that is refused
+abbrev pub fault_of : ℕ → Refusal → LineFault
+fault_of n (Kind kind) = Bad n kind
+fault_of n Memory = faults.Memory
+
+-- records can hold the names of the array that is open, if one is, and its attributes
+abbrev pub is_held : ArrayItem → Bool
+is_held a = are_texts a.prefix a.local && list_all is_valid_attribute a.attrs
+
+abbrev pub IsOpen : Option ArrayItem → Type 0
+IsOpen None = Unit {0}
+IsOpen (Some a) = IsTrue (is_held a)
+
+-- records can hold what a line says, where an array of the kind is open, or none is
+abbrev pub IsHeld : Option ArrayKind → Line → Type 0
+IsHeld kind (says.Item item) = IsTrue (is_valid_item item)
+IsHeld kind (says.Array a) = IsTrue (is_held a)
+IsHeld None (says.Values values) = Unit {0}
+IsHeld (Some kind) (says.Values values) = IsTrue (nat_lt 0 (length values) && list_all (fits_kind kind) values)
+
+-- an empty line where no document has begun
+abbrev pub is_passed_over : List Item → Option ArrayItem → List ℕ → Bool
+is_passed_over [] None [] = true
+is_passed_over _ _ _ = false
+
+-- an item within an array's element
+abbrev pub attribute_of : Item → Option AttrItem
+attribute_of (Xmlns prefix uri) = Some (DeclaresOn prefix uri)
+attribute_of (Attr prefix local value) = Some (AttrOn prefix local value)
+attribute_of _ = None
+
+-- a line led where these items and this array are, unless memory ran out
+abbrev pub Places : Result LineStep Refusal → Result Placed LineKind → List Item → Option ArrayItem → Type 0
+Places (Ok More) placed items array = placed ≡ Ok (on items array)
+Places (Ok (Done doc)) placed items array = (placed ≡ Ok (ends doc)) × (items ≡ []) × (array ≡ None)
+Places (Err (Kind kind)) placed items array = placed ≡ Err kind
+Places (Err Memory) placed items array = Unit {0}

@@ -1,0 +1,68 @@
+-- What the words behind each keyword say, read and judged at once, for private calls.
+use Rattle.std.specs.Prelude.{ℕ, List, [], ◌∷◌, Option, None, Some, Result, Ok, Err, nat_lt, if◌then◌else◌}
+use Rattle.nbfx_values.specs.declared.content.ArrayKind.{ArrayKind}
+use Rattle.nbfx_values.specs.declared.content.Item.TheVariants.{Start, Xmlns, Attr, Text, Comment, Close}
+use Rattle.nbfx_values.specs.declared.scalars.Scalar.{Scalar}
+use Rattle.nbfx_values.specs.declared.scalars.Value.{Value}
+use Rattle.line_notation.specs.declared.line.Keyword.{Keyword}
+use Rattle.line_notation.specs.declared.line.Line.{Line}
+use Rattle.line_notation.specs.declared.line.Line.TheVariants as says
+use Rattle.line_notation.specs.declared.reader.LineKind.{LineKind}
+use Rattle.line_notation.specs.declared.reader.LineKind.TheVariants.{OutOfPlace}
+use Rattle.line_notation.specs.Forms.{array_kind_in, form_behind, form_of}
+use Rattle.line_notation.specs.Judging.{begun_array, judged}
+use Rattle.line_notation.specs.Options.{alone, ◌>>=◌}
+use Rattle.line_notation.specs.Parts.{both, gathered_in, judged_text_in, judged_texts_at, judged_value_in, mapped}
+use Rattle.line_notation.specs.Scalars.{one_word}
+
+-- what a form says, if there is one
+abbrev pub judged_form : Option ArrayKind → List ℕ → Option (Result Line LineKind)
+judged_form kind line = form_of line >>= λ form. Some (judged kind form)
+
+abbrev pub judged_behind : Option ArrayKind → Keyword → List (List ℕ) → Option (Result Line LineKind)
+judged_behind kind keyword words = form_behind keyword words >>= λ form. Some (judged kind form)
+
+-- two texts and no more
+abbrev pub texts_alone : List (List ℕ) → Option (Result (List ℕ × List ℕ) LineKind)
+texts_alone words = alone (judged_texts_at words)
+
+abbrev pub start_in : List (List ℕ) → Option (Result Line LineKind)
+start_in words = texts_alone words >>= λ texts. Some (mapped (λ t. says.Item (Start t.0 t.1)) texts)
+
+abbrev pub declaration_in : List (List ℕ) → Option (Result Line LineKind)
+declaration_in words = texts_alone words >>= λ texts. Some (mapped (λ t. says.Item (Xmlns t.0 t.1)) texts)
+
+abbrev pub attribute_of : (List ℕ × List ℕ) × Value → Line
+attribute_of one = says.Item (Attr one.0.0 one.0.1 one.1)
+
+abbrev pub attribute_in : List (List ℕ) → Option (Result Line LineKind)
+attribute_in words = do
+  texts ← judged_texts_at words
+  value ← judged_value_in texts.1
+  Some (mapped attribute_of (both texts.0 value))
+
+abbrev pub text_in : List (List ℕ) → Option (Result Line LineKind)
+text_in words = judged_value_in words >>= λ value. Some (mapped (λ v. says.Item (Text v)) value)
+
+abbrev pub comment_in : List (List ℕ) → Option (Result Line LineKind)
+comment_in words = alone (one_word judged_text_in words) >>= λ text. Some (mapped (λ t. says.Item (Comment t)) text)
+
+abbrev pub array_in : List (List ℕ) → Option (Result Line LineKind)
+array_in words = do
+  kind ← one_word array_kind_in words
+  texts ← texts_alone kind.1
+  Some (mapped (λ t. says.Array (begun_array kind.0 t.0 t.1)) texts)
+
+abbrev pub values_of : Option ArrayKind → Result (List Scalar) LineKind → Result Line LineKind
+values_of kind (Err refusal) = Err refusal
+values_of None (Ok values) = Err OutOfPlace
+values_of (Some kind) (Ok values) = Ok (says.Values values)
+
+abbrev pub values_in : Option ArrayKind → List (List ℕ) → Option (Result Line LineKind)
+values_in kind words = do
+  all ← gathered_in kind words
+  if nat_lt 0 all.0 then Some (values_of kind all.1) else None
+
+abbrev pub close_in : List (List ℕ) → Option (Result Line LineKind)
+close_in [] = Some (Ok (says.Item Close))
+close_in (word ∷ words) = None

@@ -1,0 +1,29 @@
+-- What a step of reading a line gives.
+use Rattle.std.specs.Prelude.{◌≡◌, ◌≤◌, ℕ, List, [], ◌∷◌, Option, None, Some, Result, Ok, Err, length, take, drop}
+use Rattle.line_notation.specs.declared.words.Stop.{Stop}
+use Rattle.line_notation.specs.declared.words.Stop.TheVariants.{NotALine, Memory}
+use Rattle.line_notation.specs.Words.{words_of}
+
+abbrev pub Stops : {A : Type 0} → Stop → Option A → Type 0
+Stops NotALine read = read ≡ None
+Stops Memory read = Unit {0}
+
+-- what is seen by `view` of what a step returned, and the words that it left, is what reading gives, unless memory ran out
+abbrev pub Gives : {X A : Type 0} → (X → A) → Result X Stop → List (List ℕ) → Option (A × List (List ℕ)) → Type 0
+Gives view (Ok x) left read = read ≡ Some (view x, left)
+Gives view (Err stop) left read = Stops stop read
+
+-- the same of a step that takes no words
+abbrev pub Finds : {X A : Type 0} → (X → A) → Result X Stop → Option A → Type 0
+Finds view (Ok x) read = read ≡ Some (view x)
+Finds view (Err stop) read = Stops stop read
+
+-- the words behind a place
+abbrev pub words_behind : List ℕ → List (List ℕ)
+words_behind [] = []
+words_behind (b ∷ line) = words_of line
+
+-- the first word ends at the place
+pub record CutsWord (line : List ℕ) (at : ℕ) : Type 0 where
+  pub within : at ≤ length line
+  pub words : words_of line ≡ take at line ∷ words_behind (drop at line)

@@ -1,0 +1,39 @@
+//! What holds of lines and documents by their definitions alone. Each function does nothing: its
+//! contract is a law, which a caller has where it calls the function.
+
+ghost use Rattle.line_notation.specs.Laws.{AreCutAgain, AreOfWhatTheyBring, BringTheirDocument, HaveOneForm, HoldNoFeed, LeaveNothingUnfinished};
+ghost use Rattle.line_notation.specs.Refusals.{RefusedForNoForm, RefusedForNothingElse, RefusedForPlace, RefusedForRange, RefusedForText};
+
+/// A line has a form exactly where that form is read out of it, so it has one at most.
+pub fn one_form()
+    ensures { HaveOneForm }
+{}
+
+/// Reading the lines that are put for a document gives that document, and no more.
+pub fn read_back()
+    ensures document { BringTheirDocument }
+    ensures ended { LeaveNothingUnfinished }
+{}
+
+/// Documents are read exactly where the lines are theirs, in any spelling, with empty lines before,
+/// between and behind them.
+pub fn documents()
+    ensures { AreOfWhatTheyBring }
+{}
+
+/// A line is refused for having no form, or else for a text that isn't UTF-8, or else for a value out
+/// of its range, or else for its place. Each refusal comes exactly where that holds, and no other.
+pub fn refusals()
+    ensures no_form { RefusedForNoForm }
+    ensures text { RefusedForText }
+    ensures range { RefusedForRange }
+    ensures place { RefusedForPlace }
+    ensures nothing_else { RefusedForNothingElse }
+{}
+
+/// No line has a line feed in it, so the text that is put for items is cut at its line feeds into their
+/// lines.
+pub fn texts()
+    ensures no_feed { HoldNoFeed }
+    ensures cut { AreCutAgain }
+{}

@@ -1,0 +1,180 @@
+// Where what a line says leads.
+ghost use Rattle.std.specs.Prelude.{◌≡◌, None, Some, Ok, Err, IfErr, IfOk, IsTrue};
+ghost use Rattle.nbfx_values.specs.Items.{is_valid_attribute, is_valid_item};
+ghost use Rattle.nbfx_values.specs.Positions.{position_of};
+ghost use Rattle.line_notation.specs.Placing.{IsHeld, IsOpen, Places, attribute_of, is_held, is_passed_over};
+ghost use Rattle.line_notation.specs.Standing as spec;
+ghost use Rattle.line_notation.specs.Standing.{kind_of, on, outcome, placed, placed_array, placed_item, with_attribute};
+
+use crate::line::Line;
+use crate::lines;
+use crate::reader::{LineKind, LineStep};
+use crate::words::Stop;
+use nbfx_values::{ArrayItem, ArrayKind, AttrItem, DocBuilder, Item, Memory, Position, PushFault};
+use std::alloc::Global;
+
+/// Why a line leads nowhere.
+#[derive(Clone, Copy, Debug)]
+pub enum Refusal {
+    Kind(LineKind),
+    Memory,
+}
+
+impl From<LineKind> for Refusal {
+    ghost use Rattle.std.specs.Prelude.{◌≡◌};
+    ghost use Rattle.line_notation.specs.declared.placing.Refusal.TheVariants as refusals;
+
+    ghost from_gives = { λ kind refusal. refusal ≡ refusals.Kind kind };
+
+    fn from(kind: LineKind) -> Refusal {
+        Refusal::Kind(kind)
+    }
+}
+
+impl From<Stop> for Refusal {
+    ghost use Rattle.std.specs.Prelude.{◌≡◌};
+    ghost use Rattle.line_notation.specs.Placing.{stopped};
+
+    ghost from_gives = { λ stop refusal. refusal ≡ stopped stop };
+
+    fn from(stop: Stop) -> Refusal {
+        match stop {
+            Stop::NotALine => Refusal::Kind(LineKind::NotALine),
+            Stop::Memory => Refusal::Memory,
+        }
+    }
+}
+
+impl From<Memory> for Refusal {
+    ghost use Rattle.std.specs.Prelude.{◌≡◌};
+    ghost use Rattle.line_notation.specs.declared.placing.Refusal.TheVariants as refusals;
+
+    ghost from_gives = { λ _ refusal. refusal ≡ refusals.Memory };
+
+    fn from(_memory: Memory) -> Refusal {
+        Refusal::Memory
+    }
+}
+
+// What an item does that is put behind the others.
+fn place_item(builder: &mut DocBuilder, item: Item) -> Result<LineStep, Refusal>
+    requires { IsTrue (is_valid_item item) }
+    ensures { Places result (placed_item builder.old item) builder.new None }
+{
+    match builder.push(item) {
+        Ok(()) => {}
+        Err(PushFault::OutOfPlace) => return Err(Refusal::Kind(LineKind::OutOfPlace)),
+        Err(PushFault::Memory) => return Err(Refusal::Memory),
+    }
+    match builder.finish() {
+        Some(doc) => Ok(LineStep::Done(doc)),
+        None => Ok(LineStep::More),
+    }
+}
+
+// An array, where it may begin: within the root.
+fn opened(builder: &DocBuilder, begun: ArrayItem) -> Result<ArrayItem, Refusal>
+    ensures ok { IfOk result (λ a. placed_array (position_of builder.now) builder.now begun ≡ Ok (on builder.now (Some a))) }
+    ensures err { IfErr result (λ refusal. refusal ≡ Refusal.Kind LineKind.OutOfPlace
+        × (placed_array (position_of builder.now) builder.now begun ≡ Err LineKind.OutOfPlace)) }
+    ensures same { IfOk result (λ a. a ≡ begun) }
+{
+    match builder.position() {
+        Position::Within { .. } => Ok(begun),
+        Position::Before | Position::After => Err(Refusal::Kind(LineKind::OutOfPlace)),
+    }
+}
+
+// An attribute of an array, where the item is one.
+fn attribute_of(item: Item) -> Option<AttrItem>
+    ensures { result ≡ attribute_of item }
+{
+    match item {
+        Item::Xmlns { prefix, uri } => Some(AttrItem::Xmlns { prefix, uri }),
+        Item::Attr {
+            prefix,
+            local,
+            value,
+        } => Some(AttrItem::Attr {
+            prefix,
+            local,
+            value,
+        }),
+        _ => None,
+    }
+}
+
+// The array with one attribute more.
+fn with_attribute(array: ArrayItem, one: AttrItem) -> Result<ArrayItem, Memory>
+    requires held { IsTrue (is_held array) }
+    requires valid { IsTrue (is_valid_attribute one) }
+    ensures more { IfOk result (λ more. more ≡ with_attribute array one) }
+    ensures held { IfOk result (λ more. IsTrue (is_held more)) }
+{
+    let mut array = array;
+    array.attrs.push(one)?;
+    Ok(array)
+}
+
+// What a line does that says this, where an array is open or none is.
+fn place(
+    builder: &mut DocBuilder,
+    array: &mut Option<ArrayItem>,
+    line: Line,
+) -> Result<LineStep, Refusal>
+    requires open { IsOpen array.old }
+    requires held { IsHeld (kind_of array.old) line }
+    ensures places { Places result (placed builder.old array.old line) builder.new array.new }
+    ensures open { IsOpen array.new }
+{
+    match (array.take(), line) {
+        (None, Line::Item(item)) => place_item(builder, item),
+        (None, Line::Array(begun)) => {
+            *array = Some(opened(builder, begun)?);
+            Ok(LineStep::More)
+        }
+        (Some(open), Line::Item(item)) => {
+            let one = attribute_of(item).ok_or(LineKind::OutOfPlace)?;
+            *array = Some(with_attribute(open, one)?);
+            Ok(LineStep::More)
+        }
+        (Some(open), Line::Values(values)) => {
+            place_item(builder, Item::Array(ArrayItem { values, ..open }))
+        }
+        (None, Line::Values(_)) | (Some(_), Line::Array(_)) => {
+            Err(Refusal::Kind(LineKind::OutOfPlace))
+        }
+    }
+}
+
+// Whether a line stands between documents and is empty.
+fn is_passed_over(builder: &DocBuilder, array: &Option<ArrayItem>, line: &[u8]) -> bool
+    ensures { result ≡ is_passed_over builder.now array.now line.now }
+{
+    line.is_empty() && array.is_none() && builder.items().len() == 0
+}
+
+// The kind of the array that is open.
+fn open_kind(array: &Option<ArrayItem>) -> Option<ArrayKind>
+    ensures { result ≡ kind_of array.now }
+{
+    array.as_ref().map(|array| array.kind)
+}
+
+// What a line does.
+pub fn read_placed(
+    alloc: Global,
+    builder: &mut DocBuilder,
+    array: &mut Option<ArrayItem>,
+    line: &[u8],
+) -> Result<LineStep, Refusal>
+    requires { IsOpen array.old }
+    ensures places { Places result (outcome builder.old array.old line.now) builder.new array.new }
+    ensures open { IsOpen array.new }
+{
+    if is_passed_over(builder, array, line) {
+        return Ok(LineStep::More);
+    }
+    let line = lines::read(alloc, open_kind(array), line)??;
+    place(builder, array, line)
+}

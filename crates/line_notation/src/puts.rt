@@ -1,0 +1,197 @@
+// Words that go out. No memory is taken but the sink's.
+ghost use Rattle.std.specs.Prelude.{◌≡◌, ◌≤◌, ◌<◌, ◌^◌, ◌∷◌, ◌++◌, [], false, length, take_while, All};
+ghost use Rattle.std.specs.Fmt.{decimal, digit_glyph, signed_decimal};
+ghost use Rattle.std.specs.List.{flat_map};
+ghost use Rattle.hex.specs.Hex.{encode_lower};
+ghost use Rattle.line_notation.specs.Puts.{IsPuttable, Puts, spaced_word, spaced_words, word_bytes};
+ghost use Rattle.line_notation.specs.Quoted.{escape, is_plain, quoted, quoted_byte};
+ghost use Rattle.line_notation.specs.Scalars.{digits_in_quotes, identifier_word, letter_word};
+
+use io_edges::{Sink, SinkFault};
+use itoa::Buffer;
+use uuid::Uuid;
+
+/// A word of a line.
+#[derive(Clone, Copy, Debug)]
+pub enum Word<'a> {
+    /// A word as it is.
+    Plain(&'a str),
+    /// A text in quotes.
+    Quoted(&'a str),
+    Natural(u128),
+    Integer(i128),
+    /// The hexadecimal digits of bytes.
+    Digits(&'a [u8]),
+    /// The same in quotes.
+    DigitsInQuotes(&'a [u8]),
+    /// An identifier, by its bytes as on the wire.
+    Identifier(&'a [u8; 16]),
+    /// A letter, of which 0 is a.
+    Letter(u8),
+}
+
+// Whether a quoted text shows the byte as it is.
+pub fn is_plain(byte: u8) -> bool
+    ensures { result ≡ is_plain byte }
+{
+    32 <= byte && byte < 127 && byte != b'"' && byte != b'\\'
+}
+
+// Puts bytes by one call.
+pub fn put<K: Sink>(bytes: &[u8], sink: &mut K) -> Result<(), SinkFault>
+    ensures { Puts K.written K.faults K.may_want sink.old sink.new bytes.now result }
+{
+    sink.put(bytes)
+}
+
+// The digit of four bits.
+fn digit(bits: u8) -> u8
+    requires { bits < 16 }
+    ensures { result ≡ digit_glyph false bits }
+{
+    if bits < 10 {
+        b'0' + bits
+    } else {
+        b'a' + (bits - 10)
+    }
+}
+
+// Puts a backslash and the byte's digits.
+fn put_escape<K: Sink>(byte: u8, sink: &mut K) -> Result<(), SinkFault>
+    ensures { Puts K.written K.faults K.may_want sink.old sink.new (escape byte) result }
+{
+    put(&[b'\\', digit(byte / 16), digit(byte % 16)], sink)
+}
+
+// How many bytes at the front are plain.
+pub fn plain_count(bytes: &[u8]) -> usize
+    ensures { result ≡ length (take_while is_plain bytes.now) }
+{
+    bytes.iter().take_while(|byte| is_plain(**byte)).count()
+}
+
+// Puts the bytes of a quoted text.
+fn put_pieces<K: Sink>(bytes: &[u8], sink: &mut K) -> Result<(), SinkFault>
+    ensures { Puts K.written K.faults K.may_want sink.old sink.new
+        (flat_map quoted_byte bytes.now) result }
+{
+    let mut rest = bytes;
+    while !rest.is_empty() {
+        let plain = plain_count(rest);
+        if plain == 0 {
+            let (escaped, behind) = rest.split_at(1);
+            put_escape(escaped[0], sink)?;
+            rest = behind;
+        } else {
+            let (shown, behind) = rest.split_at(plain);
+            put(shown, sink)?;
+            rest = behind;
+        }
+    }
+    Ok(())
+}
+
+/// Puts a text in double quotes. A printable byte of ASCII stands as it is, and any other, the
+/// quote and the backslash as a backslash and two hexadecimal digits. A refusal has put the first
+/// bytes. No memory is taken but the sink's.
+pub fn quote<K: Sink>(text: &str, sink: &mut K) -> Result<(), SinkFault>
+    ensures { Puts K.written K.faults K.may_want sink.old sink.new (quoted text.now) result }
+{
+    put(b"\"", sink)?;
+    put_pieces(text.as_bytes(), sink)?;
+    put(b"\"", sink)
+}
+
+const CHUNK: usize = 32;
+
+// Puts the hexadecimal digits of a few bytes.
+fn put_chunk<K: Sink>(bytes: &[u8], sink: &mut K) -> Result<(), SinkFault>
+    requires { length bytes.now ≤ CHUNK }
+    ensures { Puts K.written K.faults K.may_want sink.old sink.new (encode_lower bytes.now) result }
+{
+    let mut digits = [0; 2 * CHUNK];
+    let room = &mut digits[..2 * bytes.len()];
+    hex::encode_to_slice(bytes, room).unwrap();
+    put(room, sink)
+}
+
+// Puts the hexadecimal digits of bytes.
+fn put_digits<K: Sink>(bytes: &[u8], sink: &mut K) -> Result<(), SinkFault>
+    ensures { Puts K.written K.faults K.may_want sink.old sink.new (encode_lower bytes.now) result }
+{
+    let mut rest = bytes;
+    while !rest.is_empty() {
+        let (chunk, behind) = rest.split_at(rest.len().min(CHUNK));
+        put_chunk(chunk, sink)?;
+        rest = behind;
+    }
+    Ok(())
+}
+
+fn put_digits_in_quotes<K: Sink>(bytes: &[u8], sink: &mut K) -> Result<(), SinkFault>
+    ensures { Puts K.written K.faults K.may_want sink.old sink.new
+        (digits_in_quotes bytes.now) result }
+{
+    put(b"\"", sink)?;
+    put_digits(bytes, sink)?;
+    put(b"\"", sink)
+}
+
+fn put_natural<K: Sink>(n: u128, sink: &mut K) -> Result<(), SinkFault>
+    ensures { Puts K.written K.faults K.may_want sink.old sink.new (decimal n) result }
+{
+    let mut buffer = Buffer::new();
+    put(buffer.format(n).as_bytes(), sink)
+}
+
+fn put_integer<K: Sink>(n: i128, sink: &mut K) -> Result<(), SinkFault>
+    ensures { Puts K.written K.faults K.may_want sink.old sink.new (signed_decimal n) result }
+{
+    let mut buffer = Buffer::new();
+    put(buffer.format(n).as_bytes(), sink)
+}
+
+fn put_identifier<K: Sink>(bytes: &[u8; 16], sink: &mut K) -> Result<(), SinkFault>
+    ensures { Puts K.written K.faults K.may_want sink.old sink.new
+        (identifier_word bytes.now) result }
+{
+    let mut buffer = Uuid::encode_buffer();
+    let id = Uuid::from_bytes_le(*bytes);
+    put(id.hyphenated().encode_lower(&mut buffer).as_bytes(), sink)
+}
+
+fn put_word<K: Sink>(word: &Word, sink: &mut K) -> Result<(), SinkFault>
+    requires { IsPuttable word.now }
+    ensures { Puts K.written K.faults K.may_want sink.old sink.new (word_bytes word.now) result }
+{
+    match word {
+        Word::Plain(text) => put(text.as_bytes(), sink),
+        Word::Quoted(text) => quote(text, sink),
+        Word::Natural(n) => put_natural(*n, sink),
+        Word::Integer(n) => put_integer(*n, sink),
+        Word::Digits(bytes) => put_digits(bytes, sink),
+        Word::DigitsInQuotes(bytes) => put_digits_in_quotes(bytes, sink),
+        Word::Identifier(bytes) => put_identifier(bytes, sink),
+        Word::Letter(letter) => put(&[b'a' + *letter], sink),
+    }
+}
+
+// Puts a space and a word.
+fn put_spaced_word<K: Sink>(word: &Word, sink: &mut K) -> Result<(), SinkFault>
+    requires { IsPuttable word.now }
+    ensures { Puts K.written K.faults K.may_want sink.old sink.new (spaced_word word.now) result }
+{
+    put(b" ", sink)?;
+    put_word(word, sink)
+}
+
+// Puts words, each behind a space.
+pub fn put_words<K: Sink>(words: &[Word], sink: &mut K) -> Result<(), SinkFault>
+    requires { All IsPuttable words.now }
+    ensures { Puts K.written K.faults K.may_want sink.old sink.new (spaced_words words.now) result }
+{
+    for word in words {
+        put_spaced_word(word, sink)?;
+    }
+    Ok(())
+}

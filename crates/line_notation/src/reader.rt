@@ -1,0 +1,148 @@
+// Documents out of lines.
+ghost use Rattle.std.specs.Prelude.{◌≡◌, [], IsErrOf};
+ghost use Rattle.line_notation.specs.Placing.{fault_of};
+ghost use Rattle.line_notation.specs.Standing.{HasFailed, HasRoom, StandsBehind, UnlessMemory, after, answer, ended, ending};
+
+use crate::placing::{Refusal, read_placed};
+use nbfx_values::{ArrayItem, Doc, DocBuilder, Memory};
+use std::alloc::Global;
+use std::marker::Model;
+
+/// What a line did to the document that is read.
+#[derive(Debug, Drop)]
+pub enum LineStep {
+    /// The document isn't whole, or none has begun.
+    More,
+    /// The document is whole.
+    Done(Doc),
+}
+
+/// Why a line is refused.
+#[derive(Clone, Copy, Debug, PartialEq, Eq)]
+pub enum LineKind {
+    /// It has none of the forms of a line.
+    NotALine,
+    /// A text in it isn't UTF-8.
+    BadText,
+    /// A number is out of the range of its value, a list stands in a list, or a value of an array isn't
+    /// of its kind.
+    OutOfRange,
+    /// It may not stand there.
+    OutOfPlace,
+    /// The lines end within a document.
+    Cut,
+    /// There are more documents or fewer than there should be. A reader of lines never says so.
+    WrongCount,
+}
+
+/// The refusal of lines.
+#[derive(Clone, Copy, Debug, PartialEq, Eq)]
+pub enum LineFault {
+    /// The number of the line, from 1, and why it is refused.
+    Bad { line: u64, kind: LineKind },
+    /// Memory ran out.
+    Memory,
+}
+
+impl From<Memory> for LineFault {
+    ghost use Rattle.std.specs.Prelude.{◌≡◌};
+    ghost use Rattle.line_notation.specs.declared.reader.LineFault.TheVariants as faults;
+
+    ghost from_gives = { λ _ fault. fault ≡ faults.Memory };
+
+    fn from(_memory: Memory) -> LineFault {
+        LineFault::Memory
+    }
+}
+
+impl Refusal {
+    // The fault of the line that has this number.
+    fn of_line(self, line: u64) -> LineFault
+        ensures { result ≡ fault_of line self }
+    {
+        match self {
+            Refusal::Kind(kind) => LineFault::Bad { line, kind },
+            Refusal::Memory => LineFault::Memory,
+        }
+    }
+}
+
+/// Reads documents out of lines, of which each is given without its line feed. Contracts see where
+/// it stands: behind how many lines, with which items and which array of the unfinished document, or
+/// refused.
+#[derive(Debug, Drop)]
+pub struct LineReader {
+    alloc: Global,
+    builder: DocBuilder,
+    array: Option<ArrayItem>,
+    lines: u64,
+    fault: Option<LineFault>,
+}
+
+impl Model for LineReader {
+    ghost use Rattle.line_notation.specs.Placing.{IsOpen};
+    ghost use Rattle.line_notation.specs.Standing.{Standing, kept};
+
+    ghost Value = { Standing };
+
+    ghost view = { λ r. kept r.fault r.lines r.builder r.array };
+
+    ghost invariant = { λ r. IsOpen r.array };
+}
+
+impl LineReader {
+    /// A reader that has read no line.
+    pub fn new(alloc: Global) -> LineReader
+        ensures { StandsBehind result [] }
+    {
+        LineReader {
+            alloc,
+            builder: DocBuilder::new(alloc),
+            array: None,
+            lines: 0,
+            fault: None,
+        }
+    }
+
+    /// Reads one line more. A fault stays: each further line has the same.
+    pub fn line(&mut self, line: &[u8]) -> Result<LineStep, LineFault>
+        requires room { HasRoom self.old }
+        ensures answer { UnlessMemory result (result ≡ answer self.old line.now) }
+        ensures stands { UnlessMemory result (self.new ≡ after self.old line.now) }
+        ensures out_of_memory { IsErrOf result LineFault.Memory → HasFailed self.new LineFault.Memory }
+        ensures again { (fault : LineFault) → HasFailed self.old fault → IsErrOf result fault }
+    {
+        if let Some(fault) = self.fault {
+            return Err(fault);
+        }
+        self.lines += 1;
+        match read_placed(self.alloc, &mut self.builder, &mut self.array, line) {
+            Ok(step) => Ok(step),
+            Err(refusal) => {
+                let fault = refusal.of_line(self.lines);
+                self.fault = Some(fault);
+                Err(fault)
+            }
+        }
+    }
+
+    /// Ends the lines: they may not end within a document.
+    pub fn finish(&mut self) -> Result<(), LineFault>
+        requires room { HasRoom self.old }
+        ensures answer { result ≡ ending self.old }
+        ensures stands { self.new ≡ ended self.old }
+    {
+        if let Some(fault) = self.fault {
+            return Err(fault);
+        }
+        if self.array.is_none() && self.builder.items().len() == 0 {
+            return Ok(());
+        }
+        let fault = LineFault::Bad {
+            line: self.lines + 1,
+            kind: LineKind::Cut,
+        };
+        self.fault = Some(fault);
+        Err(fault)
+    }
+}

@@ -1,0 +1,192 @@
+// Values out of the words of a line.
+ghost use Rattle.std.specs.Prelude.{◌≡◌, ◌≤◌, ◌<◌, ◌^◌, ◌-◌, IfOk, IfNone, IfSome, IsErrOf, Some, length};
+ghost use Rattle.line_notation.specs.Parts as spec;
+ghost use Rattle.line_notation.specs.Parts.{IsTooMuch, gathered_in, no_values, judged_token_at, judged_value_in, refit, tallied, with_list, with_scalar, with_token};
+ghost use Rattle.line_notation.specs.Steps.{Finds, Gives};
+ghost use Rattle.line_notation.specs.Values.{plain_at, token_at};
+
+use crate::judged::{Judged, first_of};
+use crate::reader::LineKind;
+use crate::scalar_words::{natural, scalar};
+use crate::scalars::ScalarKind;
+use crate::words::{Stop, Words};
+use nbfx_values::{ArrayKind, Memory, Scalar, Value, Values};
+use std::alloc::Global;
+
+/// A value that is no list, or how many values a list has.
+#[derive(Debug, Drop)]
+pub enum JudgedToken {
+    Scalar(Judged<Scalar>),
+    Count(Judged<u128>),
+}
+
+// What the words behind this one say, which names a kind of value.
+fn scalar_token(alloc: Global, word: &[u8], words: &mut Words) -> Result<JudgedToken, Stop>
+    ensures { Gives (λ token. token) result words.new
+        (judged_token_at (plain_at word.now words.old)) }
+{
+    let kind = ScalarKind::of(word).ok_or(Stop::NotALine)?;
+    let scalar = scalar(alloc, kind, words)?;
+    Ok(JudgedToken::Scalar(scalar))
+}
+
+// What the next words say.
+fn token(alloc: Global, words: &mut Words) -> Result<JudgedToken, Stop>
+    ensures token { Gives (λ token. token) result words.new (judged_token_at (token_at words.old)) }
+    ensures few { length words.old ≤ 2 ^ 63 }
+{
+    let word = words.next()?;
+    if word == b"list".as_slice() {
+        let count = natural(u64::MAX as u128, words)?;
+        return Ok(JudgedToken::Count(count));
+    }
+    scalar_token(alloc, word, words)
+}
+
+/// How many values have come.
+#[derive(Clone, Copy, Debug)]
+pub struct Tally {
+    /// Those that stand in no list.
+    pub count: usize,
+    /// Those that are due in the lists that are open.
+    pub due: usize,
+}
+
+impl Tally {
+    // One value more, with so many due in it.
+    fn with(self, more: usize) -> Option<Tally>
+        requires { self.count < 2 ^ 64 - 1 }
+        ensures some { IfSome result (λ tally. tally ≡ tallied self more) }
+        ensures none { IfNone result (2 ^ 64 ≤ (tallied self more).due) }
+    {
+        if self.due == 0 {
+            return Some(Tally {
+                count: self.count + 1,
+                due: more,
+            });
+        }
+        let due = (self.due - 1).checked_add(more)?;
+        Some(Tally {
+            count: self.count,
+            due,
+        })
+    }
+}
+
+// A value that can be held, where it fits an array too.
+fn refit(kind: Option<ArrayKind>, scalar: Judged<Scalar>) -> Judged<Scalar>
+    ensures { result ≡ refit kind scalar }
+{
+    match (kind, scalar) {
+        (Some(kind), Ok(scalar)) => {
+            if kind.takes(&scalar) {
+                Ok(scalar)
+            } else {
+                Err(LineKind::OutOfRange)
+            }
+        }
+        (_, scalar) => scalar,
+    }
+}
+
+fn with_scalar(values: Judged<Values>, scalar: Judged<Scalar>) -> Result<Judged<Values>, Memory>
+    ensures { IfOk result (λ more. more ≡ with_scalar values scalar) }
+{
+    match (values, scalar) {
+        (Ok(mut values), Ok(scalar)) => {
+            values.push(scalar)?;
+            Ok(Ok(values))
+        }
+        (Ok(_), Err(kind)) | (Err(kind), Ok(_)) => Ok(Err(kind)),
+        (Err(kind), Err(other)) => Ok(Err(first_of(kind, other))),
+    }
+}
+
+fn with_list(values: Judged<Values>) -> Judged<Values>
+    ensures { result ≡ with_list values }
+{
+    match values {
+        Ok(_) => Err(LineKind::OutOfRange),
+        Err(kind) => Err(first_of(kind, LineKind::OutOfRange)),
+    }
+}
+
+/// Values that have come.
+#[derive(Debug, Drop)]
+pub struct Gathering {
+    pub tally: Tally,
+    pub values: Judged<Values>,
+}
+
+impl Gathering {
+    // No values.
+    fn none(alloc: Global) -> Gathering
+        ensures { result ≡ no_values }
+    {
+        Gathering {
+            tally: Tally { count: 0, due: 0 },
+            values: Ok(Values::new(alloc)),
+        }
+    }
+
+    // One token more.
+    fn with(self, kind: Option<ArrayKind>, token: JudgedToken) -> Result<Gathering, Stop>
+        requires { self.tally.count < 2 ^ 64 - 1 }
+        ensures more { IfOk result (λ more. with_token kind self token ≡ Some more) }
+        ensures too_much { IsErrOf result Stop.NotALine → IsTooMuch (with_token kind self token) }
+    {
+        let (due, values) = match token {
+            JudgedToken::Scalar(scalar) => (0, with_scalar(self.values, refit(kind, scalar))?),
+            JudgedToken::Count(Ok(count)) => {
+                let Ok(due) = usize::try_from(count) else {
+                    return Err(Stop::NotALine);
+                };
+                (due, with_list(self.values))
+            }
+            JudgedToken::Count(Err(_)) => return Err(Stop::NotALine),
+        };
+        let tally = self.tally.with(due).ok_or(Stop::NotALine)?;
+        Ok(Gathering { tally, values })
+    }
+}
+
+// The values in all words that are left.
+pub fn gathered(
+    alloc: Global,
+    kind: Option<ArrayKind>,
+    words: &mut Words,
+) -> Result<Gathering, Stop>
+    ensures { Finds (λ g. (g.tally.count, g.values)) result (gathered_in kind words.old) }
+{
+    let mut so_far = Gathering::none(alloc);
+    while !words.is_empty() {
+        let token = token(alloc, words)?;
+        so_far = so_far.with(kind, token)?;
+    }
+    if so_far.tally.due > 0 {
+        return Err(Stop::NotALine);
+    }
+    Ok(so_far)
+}
+
+// A value, by its first token and all that is behind it.
+fn value_from(token: JudgedToken, all: Gathering) -> Option<Judged<Value>>
+    ensures { result ≡ spec.value_from token all.tally.count all.values }
+{
+    match token {
+        JudgedToken::Scalar(scalar) if all.tally.count == 0 => Some(scalar.map(Value::One)),
+        JudgedToken::Count(Ok(count)) if all.tally.count as u128 == count => {
+            Some(all.values.map(Value::List))
+        }
+        _ => None,
+    }
+}
+
+// The one value that all words write.
+pub fn value(alloc: Global, words: &mut Words) -> Result<Judged<Value>, Stop>
+    ensures { Finds (λ value. value) result (judged_value_in words.old) }
+{
+    let token = token(alloc, words)?;
+    let all = gathered(alloc, None, words)?;
+    value_from(token, all).ok_or(Stop::NotALine)
+}
