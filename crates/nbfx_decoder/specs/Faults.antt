@@ -1,0 +1,15 @@
+-- Why a node is refused that is no record which may stand there.
+use Rattle.nbfx_values.specs.declared.refusals.Reason.{Reason}
+use Rattle.nbfx_values.specs.declared.refusals.Reason.TheVariants as reasons
+use Rattle.nbfx_records.specs.declared.nodes.NodeFault.{NodeFault}
+use Rattle.nbfx_records.specs.declared.nodes.NodeFault.TheVariants as faults
+
+abbrev pub reason_of : NodeFault → Reason
+reason_of faults.UnknownNode = reasons.UnknownNode
+reason_of faults.OutOfPlace = reasons.NodeOutOfPlace
+reason_of faults.TrailingBytes = reasons.TrailingBytes
+reason_of faults.TooDeep = reasons.TooDeep
+reason_of faults.BadInt = reasons.BadInt
+reason_of faults.BadArray = reasons.BadArray
+reason_of faults.BadUtf8 = reasons.BadUtf8
+reason_of faults.BadValue = reasons.BadValue
