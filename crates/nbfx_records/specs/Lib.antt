@@ -1,5 +1,17 @@
 pub mod Kinds
+pub mod TypeBytes
 pub mod Shapes
 pub mod Contents
 pub mod Reading
 pub mod Records
+pub mod Places
+pub mod Laws
+pub mod Cursor
+pub mod Views
+pub mod Resuming
+pub mod Judged
+pub mod Answers
+pub mod Chosen
+pub mod Valid
+pub mod Putting
+pub mod Meaning

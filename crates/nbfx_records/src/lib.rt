@@ -8,11 +8,29 @@
 //! one.
 #![tactic(auto)]
 
+mod arrays;
+mod attributes;
+mod building;
+mod cursor;
 mod kinds;
+pub mod laws;
+mod lists;
 mod nodes;
+mod parts;
+mod put_nodes;
+mod put_parts;
+mod put_values;
+mod read;
+mod records;
+mod resume;
+mod type_bytes;
+mod values;
 
 pub use kinds::TextKind;
 pub use nodes::{
     ArrayNode, AttrNode, AttrNodes, NameRef, Node, NodeFault, NodePlace, RawScalar, RawValue,
     RawValues,
 };
+pub use put_nodes::put_node;
+pub use read::{NodeRead, ReadFault, read_node, read_node_on};
+pub use resume::Resume;
