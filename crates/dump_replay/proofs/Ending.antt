@@ -5,7 +5,7 @@ use Rattle.unit_streams.specs.Front.{whole}
 use Rattle.unit_streams.specs.Grammar.{TellsItsEnd}
 use Rattle.nmf_records.specs.declared.frame.Frame.{Frame}
 use Rattle.nmf_records.specs.declared.frame.Frame.TheVariants as frames
-use Rattle.nmf_records.specs.declared.script.Direction.TheVariants.{Initiator}
+use Rattle.nmf_records.specs.declared.script.Direction.TheVariants.{FromInitiator}
 use Rattle.nmf_records.specs.declared.script.Due.TheVariants as dues
 use Rattle.nbfx_values.specs.declared.session.Mode.TheVariants.{Duplex}
 use Rattle.nmf_records.specs.Records.{Read}
@@ -92,7 +92,7 @@ module _ (x : Settings) where
   never_fault (stages.Record due) from b u k e read is fault =
       let c = unit_of_record x from b u k due e in
       let same : read ≡ c.0 = cc in
-      no_fault due (ap (λ f. comes (may_come Initiator due) f) (sym (sym (ap (λ (r : Read). r.frame) same) ∙ fault)) ∙ c.2.may)
+      no_fault due (ap (λ f. comes (may_come FromInitiator due) f) (sym (sym (ap (λ (r : Read). r.frame) same) ∙ fault)) ∙ c.2.may)
   never_fault (stages.Payload p) from b u k e read is fault = let c = unit_of_payload x from b u k p e in cc
 
   untold : (z : Situation) (from : ℕ) (b : List ℕ) (u : StreamUnit) (k : ℕ) → unit_in x z.stage from b ≡ whole u k → is_over_in z.stage ≡ false → completed z from u ≡ None → is_over_in (after z from u).stage ≡ false

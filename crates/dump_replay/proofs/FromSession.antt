@@ -25,7 +25,7 @@ use Rattle.dump_replay.specs.declared.stage.Stage.TheVariants as stages
 use Rattle.dump_replay.specs.Stream.{Settings, Situation, beginning, frame, payload_byte, StreamEvent, opened, message, ended, after, completed, refused, unit_in, is_over_in, stream}
 use Rattle.dump_replay.specs.Judging.{offence}
 use Rattle.dump_replay.specs.Report.{event_line, open_line, message_line, ended_line, history_lines, report, message_lines, session_report}
-use Rattle.dump_replay.specs.Sessions.{IsBare, IsPreamble, AreEnvelopes, IsSession, IsClosed}
+use Rattle.dump_replay.specs.Sessions.{IsBare, IsPreamble, CarriesPayloads, IsSession, IsClosed}
 use Rattle.dump_replay.proofs.Grammar.{readable, quiet_over, short_enough}
 use Rattle.dump_replay.proofs.DueRecords.{record_unit}
 
@@ -138,7 +138,7 @@ module _ (x : Settings) where
         passes_then (stream x) (at (stages.Record dues.Messages) kind via messages) from head (y ∷ payload) (at (within from size size) kind via messages) _ [] (message messages size ∷ [])
         (head_passes size messages from head false some is low) (payload_passes (y ∷ payload) from size size messages (from + length head) refl (omega arith))
 
-    envelopes_pass : (payloads : List (List ℕ)) (b : List ℕ) (number messages from : ℕ) → number + length payloads ≡ messages → AreEnvelopes x payloads b
+    envelopes_pass : (payloads : List (List ℕ)) (b : List ℕ) (number messages from : ℕ) → number + length payloads ≡ messages → CarriesPayloads x payloads b
         → Passes (stream x) (at (stages.Record dues.Messages) kind via number) from b (at (stages.Record dues.Messages) kind via messages) (messages_of number payloads)
     envelopes_pass [] b number messages from count none =
         let same : number ≡ messages = omega arith in
@@ -156,7 +156,7 @@ module _ (x : Settings) where
       let one : length h.end ≡ 1 = ap length h.is_end.1 in
       let place : 0 + length c2 + 1 ≡ length b = omega arith in
       let p1 = passes_then (stream x) beginning 0 h.preamble h.envelopes _ _ (opened Duplex kind via ∷ []) (messages_of 0 payloads) (preamble_passes via kind h.preamble h.is_preamble)
-      (envelopes_pass kind via payloads h.envelopes 0 (length payloads) (0 + length h.preamble) (omega arith) h.are_envelopes) in
+      (envelopes_pass kind via payloads h.envelopes 0 (length payloads) (0 + length h.preamble) (omega arith) h.carries_payloads) in
       let p2 = passes_then (stream x) beginning 0 c2 h.end _ _ (opened Duplex kind via ∷ messages_of 0 payloads) (ended (0 + length c2 + 1) ∷ []) p1
       (end_passes (0 + length c2) via kind (length payloads) h.end h.is_end) in
       let p3 : Passes (stream x) beginning 0 b (at (stages.Record dues.Over) kind via (length payloads)) ((opened Duplex kind via ∷ messages_of 0 payloads) ++ ended (0 + length c2 + 1) ∷ []) = rw h.joined p2 in

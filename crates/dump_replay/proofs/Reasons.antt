@@ -22,7 +22,7 @@ use Rattle.nmf_records.specs.declared.frame.Frame.{Frame}
 use Rattle.nmf_records.specs.declared.frame.Frame.TheVariants as frames
 use Rattle.nmf_records.specs.declared.frame.FrameFault.{FrameFault}
 use Rattle.nmf_records.specs.declared.frame.FrameFault.TheVariants as faults
-use Rattle.nmf_records.specs.declared.script.Direction.TheVariants.{Initiator}
+use Rattle.nmf_records.specs.declared.script.Direction.TheVariants.{FromInitiator}
 use Rattle.nmf_records.specs.declared.script.Due.{Due}
 use Rattle.nmf_records.specs.declared.script.Due.TheVariants as dues
 use Rattle.nmf_records.specs.declared.record_types.TheConstants.{EXTENSIBLE_ENCODING, UPGRADE_REQUEST}
@@ -42,13 +42,13 @@ use Rattle.dump_replay.proofs.DueRecords.{version_due, mode_due, encoding_due, e
 
 -- bytes that are wrong by a fault which is answered so
 abbrev IsFaulty : Settings → Due → List ℕ → Reason → Type 0
-IsFaulty x due bytes reason = (fault : FrameFault) × (n : ℕ) × HasCause x.limits.via (may_come Initiator due) bytes fault n × (reason_of due fault ≡ reason)
+IsFaulty x due bytes reason = (fault : FrameFault) × (n : ℕ) × HasCause x.limits.via (may_come FromInitiator due) bytes fault n × (reason_of due fault ≡ reason)
 
 -- a whole record that is refused so by what it says
 record IsSaid (x : Settings) (due : Due) (bytes : List ℕ) (reason : Reason) : Type 0 where
   read : Read
   bytes_are : IsRecord read bytes
-  may : MayCome (may_come Initiator due) read.frame
+  may : MayCome (may_come FromInitiator due) read.frame
   low : length read.text ≤ x.limits.via
   refused : reason_in x read.frame ≡ Some reason
 
@@ -63,12 +63,12 @@ unexpected_is _ t = inl refl
 
 module _ (x : Settings) (due : Due) (bytes : List ℕ) where
   -- what shows each fault
-  shows_otherwise : (t : ℕ) → BeginsUnexpected (may_come Initiator due) bytes t → IsOfThree (unexpected due t) → Shows x due bytes (unexpected due t)
+  shows_otherwise : (t : ℕ) → BeginsUnexpected (may_come FromInitiator due) bytes t → IsOfThree (unexpected due t) → Shows x due bytes (unexpected due t)
   shows_otherwise t h (inl e) = subst (λ (r : Reason). Shows x due bytes r) (sym e) (t, h, e)
   shows_otherwise t h (inr (inl e)) = subst (λ (r : Reason). Shows x due bytes r) (sym e) (inr (t, h, e))
   shows_otherwise t h (inr (inr e)) = subst (λ (r : Reason). Shows x due bytes r) (sym e) (t, h, e)
 
-  shows_fault : (fault : FrameFault) (n : ℕ) → HasCause x.limits.via (may_come Initiator due) bytes fault n → Shows x due bytes (reason_of due fault)
+  shows_fault : (fault : FrameFault) (n : ℕ) → HasCause x.limits.via (may_come FromInitiator due) bytes fault n → Shows x due bytes (reason_of due fault)
   shows_fault faults.UnknownRecord n h = h.1
   shows_fault (faults.Unexpected t) n h = shows_otherwise t h.1 (unexpected_is due t)
   shows_fault faults.BadInt n h = (h.0, h.1, h.3)
@@ -99,7 +99,7 @@ module _ (x : Settings) (due : Due) (bytes : List ℕ) where
   large size reason true e some = (cc, ltb-true x.limits.payload size e)
   large size reason false e some = cc
 
-  said : (read : Frame) (text : List ℕ) (reason : Reason) → IsRecordOf read text bytes → MayCome (may_come Initiator due) read → reason_in x read ≡ Some reason → Shows x due bytes reason
+  said : (read : Frame) (text : List ℕ) (reason : Reason) → IsRecordOf read text bytes → MayCome (may_come FromInitiator due) read → reason_in x read ≡ Some reason → Shows x due bytes reason
   said (frames.Version major minor) text reason is may some =
       let h = other_version major minor reason _ refl some in
       subst (λ (r : Reason). Shows x due bytes r) h.0 (major, minor, version_due due major minor may, is.1, h.1)
@@ -213,8 +213,8 @@ module _ (x : Settings) (p before bytes : List ℕ) (joined : p ≡ before ++ by
   of_bytes (stages.Record due) o n at e =
       let on : is_over_at (stream x) before ≡ false = not_over (wrong o n) (ap (λ s. unit_in x s (standing (stream x) before).from bytes) at ∙ e) (λ h. cc) in
       let reads : is_over_in (stages.Record due) ≡ false = sym (ap is_over_in at) ∙ over_stage on in
-      let w = seen_wrong due (standing (stream x) before).from (frame_at x.limits.via (may_come Initiator due) bytes) o n (sym (reads_due x due bytes (standing (stream x) before).from reads) ∙ e) in
-      by_record o due (reason_of due w.0) at on (shows_fault x due bytes w.0 n (fault_cause x.limits.via (may_come Initiator due) bytes w.0 n w.1)) w.2
+      let w = seen_wrong due (standing (stream x) before).from (frame_at x.limits.via (may_come FromInitiator due) bytes) o n (sym (reads_due x due bytes (standing (stream x) before).from reads) ∙ e) in
+      by_record o due (reason_of due w.0) at on (shows_fault x due bytes w.0 n (fault_cause x.limits.via (may_come FromInitiator due) bytes w.0 n w.1)) w.2
   of_bytes (stages.Payload payload) o n at e = absurd (never bytes e) where
     never : (b : List ℕ) → payload_at b ≡ wrong o n → ⊥
     never [] e = cc
@@ -231,7 +231,7 @@ module _ (x : Settings) (p before bytes : List ℕ) (joined : p ≡ before ++ by
     units = units;
     reads = ap (λ s. unit_in x s (standing (stream x) before).from bytes) at
         ∙ reads_due x due bytes (standing (stream x) before).from (sym (ap is_over_in at) ∙ over_stage on)
-        ∙ ap (seen frame (refusing (standing (stream x) before).from due)) (fault_comes x.limits.via (may_come Initiator due) bytes fault n cause)
+        ∙ ap (seen frame (refusing (standing (stream x) before).from due)) (fault_comes x.limits.via (may_come FromInitiator due) bytes fault n cause)
         ∙ ap (λ r. wrong (offence_at (standing (stream x) before).from (built r)) n) is;
   }
 

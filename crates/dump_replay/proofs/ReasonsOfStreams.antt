@@ -42,10 +42,6 @@ module _ (x : Settings) (p : List ℕ) where
   unfolding is_over_at ending_at
   over_ends over = (quiet_over x).any_end (standing (stream x) p).situation (standing (stream x) p).from (length p) over
 
-  -- a stream that the end doesn't refuse is over
-  pub unrefused_over : ending_at (stream x) p ≡ None → is_over_at (stream x) p ≡ true
-  unrefused_over e = elim over_or_cut [ inl over ↦ over | inr (on, cut) ↦ cc ]
-
   cut_at : (from : ℕ) → ending_at (stream x) p ≡ Some (offence_at from reasons.Truncated) → IsCutOff x p from
   cut_at from e =
       elim over_or_cut [
@@ -116,7 +112,7 @@ module _ (x : Settings) (bytes : List ℕ) where
   over_longer p c o = ap (λ (s : Standing Situation StreamEvent Offence). is_over_in s.situation.stage) (after_end (stream x) (readable x) (quiet_over x) p c o) ∙ o
 
   -- a part that isn't refused and has the session quota is over
-  pub full_over : (p : List ℕ) → refusal_at (stream x) p ≡ None → x.limits.session ≤ length p → is_over_at (stream x) p ≡ true
+  full_over : (p : List ℕ) → refusal_at (stream x) p ≡ None → x.limits.session ≤ length p → is_over_at (stream x) p ≡ true
   full_over p none le =
       elim (cases_Bool (is_over_at (stream x) p)) [
         | inl over ↦ over

@@ -32,17 +32,7 @@ over_as_stage r x p h = ap is_over_in (sym h.stage)
 cut_off_open : (stage : Stage) (from : ℕ) → is_over_in stage ≡ false → cut_off stage from ≡ Some (offence_at (open_from stage from) Truncated)
 unfolding cut_off
 cut_off_open (stages.Record dues.Over) from e = cc
-cut_off_open (stages.Record dues.Version) from e = refl
-cut_off_open (stages.Record dues.Mode) from e = refl
-cut_off_open (stages.Record dues.Via) from e = refl
-cut_off_open (stages.Record dues.Encoding) from e = refl
-cut_off_open (stages.Record dues.PreambleEnd) from e = refl
-cut_off_open (stages.Record dues.Ack) from e = refl
-cut_off_open (stages.Record dues.Messages) from e = refl
-cut_off_open (stages.Record dues.Envelope) from e = refl
-cut_off_open (stages.Record dues.Reply) from e = refl
-cut_off_open (stages.Record dues.Chunk) from e = refl
-cut_off_open (stages.Record dues.End) from e = refl
+cut_off_open (stages.Record _) from e = refl
 cut_off_open (stages.Payload p) from e = refl
 
 cut_off_over : (stage : Stage) (from : ℕ) → is_over_in stage ≡ true → cut_off stage from ≡ None

@@ -28,7 +28,7 @@ use Rattle.nmf_records.specs.declared.frame.FrameStep.{FrameStep}
 use Rattle.nmf_records.specs.declared.frame.FrameStep.TheVariants.{More, Done}
 use Rattle.nmf_records.specs.declared.reader.FrameReader.{FrameReader}
 use Rattle.nmf_records.specs.declared.frame.Expect.{Expect}
-use Rattle.nmf_records.specs.declared.script.Direction.TheVariants.{Initiator}
+use Rattle.nmf_records.specs.declared.script.Direction.TheVariants.{FromInitiator}
 use Rattle.nmf_records.specs.declared.script.Due.{Due}
 use Rattle.nmf_records.specs.declared.script.Due.TheVariants as dues
 use Rattle.nmf_records.specs.Reading.{with_text, frame_at}
@@ -39,29 +39,15 @@ use Rattle.dump_replay.specs.declared.receiver.Step.{Step}
 use Rattle.dump_replay.specs.declared.receiver.Step.TheVariants as steps
 use Rattle.dump_replay.specs.declared.stage.Stage.{Stage}
 use Rattle.dump_replay.specs.declared.stage.Stage.TheVariants as stages
-use Rattle.dump_replay.specs.Stream.{Settings, Situation, StreamUnit, StreamEvent, opened, message, ended, frame, unexpected, built, reason_of, reason_in, offence_at, record_at, unit_in, after_record, completed_record, is_over_in, after, completed, refused, stream}
-use Rattle.dump_replay.specs.Receiving.{Reached, HasBegun, Failed, ShowsVia, taken_of, failure_of}
+use Rattle.dump_replay.specs.Stream.{Settings, Situation, StreamUnit, StreamEvent, opened, message, ended, frame, unexpected, built, reason_of, reason_in, offence_at, unit_in, after_record, completed_record, is_over_in, after, completed, refused, stream}
+use Rattle.dump_replay.specs.Receiving.{Reached, HasBegun, Failed, ShowsVia, taken_of, messages_of, failure_of}
 use Rattle.dump_replay.specs.Stepping.{UnitAnswers, BehindAnswers, step_of}
 use Rattle.dump_replay.proofs.Grammar.{readable, short_enough}
+use Rattle.dump_replay.proofs.Behind.{refused_none}
 use Rattle.dump_replay.proofs.ReceiverFacts.{over_as_stage}
+use Rattle.dump_replay.proofs.DueRecords.{read_due}
 use Rattle.dump_replay.proofs.PayloadSteps.{reached_between}
 use Rattle.dump_replay.proofs.Vias.{no_via, begun_text, wrong_text, whole_text}
-
--- where the session isn't over, what is read at a record is the framing's
-read_due : (x : Settings) (due : Due) (from : ℕ) (bytes : List ℕ) → is_over_in (stages.Record due) ≡ false
-    → record_at x due from bytes ≡ seen frame (λ fault. offence_at from (built (reason_of due fault))) (frame_at x.limits.via (may_come Initiator due) bytes)
-read_due x dues.Over from bytes on = cc
-read_due x dues.Version from bytes on = refl
-read_due x dues.Mode from bytes on = refl
-read_due x dues.Via from bytes on = refl
-read_due x dues.Encoding from bytes on = refl
-read_due x dues.PreambleEnd from bytes on = refl
-read_due x dues.Ack from bytes on = refl
-read_due x dues.Messages from bytes on = refl
-read_due x dues.Envelope from bytes on = refl
-read_due x dues.Reply from bytes on = refl
-read_due x dues.Chunk from bytes on = refl
-read_due x dues.End from bytes on = refl
 
 -- the faults of records are answered as one
 built_unexpected : (due : Due) (kind : ℕ) → built (unexpected due kind) ≡ reasons.Unbuilt
@@ -79,49 +65,28 @@ built_fault : (due : Due) (fault : FrameFault) → built (reason_of due fault) �
 built_fault due (faults.Unexpected kind) = built_unexpected due kind
 built_fault due _ = refl
 
--- a record that is refused completes nothing
-refused_none : (x : Settings) (z : Situation) (from : ℕ) (f : Frame) (reason : Reason) → reason_in x f ≡ Some reason → completed_record z from f ≡ None
-refused_none x z from (frames.Version major minor) reason e = refl
-refused_none x z from (frames.Mode mode) reason e = refl
-refused_none x z from frames.Via reason e = refl
-refused_none x z from (frames.KnownEncoding encoding) reason e = refl
-refused_none x z from frames.UnsizedEnvelope reason e = refl
-refused_none x z from (frames.Chunk size) reason e = refl
-refused_none x z from (frames.SizedEnvelope size) reason e = large (nat_lt x.limits.payload size) refl e where
-  large : (b : Bool) → nat_lt x.limits.payload size ≡ b → (if b then Some reasons.MessageTooLarge else None) ≡ Some reason → completed_record z from (frames.SizedEnvelope size) ≡ None
-  large true lt e =
-      elim (cases_Bool (size == 0)) [
-        | inl same ↦ let l = ltb-true x.limits.payload size lt in let none = eqb-true size 0 same in absurd (omega (arith, l, none))
-        | inr other ↦ rw other refl
-      ]
-  large false lt e = cc
-refused_none x z from frames.End reason e = cc
-refused_none x z from frames.Fault reason e = refl
-refused_none x z from frames.PreambleAck reason e = refl
-refused_none x z from frames.PreambleEnd reason e = cc
-
 -- what a reader of records answers and shows, by the limit and what may come
-module _ (limit via : ℕ) (expect : Expect) (due : Due) (l : limit ≡ via) (m : expect ≡ may_come Initiator due) (new : FrameReader) (b y : List ℕ) where
-  by_same : (P : ℕ → Expect → Type 0) → P limit expect → P via (may_come Initiator due)
-  by_same P h = subst (λ (n : ℕ). P n (may_come Initiator due)) l (subst (P limit) m h)
+module _ (limit via : ℕ) (expect : Expect) (due : Due) (l : limit ≡ via) (m : expect ≡ may_come FromInitiator due) (new : FrameReader) (b y : List ℕ) where
+  by_same : (P : ℕ → Expect → Type 0) → P limit expect → P via (may_come FromInitiator due)
+  by_same P h = subst (λ (n : ℕ). P n (may_come FromInitiator due)) l (subst (P limit) m h)
 
-  pub shown_so : (s : List ℕ) → ShowsText new (shown_behind limit expect (b ++ y) s) → ShowsText new (shown_behind via (may_come Initiator due) (b ++ y) s)
+  pub shown_so : (s : List ℕ) → ShowsText new (shown_behind limit expect (b ++ y) s) → ShowsText new (shown_behind via (may_come FromInitiator due) (b ++ y) s)
   shown_so s = by_same (λ n e. ShowsText new (shown_behind n e (b ++ y) s))
 
   pub more_so : (n : ℕ) (step : FrameStep) → step ≡ More → FrameAnswers limit expect b y (Ok (n, step)) → AfterPiece new expect (b ++ y) (Ok (n, step))
-      → (n ≡ length y) × (frame_at via (may_come Initiator due) (b ++ y) ≡ begun) × FrameStandsFor new (may_come Initiator due) (b ++ y)
+      → (n ≡ length y) × (frame_at via (may_come FromInitiator due) (b ++ y) ≡ begun) × FrameStandsFor new (may_come FromInitiator due) (b ++ y)
   more_so n step is said after =
       let a : FrameAnswers limit expect b y (Ok (n, More)) = subst (λ (t : FrameStep). FrameAnswers limit expect b y (Ok (n, t))) is said in
       let f : FrameStandsFor new expect (b ++ y) = subst (λ (t : FrameStep). AfterPiece new expect (b ++ y) (Ok (n, t))) is after in
       (a.0, by_same (λ k e. frame_at k e (b ++ y) ≡ begun) a.1, subst (λ (e : Expect). FrameStandsFor new e (b ++ y)) m f)
 
   pub done_so : (n : ℕ) (step : FrameStep) (f : Frame) → step ≡ Done f → FrameAnswers limit expect b y (Ok (n, step)) → AfterPiece new expect (b ++ y) (Ok (n, step))
-      → (text : List ℕ) × (frame_at via (may_come Initiator due) (b ++ y) ≡ whole (with_text f text) (length b + n)) × ((next : Expect) → FrameStandsFor new next [])
+      → (text : List ℕ) × (frame_at via (may_come FromInitiator due) (b ++ y) ≡ whole (with_text f text) (length b + n)) × ((next : Expect) → FrameStandsFor new next [])
   done_so n step f is said after =
       let a : FrameAnswers limit expect b y (Ok (n, Done f)) = subst (λ (t : FrameStep). FrameAnswers limit expect b y (Ok (n, t))) is said in
       (a.0, by_same (λ k e. frame_at k e (b ++ y) ≡ whole (with_text f a.0) (length b + n)) a.1, subst (λ (t : FrameStep). AfterPiece new expect (b ++ y) (Ok (n, t))) is after)
 
-  pub wrong_so : (refusal : FrameRefusal) → FrameAnswers limit expect b y (Err refusal) → frame_at via (may_come Initiator due) (b ++ y) ≡ wrong refusal.fault refusal.shown_by
+  pub wrong_so : (refusal : FrameRefusal) → FrameAnswers limit expect b y (Err refusal) → frame_at via (may_come FromInitiator due) (b ++ y) ≡ wrong refusal.fault refusal.shown_by
   wrong_so refusal = by_same (λ k e. frame_at k e (b ++ y) ≡ wrong refusal.fault refusal.shown_by)
 
 module _ (r : Receiver) (x : Settings) (p c : List ℕ) (due : Due) (is : r.stage ≡ stages.Record due) (h : Reached r x p) (on : is_over_at (stream x) p ≡ false) (fits : length p + length c ≤ x.limits.session) where
@@ -135,7 +100,7 @@ module _ (r : Receiver) (x : Settings) (p c : List ℕ) (due : Due) (is : r.stag
   begun_here = (standing (stream x) p).begun
 
   abbrev pub expected : Expect
-  expected = may_come Initiator due
+  expected = may_come FromInitiator due
 
   pub stage_here : situation_here.stage ≡ stages.Record due
   stage_here = sym h.stage ∙ is
@@ -236,7 +201,7 @@ module _ (r : Receiver) (x : Settings) (p c : List ℕ) (due : Due) (is : r.stag
 
       no_record : (stage : Stage) → HasBegun stage new.frames []
       no_record (stages.Payload payload) = rw same fresh
-      no_record (stages.Record next) = rw same (fresh (may_come Initiator next))
+      no_record (stages.Record next) = rw same (fresh (may_come FromInitiator next))
 
       reached : Reached new x (p ++ take n c)
       reached =
@@ -257,7 +222,7 @@ module _ (r : Receiver) (x : Settings) (p c : List ℕ) (due : Due) (is : r.stag
       by_event (Some (ended at)) e = (ended at, by_last.some, before, event ∙ e, refl, reached)
 
     -- or is
-    module _ (reason : Reason) (bad : reason_in x f ≡ Some reason) (o : Offence) (told : o ≡ offence_at from_here (built reason)) (failure : new.failure ≡ Some o) where
+    module _ (reason : Reason) (bad : reason_in x f ≡ Some reason) (o : Offence) (told : o ≡ offence_at from_here (built reason)) (failure : new.failure ≡ Some o) (messages : new.messages ≡ (after_record situation_here from_here f text).messages) where
       refusal : refusal_at (stream x) (p ++ take n c) ≡ Some o
       unfolding refused
       refusal =
@@ -273,8 +238,8 @@ module _ (r : Receiver) (x : Settings) (p c : List ℕ) (due : Due) (is : r.stag
       via_shown = rw there via_there
 
       failed : Failed new x o (p ++ take n c)
-      unfolding failure_of taken_of
-      failed = record { failure = failure; taken = omega (arith, taken, h.taken, len); via = via_shown }
+      unfolding failure_of taken_of messages_of after
+      failed = record { failure = failure; taken = omega (arith, taken, h.taken, len); via = via_shown; messages = rw there messages }
 
       answers : UnitAnswers x p c new (Err o)
       answers = (n, refused_quiet, refusal, failed)
@@ -292,13 +257,13 @@ module _ (r : Receiver) (x : Settings) (p c : List ℕ) (due : Due) (is : r.stag
 
     pub record_refused : (v : Option Reason) → reason_in x f ≡ v → (from : ℕ) → from ≡ from_here → (o : Offence) → BehindAnswers v (after_record situation_here from f text) (completed_record situation_here from f) new from (Err o) → UnitAnswers x p c new (Err o)
     record_refused None good from place o h = absurd h
-    record_refused (Some reason) bad from place o h = let b = by_place (Some reason) from place (Err o) h in answers reason bad o b.0 b.1
+    record_refused (Some reason) bad from place o h = let b = by_place (Some reason) from place (Err o) h in answers reason bad o b.0 b.1 b.2
 
   -- a record that is wrong
   pub record_wrong : (new : Receiver) (fault : FrameFault) (k : ℕ) (o : Offence) → frame_at x.limits.via expected (begun_here ++ c) ≡ wrong fault k → o ≡ offence_at from_here reasons.Unbuilt
-      → ShowsText new.frames (shown_behind x.limits.via expected (begun_here ++ c) situation_here.via) → new.taken ≡ from_here + k → new.failure ≡ Some o → UnitAnswers x p c new (Err o)
-  unfolding failure_of taken_of ShowsVia
-  record_wrong new fault k o read told shown taken failure =
+      → ShowsText new.frames (shown_behind x.limits.via expected (begun_here ++ c) situation_here.via) → new.taken ≡ from_here + k → new.failure ≡ Some o → new.messages ≡ r.messages → UnitAnswers x p c new (Err o)
+  unfolding failure_of taken_of messages_of ShowsVia
+  record_wrong new fault k o read told shown taken failure messages =
       let n : ℕ = k - length begun_here in
       let reads = (readable x).reads situation_here from_here in
       let is_wrong : front (begun_here ++ c) ≡ wrong (offence_at from_here (built (reason_of due fault))) k = front_is (begun_here ++ c) ∙ ap (seen frame (λ why. offence_at from_here (built (reason_of due why)))) read in
@@ -315,5 +280,6 @@ module _ (r : Receiver) (x : Settings) (p c : List ℕ) (due : Due) (is : r.stag
           failure = failure;
           taken = omega (arith, taken, len, place, later);
           via = rw there (subst (ShowsText new.frames) (ap (text_after situation_here.via expected (begun_here ++ c)) read ∙ wrong_text situation_here due stage_here (no_via x p) (begun_here ++ c) fault k) shown);
+          messages = rw there (messages ∙ h.messages);
         },
       )

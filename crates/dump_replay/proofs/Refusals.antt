@@ -13,7 +13,7 @@ use Rattle.nbfx_values.specs.Limits.{limits}
 use Rattle.nbfx_values.specs.declared.refusals.Reason.{Reason}
 use Rattle.nbfx_values.specs.declared.refusals.Reason.TheVariants as reasons
 use Rattle.nmf_records.specs.declared.frame.FrameFault.{FrameFault}
-use Rattle.nmf_records.specs.declared.script.Direction.TheVariants.{Initiator}
+use Rattle.nmf_records.specs.declared.script.Direction.TheVariants.{FromInitiator}
 use Rattle.nmf_records.specs.declared.script.Due.{Due}
 use Rattle.nmf_records.specs.declared.script.Due.TheVariants as dues
 use Rattle.nmf_records.specs.Records.{Read}
@@ -208,7 +208,7 @@ reason_at x due (whole read n) = reason_in x read.frame
 reason_at x due (wrong fault n) = Some (reason_of due fault)
 
 abbrev named : Settings → Due → List ℕ → Option Reason
-named x due bytes = reason_at x due (frame_at x.limits.via (may_come Initiator due) bytes)
+named x due bytes = reason_at x due (frame_at x.limits.via (may_come FromInitiator due) bytes)
 
 -- each record of a preamble, an envelope and the end, and one that is only begun
 nothing_named :

@@ -5,7 +5,8 @@ use Rattle.std.proofs.lemmas.Bool.{eqb-false, ltb-true}
 use Rattle.std.proofs.lemmas.List.{length-take-le}
 use Rattle.unit_streams.specs.Front.{whole}
 use Rattle.unit_streams.specs.Grammar.{standing}
-use Rattle.unit_streams.specs.Judging.{given_at, event_at}
+use Rattle.unit_streams.specs.Judging.{event_at}
+use Rattle.unit_streams.proofs.Passing.{given_some}
 use Rattle.unit_streams.proofs.Standing.{standing_keeps, standing_last, standing_length}
 use Rattle.nmf_records.specs.declared.frame.Frame.{Frame}
 use Rattle.nmf_records.specs.declared.frame.Frame.TheVariants as frames
@@ -112,13 +113,9 @@ module _ (x : Settings) where
   told_by_last p = standing_last (stream x) (readable x) (λ z from event refusal. Tells z from event) tt (λ z from b u k e. tells_unit z.stage z from b u k refl e) p
 
   -- the event that a prefix completes is the last unit's, which ends with it
-  some_given : {A : Type 0} (b : List ℕ) (given : Option A) (a : A) → given_at b given ≡ Some a → (b ≡ []) × (given ≡ Some a)
-  some_given [] given a e = (refl, e)
-  some_given (y ∷ b) given a e = cc
-
   pub event_tells : (p : List ℕ) (event : StreamEvent) → event_at (stream x) p ≡ Some event → Tells (standing (stream x) p).situation (length p) (Some event)
   unfolding event_at
   event_tells p event e =
-      let g = some_given (standing (stream x) p).begun (standing (stream x) p).event event e in
+      let g = given_some (standing (stream x) p).begun (standing (stream x) p).event event e in
       let all : (standing (stream x) p).from ≡ length p = let n = standing_length (stream x) (readable x) p in let none = ap length g.0 in omega (arith, n, none) in
       subst (λ (n : ℕ). Tells (standing (stream x) p).situation n (Some event)) all (subst (λ (v : Option StreamEvent). Tells (standing (stream x) p).situation (standing (stream x) p).from v) g.1 (told_by_last p))

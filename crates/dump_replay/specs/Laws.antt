@@ -7,7 +7,7 @@ use Rattle.nbfx_values.specs.declared.session.Mode.TheVariants.{Duplex}
 use Rattle.nbfx_values.specs.declared.refusals.Offence.{Offence}
 use Rattle.nbfx_values.specs.declared.refusals.Reason.TheVariants.{Unbuilt, MessageTooLarge, Truncated, SessionTooLong}
 use Rattle.nmf_records.specs.declared.frame.Frame.{Frame}
-use Rattle.nmf_records.specs.declared.script.Direction.TheVariants.{Initiator}
+use Rattle.nmf_records.specs.declared.script.Direction.TheVariants.{FromInitiator}
 use Rattle.nmf_records.specs.Script.{IsScript}
 use Rattle.dump_replay.specs.Stream.{Settings, offence_at, stream}
 use Rattle.dump_replay.specs.Judging.{offence}
@@ -24,7 +24,7 @@ abbrev pub SessionsAreScripts : Type 0
 SessionsAreScripts = (x : Settings) (bytes : List ℕ)
     → ((via : List ℕ) × (kind : Kind) × (payloads : List (List ℕ))
     × IsSession x via kind payloads bytes)
-    ↔ ((script : List Frame) × IsScript Initiator Duplex script × HasScript x script bytes
+    ↔ ((script : List Frame) × IsScript FromInitiator Duplex script × HasScript x script bytes
     × (length bytes ≤ x.limits.session))
 
 -- a report is a line for each event, in their order, and then the offence's

@@ -6,10 +6,13 @@ use Rattle.unit_streams.specs.Going.{IsGoing}
 use Rattle.unit_streams.specs.Refusals.{AreUnits}
 use Rattle.multibyte_ints.specs.Integer.{Spells}
 use Rattle.multibyte_ints.specs.Laws.{FifthIsAbove}
+use Rattle.nbfx_values.specs.declared.session.Mode.TheVariants.{Duplex}
+use Rattle.nbfx_values.specs.declared.session.Kind.TheVariants.{Plain, Session}
+use Rattle.nbfx_values.specs.Session.{mode_number, kind_number}
 use Rattle.nbfx_values.specs.declared.refusals.Reason.{Reason}
 use Rattle.nbfx_values.specs.declared.refusals.Reason.TheVariants as reasons
 use Rattle.nbfx_values.specs.Refusals.{reason_number}
-use Rattle.nmf_records.specs.declared.script.Direction.TheVariants.{Initiator}
+use Rattle.nmf_records.specs.declared.script.Direction.TheVariants.{FromInitiator}
 use Rattle.nmf_records.specs.declared.script.Due.{Due}
 use Rattle.nmf_records.specs.declared.script.Due.TheVariants as dues
 use Rattle.nmf_records.specs.declared.record_types.TheConstants.{VERSION, MODE, KNOWN_ENCODING, SIZED_ENVELOPE}
@@ -21,7 +24,7 @@ use Rattle.dump_replay.specs.Stream.{Settings, unexpected, open_from, stream}
 -- a known type that may not come, which is answered so
 abbrev pub BeginsOtherwise : Due → List ℕ → Reason → Type 0
 BeginsOtherwise due bytes reason =
-    (t : ℕ) × BeginsUnexpected (may_come Initiator due) bytes t × (unexpected due t ≡ reason)
+    (t : ℕ) × BeginsUnexpected (may_come FromInitiator due) bytes t × (unexpected due t ≡ reason)
 
 -- a version other than 1.0
 abbrev pub IsOtherVersion : Due → List ℕ → Type 0
@@ -31,13 +34,14 @@ IsOtherVersion due bytes =
 
 -- a mode other than duplex
 abbrev pub IsOtherMode : Due → List ℕ → Type 0
-IsOtherMode due bytes = (mode : ℕ) × (due ≡ dues.Mode) × (bytes ≡ MODE ∷ mode ∷ []) × (mode ≢ 2)
+IsOtherMode due bytes = (mode : ℕ) × (due ≡ dues.Mode) × (bytes ≡ MODE ∷ mode ∷ [])
+    × (mode ≢ mode_number Duplex)
 
 -- a known encoding other than binary, with a session's strings or without
 abbrev pub IsOtherEncoding : Due → List ℕ → Type 0
 IsOtherEncoding due bytes =
     (encoding : ℕ) × (due ≡ dues.Encoding) × (bytes ≡ KNOWN_ENCODING ∷ encoding ∷ [])
-    × (encoding ≢ 7) × (encoding ≢ 8)
+    × (encoding ≢ kind_number Plain) × (encoding ≢ kind_number Session)
 
 -- the head of an envelope with a payload above the quota
 abbrev pub IsLargeHead : Settings → Due → List ℕ → Type 0
@@ -48,15 +52,15 @@ IsLargeHead x due bytes =
 -- bytes that show the reason where this is due
 abbrev pub Shows : Settings → Due → List ℕ → Reason → Type 0
 Shows x due bytes reasons.BadInt =
-    (k : ℕ) × IntegerComes (may_come Initiator due) bytes k × FifthIsAbove (drop k bytes)
-Shows x due bytes reasons.UnknownRecord = BeginsUnknown (may_come Initiator due) bytes
+    (k : ℕ) × IntegerComes (may_come FromInitiator due) bytes k × FifthIsAbove (drop k bytes)
+Shows x due bytes reasons.UnknownRecord = BeginsUnknown (may_come FromInitiator due) bytes
 Shows x due bytes reasons.OutOfOrder = BeginsOtherwise due bytes reasons.OutOfOrder
 Shows x due bytes reasons.BadVersion = IsOtherVersion due bytes
 Shows x due bytes reasons.BadMode = IsOtherMode due bytes
 Shows x due bytes reasons.TextTooLong =
-    (n : ℕ) × HasLongText x.limits.via (may_come Initiator due) bytes n
+    (n : ℕ) × HasLongText x.limits.via (may_come FromInitiator due) bytes n
 Shows x due bytes reasons.TextNotUtf8 =
-    (n : ℕ) × HasBadText x.limits.via (may_come Initiator due) bytes n
+    (n : ℕ) × HasBadText x.limits.via (may_come FromInitiator due) bytes n
 Shows x due bytes reasons.BadEncoding =
     IsOtherEncoding due bytes ⊎ BeginsOtherwise due bytes reasons.BadEncoding
 Shows x due bytes reasons.UpgradeRefused = BeginsOtherwise due bytes reasons.UpgradeRefused

@@ -1,14 +1,15 @@
 -- An initiator's stream in duplex mode, as a grammar of units: a record, where an envelope's is its head, or a byte of a payload.
 use Rattle.std.specs.Prelude.{ℕ, ◌+◌, ◌-◌, List, [], ◌∷◌, Bool, true, false, Option, Some, None, nat_lt, nat_le, ◌==◌, ◌&&◌, ◌||◌, not, if◌then◌else◌}
 use Rattle.std.specs.Option.{option_map}
-use Rattle.unit_streams.specs.Front.{Front, begun, whole}
-use Rattle.unit_streams.specs.Parts.{seen}
+use Rattle.unit_streams.specs.Front.{Front, begun}
+use Rattle.unit_streams.specs.Parts.{a_byte, seen}
 use Rattle.unit_streams.specs.Grammar.{Grammar}
 use Rattle.nbfx_values.specs.Limits.{Limits, usual_limits}
 use Rattle.nbfx_values.specs.declared.session.Mode.{Mode}
 use Rattle.nbfx_values.specs.declared.session.Mode.TheVariants.{Duplex}
 use Rattle.nbfx_values.specs.declared.session.Kind.{Kind}
 use Rattle.nbfx_values.specs.declared.session.Kind.TheVariants.{Plain, Session}
+use Rattle.nbfx_values.specs.Session.{mode_number, kind_number}
 use Rattle.nbfx_values.specs.declared.refusals.Place.TheVariants.{Frame as InFrame}
 use Rattle.nbfx_values.specs.declared.refusals.Offence.{Offence}
 use Rattle.nbfx_values.specs.declared.refusals.Reason.{Reason}
@@ -18,7 +19,7 @@ use Rattle.nmf_records.specs.declared.frame.Frame.{Frame}
 use Rattle.nmf_records.specs.declared.frame.Frame.TheVariants.{Version, Mode as ModeRecord, Via, KnownEncoding, SizedEnvelope, End, PreambleEnd}
 use Rattle.nmf_records.specs.declared.frame.FrameFault.{FrameFault}
 use Rattle.nmf_records.specs.declared.frame.FrameFault.TheVariants as faults
-use Rattle.nmf_records.specs.declared.script.Direction.TheVariants.{Initiator}
+use Rattle.nmf_records.specs.declared.script.Direction.TheVariants.{FromInitiator}
 use Rattle.nmf_records.specs.declared.script.Due.{Due}
 use Rattle.nmf_records.specs.declared.script.Due.TheVariants as dues
 use Rattle.nmf_records.specs.declared.record_types.TheConstants.{EXTENSIBLE_ENCODING, UPGRADE_REQUEST}
@@ -78,8 +79,8 @@ reason_of due faults.TextNotUtf8 = reasons.TextNotUtf8
 -- why what a whole record says is refused
 abbrev pub reason_in : Settings → Frame → Option Reason
 reason_in x (Version major minor) = if (major == 1) && (minor == 0) then None else Some reasons.BadVersion
-reason_in x (ModeRecord mode) = if mode == 2 then None else Some reasons.BadMode
-reason_in x (KnownEncoding encoding) = if (encoding == 7) || (encoding == 8) then None else Some reasons.BadEncoding
+reason_in x (ModeRecord mode) = if mode == mode_number Duplex then None else Some reasons.BadMode
+reason_in x (KnownEncoding encoding) = if (encoding == kind_number Plain) || (encoding == kind_number Session) then None else Some reasons.BadEncoding
 reason_in x (SizedEnvelope size) = if nat_lt x.limits.payload size then Some reasons.MessageTooLarge else None
 reason_in x _ = None
 
@@ -93,11 +94,10 @@ offence_at from reason = record { place = InFrame from; reason = reason }
 -- the record at the front of some bytes, where one is due
 abbrev pub record_at : Settings → Due → ℕ → List ℕ → Front StreamUnit Offence
 record_at x dues.Over from bytes = begun
-record_at x due from bytes = seen frame (λ fault. offence_at from (built (reason_of due fault))) (frame_at x.limits.via (may_come Initiator due) bytes)
+record_at x due from bytes = seen frame (λ fault. offence_at from (built (reason_of due fault))) (frame_at x.limits.via (may_come FromInitiator due) bytes)
 
 abbrev pub payload_at : List ℕ → Front StreamUnit Offence
-payload_at [] = begun
-payload_at (byte ∷ rest) = whole (payload_byte byte) 1
+payload_at bytes = seen payload_byte (λ o. o) (a_byte bytes)
 
 -- the unit at the front of some bytes
 unfoldable pub unit_in : Settings → Stage → ℕ → List ℕ → Front StreamUnit Offence
@@ -111,7 +111,7 @@ due_in (stages.Payload payload) = dues.Messages
 
 -- where a record leads
 abbrev pub led : Stage → Frame → Stage
-led stage read = stages.Record (leads Initiator Duplex (due_in stage) read)
+led stage read = stages.Record (leads FromInitiator Duplex (due_in stage) read)
 
 -- an envelope is all there
 abbrev pub message_whole : Situation → Situation
@@ -124,7 +124,7 @@ with_head z from size = if size == 0 then message_whole z else record z { stage 
 -- the situation behind a record that begins at this offset
 abbrev pub after_record : Situation → ℕ → Frame → List ℕ → Situation
 after_record z from Via text = record z { stage = led z.stage Via; via = text }
-after_record z from (KnownEncoding encoding) text = record z { stage = led z.stage (KnownEncoding encoding); kind = (if encoding == 7 then Plain else Session) }
+after_record z from (KnownEncoding encoding) text = record z { stage = led z.stage (KnownEncoding encoding); kind = (if encoding == kind_number Plain then Plain else Session) }
 after_record z from (SizedEnvelope size) text = with_head z from size
 after_record z from read text = record z { stage = led z.stage read }
 
@@ -174,7 +174,7 @@ too_long x stage from n = if nat_le x.limits.session n && not (is_over_in stage)
 
 -- the input may end where the session may
 unfoldable pub cut_off : Stage → ℕ → Option Offence
-cut_off (stages.Record due) from = if may_end Initiator Duplex due then None else Some (offence_at from reasons.Truncated)
+cut_off (stages.Record due) from = if may_end FromInitiator Duplex due then None else Some (offence_at from reasons.Truncated)
 cut_off (stages.Payload p) from = Some (offence_at p.from reasons.Truncated)
 
 -- the stream's grammar

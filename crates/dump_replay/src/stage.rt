@@ -1,6 +1,8 @@
 //! What may come next in an initiator's stream, and where a whole record leads to.
 
-ghost use Rattle.std.specs.Prelude.{◌≡◌, ℕ, List};
+ghost use Rattle.std.specs.Prelude.{◌≡◌, ℕ, List, ◌==◌, ◌||◌};
+ghost use Rattle.nbfx_values.specs.declared.session.Kind.TheVariants.{Plain, Session};
+ghost use Rattle.nbfx_values.specs.Session.{kind_number};
 ghost use Rattle.nbfx_values.specs.QuotasOf.{limits_of};
 ghost use Rattle.dump_replay.specs.Stream.{Settings, Situation, reason_in, after_record, completed_record};
 ghost use Rattle.dump_replay.specs.Stepping.{RecordAnswers, RefusedAs, step_of};
@@ -44,13 +46,17 @@ fn refused(quotas: &Quotas, frame: Frame) -> Option<Reason>
     match frame {
         Frame::Version { major: 1, minor: 0 } => None,
         Frame::Version { .. } => Some(Reason::Unbuilt),
-        Frame::Mode(2) => None,
-        Frame::Mode(_) => Some(Reason::Unbuilt),
-        Frame::KnownEncoding(7 | 8) => None,
-        Frame::KnownEncoding(_) => Some(Reason::Unbuilt),
+        Frame::Mode(mode) if mode != Mode::Duplex.number() => Some(Reason::Unbuilt),
+        Frame::KnownEncoding(encoding) if !is_known(encoding) => Some(Reason::Unbuilt),
         Frame::SizedEnvelope(size) if size > quotas.payload => Some(Reason::MessageTooLarge),
         _ => None,
     }
+}
+
+fn is_known(encoding: u8) -> bool
+    ensures { result ≡ ((encoding == kind_number Plain) || (encoding == kind_number Session)) }
+{
+    encoding == Kind::Plain.number() || encoding == Kind::Session.number()
 }
 
 /// Where a whole record leads to that begins at this offset, or why it is refused.
@@ -84,7 +90,7 @@ fn stage_behind(due: Due, from: u64, frame: Frame) -> Stage
             size,
             left: size,
         }),
-        _ => Stage::Record(due.behind(Direction::Initiator, Mode::Duplex, frame)),
+        _ => Stage::Record(due.behind(Direction::FromInitiator, Mode::Duplex, frame)),
     }
 }
 
@@ -92,7 +98,7 @@ fn kind_behind(kind: Kind, frame: Frame) -> Kind
     ensures { (z : Situation) (from : ℕ) (text : List ℕ) → z.kind ≡ kind → result ≡ (after_record z from frame text).kind }
 {
     match frame {
-        Frame::KnownEncoding(7) => Kind::Plain,
+        Frame::KnownEncoding(encoding) if encoding == Kind::Plain.number() => Kind::Plain,
         Frame::KnownEncoding(_) => Kind::Session,
         _ => kind,
     }

@@ -19,3 +19,4 @@ pub mod Pending
 pub mod Units
 pub mod Quiet
 pub mod Along
+pub mod Accepted

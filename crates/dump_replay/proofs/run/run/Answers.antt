@@ -31,4 +31,4 @@ returns-clause-cut g c = λ form s stream w e o.
 
 pub returns-clause-closed : goal.returns-clause-closed
 returns-clause-closed g c = λ form stream e closed read written.
-    rw c.status-status.ensures (status_closed none_is_closed usual stream c.check.result closed (c.check.ensures.judges stream e) (λ r. read (c.check.ensures.read_failed r)) (λ w. written (c.check.ensures.write_failed w)))
+    rw c.status-status.ensures (status_closed none_is_closed usual stream c.check.result closed (c.check.ensures.judges stream e) (λ r. read (c.check.ensures.reads_counted.rose r)) (λ w. written (c.check.ensures.writes_counted.rose w)))

@@ -1,4 +1,4 @@
-use Rattle.std.proofs.Common.{refl, ap}
+use Rattle.std.proofs.Common.{refl, sym, ap, ◌∙◌}
 use Rattle.dump_replay.specs.declared.receiver.Receiver.{Receiver}
 use Rattle.dump_replay.specs.Stream.{reason_in}
 use Rattle.dump_replay.specs.Receiving.{failure_of}
@@ -25,8 +25,8 @@ returns-in_default c = record {
 
 pub returns-in-Err-clause-answers : goal.returns-in-Err-clause-answers
 returns-in-Err-clause-answers c = λ x z text limits stage kind messages small.
-    behind_refused (reason_in x c.args.frame) _ _ c.refuse.new.self c.args.self.now.unit_from c.in-Err.reason c.refuse.result (c.in-Err.ensures x z text limits kind stage)
-    c.refuse.ensures.offence (ap (λ (r : Receiver). r.failure) c.refuse.ensures.refused)
+    behind_refused x (reason_in x c.args.frame) z c.args.self.now.unit_from c.args.frame text c.refuse.new.self c.in-Err.reason c.refuse.result refl (c.in-Err.ensures x z text limits kind stage)
+    c.refuse.ensures.offence (ap (λ (r : Receiver). r.failure) c.refuse.ensures.refused) (ap (λ (r : Receiver). r.messages) c.refuse.ensures.refused ∙ sym messages)
 
 pub returns-in-Err-clause-refused : goal.returns-in-Err-clause-refused
 unfolding failure_of

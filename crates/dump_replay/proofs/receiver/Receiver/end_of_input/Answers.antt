@@ -2,7 +2,7 @@ use Rattle.std.proofs.Common.{Err, refl, sym, ap, ◌∙◌}
 use Rattle.nbfx_values.specs.declared.refusals.Reason.TheVariants.{Truncated}
 use Rattle.dump_replay.specs.Stream.{offence_at}
 use Rattle.dump_replay.specs.Saying.{said_at_end}
-use Rattle.dump_replay.specs.Receiving.{StandsFor, FailedBehind, settings_of, failure_of, taken_of, held_of, ShowsVia}
+use Rattle.dump_replay.specs.Receiving.{StandsFor, FailedBehind, settings_of, failure_of, taken_of, messages_of, held_of, ShowsVia}
 use Rattle.dump_replay.proofs.ReceiverFacts.{not_failed, ending_open, ending_over}
 use Rattle.dump_replay.proofs.receiver.Receiver.end_of_input.Goals as goal
 
@@ -45,8 +45,8 @@ unfolding failure_of
 returns-clause-unchanged c = λ o e. absurd (c.in_default.not-Some o e)
 
 pub returns-clause-failed : goal.returns-clause-failed
-unfolding StandsFor FailedBehind settings_of failure_of taken_of ShowsVia
-returns-clause-failed c = λ p h. rw c.refuse.ensures.refused (record { failure = refl; taken = h.taken; via = h.text })
+unfolding StandsFor FailedBehind settings_of failure_of taken_of messages_of ShowsVia
+returns-clause-failed c = λ p h. rw c.refuse.ensures.refused (record { failure = refl; taken = h.taken; via = h.text; messages = h.messages })
 
 pub returns-clause-via : goal.returns-clause-via
 unfolding ShowsVia

@@ -2,7 +2,7 @@ use Rattle.std.proofs.Common.{refl, sym, ap, ◌∙◌, arith}
 use Rattle.unit_streams.specs.Grammar.{Standing}
 use Rattle.nbfx_values.specs.QuotasOf.{limits_of}
 use Rattle.nbfx_values.specs.declared.refusals.Offence.{Offence}
-use Rattle.nmf_records.specs.declared.script.Direction.TheVariants.{Initiator}
+use Rattle.nmf_records.specs.declared.script.Direction.TheVariants.{FromInitiator}
 use Rattle.nmf_records.specs.declared.script.Due.TheVariants as dues
 use Rattle.nmf_records.specs.Script.{may_come}
 use Rattle.dump_replay.specs.declared.stage.Stage.TheVariants as stages
@@ -21,7 +21,7 @@ returns-clause-stands c =
       stage = ap stages.Record c.first.ensures ∙ sym (ap (λ (s : Standing Situation StreamEvent Offence). s.situation.stage) e);
       kind = sym (ap (λ (s : Standing Situation StreamEvent Offence). s.situation.kind) e);
       messages = sym (ap (λ (s : Standing Situation StreamEvent Offence). s.situation.messages) e);
-      frames = rw (c.first.ensures, e) (c.in_ok-new.ensures.stands (may_come Initiator dues.Version));
+      frames = rw (c.first.ensures, e) (c.in_ok-new.ensures.stands (may_come FromInitiator dues.Version));
       text = rw e c.in_ok-new.ensures.text;
       unit_from = sym (ap (λ (s : Standing Situation StreamEvent Offence). s.from) e);
       taken = refl;

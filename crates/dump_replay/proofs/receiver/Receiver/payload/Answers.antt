@@ -5,7 +5,7 @@ use Rattle.unit_streams.specs.Judging.{event_at}
 use Rattle.unit_streams.specs.Going.{IsQuietBefore}
 use Rattle.unit_streams.proofs.Units.{IsBetween}
 use Rattle.nbfx_values.specs.Limits.{Limits}
-use Rattle.nmf_records.specs.declared.script.Direction.TheVariants.{Initiator}
+use Rattle.nmf_records.specs.declared.script.Direction.TheVariants.{FromInitiator}
 use Rattle.nmf_records.specs.declared.script.Due.TheVariants as dues
 use Rattle.nmf_records.specs.Script.{may_come}
 use Rattle.dump_replay.specs.declared.receiver.Receiver.{Receiver}
@@ -65,6 +65,6 @@ returns-clause-answers c = λ x p y size is limits h.
       ap (λ k. event_at (stream x) (p ++ take k y)) (sym next) ∙ event,
       refl,
       reached_between _ x (p ++ take n y) (message_whole (standing (stream x) p).situation) ((standing (stream x) p).from + n) there refl h.kind
-          (omega (arith, c.saturating_add-self.ensures, h.messages, few, h.within, session, c.args.self.now.quotas.good.session_most)) (no_record_begun r x p h c.args.payload is (may_come Initiator dues.Messages)) h.text (omega (arith, place, h.taken))
+          (omega (arith, c.saturating_add-self.ensures, h.messages, few, h.within, session, c.args.self.now.quotas.good.session_most)) (no_record_begun r x p h c.args.payload is (may_come FromInitiator dues.Messages)) h.text (omega (arith, place, h.taken))
           (omega (arith, h.taken, len)) (omega (arith, len, within, fits)) h.unfailed,
     )
