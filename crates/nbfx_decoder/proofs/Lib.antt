@@ -1,0 +1,2 @@
+-- MeaningFacts: what nodes mean, found one after the other (meaning.rt).
+pub mod MeaningFacts
