@@ -1,2 +1,3 @@
 -- MeaningFacts: what nodes mean, found one after the other (meaning.rt).
 pub mod MeaningFacts
+pub mod Places

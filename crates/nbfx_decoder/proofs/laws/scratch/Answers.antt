@@ -1,0 +1,5 @@
+use Rattle.nbfx_decoder.proofs.Places.{depth_more}
+use Rattle.nbfx_decoder.proofs.laws.scratch.Goals as goal
+
+pub returns : goal.returns
+returns c = tt
