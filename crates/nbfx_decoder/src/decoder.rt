@@ -221,7 +221,7 @@ impl<'s> Decoder<'s> {
             UnitFault::Refused { reason, shown_by } => DecodeFault::Payload {
                 at,
                 reason,
-                shown_by: at.saturating_add(shown_by as u32),
+                shown_by: at.saturating_add(u32::try_from(shown_by).unwrap_or(u32::MAX)),
             },
             UnitFault::Memory => DecodeFault::Memory,
         };

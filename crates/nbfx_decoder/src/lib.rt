@@ -12,6 +12,7 @@
 mod begun;
 mod decoder;
 mod faults;
+pub mod laws;
 mod meaning;
 mod section;
 mod strings;

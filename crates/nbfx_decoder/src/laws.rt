@@ -1,0 +1,8 @@
+//! Laws.
+
+ghost use Rattle.std.specs.Prelude.{⊤};
+
+/// Scratch.
+pub fn scratch()
+    ensures { ⊤ }
+{}
