@@ -6,3 +6,4 @@ pub mod Places
 pub mod Waits
 pub mod StringSteps
 pub mod UnitSteps
+pub mod TakeSteps

@@ -15,6 +15,13 @@ module _ {A R : Type 0} (reader : List ℕ → Front A R) (b : List ℕ) where
   pub waits_one : reader b ≡ begun → WaitsFor reader b (length b + 1)
   waits_one e = record { more = omega arith; begins = λ next lt. ap reader (no_more b next lt) ∙ e }
 
+  -- so it has begun
+  pub waits_now : (n : ℕ) → WaitsFor reader b n → reader b ≡ begun
+  waits_now n w =
+      let same = length-append b [] in
+      let more = w.more in
+      ap reader (sym (append-nil b)) ∙ w.begins [] (omega (arith, same, more))
+
   -- the same, seen otherwise
   pub waits_seen : {B S : Type 0} (see : A → B) (tell : R → S) (n : ℕ) → WaitsFor reader b n → WaitsFor (λ c. seen see tell (reader c)) b n
   waits_seen see tell n w = record { more = w.more; begins = λ next lt. ap (seen see tell) (w.begins next lt) }

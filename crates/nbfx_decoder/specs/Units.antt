@@ -47,6 +47,12 @@ pub record HasStrings (r : UnitReader) (x : Settings) (strings : List (List ℕ)
   pub table : r.table ≡ record { strings = strings; limit = x.limits.dictionary }
   pub from_is : r.from ≡ from
 
+-- what always stays of a reader
+pub record KeepsSettings (old new : UnitReader) : Type 0 where
+  pub statics : new.statics ≡ old.statics
+  pub quotas : new.quotas ≡ old.quotas
+  pub kind : new.kind ≡ old.kind
+
 -- what stays of a reader where it goes on: all but where it stands in the payload
 pub record Keeps (old new : UnitReader) : Type 0 where
   pub statics : new.statics ≡ old.statics

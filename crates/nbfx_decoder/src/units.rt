@@ -57,7 +57,7 @@ fn refused<T>(reason: Reason, shown_by: usize) -> Result<T, UnitFault>
 
 impl<'s> UnitReader<'s> {
     ghost use Rattle.nbfx_decoder.specs.Payload.{Settings, Situation, beginning, place_of};
-    ghost use Rattle.nbfx_decoder.specs.Units.{IsAt, Keeps, Counts, counted, AddAnswers, UnitAnswers};
+    ghost use Rattle.nbfx_decoder.specs.Units.{IsAt, Keeps, KeepsSettings, Counts, counted, AddAnswers, UnitAnswers};
 
     /// Before a payload's first byte, with no strings.
     pub(crate) fn new(alloc: Global, statics: &'s StaticTable, quotas: Quotas, kind: Kind) -> Self
@@ -83,6 +83,7 @@ impl<'s> UnitReader<'s> {
             → UnitAnswers x z from bytes.now self.new result }
         ensures counts { IfOk result (Counts (length bytes.now)) }
         ensures from { IfOk result (λ read. self.new.from ≡ self.old.from + counted read) }
+        ensures kept { KeepsSettings self.old self.new }
     {
         match self.section {
             Section::TableSize => self.table_size(bytes),
@@ -101,6 +102,7 @@ impl<'s> UnitReader<'s> {
             → UnitAnswers x z from begun.old self.new result }
         ensures counts { IfOk result (Counts (length begun.old)) }
         ensures from { IfOk result (λ read. self.new.from ≡ self.old.from + counted read) }
+        ensures kept { KeepsSettings self.old self.new }
         ensures unchanged { begun.new ≡ begun.old }
     {
         match self.section {
@@ -133,6 +135,7 @@ impl<'s> UnitReader<'s> {
             → UnitAnswers x z from bytes.now self.new result }
         ensures counts { IfOk result (Counts (length bytes.now)) }
         ensures from { IfOk result (λ read. self.new.from ≡ self.old.from + counted read) }
+        ensures kept { KeepsSettings self.old self.new }
     {
         match read_int(bytes) {
             IntRead::More => Ok(UnitRead::More {
@@ -153,6 +156,7 @@ impl<'s> UnitReader<'s> {
             → UnitAnswers x z from bytes.now self.new result }
         ensures counts { IfOk result (Counts (length bytes.now)) }
         ensures from { IfOk result (λ read. self.new.from ≡ self.old.from + counted read) }
+        ensures kept { KeepsSettings self.old self.new }
     {
         let room = self.quotas.dictionary.saturating_sub(self.table.used());
         match string_at(bytes, left as usize, room as usize)? {
@@ -196,6 +200,7 @@ impl<'s> UnitReader<'s> {
             → UnitAnswers x z from bytes self.new result }
         ensures counts { IfOk result (Counts len) }
         ensures from { IfOk result (λ read. self.new.from ≡ self.old.from + counted read) }
+        ensures kept { KeepsSettings self.old self.new }
     {
         match read {
             Ok(NodeRead::More { wants }) => Ok(UnitRead::More { wants }),
@@ -215,6 +220,7 @@ impl<'s> UnitReader<'s> {
             → AddAnswers x z from node used self.new result }
         ensures section { self.new.section ≡ self.old.section }
         ensures from { self.new.from ≡ self.old.from }
+        ensures kept { KeepsSettings self.old self.new }
     {
         let names = Names {
             alloc: self.alloc,
