@@ -7,3 +7,4 @@ pub mod Waits
 pub mod StringSteps
 pub mod UnitSteps
 pub mod TakeSteps
+pub mod AllSteps
