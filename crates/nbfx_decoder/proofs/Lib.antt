@@ -8,3 +8,4 @@ pub mod StringSteps
 pub mod UnitSteps
 pub mod TakeSteps
 pub mod AllSteps
+pub mod FeedSteps

@@ -82,13 +82,14 @@ impl<'s> Decoder<'s> {
         if let Some(fault) = self.failure {
             return Err(fault);
         }
-        match self.units.finish() {
-            Some(doc) => Ok(doc),
-            None => Err(self.fail(UnitFault::Refused {
-                reason: Reason::DocumentCut,
-                shown_by: self.begun.len(),
-            })),
+        if let Some(doc) = self.units.finish() {
+            return Ok(doc);
         }
+        let fault = UnitFault::Refused {
+            reason: Reason::DocumentCut,
+            shown_by: self.begun.len(),
+        };
+        Err(self.fail(fault))
     }
 
     /// Hands back a document that is done with, whose room serves the next payload.
