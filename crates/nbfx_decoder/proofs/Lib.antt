@@ -1,3 +1,5 @@
 -- MeaningFacts: what nodes mean, found one after the other (meaning.rt).
 pub mod MeaningFacts
 pub mod Places
+pub mod TableBytes
+pub mod Counts

@@ -3,6 +3,7 @@ pub mod Sections
 pub mod Faults
 pub mod Tables
 pub mod Payload
+pub mod Values
 pub mod Spelled
 pub mod Standing
 pub mod Meant

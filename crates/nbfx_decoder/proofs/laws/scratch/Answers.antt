@@ -1,4 +1,4 @@
-use Rattle.nbfx_decoder.proofs.Places.{depth_more}
+use Rattle.nbfx_decoder.proofs.Counts.{node_fits}
 use Rattle.nbfx_decoder.proofs.laws.scratch.Goals as goal
 
 pub returns : goal.returns
