@@ -1,5 +1,5 @@
 -- A node means two items at most, and no more values than it has bytes.
-use Rattle.std.proofs.Common.{◌≡◌, ℕ, ◌+◌, ◌<◌, ◌≤◌, List, [], ◌∷◌, ◌++◌, length, true, false, inl, inr, refl, ap, ◌∙◌, arith, length-append}
+use Rattle.std.proofs.Common.{◌≡◌, ℕ, ◌+◌, ◌<◌, ◌≤◌, List, [], ◌∷◌, ◌++◌, length, true, false, inl, inr, ap, ◌∙◌, arith, length-append}
 use Rattle.std.specs.Prelude.{sum_by, if◌then◌else◌}
 use Rattle.std.specs.Int.{Width, w16, w32, w64, byte_len}
 use Rattle.std.proofs.lemmas.List.Sums.{sum_by-cons}
@@ -9,7 +9,6 @@ use Rattle.nbfx_values.specs.declared.content.AttrItem.{AttrItem}
 use Rattle.nbfx_values.specs.declared.content.Item.{Item}
 use Rattle.nbfx_values.specs.declared.scalars.Scalar.{Scalar}
 use Rattle.nbfx_values.specs.declared.scalars.Value.{Value}
-use Rattle.nbfx_values.specs.declared.scalars.Value.TheVariants as values
 use Rattle.string_tables.specs.StringTable.{StringTable}
 use Rattle.nbfx_records.specs.declared.nodes.AttrNode.{AttrNode}
 use Rattle.nbfx_records.specs.declared.nodes.AttrNode.TheVariants as attribute_nodes
@@ -23,7 +22,7 @@ use Rattle.nbfx_records.specs.Kinds.{text_kind_in}
 use Rattle.nbfx_records.specs.Meaning.{EachMeans, Means, PartMeans, ScalarMeans, ValueMeans}
 use Rattle.nbfx_records.specs.Records.{AreAttrNodes, AreCells, IsFixed, IsNode, array_byte, SpellsAs, SpellsLast, SpellsList, SpellScalars, SpellsScalar, SpellsValue}
 use Rattle.nbfx_records.proofs.ScalarBytes.{spelled_back}
-use Rattle.nbfx_decoder.specs.Values.{attribute_values, item_values, value_count, values_of}
+use Rattle.nbfx_decoder.specs.Values.{attribute_values, value_count, values_of}
 
 -- as many as there are of what they are meant by
 each_as_many : {A B : Type 0} (M : A → B → Type 0) (xs : List A) (ys : List B) → EachMeans M xs ys → length ys ≡ length xs

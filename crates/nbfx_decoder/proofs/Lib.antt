@@ -3,3 +3,5 @@ pub mod MeaningFacts
 pub mod Places
 pub mod TableBytes
 pub mod Counts
+pub mod UnitCases
+pub mod Sound

@@ -1,6 +1,6 @@
 -- A node that stands where items lead means items that lead on from there, within the depth; and what leads on stands.
 use Rattle.std.proofs.Common.{◌≡◌, ℕ, zero, suc, ◌+◌, ◌<◌, ◌≤◌, List, [], ◌∷◌, ◌++◌, Bool, true, false, Option, Some, None, refl, sym, ap, ◌∙◌, subst, arith}
-use Rattle.std.specs.Prelude.{IsTrue, ◌&&◌, max, nat_lt, if◌then◌else◌}
+use Rattle.std.specs.Prelude.{max, nat_lt, if◌then◌else◌}
 use Rattle.std.specs.List.{list_all}
 use Rattle.std.proofs.lemmas.Bool.{and_parts, lt-ltb, ltb-true}
 use Rattle.nbfx_values.specs.declared.content.Item.{Item}
@@ -8,15 +8,13 @@ use Rattle.nbfx_values.specs.declared.content.Item.TheVariants as items
 use Rattle.nbfx_values.specs.declared.position.Position.{Position}
 use Rattle.nbfx_values.specs.declared.position.Position.TheVariants as positions
 use Rattle.nbfx_values.specs.Items.{is_valid_item}
-use Rattle.nbfx_values.specs.Measures.{opened, open_at, opened_by, most_open, depth_of}
-use Rattle.nbfx_values.specs.Positions.{moved, next_position, open_count, position_from, position_of}
+use Rattle.nbfx_values.specs.Measures.{opened, opened_by, most_open, depth_of}
+use Rattle.nbfx_values.specs.Positions.{moved, open_count, position_from, position_of}
 use Rattle.nbfx_values.proofs.Heights.{most_open-append}
 use Rattle.nbfx_values.proofs.Positions.{led, open-position, passed, position_from-append, position_from-none, stepped}
 use Rattle.string_tables.specs.StringTable.{StringTable}
 use Rattle.nbfx_records.specs.declared.nodes.Node.{Node}
 use Rattle.nbfx_records.specs.declared.nodes.Node.TheVariants.{EndElement, Comment, Array, Attribute, Xmlns, Element, Text}
-use Rattle.nbfx_records.specs.declared.nodes.NodePlace.{NodePlace}
-use Rattle.nbfx_records.specs.declared.nodes.NodePlace.TheVariants.{BeforeRoot, Within, AfterRoot}
 use Rattle.nbfx_records.specs.Meaning.{Means, closing}
 use Rattle.nbfx_records.specs.Places.{Stands}
 use Rattle.nbfx_decoder.specs.Payload.{place_of}

@@ -1,17 +1,16 @@
 -- The string that is read of a table is what bytes there are.
-use Rattle.std.proofs.Common.{◌≡◌, ℕ, ◌+◌, ◌-◌, ◌<◌, ◌≤◌, List, [], ◌∷◌, ◌++◌, length, take, drop, Bool, true, false, Result, Ok, Err, refl, sym, ap, ◌∙◌, subst, arith, length-append}
-use Rattle.std.specs.Prelude.{◌↔◌, ⊤, IsUtf8, max, nat_lt, nat_le, if◌then◌else◌}
+use Rattle.std.proofs.Common.{◌≡◌, ℕ, ◌+◌, ◌-◌, ◌≤◌, List, ◌++◌, length, take, Bool, true, false, Result, Ok, Err, refl, sym, ap, ◌∙◌, subst, arith, length-append}
+use Rattle.std.specs.Prelude.{⊤, IsUtf8, max, nat_lt, nat_le, if◌then◌else◌}
 use Rattle.std.specs.Str.{is_utf8}
-use Rattle.std.proofs.lemmas.Bool.{le-ltb, ltb-false, ltb-true, lt-ltb}
+use Rattle.std.proofs.lemmas.Bool.{le-ltb, ltb-false}
 use Rattle.std.proofs.lemmas.List.{length-take, length-take-le, take-take}
 use Rattle.std.proofs.lemmas.Str.{IsUtf8-from_is_utf8, is_utf8-from_IsUtf8}
 use Rattle.unit_streams.specs.Front.{Front, begun, whole, wrong}
-use Rattle.unit_streams.specs.Parts.{Reader, some_bytes, ◌>>=◌, seen, judged, judged_at, judged_whole, closed_at, within, ReadsJust, Joined}
+use Rattle.unit_streams.specs.Parts.{Reader, some_bytes, seen, judged, judged_at, judged_whole, closed_at, within, ReadsJust, Joined}
 use Rattle.unit_streams.proofs.Spelled.{just_bytes, just_judged, just_seen, just_then}
 use Rattle.multibyte_ints.specs.Integer.{Spells, int_at}
 use Rattle.multibyte_ints.specs.Text.{IsString}
 use Rattle.multibyte_ints.proofs.IntegerLaws.{spells_from_whole, whole_from_spells}
-use Rattle.nbfx_values.specs.declared.refusals.Reason.{Reason}
 use Rattle.nbfx_values.specs.declared.refusals.Reason.TheVariants.{BadInt, TableCut, DictionaryFull, BadUtf8}
 use Rattle.nbfx_decoder.specs.Tables.{TableString, StringHead, an_integer, length_judged, head_at, text_judged, text_at, string_at}
 
@@ -116,13 +115,15 @@ module _ (room left : ℕ) where
       there e =
           let h = (inner b head n).0 e in
           let it = passed_length h.1.0 (length (take n b)) head h.1.1.1 h.1.2 in
-          let size : head.size ≡ h.1.0 = ap (λ (k : StringHead). k.size) it.2 in
-          (h.0, record {
-            spelled = subst (λ (m : ℕ). Spells m (take n b)) (sym size) h.1.1.0;
-            fits = let low = it.0 in omega (arith, low, size);
-            pays = let low = it.1 in subst (λ (m : ℕ). max m 1 ≤ room) (sym size) low;
-            left_is = ap (λ (k : StringHead). k.left) it.2 ∙ ap (λ m. left - length (take n b) - m) (sym size);
-          })
+          let size : head.size ≡ h.1.0 = ap (λ (k : StringHead). k.size) it.2 in (
+            h.0,
+            record {
+              spelled = subst (λ (m : ℕ). Spells m (take n b)) (sym size) h.1.1.0;
+              fits = let low = it.0 in omega (arith, low, size);
+              pays = let low = it.1 in subst (λ (m : ℕ). max m 1 ≤ room) (sym size) low;
+              left_is = ap (λ (k : StringHead). k.left) it.2 ∙ ap (λ m. left - length (take n b) - m) (sym size);
+            },
+          )
 
       back : (n ≤ length b) × IsHead room left head (take n b) → head_at room left b ≡ whole head n
       back h =
@@ -169,7 +170,7 @@ module _ (room left : ℕ) where
   unfolding string_at
   just_string b s n = (λ e. let h = (inner b s n).0 e in (h.0, there (take n b) h.1), λ h. (inner b s n).1 (h.0, back (take n b) h.1))
     where
-      inner : ReadsJust (string_at room left) (Joined (IsHead room left) (λ head s b. IsUtf8 s.text × (b ≡ s.text) × (length b ≡ head.size) × (s.left ≡ head.left)) )
+      inner : ReadsJust (string_at room left) (Joined (IsHead room left) (λ head s b. IsUtf8 s.text × (b ≡ s.text) × (length b ≡ head.size) × (s.left ≡ head.left)))
       inner = just_then (head_at room left) text_at (IsHead room left) (λ head s b. IsUtf8 s.text × (b ≡ s.text) × (length b ≡ head.size) × (s.left ≡ head.left)) (just_head room left) (just_text room left)
 
       there : (bytes : List ℕ) → Joined (IsHead room left) (λ head s b. IsUtf8 s.text × (b ≡ s.text) × (length b ≡ head.size) × (s.left ≡ head.left)) s bytes → IsTableString room left s bytes

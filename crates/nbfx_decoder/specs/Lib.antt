@@ -4,6 +4,7 @@ pub mod Faults
 pub mod Tables
 pub mod Payload
 pub mod Values
+pub mod Bounds
 pub mod Spelled
 pub mod Standing
 pub mod Meant

@@ -1,4 +1,3 @@
-use Rattle.nbfx_decoder.proofs.Counts.{node_fits}
 use Rattle.nbfx_decoder.proofs.laws.scratch.Goals as goal
 
 pub returns : goal.returns
