@@ -1,5 +1,10 @@
--- MeaningFacts: what nodes mean, found one after the other (meaning.rt).
+-- Readable: the grammar's units are known by their own bytes. StringSteps, UnitSteps, TakeSteps: what the functions of strings.rt, units.rt and
+-- decoder.rt answer. MeaningFacts: what nodes mean, found one after the other (meaning.rt).
+pub mod Readable
+pub mod StringSteps
 pub mod MeaningFacts
+-- Places: where a node stands and where its items lead. TableBytes: a string that is read of a table is what bytes there are. Counts: how many
+-- items and values a node means. UnitCases: which unit was read. Sound: what bounds every situation.
 pub mod Places
 pub mod TableBytes
 pub mod Counts

@@ -1,13 +1,15 @@
 -- What a decoder stands for, and what it shows. Of a payload's bytes it keeps those of the unit that isn't whole.
 use Rattle.std.specs.Prelude.{◌≡◌, ⊤, ℕ, ◌+◌, ◌<◌, ◌≤◌, List, [], ◌++◌, length, take, Option, Some, None, Result, Ok, Err}
 use Rattle.unit_streams.specs.Grammar.{standing}
-use Rattle.unit_streams.specs.Judging.{answer, goes_on, offends, ending_at}
-use Rattle.unit_streams.specs.Going.{IsGoing}
+use Rattle.unit_streams.specs.Judging.{answer, goes_on, offends, refusal_at, ending_at}
+use Rattle.unit_streams.specs.Going.{IsGoing, IsQuiet}
 use Rattle.nbfx_values.specs.QuotasOf.{limits_of}
 use Rattle.nbfx_values.specs.declared.content.Item.{Item}
 use Rattle.nbfx_decoder.specs.declared.decoder.Decoder.{Decoder}
 use Rattle.nbfx_decoder.specs.declared.faults.DecodeFault.{DecodeFault}
 use Rattle.nbfx_decoder.specs.declared.faults.DecodeFault.TheVariants.{Payload, Memory}
+use Rattle.nbfx_decoder.specs.declared.faults.UnitFault.{UnitFault}
+use Rattle.nbfx_decoder.specs.declared.faults.UnitFault.TheVariants as faults
 use Rattle.nbfx_decoder.specs.Payload.{Settings, Situation, refusal, unit_in, payload}
 use Rattle.nbfx_decoder.specs.Units.{WaitsFor, HasStrings, IsAt}
 

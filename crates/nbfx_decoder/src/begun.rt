@@ -3,6 +3,7 @@
 ghost use Rattle.std.specs.Prelude.{◌≡◌, [], ◌++◌, length, OnErr, OnOk};
 ghost use Rattle.nbfx_records.specs.Answers.{Answers, Wants};
 
+use nbfx_records::laws::resumed;
 use nbfx_records::{NodePlace, NodeRead, ReadFault, Resume, read_node_on};
 use std::alloc::Global;
 use std::marker::Model;
@@ -79,6 +80,8 @@ impl Begun {
         ensures wants { Wants place self.old result }
         ensures unchanged { self.new ≡ self.old }
     {
+        // What was seen of fewer bytes holds of more.
+        resumed();
         read_node_on(alloc, self.bytes.as_slice(), place, &mut self.resume)
     }
 }
