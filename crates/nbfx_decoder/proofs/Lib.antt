@@ -10,3 +10,4 @@ pub mod TableBytes
 pub mod Counts
 pub mod UnitCases
 pub mod Sound
+pub mod AcceptedUnits

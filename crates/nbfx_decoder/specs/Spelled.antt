@@ -53,9 +53,13 @@ pub record IsPayload (kind : Kind) (table : StringTable) (own : List (List ℕ))
   pub document : IsDocument items
   pub are_nodes : AreRecords (with_strings table own) items nodes
 
--- within what is admitted: its bytes, its nesting, its content, and the strings of the direction behind it
-pub record IsWithin (limits : Limits) (items : List Item) (bytes : List ℕ) (strings : List (List ℕ)) : Type 0 where
-  pub payload : length bytes ≤ limits.payload
+-- within what is admitted: its nesting, its content, and the strings of the direction behind it
+pub record IsAdmitted (limits : Limits) (items : List Item) (strings : List (List ℕ)) : Type 0 where
   pub depth : depth_of items ≤ limits.depth
   pub content : content_of items ≤ limits.content
   pub dictionary : used_cost strings ≤ limits.dictionary
+
+-- the same, and its bytes
+pub record IsWithin (limits : Limits) (items : List Item) (bytes : List ℕ) (strings : List (List ℕ)) : Type 0 where
+  pub payload : length bytes ≤ limits.payload
+  pub admitted : IsAdmitted limits items strings

@@ -1,0 +1,35 @@
+-- What holds of payloads by their definitions alone.
+use Rattle.std.specs.Prelude.{◌≡◌, ℕ, ◌<◌, ◌≤◌, ◌↔◌, List, ◌++◌, None}
+use Rattle.unit_streams.specs.Judging.{offence}
+use Rattle.nbfx_values.specs.declared.content.Item.{Item}
+use Rattle.nbfx_values.specs.declared.session.Kind.{Kind}
+use Rattle.string_tables.specs.SessionStrings.{used_cost}
+use Rattle.string_tables.specs.StringTable.{StringTable}
+use Rattle.nbfx_decoder.specs.Payload.{Settings, payload}
+use Rattle.nbfx_decoder.specs.Spelled.{IsAdmitted, IsPayload}
+use Rattle.nbfx_decoder.specs.Standing.{situation_of}
+
+-- as a whole payload the bytes have no offence: behind them stand these items, and these strings behind those of before
+pub record IsAccepted (x : Settings) (strings : List (List ℕ)) (bytes : List ℕ) (items : List Item) (own : List (List ℕ)) : Type 0 where
+  pub offenceless : offence (payload x strings) bytes ≡ None
+  pub items_are : (situation_of x strings bytes).items ≡ items
+  pub strings_are : (situation_of x strings bytes).strings ≡ strings ++ own
+
+-- what is admitted before a payload: a root, and the strings so far
+pub record MayBegin (x : Settings) (strings : List (List ℕ)) : Type 0 where
+  pub depth : 0 < x.limits.depth
+  pub dictionary : used_cost strings ≤ x.limits.dictionary
+
+-- the table that a payload's identifiers are read by, but for its own strings
+abbrev pub table_before : Settings → List (List ℕ) → StringTable
+table_before x strings = record { statics = x.statics; strings = strings }
+
+-- the bytes that have no offence are the payloads, of what is admitted
+abbrev pub PayloadsAreAccepted : Type 0
+PayloadsAreAccepted = (x : Settings) (strings : List (List ℕ)) (bytes : List ℕ) (items : List Item) (own : List (List ℕ)) → MayBegin x strings
+    → IsAccepted x strings bytes items own ↔ (IsPayload x.kind (table_before x strings) own items bytes × IsAdmitted x.limits items (strings ++ own))
+
+-- bytes are a payload of one document at most, and leave one table at most
+abbrev pub SpellsOneDocument : Type 0
+SpellsOneDocument = (kind : Kind) (table : StringTable) (own others : List (List ℕ)) (items more : List Item) (bytes : List ℕ)
+    → IsPayload kind table own items bytes → IsPayload kind table others more bytes → (own ≡ others) × (items ≡ more)
