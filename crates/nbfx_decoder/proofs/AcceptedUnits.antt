@@ -4,7 +4,7 @@ use Rattle.std.specs.Prelude.{◌==◌, if◌then◌else◌}
 use Rattle.std.proofs.lemmas.Bool.{ne_eqb}
 use Rattle.std.proofs.lemmas.List.{length-take-le, take-append-drop}
 use Rattle.unit_streams.specs.Front.{begun, whole, wrong}
-use Rattle.unit_streams.specs.Parts.{◌>>=◌}
+use Rattle.unit_streams.specs.Parts.{seen, ◌>>=◌}
 use Rattle.unit_streams.specs.Grammar.{IsReadable}
 use Rattle.unit_streams.specs.Units.{Counted, UnitsLead}
 use Rattle.multibyte_ints.specs.Integer.{Spells}
@@ -27,7 +27,8 @@ use Rattle.nbfx_records.proofs.MeaningFacts.{meanings_are_found}
 use Rattle.nbfx_records.proofs.NodeBytes.{records_are_read}
 use Rattle.nbfx_decoder.specs.declared.section.Section.{Section}
 use Rattle.nbfx_decoder.specs.declared.section.Section.TheVariants.{TableSize, Strings, Nodes}
-use Rattle.nbfx_decoder.specs.Payload.{Settings, Situation, PayloadUnit, table_size, table_string, node, after, beginning, cut_at, payload, place_of, refusal_from, refused, room_for, table_in, unit_in}
+use Rattle.nbfx_decoder.specs.Faults.{reason_of}
+use Rattle.nbfx_decoder.specs.Payload.{Settings, Situation, PayloadUnit, table_size, table_string, node, after, beginning, cut_at, payload, place_of, refusal, refusal_from, refused, room_for, table_in, unit_in, unit_of}
 use Rattle.nbfx_decoder.specs.Sections.{first_section, section_of}
 use Rattle.nbfx_decoder.specs.Spelled.{AreRecords, no_record, record_then, AreStrings, IsOpening, IsPayload, IsRecordOf, IsTable}
 use Rattle.nbfx_decoder.specs.Tables.{TableString, an_integer, string_at}
@@ -44,7 +45,7 @@ pub after_root : (byte : ℕ) (rest : List ℕ) → node_at AfterRoot (byte ∷ 
 unfolding node_at shape_at ◌>>=◌
 after_root byte rest = refl
 
-some_left : (n : ℕ) → section_of (suc n) ≡ Strings (suc n)
+pub some_left : (n : ℕ) → section_of (suc n) ≡ Strings (suc n)
 some_left n = let more : (suc n == 0) ≡ false = ne_eqb (suc n) 0 (omega arith) in ap (λ none. if none then Nodes else Strings (suc n)) more
 
 module _ (x : Settings) (strings : List (List ℕ)) where
@@ -166,68 +167,78 @@ module _ (x : Settings) (strings : List (List ℕ)) where
           by_string lead s is (ap (λ m. string_at (room_for x.limits.dictionary z.strings) (suc m) bytes) (sym same) ∙ e)
       by_case lead (a_node n is there e) = absurd (let both : Strings (suc less) ≡ Nodes = sym (some_left less) ∙ sym here ∙ there in cc)
 
-  -- all units of a payload
-  pub record AreAll (z : Situation) (bytes : List ℕ) (z' : Situation) : Type 0 where
+  -- all units of a payload, and the bytes behind them
+  pub record AreAll (z : Situation) (bytes : List ℕ) (z' : Situation) (rest : List ℕ) : Type 0 where
     pub own : List (List ℕ)
-    pub is_payload : IsPayload x.kind (table_in x z) own z'.items bytes
+    pub front : List ℕ
+    pub joined : bytes ≡ front ++ rest
+    pub is_payload : IsPayload x.kind (table_in x z) own z'.items front
     pub strings_are : z'.strings ≡ z.strings ++ own
+    pub section : z'.section ≡ Nodes
 
-  whole_payload : (kind : Kind) (z : Situation) (bytes : List ℕ) (z' : Situation) (own : List (List ℕ)) (opening behind : List ℕ) → z.items ≡ [] → position_of z'.items ≡ Some positions.After → bytes ≡ opening ++ behind → IsOpening kind own opening
-      → AreNodes (record z { section = Nodes; strings = z.strings ++ own }) behind z' [] → IsPayload kind (table_in x z) own z'.items bytes
-  whole_payload kind z bytes z' own opening behind none at joined is nodes = record {
-    opening = opening;
-    nodes = nodes.front;
-    joined = joined ∙ ap (λ c. opening ++ c) (nodes.joined ∙ append-nil nodes.front);
-    is_opening = is;
-    document = position_of-document z'.items at;
-    are_nodes = subst (λ (l : List Item). AreRecords (table_in x (record z { strings = z.strings ++ own })) l nodes.front) (sym (nodes.items ∙ ap (λ l. l ++ nodes.more) none)) nodes.are;
+  whole_payload : (kind : Kind) → x.kind ≡ kind → (z : Situation) (bytes : List ℕ) (z' : Situation) (rest : List ℕ) (own : List (List ℕ)) (opening behind : List ℕ) → z.items ≡ [] → position_of z'.items ≡ Some positions.After
+      → bytes ≡ opening ++ behind → IsOpening kind own opening → AreNodes (record z { section = Nodes; strings = z.strings ++ own }) behind z' rest → AreAll z bytes z' rest
+  whole_payload kind here z bytes z' rest own opening behind none at joined is nodes = record {
+    own = own;
+    front = opening ++ nodes.front;
+    joined = joined ∙ ap (λ c. opening ++ c) nodes.joined ∙ sym (append_assoc opening nodes.front rest);
+    is_payload = subst (λ (k : Kind). IsPayload k (table_in x z) own z'.items (opening ++ nodes.front)) (sym here) (record {
+      opening = opening;
+      nodes = nodes.front;
+      joined = refl;
+      is_opening = is;
+      document = position_of-document z'.items at;
+      are_nodes = subst (λ (l : List Item). AreRecords (table_in x (record z { strings = z.strings ++ own })) l nodes.front) (sym (nodes.items ∙ ap (λ l. l ++ nodes.more) none)) nodes.are;
+    });
+    strings_are = nodes.strings_stay;
+    section = nodes.section;
   }
 
-  all_lead : (kind : Kind) → x.kind ≡ kind → (units : List (Counted PayloadUnit)) (bytes : List ℕ) (z' : Situation) → position_of z'.items ≡ Some positions.After
-      → UnitsLead (payload x strings) (beginning x strings) 0 units bytes z' [] → AreAll (beginning x strings) bytes z'
+  all_lead : (kind : Kind) → x.kind ≡ kind → (units : List (Counted PayloadUnit)) (bytes : List ℕ) (z' : Situation) (rest : List ℕ) → position_of z'.items ≡ Some positions.After
+      → UnitsLead (payload x strings) (beginning x strings) 0 units bytes z' rest → AreAll (beginning x strings) bytes z' rest
   unfolding UnitsLead after
-  all_lead Plain plain units bytes z' at l =
+  all_lead Plain plain units bytes z' rest at l =
       let z = beginning x strings in
-      let nodes = nodes_lead units z 0 bytes z' [] (ap first_section plain) l in
-      let same = append-nil strings in
-      record {
-        own = [];
-        is_payload = subst (λ (k : Kind). IsPayload k (table_in x z) [] z'.items bytes) (sym plain) (whole_payload Plain z bytes z' [] [] bytes refl at refl (refl, refl)
-        (subst (λ (s : List (List ℕ)). AreNodes (record z { section = Nodes; strings = s }) bytes z' []) (sym same) (subst (λ (s : Section). AreNodes (record z { section = s }) bytes z' []) (ap first_section plain) nodes)));
-        strings_are = nodes.strings_stay ∙ sym same;
-      }
-  all_lead Session session [] bytes z' at l = absurd (not_before (beginning x strings) z' l.0 refl at)
-  all_lead Session session (one ∷ units) bytes z' at l = by_case (unit_case x (beginning x strings) bytes one.unit one.size 0 l.0)
+      let nodes = nodes_lead units z 0 bytes z' rest (ap first_section plain) l in
+      whole_payload Plain plain z bytes z' rest [] [] bytes refl at refl (refl, refl)
+      (subst (λ (s : List (List ℕ)). AreNodes (record z { section = Nodes; strings = s }) bytes z' rest) (sym (append-nil strings)) (subst (λ (s : Section). AreNodes (record z { section = s }) bytes z' rest) (ap first_section plain) nodes))
+  all_lead Session session [] bytes z' rest at l = absurd (not_before (beginning x strings) z' l.0 refl at)
+  all_lead Session session (one ∷ units) bytes z' rest at l = by_case (unit_case x (beginning x strings) bytes one.unit one.size 0 l.0)
     where
       z : Situation
       z = beginning x strings
 
-      by_size : (n : ℕ) → one.unit ≡ table_size n → an_integer bytes ≡ whole n one.size → AreAll z bytes z'
+      by_size : (n : ℕ) → one.unit ≡ table_size n → an_integer bytes ≡ whole n one.size → AreAll z bytes z' rest
       by_size n is e =
           let read = (just_integer bytes n one.size).0 e in
-          let table = strings_lead units n (after x z (table_size n)) (0 + one.size) (drop one.size bytes) z' [] refl refl at
-          (subst (λ (u : PayloadUnit). UnitsLead (payload x strings) (after x z u) (0 + one.size) units (drop one.size bytes) z' []) is l.2) in
+          let table = strings_lead units n (after x z (table_size n)) (0 + one.size) (drop one.size bytes) z' rest refl refl at
+          (subst (λ (u : PayloadUnit). UnitsLead (payload x strings) (after x z u) (0 + one.size) units (drop one.size bytes) z' rest) is l.2) in
           let joined : bytes ≡ (take one.size bytes ++ table.content) ++ table.behind =
           sym (take-append-drop one.size bytes) ∙ ap (λ c. take one.size bytes ++ c) table.joined ∙ sym (append_assoc (take one.size bytes) table.content table.behind) in
-          record {
-            own = table.own;
-            is_payload = subst (λ (k : Kind). IsPayload k (table_in x z) table.own z'.items bytes) (sym session)
-                (whole_payload Session z bytes z' table.own (take one.size bytes ++ table.content) table.behind refl at joined
-                (record { size = take one.size bytes; content = table.content; joined = refl; is_size = subst (λ (m : ℕ). Spells m (take one.size bytes)) (sym table.size) read.1; are_strings = table.are_strings }) table.nodes);
-            strings_are = table.nodes.strings_stay;
-          }
+          whole_payload Session session z bytes z' rest table.own (take one.size bytes ++ table.content) table.behind refl at joined
+          (record { size = take one.size bytes; content = table.content; joined = refl; is_size = subst (λ (m : ℕ). Spells m (take one.size bytes)) (sym table.size) read.1; are_strings = table.are_strings }) table.nodes
 
       first : (beginning x strings).section ≡ TableSize
       first = ap first_section session
 
-      by_case : UnitCase x z bytes one.unit one.size → AreAll z bytes z'
+      by_case : UnitCase x z bytes one.unit one.size → AreAll z bytes z' rest
       by_case (a_size n is there e) = by_size n is e
       by_case (a_string left s is there e) = absurd (let both : TableSize ≡ Strings (suc left) = sym first ∙ there in cc)
       by_case (a_node n is there e) = absurd (let both : TableSize ≡ Nodes = sym first ∙ there in cc)
 
-  pub units_are_payload : (units : List (Counted PayloadUnit)) (bytes : List ℕ) (z' : Situation) → position_of z'.items ≡ Some positions.After → UnitsLead (payload x strings) (beginning x strings) 0 units bytes z' []
-      → AreAll (beginning x strings) bytes z'
-  units_are_payload units bytes z' at l = all_lead x.kind refl units bytes z' at l
+  pub units_are_payload : (units : List (Counted PayloadUnit)) (bytes : List ℕ) (z' : Situation) (rest : List ℕ) → position_of z'.items ≡ Some positions.After
+      → UnitsLead (payload x strings) (beginning x strings) 0 units bytes z' rest → AreAll (beginning x strings) bytes z' rest
+  units_are_payload units bytes z' rest at l = all_lead x.kind refl units bytes z' rest at l
+
+  -- behind the root nothing has begun but no bytes
+  pub nothing_begun : (z : Situation) (from : ℕ) (bytes : List ℕ) → z.section ≡ Nodes → position_of z.items ≡ Some positions.After → unit_in x z from bytes ≡ begun → bytes ≡ []
+  unfolding unit_in
+  nothing_begun z from [] here at e = refl
+  nothing_begun z from (byte ∷ rest) here at e =
+      let wrong_there : unit_of x z Nodes (byte ∷ rest) ≡ wrong (reason_of TrailingBytes) 1 =
+      ap (λ o. seen node reason_of (node_at (place_of x.limits.depth o) (byte ∷ rest))) at ∙ ap (seen node reason_of) (after_root byte rest) in
+      let refused_there = ap (seen (λ unit. unit) (refusal from)) (ap (λ s. unit_of x z s (byte ∷ rest)) here ∙ wrong_there) in
+      absurd (let both = sym e ∙ refused_there in cc)
 
   -- what ends behind its root
   pub ends_after : (z : Situation) (from : ℕ) → cut_at (position_of z.items) from ≡ None → position_of z.items ≡ Some positions.After

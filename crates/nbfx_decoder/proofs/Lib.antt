@@ -11,3 +11,5 @@ pub mod Counts
 pub mod UnitCases
 pub mod Sound
 pub mod AcceptedUnits
+pub mod PayloadPasses
+pub mod PayloadLaws

@@ -1,4 +1,4 @@
-use Rattle.nbfx_decoder.proofs.AcceptedUnits.{units_are_payload}
+use Rattle.nbfx_decoder.proofs.PayloadLaws.{spells_one_document}
 use Rattle.nbfx_decoder.proofs.laws.scratch.Goals as goal
 
 pub returns : goal.returns
