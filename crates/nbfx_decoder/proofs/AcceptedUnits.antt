@@ -1,11 +1,10 @@
 -- Unrefused units that lead to the end of a document are a payload.
-use Rattle.std.proofs.Common.{false, ◌≡◌, ℕ, zero, suc, ◌+◌, ◌-◌, ◌<◌, ◌≤◌, List, [], ◌∷◌, ◌++◌, length, take, drop, Option, Some, None, refl, sym, ap, ◌∙◌, subst, arith, append_assoc, append-nil, length-append}
+use Rattle.std.proofs.Common.{false, ◌≡◌, ℕ, zero, suc, ◌+◌, ◌-◌, ◌≤◌, List, [], ◌∷◌, ◌++◌, length, take, drop, Option, Some, None, refl, sym, ap, ◌∙◌, subst, arith, append_assoc, append-nil, length-append}
 use Rattle.std.specs.Prelude.{◌==◌, if◌then◌else◌}
 use Rattle.std.proofs.lemmas.Bool.{ne_eqb}
 use Rattle.std.proofs.lemmas.List.{length-take-le, take-append-drop}
 use Rattle.unit_streams.specs.Front.{begun, whole, wrong}
 use Rattle.unit_streams.specs.Parts.{seen, ◌>>=◌}
-use Rattle.unit_streams.specs.Grammar.{IsReadable}
 use Rattle.unit_streams.specs.Units.{Counted, UnitsLead}
 use Rattle.multibyte_ints.specs.Integer.{Spells}
 use Rattle.multibyte_ints.specs.Text.{IsString}
@@ -21,7 +20,6 @@ use Rattle.nbfx_records.specs.declared.nodes.Node.{Node}
 use Rattle.nbfx_records.specs.declared.nodes.NodeFault.TheVariants.{TrailingBytes}
 use Rattle.nbfx_records.specs.declared.nodes.NodePlace.TheVariants.{AfterRoot}
 use Rattle.nbfx_records.specs.Reading.{node_at}
-use Rattle.nbfx_records.specs.Records.{IsNode}
 use Rattle.nbfx_records.specs.Shapes.{shape_at}
 use Rattle.nbfx_records.proofs.MeaningFacts.{meanings_are_found}
 use Rattle.nbfx_records.proofs.NodeBytes.{records_are_read}
@@ -30,7 +28,7 @@ use Rattle.nbfx_decoder.specs.declared.section.Section.TheVariants.{TableSize, S
 use Rattle.nbfx_decoder.specs.Faults.{reason_of}
 use Rattle.nbfx_decoder.specs.Payload.{Settings, Situation, PayloadUnit, table_size, table_string, node, after, beginning, cut_at, payload, place_of, refusal, refusal_from, refused, room_for, table_in, unit_in, unit_of}
 use Rattle.nbfx_decoder.specs.Sections.{first_section, section_of}
-use Rattle.nbfx_decoder.specs.Spelled.{AreRecords, no_record, record_then, AreStrings, IsOpening, IsPayload, IsRecordOf, IsTable}
+use Rattle.nbfx_decoder.specs.Spelled.{AreRecords, no_record, record_then, AreStrings, IsOpening, IsPayload, IsRecordOf}
 use Rattle.nbfx_decoder.specs.Tables.{TableString, an_integer, string_at}
 use Rattle.nbfx_decoder.proofs.TableBytes.{just_integer, just_string}
 use Rattle.nbfx_decoder.proofs.UnitCases.{UnitCase, a_node, a_size, a_string, NodeCase, adds, refuses, node_case, unit_case}

@@ -1,11 +1,10 @@
 -- The bytes that have no offence are the payloads.
-use Rattle.std.proofs.Common.{◌≡◌, ℕ, ◌+◌, ◌<◌, ◌≤◌, List, [], ◌++◌, length, None, Some, refl, sym, ap, ◌∙◌, subst, arith, append-nil}
+use Rattle.std.proofs.Common.{◌≡◌, ℕ, List, [], ◌++◌, length, None, Some, refl, sym, ap, ◌∙◌, subst, arith, append-nil}
 use Rattle.std.specs.Prelude.{max}
 use Rattle.std.proofs.Math.Seq.{take-length}
 use Rattle.std.proofs.lemmas.List.{append_cancel_left}
-use Rattle.unit_streams.specs.Grammar.{Standing, next_unit, standing}
 use Rattle.unit_streams.specs.Judging.{ending_at, offence, refusal_at}
-use Rattle.unit_streams.specs.Units.{Counted, UnitsLead, size_of, IsAccepted as UnitsAccept}
+use Rattle.unit_streams.specs.Units.{UnitsLead, size_of, IsAccepted as UnitsAccept}
 use Rattle.unit_streams.proofs.Accepted.{accepted_or_offended}
 use Rattle.unit_streams.proofs.Along.{Passes, passes_between}
 use Rattle.unit_streams.proofs.Offences.{no_offence}
@@ -20,7 +19,6 @@ use Rattle.nbfx_values.specs.declared.session.Kind.{Kind}
 use Rattle.nbfx_values.proofs.Walks.{document-position}
 use Rattle.string_tables.specs.SessionStrings.{used_cost}
 use Rattle.string_tables.specs.StringTable.{StringTable}
-use Rattle.string_tables.proofs.SessionFacts.{used_cost-append}
 use Rattle.nbfx_decoder.specs.Laws.{IsAccepted, MayBegin, PayloadsAreAccepted, SpellsOneDocument, table_before}
 use Rattle.nbfx_decoder.specs.Payload.{Settings, Situation, beginning, cut_at, payload}
 use Rattle.nbfx_decoder.specs.Spelled.{IsAdmitted, IsPayload}
@@ -60,7 +58,7 @@ module _ (x : Settings) (strings : List (List ℕ)) (bytes : List ℕ) where
       let keeps = keeps_within x strings (readable x strings) may.depth may.dictionary bytes in
       let admitted : IsAdmitted x.limits (situation_of x strings bytes).items (situation_of x strings bytes).strings = record { depth = keeps.depth; content = keeps.content; dictionary = keeps.dictionary } in (
         subst (λ (l : List Item). IsPayload x.kind (table_before x strings) own l bytes) h.items_are
-        (subst (λ (o : List (List ℕ)). IsPayload x.kind (table_before x strings) o (situation_of x strings bytes).items bytes) same (is_payload none)),
+            (subst (λ (o : List (List ℕ)). IsPayload x.kind (table_before x strings) o (situation_of x strings bytes).items bytes) same (is_payload none)),
         subst (λ (l : List Item). IsAdmitted x.limits l (strings ++ own)) h.items_are (subst (λ (s : List (List ℕ)). IsAdmitted x.limits (situation_of x strings bytes).items s) h.strings_are admitted),
       )
 

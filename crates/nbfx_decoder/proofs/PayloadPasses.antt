@@ -1,16 +1,14 @@
 -- The parts of a payload are units, none of which is refused.
-use Rattle.std.proofs.Common.{◌≡◌, ℕ, zero, suc, ◌+◌, ◌-◌, ◌<◌, ◌≤◌, List, [], ◌∷◌, ◌++◌, length, take, Option, Some, None, refl, sym, ap, ◌∙◌, subst, arith, append_assoc, append-nil, length-append}
-use Rattle.std.specs.Prelude.{max}
+use Rattle.std.proofs.Common.{◌≡◌, ℕ, suc, ◌+◌, ◌-◌, ◌<◌, ◌≤◌, List, [], ◌∷◌, ◌++◌, length, Some, None, refl, sym, ap, ◌∙◌, subst, arith, append_assoc, append-nil, length-append}
 use Rattle.std.proofs.Math.Seq.{take-length}
 use Rattle.std.proofs.lemmas.List.Sums.{sum_by-append}
-use Rattle.unit_streams.specs.Front.{begun, whole}
+use Rattle.unit_streams.specs.Front.{whole}
 use Rattle.unit_streams.specs.Parts.{seen}
 use Rattle.unit_streams.specs.Grammar.{IsReadable}
 use Rattle.unit_streams.proofs.Along.{Passes, passes_none, passes_then, passes_unit}
 use Rattle.multibyte_ints.specs.Integer.{Spells}
 use Rattle.multibyte_ints.specs.Text.{IsString}
-use Rattle.nbfx_values.specs.Documents.{IsDocument}
-use Rattle.nbfx_values.specs.Measures.{content_of, depth_of, item_content, opened_by}
+use Rattle.nbfx_values.specs.Measures.{content_of, depth_of, item_content}
 use Rattle.nbfx_values.specs.Positions.{position_of}
 use Rattle.nbfx_values.specs.declared.content.Item.{Item}
 use Rattle.nbfx_values.specs.declared.position.Position.{Position}
@@ -23,8 +21,6 @@ use Rattle.nbfx_values.proofs.Walks.{document-position}
 use Rattle.string_tables.specs.SessionStrings.{used_cost}
 use Rattle.string_tables.specs.StringTable.{StringTable}
 use Rattle.string_tables.proofs.SessionFacts.{used_cost-append}
-use Rattle.nbfx_records.specs.declared.nodes.Node.{Node}
-use Rattle.nbfx_records.specs.Reading.{node_at}
 use Rattle.nbfx_records.proofs.MeaningFacts.{meanings_are_found}
 use Rattle.nbfx_records.proofs.NodeBytes.{read_of_all}
 use Rattle.nbfx_decoder.specs.declared.section.Section.{Section}
@@ -32,8 +28,8 @@ use Rattle.nbfx_decoder.specs.declared.section.Section.TheVariants.{TableSize, S
 use Rattle.nbfx_decoder.specs.Faults.{reason_of}
 use Rattle.nbfx_decoder.specs.Payload.{Settings, Situation, PayloadUnit, table_size, table_string, node, after, beginning, payload, place_of, refusal, refusal_from, refused, room_for, table_in, unit_in, unit_of}
 use Rattle.nbfx_decoder.specs.Sections.{first_section, section_of}
-use Rattle.nbfx_decoder.specs.Spelled.{AreRecords, no_record, record_then, AreStrings, IsAdmitted, IsOpening, IsPayload, IsRecordOf, IsTable}
-use Rattle.nbfx_decoder.specs.Tables.{TableString, an_integer, string_at}
+use Rattle.nbfx_decoder.specs.Spelled.{AreRecords, no_record, record_then, AreStrings, IsAdmitted, IsOpening, IsPayload, IsRecordOf}
+use Rattle.nbfx_decoder.specs.Tables.{TableString}
 use Rattle.nbfx_decoder.proofs.AcceptedUnits.{some_left}
 use Rattle.nbfx_decoder.proofs.Places.{behind_stands, position_before}
 use Rattle.nbfx_decoder.proofs.TableBytes.{IsTableString, just_integer, just_string}

@@ -1,13 +1,16 @@
 -- What holds of payloads by their definitions alone.
-use Rattle.std.specs.Prelude.{◌≡◌, ℕ, ◌<◌, ◌≤◌, ◌↔◌, List, ◌++◌, None}
+use Rattle.std.specs.Prelude.{◌≡◌, ℕ, ◌<◌, ◌≤◌, ◌↔◌, List, ◌++◌, None, IsSome}
 use Rattle.unit_streams.specs.Judging.{offence}
+use Rattle.multibyte_ints.specs.Integer.{IsBytes}
+use Rattle.nbfx_values.specs.Positions.{position_of}
 use Rattle.nbfx_values.specs.declared.content.Item.{Item}
 use Rattle.nbfx_values.specs.declared.session.Kind.{Kind}
 use Rattle.string_tables.specs.SessionStrings.{used_cost}
 use Rattle.string_tables.specs.StringTable.{StringTable}
-use Rattle.nbfx_decoder.specs.Payload.{Settings, payload}
+use Rattle.nbfx_decoder.specs.Bounds.{KeepsWithin, NamesTexts}
+use Rattle.nbfx_decoder.specs.Payload.{Settings, payload, table_in}
 use Rattle.nbfx_decoder.specs.Spelled.{IsAdmitted, IsPayload}
-use Rattle.nbfx_decoder.specs.Standing.{situation_of}
+use Rattle.nbfx_decoder.specs.Standing.{from_of, situation_of}
 
 -- as a whole payload the bytes have no offence: behind them stand these items, and these strings behind those of before
 pub record IsAccepted (x : Settings) (strings : List (List ℕ)) (bytes : List ℕ) (items : List Item) (own : List (List ℕ)) : Type 0 where
@@ -33,3 +36,18 @@ PayloadsAreAccepted = (x : Settings) (strings : List (List ℕ)) (bytes : List �
 abbrev pub SpellsOneDocument : Type 0
 SpellsOneDocument = (kind : Kind) (table : StringTable) (own others : List (List ℕ)) (items more : List Item) (bytes : List ℕ)
     → IsPayload kind table own items bytes → IsPayload kind table others more bytes → (own ≡ others) × (items ≡ more)
+
+-- however far a payload has come, what it has brought is within what is admitted
+abbrev pub SituationsKeepWithin : Type 0
+SituationsKeepWithin = (x : Settings) (strings : List (List ℕ)) (p : List ℕ) → MayBegin x strings
+    → KeepsWithin x.limits (situation_of x strings p) (from_of x strings p)
+
+-- and is the front of a document, where what identifiers name is text
+abbrev pub SituationsAreFronts : Type 0
+SituationsAreFronts = (x : Settings) (strings : List (List ℕ)) (p : List ℕ) → NamesTexts (table_before x strings) → IsBytes p
+    → IsSome (position_of (situation_of x strings p).items)
+
+-- which it is then too behind the strings of the payload
+abbrev pub StringsStayTexts : Type 0
+StringsStayTexts = (x : Settings) (strings : List (List ℕ)) (p : List ℕ) → NamesTexts (table_before x strings) → IsBytes p
+    → NamesTexts (table_in x (situation_of x strings p))
