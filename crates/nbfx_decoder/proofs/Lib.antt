@@ -13,3 +13,4 @@ pub mod Sound
 pub mod AcceptedUnits
 pub mod PayloadPasses
 pub mod PayloadLaws
+pub mod TableReasons

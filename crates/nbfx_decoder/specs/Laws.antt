@@ -1,14 +1,17 @@
 -- What holds of payloads by their definitions alone.
-use Rattle.std.specs.Prelude.{◌≡◌, ℕ, ◌<◌, ◌≤◌, ◌↔◌, List, ◌++◌, None, IsSome}
-use Rattle.unit_streams.specs.Judging.{offence}
+use Rattle.std.specs.Prelude.{◌≡◌, ℕ, ◌<◌, ◌≤◌, ◌↔◌, List, ◌++◌, None, Some, IsSome}
+use Rattle.unit_streams.specs.Judging.{ending_at, offence, refusal_at}
 use Rattle.multibyte_ints.specs.Integer.{IsBytes}
 use Rattle.nbfx_values.specs.Positions.{position_of}
 use Rattle.nbfx_values.specs.declared.content.Item.{Item}
+use Rattle.nbfx_values.specs.declared.refusals.Reason.{Reason}
+use Rattle.nbfx_values.specs.declared.refusals.Reason.TheVariants.{DocumentCut}
 use Rattle.nbfx_values.specs.declared.session.Kind.{Kind}
 use Rattle.string_tables.specs.SessionStrings.{used_cost}
 use Rattle.string_tables.specs.StringTable.{StringTable}
 use Rattle.nbfx_decoder.specs.Bounds.{KeepsWithin, NamesTexts}
-use Rattle.nbfx_decoder.specs.Payload.{Settings, payload, table_in}
+use Rattle.nbfx_decoder.specs.Payload.{Settings, payload, refusal, table_in}
+use Rattle.nbfx_decoder.specs.Reasons.{IsCutAt, ShowsFrom}
 use Rattle.nbfx_decoder.specs.Spelled.{IsAdmitted, IsPayload}
 use Rattle.nbfx_decoder.specs.Standing.{from_of, situation_of}
 
@@ -51,3 +54,13 @@ SituationsAreFronts = (x : Settings) (strings : List (List ℕ)) (p : List ℕ) 
 abbrev pub StringsStayTexts : Type 0
 StringsStayTexts = (x : Settings) (strings : List (List ℕ)) (p : List ℕ) → NamesTexts (table_before x strings) → IsBytes p
     → NamesTexts (table_in x (situation_of x strings p))
+
+-- bytes of a payload are refused for a reason exactly where they show it
+abbrev pub RefusedWhereShown : Type 0
+RefusedWhereShown = (x : Settings) (strings : List (List ℕ)) (p : List ℕ) (from : ℕ) (reason : Reason)
+    → (refusal_at (payload x strings) p ≡ Some (refusal from reason)) ↔ ShowsFrom x strings p from reason
+
+-- the end of a payload is refused exactly where its root hasn't ended
+abbrev pub CutWhereUnended : Type 0
+CutWhereUnended = (x : Settings) (strings : List (List ℕ)) (p : List ℕ) (from : ℕ) (reason : Reason)
+    → (ending_at (payload x strings) p ≡ Some (refusal from reason)) ↔ ((reason ≡ DocumentCut) × IsCutAt x strings p from)
