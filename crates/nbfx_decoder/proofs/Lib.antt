@@ -14,3 +14,5 @@ pub mod AcceptedUnits
 pub mod PayloadPasses
 pub mod PayloadLaws
 pub mod TableReasons
+pub mod Wrongs
+pub mod WrongParts

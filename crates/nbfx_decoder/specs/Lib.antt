@@ -7,6 +7,7 @@ pub mod Values
 pub mod Bounds
 pub mod Spelled
 pub mod Standing
+pub mod WrongRecords
 pub mod Reasons
 pub mod Laws
 pub mod Meant
