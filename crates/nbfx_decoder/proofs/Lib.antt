@@ -16,3 +16,4 @@ pub mod PayloadLaws
 pub mod TableReasons
 pub mod Wrongs
 pub mod WrongParts
+pub mod NodeReasons

@@ -1,6 +1,6 @@
 -- Which bytes of a payload give each reason for refusing it.
 use Rattle.std.specs.Prelude.{◌≡◌, ℕ, suc, zero, ◌+◌, ◌<◌, ◌≤◌, ◌⊎◌, List, [], ◌++◌, length, take, max, true, false, None, Some, Contains, IsUtf8}
-use Rattle.unit_streams.specs.Front.{whole, wrong}
+use Rattle.unit_streams.specs.Front.{whole}
 use Rattle.unit_streams.specs.Refusals.{AreUnits}
 use Rattle.multibyte_ints.specs.Integer.{Spells}
 use Rattle.multibyte_ints.specs.Laws.{FifthIsAbove}
@@ -12,7 +12,6 @@ use Rattle.nbfx_values.specs.declared.refusals.Reason.{Reason}
 use Rattle.nbfx_values.specs.declared.refusals.Reason.TheVariants as reasons
 use Rattle.string_tables.specs.StringTable.{StringTable, named_text}
 use Rattle.nbfx_records.specs.declared.nodes.Node.{Node}
-use Rattle.nbfx_records.specs.declared.nodes.NodeFault.{NodeFault}
 use Rattle.nbfx_records.specs.declared.nodes.NodeFault.TheVariants as faults
 use Rattle.nbfx_records.specs.declared.nodes.NodePlace.{NodePlace}
 use Rattle.nbfx_records.specs.Contents.{is_text, node_of}
@@ -24,6 +23,7 @@ use Rattle.nbfx_decoder.specs.declared.section.Section.{Section}
 use Rattle.nbfx_decoder.specs.declared.section.Section.TheVariants.{TableSize, Strings, Nodes}
 use Rattle.nbfx_decoder.specs.Payload.{Settings, Situation, payload, place_of, room_for, table_in}
 use Rattle.nbfx_decoder.specs.Standing.{from_of, situation_of}
+use Rattle.nbfx_decoder.specs.WrongRecords.{IsBuiltWrong}
 
 -- a length at the front of the bytes, within so many bytes of a table that are left
 pub record HasLength (left n : ℕ) (bytes : List ℕ) : Type 0 where
@@ -77,10 +77,6 @@ ShowsAtString room left bytes reasons.TableCut = TextPasses left bytes ⊎ Lengt
 ShowsAtString room left bytes reasons.DictionaryFull = CostsMore room left bytes
 ShowsAtString room left bytes reasons.BadUtf8 = IsBadString room left bytes
 ShowsAtString room left bytes _ = ⊥
-
--- the structure of a record is wrong so, whatever its texts and values say
-abbrev pub IsBuiltWrong : NodePlace → List ℕ → NodeFault → Type 0
-IsBuiltWrong place bytes fault = (k : ℕ) × (shape_at place bytes ≡ wrong fault k)
 
 -- the structure of a record is whole, but one of its texts isn't UTF-8
 abbrev pub HasBadText : NodePlace → List ℕ → Type 0
