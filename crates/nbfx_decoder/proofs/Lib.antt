@@ -17,3 +17,4 @@ pub mod TableReasons
 pub mod Wrongs
 pub mod WrongParts
 pub mod NodeReasons
+pub mod PayloadReasons

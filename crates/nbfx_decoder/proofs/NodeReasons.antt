@@ -1,24 +1,22 @@
 -- Why a node is refused.
-use Rattle.std.proofs.Common.{◌≡◌, ℕ, ◌+◌, ◌<◌, ◌≤◌, inl, inr, List, [], ◌∷◌, ◌++◌, length, take, drop, Bool, true, false, Option, Some, None, Result, Ok, Err, refl, sym, ap, ◌∙◌, subst, arith}
+use Rattle.std.proofs.Common.{◌≡◌, ℕ, inl, inr, List, [], ◌∷◌, drop, Bool, true, false, Option, Some, None, refl, ap, ◌∙◌, subst}
 use Rattle.std.specs.Prelude.{◌⊎◌, not, ◌&&◌, ◌||◌, if◌then◌else◌}
 use Rattle.unit_streams.specs.Front.{Front, begun, whole, wrong}
-use Rattle.unit_streams.specs.Parts.{Reader, Turn, judged, judged_whole, refuse, seen, ◌>>=◌}
+use Rattle.unit_streams.specs.Parts.{Reader, Turn, judged, judged_whole}
 use Rattle.nbfx_values.specs.declared.content.ArrayKind.{ArrayKind}
 use Rattle.nbfx_values.specs.declared.content.Item.{Item}
-use Rattle.nbfx_values.specs.declared.refusals.Reason.{Reason}
-use Rattle.nbfx_values.specs.declared.refusals.Reason.TheVariants as reasons
 use Rattle.string_tables.specs.StringTable.{StringTable}
 use Rattle.nbfx_records.specs.declared.kinds.TextKind.{TextKind}
 use Rattle.nbfx_records.specs.declared.kinds.TextKind.TheVariants as texts
 use Rattle.nbfx_records.specs.declared.kinds.PrefixForm.{PrefixForm}
-use Rattle.nbfx_records.specs.declared.kinds.PrefixForm.TheVariants.{Unprefixed, Lettered, Prefixed}
+use Rattle.nbfx_records.specs.declared.kinds.PrefixForm.TheVariants.{Prefixed}
 use Rattle.nbfx_records.specs.declared.kinds.NameForm.{NameForm}
 use Rattle.nbfx_records.specs.declared.kinds.RecordKind.{RecordKind}
 use Rattle.nbfx_records.specs.declared.kinds.RecordKind.TheVariants as records
 use Rattle.nbfx_records.specs.declared.kinds.Body.{Body}
-use Rattle.nbfx_records.specs.declared.kinds.Body.TheVariants.{Fixed, Counted, Named, Qualified, Listed, Ending}
+use Rattle.nbfx_records.specs.declared.kinds.Body.TheVariants.{Fixed, Counted, Named, Qualified}
 use Rattle.nbfx_records.specs.declared.kinds.LengthForm.{LengthForm}
-use Rattle.nbfx_records.specs.declared.kinds.LengthForm.TheVariants.{OneByte, TwoBytes, FourBytes}
+use Rattle.nbfx_records.specs.declared.kinds.LengthForm.TheVariants.{FourBytes}
 use Rattle.nbfx_records.specs.declared.nodes.Node.{Node}
 use Rattle.nbfx_records.specs.declared.nodes.NodeFault.{NodeFault}
 use Rattle.nbfx_records.specs.declared.nodes.NodeFault.TheVariants as faults
@@ -27,7 +25,7 @@ use Rattle.nbfx_records.specs.declared.nodes.NodePlace.TheVariants.{BeforeRoot, 
 use Rattle.nbfx_records.specs.Contents.{contents, is_text, judge, node_of}
 use Rattle.nbfx_records.specs.Kinds.{array_kind, body_of, record_kind}
 use Rattle.nbfx_records.specs.Reading.{node_at}
-use Rattle.nbfx_records.specs.Shapes.{Shape, an_integer, array_element, array_parts, array_turn, ends_list, is_attribute, is_element, list_turn, misplaced, name_at, opens, placed, prefix_at, shape_at, unless_misplaced}
+use Rattle.nbfx_records.specs.Shapes.{Shape, an_integer, array_element, array_parts, array_turn, ends_list, is_attribute, is_element, list_turn, name_at, opens, placed, prefix_at, shape_at, unless_misplaced}
 use Rattle.nbfx_decoder.specs.Faults.{reason_of}
 use Rattle.nbfx_decoder.specs.Reasons.{HasBadText, HasBadValue, ShowsAtNode}
 use Rattle.nbfx_decoder.specs.WrongRecords.{IsBuiltWrong, MayCome, Misplaces, WrongAmong, WrongArray, WrongAttribute, WrongBehind, WrongBody, WrongCells, WrongElement, WrongInList, WrongInteger, WrongItem, WrongLed, WrongLength, WrongList, WrongNamed, WrongPart, WrongParts, WrongPlaced, WrongPrefix, WrongRecord, WrongText, WrongTextNode, WrongThen, WrongTurn, WrongValue, WrongValueOf}

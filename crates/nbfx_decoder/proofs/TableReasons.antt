@@ -1,13 +1,13 @@
 -- Why a string of a table is refused.
-use Rattle.std.proofs.Common.{◌≡◌, ℕ, ◌+◌, ◌-◌, ◌<◌, ◌≤◌, inl, inr, List, [], ◌++◌, length, take, drop, true, false, Result, Ok, Err, refl, sym, ap, ◌∙◌, subst, arith, length-append, length-drop}
-use Rattle.std.specs.Prelude.{◌⊎◌, ⊤, Bool, IsUtf8, max, nat_lt, nat_le, if◌then◌else◌}
+use Rattle.std.proofs.Common.{◌≡◌, ℕ, ◌+◌, ◌-◌, ◌≤◌, inl, inr, List, ◌++◌, length, take, drop, true, false, Ok, Err, refl, sym, ap, ◌∙◌, subst, arith, length-append}
+use Rattle.std.specs.Prelude.{⊤, Bool, max, nat_lt, nat_le, if◌then◌else◌}
 use Rattle.std.specs.Str.{is_utf8}
 use Rattle.std.proofs.Math.Seq.{drop-append_seam, take-append_seam}
 use Rattle.std.proofs.lemmas.Bool.{false_from_ne_true, le-leb, le-ltb, leb-true, ltb-false, ltb-true, lt-ltb}
 use Rattle.std.proofs.lemmas.List.{length-take, length-take-le, take-append-drop, take-take}
 use Rattle.std.proofs.lemmas.Str.{IsUtf8-from_is_utf8, is_utf8-from_IsUtf8}
 use Rattle.unit_streams.specs.Front.{Front, begun, whole, wrong}
-use Rattle.unit_streams.specs.Parts.{further, seen, some_bytes, judged, judged_whole, judged_at, closed_at, within, ◌>>=◌}
+use Rattle.unit_streams.specs.Parts.{further, seen, some_bytes, judged, judged_whole, judged_at, closed_at}
 use Rattle.unit_streams.proofs.Parts.{then_begun, then_whole, then_wrong}
 use Rattle.multibyte_ints.specs.Integer.{Spells, int_at}
 use Rattle.multibyte_ints.specs.Laws.{FifthIsAbove}
@@ -16,7 +16,7 @@ use Rattle.multibyte_ints.proofs.IntegerFacts.{wrong_is}
 use Rattle.multibyte_ints.proofs.IntegerLaws.{begun_from_spells, goes_on_from_begun, spells_from_whole, whole_from_spells}
 use Rattle.nbfx_values.specs.declared.refusals.Reason.{Reason}
 use Rattle.nbfx_values.specs.declared.refusals.Reason.TheVariants.{BadInt, TableCut, DictionaryFull, BadUtf8}
-use Rattle.nbfx_decoder.specs.Reasons.{CostsMore, HasLength, IsBadString, LengthIsCut, ShowsAtSize, ShowsAtString, TextPasses}
+use Rattle.nbfx_decoder.specs.Reasons.{HasLength, IsBadString, ShowsAtSize, ShowsAtString}
 use Rattle.nbfx_decoder.specs.Tables.{TableString, StringHead, an_integer, length_judged, head_at, text_judged, text_at, string_at}
 use Rattle.nbfx_decoder.proofs.TableBytes.{IsHead, just_head}
 

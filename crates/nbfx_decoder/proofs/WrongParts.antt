@@ -1,11 +1,10 @@
 -- What is wrong with each part of a record.
-use Rattle.std.proofs.Common.{◌≡◌, ℕ, ◌+◌, ◌*◌, ◌^◌, ◌<◌, ◌≤◌, inl, inr, List, [], ◌∷◌, length, take, drop, Bool, true, false, Option, Some, None, refl, sym, ap, ◌∙◌, subst, arith}
-use Rattle.std.specs.Prelude.{⊤, nat_le, nat_lt, ◌==◌, not, ◌&&◌, ◌||◌, if◌then◌else◌}
-use Rattle.std.specs.Int.{Width, byte_len, from_le_bytes, w32}
+use Rattle.std.proofs.Common.{◌≡◌, ℕ, ◌*◌, ◌^◌, ◌≤◌, inl, inr, List, [], ◌∷◌, length, take, Bool, true, false, Option, Some, None, refl, sym, ap, ◌∙◌, subst}
+use Rattle.std.specs.Prelude.{⊤, nat_le, nat_lt, ◌==◌, if◌then◌else◌}
+use Rattle.std.specs.Int.{byte_len, from_le_bytes, w32}
 use Rattle.std.proofs.lemmas.Bool.{eqb-true, eq-eqb, le-leb, le-ltb, leb-true, ltb-false}
 use Rattle.unit_streams.specs.Front.{Front, begun, whole, wrong}
-use Rattle.unit_streams.specs.Parts.{Reader, given, refuse, a_byte, some_bytes, ◌>>=◌, seen, Turn, more, stop, Many, many}
-use Rattle.unit_streams.proofs.Parts.{then_whole}
+use Rattle.unit_streams.specs.Parts.{refuse, some_bytes, ◌>>=◌, seen, more, stop, Many}
 use Rattle.multibyte_ints.specs.Integer.{int_at}
 use Rattle.multibyte_ints.proofs.IntegerBytes.{above_from}
 use Rattle.multibyte_ints.proofs.IntegerFacts.{wrong_is}
@@ -26,14 +25,12 @@ use Rattle.nbfx_records.specs.declared.nodes.NameRef.{NameRef}
 use Rattle.nbfx_records.specs.declared.nodes.NameRef.TheVariants.{Inline, Id}
 use Rattle.nbfx_records.specs.declared.nodes.NodeFault.{NodeFault}
 use Rattle.nbfx_records.specs.declared.nodes.NodeFault.TheVariants as faults
-use Rattle.nbfx_records.specs.declared.nodes.NodePlace.{NodePlace}
-use Rattle.nbfx_records.specs.declared.nodes.NodePlace.TheVariants.{BeforeRoot, Within, AfterRoot}
 use Rattle.nbfx_records.specs.Kinds.{array_kind, body_of, record_kind, width_of}
-use Rattle.nbfx_records.specs.Shapes.{ScalarShape, bytes_of, named_by, qualified_by, ValueShape, one, several, AttributeShape, attributes, declares, NamedShape, named_shape, CellsShape, cells_shape, ArrayShape, array_shape, Shape, adds, begins_element, comments, has_text, repeats, an_integer, a_string, prefix_at, name_at, width_in, is_negative, length_of, said_length, given_or, a_length, counted_bytes, a_qualified, body_at, scalar_at, end_turn, text_turn, turn_of, list_turn, list_at, text_value, value_of_kind, value_at, attribute_at, declaration_at, array_part, array_turn, array_parts, element_at, element_of, array_element, array_values, counted_cells, cells_of, array_cells, array_at, text_at, record_at, opens, is_attribute, ends_list, is_element, misplaced, unless_misplaced, placed, shape_at}
+use Rattle.nbfx_records.specs.Shapes.{ScalarShape, bytes_of, named_by, qualified_by, one, several, attributes, declares, NamedShape, named_shape, cells_shape, array_shape, adds, begins_element, comments, has_text, repeats, an_integer, a_string, prefix_at, name_at, width_in, is_negative, length_of, said_length, given_or, a_length, counted_bytes, body_at, scalar_at, end_turn, text_turn, turn_of, list_turn, list_at, text_value, value_of_kind, value_at, attribute_at, declaration_at, array_part, array_turn, array_parts, element_at, element_of, array_element, array_values, cells_of, array_cells, array_at, text_at, record_at}
 use Rattle.nbfx_records.proofs.ListFacts.{nothing_turned}
 use Rattle.nbfx_records.proofs.PartsFacts.{nothing_parted}
 use Rattle.nbfx_records.proofs.ShapeFronts.{reads_array_turn, reads_list_turn}
-use Rattle.nbfx_decoder.specs.WrongRecords.{IsBuiltWrong, MayCome, Misplaces, NeverWrong, WrongAmong, WrongArray, WrongAttribute, WrongBody, WrongCells, WrongElement, WrongInList, WrongInteger, WrongItem, WrongLed, WrongLength, WrongList, WrongNamed, WrongPart, WrongParts, WrongPlaced, WrongPrefix, WrongRecord, WrongText, WrongTextNode, WrongThen, WrongTurn, WrongValue, WrongValueOf}
+use Rattle.nbfx_decoder.specs.WrongRecords.{NeverWrong, WrongArray, WrongAttribute, WrongBody, WrongCells, WrongElement, WrongInList, WrongInteger, WrongItem, WrongLed, WrongLength, WrongList, WrongNamed, WrongPart, WrongParts, WrongPrefix, WrongRecord, WrongText, WrongTextNode, WrongThen, WrongTurn, WrongValue, WrongValueOf}
 use Rattle.nbfx_decoder.proofs.Wrongs.{Finds, Tells, tells_bytes, tells_first, tells_given, tells_led, tells_many, tells_refuse, tells_seen, tells_then}
 
 integer : Tells an_integer WrongInteger

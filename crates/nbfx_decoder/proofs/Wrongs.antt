@@ -1,6 +1,6 @@
 -- What is wrong with things that are made of parts.
 use Rattle.std.proofs.Common.{◌≡◌, ℕ, zero, suc, ◌+◌, ◌<◌, ◌≤◌, inl, inr, List, [], ◌∷◌, length, take, drop, Bool, true, false, refl, sym, ap, ◌∙◌, subst, arith, length-drop}
-use Rattle.std.specs.Prelude.{◌↔◌, ◌⊎◌, nat_lt, if◌then◌else◌}
+use Rattle.std.specs.Prelude.{◌⊎◌, nat_lt, if◌then◌else◌}
 use Rattle.unit_streams.specs.Front.{Front, begun, whole, wrong, ReadsFront}
 use Rattle.unit_streams.specs.Parts.{Reader, given, refuse, a_byte, some_bytes, further, ◌>>=◌, seen, Turn, more, stop, Many, with_first, turned, repeated, many}
 use Rattle.unit_streams.proofs.Fronts.{whole_some}

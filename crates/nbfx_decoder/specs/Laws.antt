@@ -1,5 +1,5 @@
 -- What holds of payloads by their definitions alone.
-use Rattle.std.specs.Prelude.{◌≡◌, ℕ, ◌<◌, ◌≤◌, ◌↔◌, List, ◌++◌, None, Some, IsSome}
+use Rattle.std.specs.Prelude.{◌≡◌, ℕ, ◌<◌, ◌≤◌, ◌↔◌, ◌⊎◌, List, ◌++◌, length, take, None, Some, IsSome}
 use Rattle.unit_streams.specs.Judging.{ending_at, offence, refusal_at}
 use Rattle.multibyte_ints.specs.Integer.{IsBytes}
 use Rattle.nbfx_values.specs.Positions.{position_of}
@@ -64,3 +64,21 @@ RefusedWhereShown = (x : Settings) (strings : List (List ℕ)) (p : List ℕ) (f
 abbrev pub CutWhereUnended : Type 0
 CutWhereUnended = (x : Settings) (strings : List (List ℕ)) (p : List ℕ) (from : ℕ) (reason : Reason)
     → (ending_at (payload x strings) p ≡ Some (refusal from reason)) ↔ ((reason ≡ DocumentCut) × IsCutAt x strings p from)
+
+-- some of the first bytes of a payload show this, and no fewer show anything
+pub record ShowsFirst (x : Settings) (strings : List (List ℕ)) (bytes : List ℕ) (from : ℕ) (reason : Reason) : Type 0 where
+  pub place : ℕ
+  pub within : place ≤ length bytes
+  pub before : (i : ℕ) → i < place → (at : ℕ) (other : Reason) → ShowsFrom x strings (take i bytes) at other → ⊥
+  pub shows : ShowsFrom x strings (take place bytes) from reason
+
+-- no first bytes show anything, and the root hasn't ended
+pub record EndsUnended (x : Settings) (strings : List (List ℕ)) (bytes : List ℕ) (from : ℕ) : Type 0 where
+  pub nothing : (i : ℕ) → i ≤ length bytes → (at : ℕ) (other : Reason) → ShowsFrom x strings (take i bytes) at other → ⊥
+  pub cut : IsCutAt x strings bytes from
+
+-- a whole payload is refused for the first reason that is shown, or else because its root hasn't ended
+abbrev pub FirstReasonRefuses : Type 0
+FirstReasonRefuses = (x : Settings) (strings : List (List ℕ)) (bytes : List ℕ) (from : ℕ) (reason : Reason)
+    → (offence (payload x strings) bytes ≡ Some (refusal from reason))
+    ↔ (ShowsFirst x strings bytes from reason ⊎ ((reason ≡ DocumentCut) × EndsUnended x strings bytes from))

@@ -1,5 +1,5 @@
 -- What can be wrong with the structure of a record, whatever its texts and values say: a type byte, an integer or a length, behind whole parts.
-use Rattle.std.specs.Prelude.{◌≡◌, ℕ, ◌^◌, ◌≤◌, ◌⊎◌, List, [], ◌∷◌, length, take, drop, Bool, true, false, Option, Some, None, ◌==◌, not, ◌&&◌, ◌||◌}
+use Rattle.std.specs.Prelude.{◌≡◌, ℕ, ◌^◌, ◌≤◌, ◌⊎◌, List, [], ◌∷◌, length, take, drop, Bool, true, false, Option, Some, None, not, ◌&&◌, ◌||◌}
 use Rattle.std.specs.Int.{w32, from_le_bytes}
 use Rattle.unit_streams.specs.Front.{whole}
 use Rattle.unit_streams.specs.Parts.{Reader, Turn, more}
@@ -8,12 +8,12 @@ use Rattle.nbfx_values.specs.declared.content.ArrayKind.{ArrayKind}
 use Rattle.nbfx_records.specs.declared.kinds.TextKind.{TextKind}
 use Rattle.nbfx_records.specs.declared.kinds.TextKind.TheVariants as texts
 use Rattle.nbfx_records.specs.declared.kinds.PrefixForm.{PrefixForm}
-use Rattle.nbfx_records.specs.declared.kinds.PrefixForm.TheVariants.{Unprefixed, Lettered, Prefixed}
+use Rattle.nbfx_records.specs.declared.kinds.PrefixForm.TheVariants.{Prefixed}
 use Rattle.nbfx_records.specs.declared.kinds.NameForm.{NameForm}
 use Rattle.nbfx_records.specs.declared.kinds.RecordKind.{RecordKind}
 use Rattle.nbfx_records.specs.declared.kinds.RecordKind.TheVariants as records
 use Rattle.nbfx_records.specs.declared.kinds.Body.{Body}
-use Rattle.nbfx_records.specs.declared.kinds.Body.TheVariants.{Fixed, Counted, Named, Qualified, Listed, Ending}
+use Rattle.nbfx_records.specs.declared.kinds.Body.TheVariants.{Fixed, Counted, Named, Qualified}
 use Rattle.nbfx_records.specs.declared.kinds.LengthForm.{LengthForm}
 use Rattle.nbfx_records.specs.declared.kinds.LengthForm.TheVariants.{FourBytes}
 use Rattle.nbfx_records.specs.declared.nodes.NodeFault.{NodeFault}

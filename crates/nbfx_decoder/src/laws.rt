@@ -3,9 +3,8 @@
 
 ghost use Rattle.std.specs.Prelude.{ℕ, List};
 ghost use Rattle.unit_streams.specs.Laws.{StandingsGoOn, AnswersAreFirst, CutsChangeNothing, HistoryIsAnswers, NoUnitGoesOn, OffencesAreFirst, AcceptedOrOffended};
-ghost use Rattle.unit_streams.specs.Refusals.{RefusalsAreThree};
 ghost use Rattle.nbfx_decoder.specs.Payload.{Settings, payload};
-ghost use Rattle.nbfx_decoder.specs.Laws.{PayloadsAreAccepted, SpellsOneDocument, SituationsKeepWithin, SituationsAreFronts, StringsStayTexts};
+ghost use Rattle.nbfx_decoder.specs.Laws.{PayloadsAreAccepted, SpellsOneDocument, SituationsKeepWithin, SituationsAreFronts, StringsStayTexts, RefusedWhereShown, CutWhereUnended, FirstReasonRefuses};
 
 /// The bytes that have no offence are the payloads of the standards' records, whose nesting, content and
 /// strings are within what is admitted; the items and the strings that the bytes lead to are theirs.
@@ -42,11 +41,19 @@ pub fn answers()
     ensures make_the_history { (x : Settings) (strings : List (List ℕ)) → HistoryIsAnswers (payload x strings) }
 {}
 
-/// A payload's offence is the first refusal of a prefix, or else its end's: there is one, or its units, of
-/// which none is refused, lead to where it may end. A prefix is refused by what its last unit says, by bytes
-/// that are no unit which may come, or by its length.
+/// A payload's offence is the first refusal of a prefix, or else its end's. It has none exactly where its
+/// units, of which none is refused, lead to where it may end.
 pub fn refusals()
     ensures first_is_the_offence { (x : Settings) (strings : List (List ℕ)) → OffencesAreFirst (payload x strings) }
     ensures accepted { (x : Settings) (strings : List (List ℕ)) → AcceptedOrOffended (payload x strings) }
-    ensures are_three { (x : Settings) (strings : List (List ℕ)) → RefusalsAreThree (payload x strings) }
+{}
+
+/// Bytes of a payload are refused for a reason, at an offset, exactly where they show it: whole units up to
+/// that offset, and then bytes that are no unit which may come, or a unit that is refused by what it says.
+/// Each reason has a row of `specs/Reasons`. The end of a payload is refused exactly where its root hasn't
+/// ended. A whole payload is refused for the first of these.
+pub fn reasons()
+    ensures shown { RefusedWhereShown }
+    ensures cut { CutWhereUnended }
+    ensures first { FirstReasonRefuses }
 {}
