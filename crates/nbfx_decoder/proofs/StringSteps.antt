@@ -21,6 +21,7 @@ use Rattle.nbfx_decoder.specs.declared.strings.StringRead.{StringRead}
 use Rattle.nbfx_decoder.specs.Tables.{TableString, StringHead, an_integer, length_judged, head_at, text_judged, text_at, string_at}
 use Rattle.nbfx_decoder.specs.Units.{WaitsFor, head_seen, HeadStands, StringStands}
 use Rattle.nbfx_decoder.proofs.Readable.{reads_head}
+use Rattle.nbfx_decoder.proofs.Waits.{waits_one}
 
 -- the length, of which the bytes up to the table's end are read
 module _ (room left : ℕ) (some : 0 < left) (b : List ℕ) (m : ℕ) (is : m ≡ min (length b) left) where
@@ -59,16 +60,9 @@ module _ (room left : ℕ) (some : 0 < left) (b : List ℕ) (m : ℕ) (is : m �
 
 -- a string whose length isn't whole, or is wrong
 module _ (room left : ℕ) (some : 0 < left) (b : List ℕ) where
-  no_more : (next : List ℕ) → length (b ++ next) < length b + 1 → b ++ next ≡ b
-  no_more [] lt = append-nil b
-  no_more (y ∷ next) lt = absurd (let n = length-append b (y ∷ next) in omega (arith, n, lt))
-
   pub waits_for_length : head_at room left b ≡ begun → WaitsFor (string_at room left) b (length b + 1)
   unfolding string_at
-  waits_for_length e = record {
-    more = omega arith;
-    begins = λ next lt. then_begun (head_at room left) text_at (b ++ next) (ap (head_at room left) (no_more next lt) ∙ e);
-  }
+  waits_for_length e = waits_one (string_at room left) b (then_begun (head_at room left) text_at b e)
 
   pub string_wrong : (reason : Reason) (k : ℕ) → head_at room left b ≡ wrong reason k → string_at room left b ≡ wrong reason k
   unfolding string_at
@@ -111,6 +105,9 @@ module _ (room left : ℕ) (some : 0 < left) (b : List ℕ) (head : Head) (e : h
   -- the text, as the bytes between two offsets
   abbrev pub between : List ℕ
   between = take (head.used + head.size - head.used) (drop head.used b)
+
+  pub between_size : head.used + head.size ≤ length b → length between ≡ head.size
+  between_size le = let n = length-take (head.used + head.size - head.used) (drop head.used b) in let m = length-drop head.used b in omega (arith, n, m, le)
 
   same_text : between ≡ text_of
   same_text = let size : head.used + head.size - head.used ≡ head.size = omega arith in ap (λ n. take n (drop head.used b)) size

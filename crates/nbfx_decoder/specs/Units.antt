@@ -1,7 +1,8 @@
 -- What a reader of units answers. Public contracts cite none of this.
-use Rattle.std.specs.Prelude.{◌≡◌, ⊤, ℕ, ◌+◌, ◌-◌, ◌<◌, ◌≤◌, ◌⊎◌, List, ◌++◌, length, Option, Some, None, Result, Ok, Err}
+use Rattle.std.specs.Prelude.{◌≡◌, ⊤, ℕ, ◌+◌, ◌-◌, ◌<◌, ◌≤◌, ◌⊎◌, max, List, ◌++◌, length, Option, Some, None, Result, Ok, Err}
 use Rattle.unit_streams.specs.Front.{Front, begun, whole, wrong}
 use Rattle.nbfx_values.specs.QuotasOf.{limits_of}
+use Rattle.string_tables.specs.SessionStrings.{cost}
 use Rattle.nbfx_values.specs.declared.refusals.Reason.{Reason}
 use Rattle.nbfx_decoder.specs.declared.faults.UnitFault.{UnitFault}
 use Rattle.nbfx_decoder.specs.declared.faults.UnitFault.TheVariants.{Refused, Memory}
@@ -26,14 +27,15 @@ head_seen left head = record { size = head.size; left = left - head.used - head.
 
 abbrev pub HeadStands : ℕ → ℕ → List ℕ → Result (Option Head) UnitFault → Type 0
 HeadStands room left bytes (Ok None) = head_at room left bytes ≡ begun
-HeadStands room left bytes (Ok (Some head)) = head_at room left bytes ≡ whole (head_seen left head) head.used
+HeadStands room left bytes (Ok (Some head)) = (head_at room left bytes ≡ whole (head_seen left head) head.used) × (max head.size 1 ≤ room)
 HeadStands room left bytes (Err (Refused reason shown_by)) = head_at room left bytes ≡ wrong reason shown_by
 HeadStands room left bytes (Err Memory) = ⊥
 
 -- and of a string
 abbrev pub StringStands : ℕ → ℕ → List ℕ → Result StringRead UnitFault → Type 0
 StringStands room left bytes (Ok (strings_read.More wants)) = WaitsFor (string_at room left) bytes wants
-StringStands room left bytes (Ok (strings_read.Done text used)) = string_at room left bytes ≡ whole (record { text = text.now; left = left - used }) used
+StringStands room left bytes (Ok (strings_read.Done text used)) =
+    (string_at room left bytes ≡ whole (record { text = text.now; left = left - used }) used) × (cost text.now ≤ room)
 StringStands room left bytes (Err (Refused reason shown_by)) = string_at room left bytes ≡ wrong reason shown_by
 StringStands room left bytes (Err Memory) = ⊥
 
@@ -44,6 +46,12 @@ pub record HasStrings (r : UnitReader) (x : Settings) (strings : List (List ℕ)
   pub limits : limits_of r.quotas ≡ x.limits
   pub table : r.table ≡ record { strings = strings; limit = x.limits.dictionary }
   pub from_is : r.from ≡ from
+
+-- what always stays of a reader
+pub record KeepsSettings (old new : UnitReader) : Type 0 where
+  pub statics : new.statics ≡ old.statics
+  pub quotas : new.quotas ≡ old.quotas
+  pub kind : new.kind ≡ old.kind
 
 -- what stays of a reader where it goes on: all but where it stands in the payload
 pub record Keeps (old new : UnitReader) : Type 0 where

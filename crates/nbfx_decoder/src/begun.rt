@@ -1,7 +1,7 @@
 //! The bytes of a unit that has begun.
 
 ghost use Rattle.std.specs.Prelude.{◌≡◌, [], ◌++◌, length, OnErr, OnOk};
-ghost use Rattle.nbfx_records.specs.Answers.{Answers, Wants};
+ghost use Rattle.nbfx_records.specs.Answers.{Answers, ReadsValid, Wants};
 
 use nbfx_records::laws::resumed;
 use nbfx_records::{NodePlace, NodeRead, ReadFault, Resume, read_node_on};
@@ -78,6 +78,7 @@ impl Begun {
     ) -> Result<NodeRead, ReadFault>
         ensures read { Answers place self.old result }
         ensures wants { Wants place self.old result }
+        ensures valid { ReadsValid result }
         ensures unchanged { self.new ≡ self.old }
     {
         // What was seen of fewer bytes holds of more.

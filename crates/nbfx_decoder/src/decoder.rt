@@ -30,7 +30,7 @@ impl<'s> Decoder<'s> {
     ghost use Rattle.nbfx_decoder.specs.Payload.{Settings};
     ghost use Rattle.nbfx_decoder.specs.Standing.{settings_of, failure_of, taken_of, situation_of, from_of, begun_of, Reached, StandsFor, FailedBehind, FailedWithin, FeedAnswers, FinishAnswers};
     ghost use Rattle.nbfx_decoder.specs.Taking.{TakeAnswers};
-    ghost use Rattle.nbfx_decoder.specs.Units.{Keeps};
+    ghost use Rattle.nbfx_decoder.specs.Units.{Keeps, KeepsSettings};
 
     /// A reader before the first payload, with no strings.
     pub fn new(alloc: Global, statics: &'s StaticTable, quotas: Quotas, kind: Kind) -> Decoder<'s> {
@@ -145,13 +145,13 @@ impl<'s> Decoder<'s> {
     // Takes some of the bytes: at most one unit, or what is wanted of one.
     fn take(&mut self, bytes: &[u8]) -> Result<usize, UnitFault>
         requires some { 0 < length bytes.now }
-        requires few { taken_of self.old + length bytes.now < 2 ^ 32 }
+        requires few { self.old.units.from + length self.old.begun + length bytes.now < 2 ^ 32 }
         ensures answers { (x : Settings) (strings : List (List ℕ)) (p : List ℕ) → Reached self.old x strings p
             → TakeAnswers x strings p bytes.now self.new result }
         ensures within { IfOk result (λ used. (0 < used) × (used ≤ length bytes.now)) }
-        ensures taken { IfOk result (λ used. taken_of self.new ≡ taken_of self.old + used) }
+        ensures taken { IfOk result (λ used. self.new.units.from + length self.new.begun ≤ self.old.units.from + length self.old.begun + used) }
         ensures failure { self.new.failure ≡ self.old.failure }
-        ensures settings { settings_of self.new ≡ settings_of self.old }
+        ensures kept { KeepsSettings self.old.units self.new.units }
     {
         if self.begun.len() == 0 {
             self.take_whole(bytes)
@@ -164,13 +164,13 @@ impl<'s> Decoder<'s> {
     fn take_whole(&mut self, bytes: &[u8]) -> Result<usize, UnitFault>
         requires none { self.old.begun ≡ [] }
         requires some { 0 < length bytes.now }
-        requires few { taken_of self.old + length bytes.now < 2 ^ 32 }
+        requires few { self.old.units.from + length self.old.begun + length bytes.now < 2 ^ 32 }
         ensures answers { (x : Settings) (strings : List (List ℕ)) (p : List ℕ) → Reached self.old x strings p
             → TakeAnswers x strings p bytes.now self.new result }
         ensures within { IfOk result (λ used. (0 < used) × (used ≤ length bytes.now)) }
-        ensures taken { IfOk result (λ used. taken_of self.new ≡ taken_of self.old + used) }
+        ensures taken { IfOk result (λ used. self.new.units.from + length self.new.begun ≤ self.old.units.from + length self.old.begun + used) }
         ensures failure { self.new.failure ≡ self.old.failure }
-        ensures settings { settings_of self.new ≡ settings_of self.old }
+        ensures kept { KeepsSettings self.old.units self.new.units }
     {
         match self.units.read(bytes)? {
             UnitRead::Done { used } => Ok(used),
@@ -186,13 +186,13 @@ impl<'s> Decoder<'s> {
     fn take_on(&mut self, bytes: &[u8]) -> Result<usize, UnitFault>
         requires begun { 0 < length self.old.begun }
         requires some { 0 < length bytes.now }
-        requires few { taken_of self.old + length bytes.now < 2 ^ 32 }
+        requires few { self.old.units.from + length self.old.begun + length bytes.now < 2 ^ 32 }
         ensures answers { (x : Settings) (strings : List (List ℕ)) (p : List ℕ) → Reached self.old x strings p
             → TakeAnswers x strings p bytes.now self.new result }
         ensures within { IfOk result (λ used. (0 < used) × (used ≤ length bytes.now)) }
-        ensures taken { IfOk result (λ used. taken_of self.new ≡ taken_of self.old + used) }
+        ensures taken { IfOk result (λ used. self.new.units.from + length self.new.begun ≤ self.old.units.from + length self.old.begun + used) }
         ensures failure { self.new.failure ≡ self.old.failure }
-        ensures settings { settings_of self.new ≡ settings_of self.old }
+        ensures kept { KeepsSettings self.old.units self.new.units }
     {
         let wanted = self.wants.saturating_sub(self.begun.len()).max(1);
         let used = bytes.len().min(wanted);
@@ -221,7 +221,7 @@ impl<'s> Decoder<'s> {
             UnitFault::Refused { reason, shown_by } => DecodeFault::Payload {
                 at,
                 reason,
-                shown_by: at.saturating_add(shown_by as u32),
+                shown_by: at.saturating_add(u32::try_from(shown_by).unwrap_or(u32::MAX)),
             },
             UnitFault::Memory => DecodeFault::Memory,
         };

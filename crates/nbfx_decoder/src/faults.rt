@@ -3,7 +3,7 @@
 ghost use Rattle.std.specs.Prelude.{◌≡◌};
 ghost use Rattle.nbfx_decoder.specs.Faults as spec;
 
-use nbfx_records::NodeFault;
+use nbfx_records::{NodeFault, ReadFault};
 use nbfx_values::Reason;
 use unit_streams::Memory;
 
@@ -39,8 +39,8 @@ impl From<Memory> for UnitFault {
     }
 }
 
-/// The reason of a node that no record is which may stand there.
-pub(crate) fn reason_of(fault: NodeFault) -> Reason
+// The reason of a node that no record is which may stand there.
+fn reason_of(fault: NodeFault) -> Reason
     ensures { result ≡ spec.reason_of fault }
 {
     match fault {
@@ -52,5 +52,18 @@ pub(crate) fn reason_of(fault: NodeFault) -> Reason
         NodeFault::BadArray => Reason::BadArray,
         NodeFault::BadUtf8 => Reason::BadUtf8,
         NodeFault::BadValue => Reason::BadValue,
+    }
+}
+
+/// Why a node isn't read.
+pub(crate) fn unread(fault: ReadFault) -> UnitFault
+    ensures { result ≡ spec.unread fault }
+{
+    match fault {
+        ReadFault::Fault { fault, shown_by } => UnitFault::Refused {
+            reason: reason_of(fault),
+            shown_by,
+        },
+        ReadFault::Memory => UnitFault::Memory,
     }
 }

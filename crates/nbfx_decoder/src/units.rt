@@ -1,26 +1,26 @@
 //! The units of a payload, each read where all its bytes are there.
 
 ghost use Rattle.std.specs.Prelude.{◌≡◌, ℕ, ◌+◌, ◌<◌, ◌^◌, ◌↔◌, [], ◌∷◌, ◌++◌, List, length, IfSome, IfNone, IfOk, OnOk, OnSome, IsSome, IsErrOf, IsTrue, Err, None};
-ghost use Rattle.nbfx_values.specs.declared.content.Item.TheVariants as items;
-ghost use Rattle.multibyte_ints.specs.Integer.{IsBytes};
+ghost use Rattle.std.specs.List.{list_all};
 ghost use Rattle.nbfx_values.specs.Documents.{IsDocument};
 ghost use Rattle.nbfx_values.specs.Measures.{capped, content_of, opened_by};
 ghost use Rattle.nbfx_values.specs.Positions.{position_of};
 ghost use Rattle.nbfx_values.specs.QuotasOf.{limits_of};
-ghost use Rattle.nbfx_values.specs.Scalars.{is_valid_value};
+ghost use Rattle.nbfx_values.specs.Items.{is_valid_item};
+ghost use Rattle.nbfx_decoder.specs.Meant.{items_in};
 ghost use Rattle.nbfx_records.specs.Places.{Stands};
-ghost use Rattle.nbfx_records.specs.Answers.{Answers, Wants};
+ghost use Rattle.nbfx_records.specs.Answers.{Answers, ReadsValid, Wants};
 ghost use Rattle.nbfx_records.specs.Valid.{is_valid_node};
 ghost use Rattle.nbfx_decoder.specs.Sections.{first_section, left_in};
 
 use crate::begun::Begun;
-use crate::faults::{UnitFault, reason_of};
+use crate::faults::{UnitFault, unread};
 use crate::meaning::{Meant, Names, Unmeant};
 use crate::section::Section;
 use crate::strings::{StringRead, string_at};
 use multibyte_ints::{IntRead, read_int};
 use nbfx_records::{Node, NodePlace, NodeRead, ReadFault, read_node};
-use nbfx_values::{Doc, DocBuilder, Item, Kind, Position, PushFault, Quotas, Reason, Value};
+use nbfx_values::{Doc, DocBuilder, Item, Kind, Position, PushFault, Quotas, Reason};
 use session_dictionary::{AddFault, SessionTable};
 use static_dictionary::StaticTable;
 use std::alloc::Global;
@@ -57,7 +57,7 @@ fn refused<T>(reason: Reason, shown_by: usize) -> Result<T, UnitFault>
 
 impl<'s> UnitReader<'s> {
     ghost use Rattle.nbfx_decoder.specs.Payload.{Settings, Situation, beginning, place_of};
-    ghost use Rattle.nbfx_decoder.specs.Units.{IsAt, Keeps, Counts, counted, AddAnswers, UnitAnswers};
+    ghost use Rattle.nbfx_decoder.specs.Units.{IsAt, Keeps, KeepsSettings, Counts, counted, AddAnswers, UnitAnswers};
 
     /// Before a payload's first byte, with no strings.
     pub(crate) fn new(alloc: Global, statics: &'s StaticTable, quotas: Quotas, kind: Kind) -> Self
@@ -83,6 +83,7 @@ impl<'s> UnitReader<'s> {
             → UnitAnswers x z from bytes.now self.new result }
         ensures counts { IfOk result (Counts (length bytes.now)) }
         ensures from { IfOk result (λ read. self.new.from ≡ self.old.from + counted read) }
+        ensures kept { KeepsSettings self.old self.new }
     {
         match self.section {
             Section::TableSize => self.table_size(bytes),
@@ -101,6 +102,7 @@ impl<'s> UnitReader<'s> {
             → UnitAnswers x z from begun.old self.new result }
         ensures counts { IfOk result (Counts (length begun.old)) }
         ensures from { IfOk result (λ read. self.new.from ≡ self.old.from + counted read) }
+        ensures kept { KeepsSettings self.old self.new }
         ensures unchanged { begun.new ≡ begun.old }
     {
         match self.section {
@@ -133,6 +135,7 @@ impl<'s> UnitReader<'s> {
             → UnitAnswers x z from bytes.now self.new result }
         ensures counts { IfOk result (Counts (length bytes.now)) }
         ensures from { IfOk result (λ read. self.new.from ≡ self.old.from + counted read) }
+        ensures kept { KeepsSettings self.old self.new }
     {
         match read_int(bytes) {
             IntRead::More => Ok(UnitRead::More {
@@ -153,6 +156,7 @@ impl<'s> UnitReader<'s> {
             → UnitAnswers x z from bytes.now self.new result }
         ensures counts { IfOk result (Counts (length bytes.now)) }
         ensures from { IfOk result (λ read. self.new.from ≡ self.old.from + counted read) }
+        ensures kept { KeepsSettings self.old self.new }
     {
         let room = self.quotas.dictionary.saturating_sub(self.table.used());
         match string_at(bytes, left as usize, room as usize)? {
@@ -186,7 +190,8 @@ impl<'s> UnitReader<'s> {
     fn node(&mut self, len: usize, read: Result<NodeRead, ReadFault>) -> Result<UnitRead, UnitFault>
         requires here { self.old.section ≡ Section.Nodes }
         requires few { self.old.from + len < 2 ^ 32 }
-        requires read { (bytes : List ℕ) × (length bytes ≡ len) × IsBytes bytes
+        requires valid { ReadsValid read }
+        requires there { (bytes : List ℕ) × (length bytes ≡ len)
             × Answers (place_of self.old.quotas.depth (position_of self.old.document)) bytes read
             × Wants (place_of self.old.quotas.depth (position_of self.old.document)) bytes read }
         ensures answers { (x : Settings) (z : Situation) (from : ℕ) (bytes : List ℕ) → IsAt self.old x z from
@@ -195,6 +200,7 @@ impl<'s> UnitReader<'s> {
             → UnitAnswers x z from bytes self.new result }
         ensures counts { IfOk result (Counts len) }
         ensures from { IfOk result (λ read. self.new.from ≡ self.old.from + counted read) }
+        ensures kept { KeepsSettings self.old self.new }
     {
         match read {
             Ok(NodeRead::More { wants }) => Ok(UnitRead::More { wants }),
@@ -202,8 +208,7 @@ impl<'s> UnitReader<'s> {
                 self.add(node, used)?;
                 Ok(self.pass(used))
             }
-            Err(ReadFault::Fault { fault, shown_by }) => refused(reason_of(fault), shown_by),
-            Err(ReadFault::Memory) => Err(UnitFault::Memory),
+            Err(fault) => Err(unread(fault)),
         }
     }
 
@@ -215,19 +220,19 @@ impl<'s> UnitReader<'s> {
             → AddAnswers x z from node used self.new result }
         ensures section { self.new.section ≡ self.old.section }
         ensures from { self.new.from ≡ self.old.from }
+        ensures kept { KeepsSettings self.old self.new }
     {
         let names = Names {
             alloc: self.alloc,
             statics: self.statics,
             strings: &self.table,
         };
-        let pushed = match names.meant(node) {
-            Ok(Meant::Item(item)) => self.document.push(item),
-            Ok(Meant::LastText(value)) => push_last(&mut self.document, value),
+        let meant = match names.meant(node) {
+            Ok(meant) => meant,
             Err(Unmeant::UnknownString) => return refused(Reason::UnknownString, used),
             Err(Unmeant::Memory) => return Err(UnitFault::Memory),
         };
-        match pushed {
+        match push(&mut self.document, meant) {
             Ok(()) if self.document.content() > self.quotas.content as u64 => {
                 refused(Reason::TooMuchContent, used)
             }
@@ -278,7 +283,7 @@ impl<'s> UnitReader<'s> {
     pub(crate) fn depth(&self) -> u32
         ensures { opened_by 0 self.now.document < 2 ^ 32 → result ≡ opened_by 0 self.now.document }
     {
-        self.document.open_count() as u32
+        u32::try_from(self.document.open_count()).unwrap_or(u32::MAX)
     }
 
     /// The strings of the direction.
@@ -301,13 +306,18 @@ impl<'s> UnitReader<'s> {
     }
 }
 
-// Puts a text and the end of its element behind the items.
-fn push_last(document: &mut DocBuilder, value: Value) -> Result<(), PushFault>
-    requires { IsTrue (is_valid_value value) }
-    ensures pushed { OnOk result (document.new ≡ document.old ++ items.Text value ∷ items.Close ∷ []) }
+// Puts what a node means behind the items.
+fn push(document: &mut DocBuilder, meant: Meant) -> Result<(), PushFault>
+    requires { IsTrue (list_all is_valid_item (items_in meant)) }
+    ensures pushed { OnOk result (document.new ≡ document.old ++ items_in meant) }
     ensures out_of_place { IsErrOf result PushFault.OutOfPlace
-        → position_of (document.old ++ items.Text value ∷ items.Close ∷ []) ≡ None }
+        → position_of (document.old ++ items_in meant) ≡ None }
 {
-    document.push(Item::Text(value))?;
-    document.push(Item::Close)
+    match meant {
+        Meant::Item(item) => document.push(item),
+        Meant::LastText(value) => {
+            document.push(Item::Text(value))?;
+            document.push(Item::Close)
+        }
+    }
 }

@@ -1,3 +1,4 @@
+use Rattle.std.proofs.Common.{arith}
 use Rattle.nbfx_decoder.proofs.StringSteps.{used_within, head_begun, head_cut, head_bad, head_long, head_dear, head_good}
 use Rattle.nbfx_decoder.proofs.strings.head_at.Goals as goal
 
@@ -20,4 +21,7 @@ pub returns-in-Bad : goal.returns-in-Bad
 returns-in-Bad c = rw c.refused-in-Bad.ensures (head_bad c.args.room c.args.left c.requires c.args.bytes.now c.min.result c.min.ensures c.in-Bad.ensures)
 
 pub returns-else-max-room : goal.returns-else-max-room
-returns-else-max-room c = head_good c.args.room c.args.left c.requires c.args.bytes.now c.min.result c.min.ensures c.in-Done.value c.in-Done.used c.max.result c.in-Done.ensures.0 c.if-size-left.false c.max.ensures c.if-max-room.false
+returns-else-max-room c = (
+  head_good c.args.room c.args.left c.requires c.args.bytes.now c.min.result c.min.ensures c.in-Done.value c.in-Done.used c.max.result c.in-Done.ensures.0 c.if-size-left.false c.max.ensures c.if-max-room.false,
+  (let paid = c.max.ensures in let few = c.if-max-room.false in omega (arith, paid, few)),
+)
