@@ -55,8 +55,8 @@ module _ (x : Settings) (strings : List (List ℕ)) (bytes : List ℕ) where
   there items own may h =
       let none = h.offenceless in
       let same : (all_units none).own ≡ own = append_cancel_left strings (all_units none).own own (sym (all_units none).strings_are ∙ h.strings_are) in
-      let keeps = keeps_within x strings (readable x strings) may.depth may.dictionary bytes in
-      let admitted : IsAdmitted x.limits (situation_of x strings bytes).items (situation_of x strings bytes).strings = record { depth = keeps.depth; content = keeps.content; dictionary = keeps.dictionary } in (
+      let keeps = keeps_within x strings (readable x strings) bytes in
+      let admitted : IsAdmitted x.limits (situation_of x strings bytes).items (situation_of x strings bytes).strings = record { depth = let d = keeps.depth in let root = may.depth in omega (arith, d, root); content = keeps.content; dictionary = let d = keeps.dictionary in let first = may.dictionary in omega (arith, d, first) } in (
         subst (λ (l : List Item). IsPayload x.kind (table_before x strings) own l bytes) h.items_are
             (subst (λ (o : List (List ℕ)). IsPayload x.kind (table_before x strings) o (situation_of x strings bytes).items bytes) same (is_payload none)),
         subst (λ (l : List Item). IsAdmitted x.limits l (strings ++ own)) h.items_are (subst (λ (s : List (List ℕ)). IsAdmitted x.limits (situation_of x strings bytes).items s) h.strings_are admitted),

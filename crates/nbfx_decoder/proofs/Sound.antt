@@ -1,6 +1,6 @@
 -- What bounds the situation behind any bytes of a payload.
 use Rattle.std.proofs.Common.{◌≡◌, ℕ, zero, suc, inl, inr, ◌+◌, ◌<◌, ◌≤◌, List, [], ◌∷◌, ◌++◌, length, take, drop, Some, refl, sym, ap, ◌∙◌, subst, arith, length-append}
-use Rattle.std.specs.Prelude.{IsUtf8}
+use Rattle.std.specs.Prelude.{IsUtf8, max}
 use Rattle.std.proofs.lemmas.List.{length-take-le, take-append-drop}
 use Rattle.std.proofs.lemmas.List.Sums.{sum_by-append}
 use Rattle.unit_streams.specs.Grammar.{at_start, standing, IsReadable}
@@ -31,11 +31,11 @@ use Rattle.nbfx_decoder.proofs.Places.{open_within_depth, stands_behind, stands_
 use Rattle.nbfx_decoder.proofs.TableBytes.{just_string}
 use Rattle.nbfx_decoder.proofs.UnitCases.{UnitCase, a_node, a_size, a_string, NodeCase, adds, refuses, node_case, unit_case}
 
-module _ (x : Settings) where
+module _ (x : Settings) (before : List (List ℕ)) where
   -- more bytes, and nothing new
-  keeps_same : (z z' : Situation) (from k : ℕ) → z'.items ≡ z.items → z'.strings ≡ z.strings → KeepsWithin x.limits z from → KeepsWithin x.limits z' (from + k)
+  keeps_same : (z z' : Situation) (from k : ℕ) → z'.items ≡ z.items → z'.strings ≡ z.strings → KeepsWithin x.limits before z from → KeepsWithin x.limits before z' (from + k)
   keeps_same z z' from k items strings h =
-      let same : KeepsWithin x.limits (record z' { items = z.items; strings = z.strings }) (from + k) = record {
+      let same : KeepsWithin x.limits before (record z' { items = z.items; strings = z.strings }) (from + k) = record {
         content = h.content;
         depth = h.depth;
         open_elements = h.open_elements;
@@ -43,12 +43,12 @@ module _ (x : Settings) where
         few_items = let few = h.few_items in omega (arith, few);
         few_values = let few = h.few_values in omega (arith, few);
       } in
-      subst (λ (l : List Item). KeepsWithin x.limits (record z' { items = l }) (from + k)) (sym items)
-      (subst (λ (s : List (List ℕ)). KeepsWithin x.limits (record z' { items = z.items; strings = s }) (from + k)) (sym strings) same)
+      subst (λ (l : List Item). KeepsWithin x.limits before (record z' { items = l }) (from + k)) (sym items)
+      (subst (λ (s : List (List ℕ)). KeepsWithin x.limits before (record z' { items = z.items; strings = s }) (from + k)) (sym strings) same)
 
   -- one string more
-  keeps_string : (z z' : Situation) (from k : ℕ) (text : List ℕ) → z'.items ≡ z.items → z'.strings ≡ z.strings ++ text ∷ [] → used_cost (z.strings ++ text ∷ []) ≤ x.limits.dictionary
-      → KeepsWithin x.limits z from → KeepsWithin x.limits z' (from + k)
+  keeps_string : (z z' : Situation) (from k : ℕ) (text : List ℕ) → z'.items ≡ z.items → z'.strings ≡ z.strings ++ text ∷ [] → used_cost (z.strings ++ text ∷ []) ≤ max (used_cost before) x.limits.dictionary
+      → KeepsWithin x.limits before z from → KeepsWithin x.limits before z' (from + k)
   keeps_string z z' from k text items strings pays h =
       keeps_same (record z { strings = z.strings ++ text ∷ [] }) z' from k items strings (record {
         content = h.content;
@@ -60,14 +60,14 @@ module _ (x : Settings) where
       })
 
   -- the items of a node more
-  keeps_items : 0 < x.limits.depth → (z z' : Situation) (from k : ℕ) (n : Node) (more : List Item) (bytes : List ℕ) → z'.items ≡ z.items ++ more → z'.strings ≡ z.strings → length bytes ≡ k → 0 < k
+  keeps_items : (z z' : Situation) (from k : ℕ) (n : Node) (more : List Item) (bytes : List ℕ) → z'.items ≡ z.items ++ more → z'.strings ≡ z.strings → length bytes ≡ k → 0 < k
       → content_of (z.items ++ more) ≤ x.limits.content → Means (table_in x z) n more → IsNode n bytes → Stands (place_of x.limits.depth (position_of z.items)) n
-      → KeepsWithin x.limits z from → KeepsWithin x.limits z' (from + k)
-  keeps_items some z z' from k n more bytes items strings size one content means is stands h =
-      let deep = stands_depth (table_in x z) x.limits.depth z.items n more means some stands h.depth in
+      → KeepsWithin x.limits before z from → KeepsWithin x.limits before z' (from + k)
+  keeps_items z z' from k n more bytes items strings size one content means is stands h =
+      let deep = stands_depth (table_in x z) x.limits.depth z.items n more means stands h.depth in
       let two = node_items (table_in x z) n more means in
       let fits = node_fits (table_in x z) n more bytes means is in
-      let same : KeepsWithin x.limits (record z' { items = z.items ++ more; strings = z.strings }) (from + k) = record {
+      let same : KeepsWithin x.limits before (record z' { items = z.items ++ more; strings = z.strings }) (from + k) = record {
         content = content;
         depth = deep;
         open_elements = let open_now = open_within_depth (z.items ++ more) in omega (arith, open_now, deep);
@@ -75,37 +75,36 @@ module _ (x : Settings) where
         few_items = let few = h.few_items in let sum = length-append z.items more in omega (arith, few, sum, two, one);
         few_values = let few = h.few_values in let sum = sum_by-append item_values z.items more in omega (arith, few, sum, fits, size);
       } in
-      subst (λ (l : List Item). KeepsWithin x.limits (record z' { items = l }) (from + k)) (sym items)
-      (subst (λ (s : List (List ℕ)). KeepsWithin x.limits (record z' { items = z.items ++ more; strings = s }) (from + k)) (sym strings) same)
+      subst (λ (l : List Item). KeepsWithin x.limits before (record z' { items = l }) (from + k)) (sym items)
+      (subst (λ (s : List (List ℕ)). KeepsWithin x.limits before (record z' { items = z.items ++ more; strings = s }) (from + k)) (sym strings) same)
 
-  module _ (some : 0 < x.limits.depth) (z : Situation) (from : ℕ) (b : List ℕ) (k : ℕ) (one : 0 < k) (h : KeepsWithin x.limits z from) where
-    node_keeps : (n : Node) → IsNode n (take k b) → k ≤ length b → Stands (place_of x.limits.depth (position_of z.items)) n → NodeCase x z n → KeepsWithin x.limits (after x z (node n)) (from + k)
+  module _ (z : Situation) (from : ℕ) (b : List ℕ) (k : ℕ) (one : 0 < k) (h : KeepsWithin x.limits before z from) where
+    node_keeps : (n : Node) → IsNode n (take k b) → k ≤ length b → Stands (place_of x.limits.depth (position_of z.items)) n → NodeCase x z n → KeepsWithin x.limits before (after x z (node n)) (from + k)
     unfolding after
     node_keeps n is within stands (refuses reason told items) = keeps_same z (after x z (node n)) from k items refl h
     node_keeps n is within stands (adds more told meant content items) =
-        keeps_items some z (after x z (node n)) from k n more (take k b) items refl (length-take-le k b within) one content ((meanings_are_found (table_in x z) n more).0 meant) is stands h
+        keeps_items z (after x z (node n)) from k n more (take k b) items refl (length-take-le k b within) one content ((meanings_are_found (table_in x z) n more).0 meant) is stands h
 
-    case_keeps : (unit : PayloadUnit) → UnitCase x z b unit k → KeepsWithin x.limits (after x z unit) (from + k)
+    case_keeps : (unit : PayloadUnit) → UnitCase x z b unit k → KeepsWithin x.limits before (after x z unit) (from + k)
     unfolding after
-    case_keeps unit (a_size n is here e) = subst (λ (u : PayloadUnit). KeepsWithin x.limits (after x z u) (from + k)) (sym is) (keeps_same z (after x z (table_size n)) from k refl refl h)
+    case_keeps unit (a_size n is here e) = subst (λ (u : PayloadUnit). KeepsWithin x.limits before (after x z u) (from + k)) (sym is) (keeps_same z (after x z (table_size n)) from k refl refl h)
     case_keeps unit (a_string left s is here e) =
         let it = (just_string (room_for x.limits.dictionary z.strings) (suc left) b s k).0 e in
         let pays = it.1.pays in
         let sum = used_cost-append z.strings (s.text ∷ []) in
-        let before = h.dictionary in
-        subst (λ (u : PayloadUnit). KeepsWithin x.limits (after x z u) (from + k)) (sym is)
-        (keeps_string z (after x z (table_string s)) from k s.text refl refl (omega (arith, pays, sum, before)) h)
+        let so_far = h.dictionary in
+        subst (λ (u : PayloadUnit). KeepsWithin x.limits before (after x z u) (from + k)) (sym is)
+        (keeps_string z (after x z (table_string s)) from k s.text refl refl (omega (arith, pays, sum, so_far)) h)
     case_keeps unit (a_node n is here e) =
         let it = (records_are_read (place_of x.limits.depth (position_of z.items)) b n k).0 e in
-        subst (λ (u : PayloadUnit). KeepsWithin x.limits (after x z u) (from + k)) (sym is) (node_keeps n it.1 it.0 it.2 (node_case x z n))
+        subst (λ (u : PayloadUnit). KeepsWithin x.limits before (after x z u) (from + k)) (sym is) (node_keeps n it.1 it.0 it.2 (node_case x z n))
 
-  module _ (strings : List (List ℕ)) (readable : IsReadable (payload x strings)) where
-    -- however many bytes came
-    pub keeps_within : 0 < x.limits.depth → used_cost strings ≤ x.limits.dictionary → (p : List ℕ) → KeepsWithin x.limits (situation_of x strings p) (from_of x strings p)
-    keeps_within some pays p =
-        standing_keeps (payload x strings) readable (KeepsWithin x.limits)
-        (record { content = omega arith; depth = omega arith; open_elements = omega arith; dictionary = pays; few_items = omega arith; few_values = omega arith })
-        (λ z from b unit k e one h. case_keeps some z from b k one h unit (unit_case x z b unit k from e)) p
+-- however many bytes came
+pub keeps_within : (x : Settings) (strings : List (List ℕ)) → IsReadable (payload x strings) → (p : List ℕ) → KeepsWithin x.limits strings (situation_of x strings p) (from_of x strings p)
+keeps_within x strings readable p =
+    standing_keeps (payload x strings) readable (KeepsWithin x.limits strings)
+    (record { content = omega arith; depth = omega arith; open_elements = omega arith; dictionary = omega arith; few_items = omega arith; few_values = omega arith })
+    (λ z from b unit k e one h. case_keeps x strings z from b k one h unit (unit_case x z b unit k from e)) p
 
 -- it is somewhere in a document, and what identifiers name is text
 pub record IsSomewhere (x : Settings) (z : Situation) : Type 0 where

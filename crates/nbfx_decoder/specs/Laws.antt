@@ -40,10 +40,10 @@ abbrev pub SpellsOneDocument : Type 0
 SpellsOneDocument = (kind : Kind) (table : StringTable) (own others : List (List ℕ)) (items more : List Item) (bytes : List ℕ)
     → IsPayload kind table own items bytes → IsPayload kind table others more bytes → (own ≡ others) × (items ≡ more)
 
--- however far a payload has come, what it has brought is within what is admitted
+-- however far a payload has come, what it has brought is within bounds
 abbrev pub SituationsKeepWithin : Type 0
-SituationsKeepWithin = (x : Settings) (strings : List (List ℕ)) (p : List ℕ) → MayBegin x strings
-    → KeepsWithin x.limits (situation_of x strings p) (from_of x strings p)
+SituationsKeepWithin = (x : Settings) (strings : List (List ℕ)) (p : List ℕ)
+    → KeepsWithin x.limits strings (situation_of x strings p) (from_of x strings p)
 
 -- and is the front of a document, where what identifiers name is text
 abbrev pub SituationsAreFronts : Type 0
