@@ -1,11 +1,9 @@
 -- Why a node is refused.
 use Rattle.std.proofs.Common.{◌≡◌, ℕ, inl, inr, List, [], ◌∷◌, drop, Bool, true, false, Option, Some, None, refl, ap, ◌∙◌, subst}
-use Rattle.std.specs.Prelude.{◌⊎◌, not, ◌&&◌, ◌||◌, if◌then◌else◌}
+use Rattle.std.specs.Prelude.{◌⊎◌, if◌then◌else◌}
 use Rattle.unit_streams.specs.Front.{Front, begun, whole, wrong}
 use Rattle.unit_streams.specs.Parts.{Reader, Turn, judged, judged_whole}
 use Rattle.nbfx_values.specs.declared.content.ArrayKind.{ArrayKind}
-use Rattle.nbfx_values.specs.declared.content.Item.{Item}
-use Rattle.string_tables.specs.StringTable.{StringTable}
 use Rattle.nbfx_records.specs.declared.kinds.TextKind.{TextKind}
 use Rattle.nbfx_records.specs.declared.kinds.TextKind.TheVariants as texts
 use Rattle.nbfx_records.specs.declared.kinds.PrefixForm.{PrefixForm}
@@ -25,10 +23,11 @@ use Rattle.nbfx_records.specs.declared.nodes.NodePlace.TheVariants.{BeforeRoot, 
 use Rattle.nbfx_records.specs.Contents.{contents, is_text, judge, node_of}
 use Rattle.nbfx_records.specs.Kinds.{array_kind, body_of, record_kind}
 use Rattle.nbfx_records.specs.Reading.{node_at}
-use Rattle.nbfx_records.specs.Shapes.{Shape, an_integer, array_element, array_parts, array_turn, ends_list, is_attribute, is_element, list_turn, name_at, opens, placed, prefix_at, shape_at, unless_misplaced}
+use Rattle.nbfx_records.specs.Shapes.{Shape, an_integer, array_element, array_parts, array_turn, is_element, list_turn, name_at, placed, prefix_at, shape_at, unless_misplaced}
 use Rattle.nbfx_decoder.specs.Faults.{reason_of}
-use Rattle.nbfx_decoder.specs.Reasons.{HasBadText, HasBadValue, ShowsAtNode}
-use Rattle.nbfx_decoder.specs.WrongRecords.{IsBuiltWrong, MayCome, Misplaces, WrongAmong, WrongArray, WrongAttribute, WrongBehind, WrongBody, WrongCells, WrongElement, WrongInList, WrongInteger, WrongItem, WrongLed, WrongLength, WrongList, WrongNamed, WrongPart, WrongParts, WrongPlaced, WrongPrefix, WrongRecord, WrongText, WrongTextNode, WrongThen, WrongTurn, WrongValue, WrongValueOf}
+use Rattle.nbfx_decoder.specs.Payload.{Settings, Situation}
+use Rattle.nbfx_decoder.specs.Reasons.{HasBadText, HasBadValue, ShowsAtNode, node_place}
+use Rattle.nbfx_decoder.specs.WrongRecords.{is_out_of_place, is_too_deep, IsBuiltWrong, MayCome, Misplaces, WrongAmong, WrongArray, WrongAttribute, WrongBehind, WrongBody, WrongCells, WrongCount, WrongElement, WrongInList, WrongInteger, WrongItem, WrongLed, WrongLength, WrongList, WrongNamed, WrongPart, WrongParts, WrongPlaced, WrongPrefix, WrongRecord, WrongText, WrongTextNode, WrongThen, WrongTurn, WrongValue, WrongValueOf, WrongValues}
 use Rattle.nbfx_decoder.proofs.WrongParts.{record_tells}
 use Rattle.nbfx_decoder.proofs.Wrongs.{Finds, Tells, tells_led, tells_refuse}
 
@@ -44,7 +43,7 @@ before_tells kind false t = record {
   finds = λ rest fault h. elim h [ inl f ↦ (tells_refuse faults.OutOfPlace).finds rest fault f.1 | inr w ↦ absurd (let some = w.0 in cc) ];
 }
 
-within_tells : (attributes deeper : Bool) (kind : RecordKind) (b c : Bool) → ((is_attribute kind && not attributes) || ends_list kind) ≡ b → (opens kind && not deeper) ≡ c
+within_tells : (attributes deeper : Bool) (kind : RecordKind) (b c : Bool) → is_out_of_place attributes kind ≡ b → is_too_deep deeper kind ≡ c
     → Tells (unless_misplaced (if b then Some faults.OutOfPlace else (if c then Some faults.TooDeep else None)) kind)
     (λ rest fault. Misplaces (Within attributes deeper) kind fault ⊎ (MayCome (Within attributes deeper) kind × WrongRecord kind rest fault))
 within_tells attributes deeper kind true c t s = record {
@@ -74,7 +73,7 @@ placed_tells AfterRoot kind = tells_refuse faults.TrailingBytes
 placed_tells BeforeRoot None = tells_refuse faults.UnknownNode
 placed_tells (Within attributes deeper) None = tells_refuse faults.UnknownNode
 placed_tells BeforeRoot (Some kind) = before_tells kind (is_element kind) refl
-placed_tells (Within attributes deeper) (Some kind) = within_tells attributes deeper kind ((is_attribute kind && not attributes) || ends_list kind) (opens kind && not deeper) refl refl
+placed_tells (Within attributes deeper) (Some kind) = within_tells attributes deeper kind (is_out_of_place attributes kind) (is_too_deep deeper kind) refl refl
 
 pub shape_tells : (place : NodePlace) → Tells (shape_at place) (IsBuiltWrong place)
 unfolding shape_at
@@ -176,13 +175,13 @@ part_keeps (Some _) bytes fault h = keeps_is fault faults.BadArray h refl
 cells_keep : (kind : Option ArrayKind) → Keeps (WrongCells kind)
 cells_keep None bytes fault h = keeps_is fault faults.BadArray h refl
 cells_keep (Some kind) bytes fault h =
-    keeps_then an_integer WrongInteger (λ count values fault. (count ≡ 0) × (fault ≡ faults.BadArray)) integer_keeps (λ count values fault h. keeps_is fault faults.BadArray h.1 refl) bytes fault h
+    keeps_then an_integer WrongInteger WrongCount integer_keeps (λ count values fault h. keeps_is fault faults.BadArray h.1 refl) bytes fault h
 
 array_keeps : Keeps WrongArray
 array_keeps =
-    keeps_then array_element (WrongLed (λ byte. WrongElement (record_kind byte))) (λ it. WrongThen array_parts WrongParts (λ parts. WrongLed (λ byte. WrongCells (array_kind byte))))
+    keeps_then array_element (WrongLed (λ byte. WrongElement (record_kind byte))) (λ it. WrongThen array_parts WrongParts (λ parts. WrongValues))
     (keeps_led (λ byte. WrongElement (record_kind byte)) (λ byte. element_keeps (record_kind byte)))
-    (λ it. keeps_then array_parts WrongParts (λ parts. WrongLed (λ byte. WrongCells (array_kind byte)))
+    (λ it. keeps_then array_parts WrongParts (λ parts. WrongValues)
     (keeps_among array_turn (WrongLed (λ byte. WrongPart (record_kind byte))) (keeps_led (λ byte. WrongPart (record_kind byte)) (λ byte. part_keeps (record_kind byte))))
     (λ parts. keeps_led (λ byte. WrongCells (array_kind byte)) (λ byte. cells_keep (array_kind byte))))
 
@@ -220,47 +219,47 @@ built_keeps : (place : NodePlace) → Keeps (IsBuiltWrong place)
 built_keeps place = keeps_led (λ byte. WrongPlaced place (record_kind byte)) (λ byte. placed_keeps place (record_kind byte))
 
 -- why a record is refused that is read there
-module _ (table : StringTable) (place : NodePlace) (content : ℕ) (items : List Item) (bytes : List ℕ) where
-  built_shows : (fault : NodeFault) → IsBuiltWrong place bytes fault → ShowsAtNode table place content items bytes (reason_of fault)
+module _ (x : Settings) (z : Situation) (bytes : List ℕ) where
+  built_shows : (fault : NodeFault) → IsBuiltWrong (node_place x z) bytes fault → ShowsAtNode x z bytes (reason_of fault)
   built_shows faults.UnknownNode h = h
   built_shows faults.OutOfPlace h = h
   built_shows faults.TrailingBytes h = h
   built_shows faults.TooDeep h = h
   built_shows faults.BadInt h = h
   built_shows faults.BadArray h = h
-  built_shows faults.BadUtf8 h = absurd (let none = built_keeps place bytes faults.BadUtf8 h in cc)
-  built_shows faults.BadValue h = absurd (let none = built_keeps place bytes faults.BadValue h in cc)
+  built_shows faults.BadUtf8 h = absurd (let none = built_keeps (node_place x z) bytes faults.BadUtf8 h in cc)
+  built_shows faults.BadValue h = absurd (let none = built_keeps (node_place x z) bytes faults.BadValue h in cc)
 
-  said_shows : (shape : Shape) (n : ℕ) (fault : NodeFault) (k : ℕ) → shape_at place bytes ≡ whole shape n → judged_whole (contents shape) n ≡ wrong fault k → ShowsAtNode table place content items bytes (reason_of fault)
+  said_shows : (shape : Shape) (n : ℕ) (fault : NodeFault) (k : ℕ) → shape_at (node_place x z) bytes ≡ whole shape n → judged_whole (contents shape) n ≡ wrong fault k → ShowsAtNode x z bytes (reason_of fault)
   unfolding contents
   said_shows shape n fault k e g = by (is_text shape) refl g
     where
-      by_value : is_text shape ≡ true → (o : Option Node) → node_of shape ≡ o → judged_whole (judge true o) n ≡ wrong fault k → ShowsAtNode table place content items bytes (reason_of fault)
-      by_value t None v g = let same : faults.BadValue ≡ fault = cc in subst (λ (f : NodeFault). ShowsAtNode table place content items bytes (reason_of f)) same (shape, n, e, t, v)
+      by_value : is_text shape ≡ true → (o : Option Node) → node_of shape ≡ o → judged_whole (judge true o) n ≡ wrong fault k → ShowsAtNode x z bytes (reason_of fault)
+      by_value t None v g = let same : faults.BadValue ≡ fault = cc in subst (λ (f : NodeFault). ShowsAtNode x z bytes (reason_of f)) same (shape, n, e, t, v)
       by_value t (Some node) v g = cc
 
-      by : (good : Bool) → is_text shape ≡ good → judged_whole (judge good (node_of shape)) n ≡ wrong fault k → ShowsAtNode table place content items bytes (reason_of fault)
+      by : (good : Bool) → is_text shape ≡ good → judged_whole (judge good (node_of shape)) n ≡ wrong fault k → ShowsAtNode x z bytes (reason_of fault)
       by true t g = by_value t (node_of shape) refl g
-      by false t g = let same : faults.BadUtf8 ≡ fault = cc in subst (λ (f : NodeFault). ShowsAtNode table place content items bytes (reason_of f)) same (shape, n, e, t)
+      by false t g = let same : faults.BadUtf8 ≡ fault = cc in subst (λ (f : NodeFault). ShowsAtNode x z bytes (reason_of f)) same (shape, n, e, t)
 
-  pub node_shows : (fault : NodeFault) (k : ℕ) → node_at place bytes ≡ wrong fault k → ShowsAtNode table place content items bytes (reason_of fault)
+  pub node_shows : (fault : NodeFault) (k : ℕ) → node_at (node_place x z) bytes ≡ wrong fault k → ShowsAtNode x z bytes (reason_of fault)
   unfolding node_at
-  node_shows fault k e = by (shape_at place bytes) refl e
+  node_shows fault k e = by (shape_at (node_place x z) bytes) refl e
     where
-      by : (v : Front Shape NodeFault) → shape_at place bytes ≡ v → judged contents v ≡ wrong fault k → ShowsAtNode table place content items bytes (reason_of fault)
+      by : (v : Front Shape NodeFault) → shape_at (node_place x z) bytes ≡ v → judged contents v ≡ wrong fault k → ShowsAtNode x z bytes (reason_of fault)
       by begun s g = cc
       by (whole shape n) s g = said_shows shape n fault k s g
-      by (wrong r n) s g = let same : r ≡ fault = cc in built_shows fault ((shape_tells place).shows bytes fault (n, s ∙ ap (λ r. wrong r n) same))
+      by (wrong r n) s g = let same : r ≡ fault = cc in built_shows fault ((shape_tells (node_place x z)).shows bytes fault (n, s ∙ ap (λ r. wrong r n) same))
 
   -- the other way round
-  pub built_wrong : (fault : NodeFault) → IsBuiltWrong place bytes fault → Finds (node_at place) bytes fault
+  pub built_wrong : (fault : NodeFault) → IsBuiltWrong (node_place x z) bytes fault → Finds (node_at (node_place x z)) bytes fault
   unfolding node_at
-  built_wrong fault h = let it = (shape_tells place).finds bytes fault h in (it.0, ap (judged contents) it.1)
+  built_wrong fault h = let it = (shape_tells (node_place x z)).finds bytes fault h in (it.0, ap (judged contents) it.1)
 
-  pub text_wrong : HasBadText place bytes → Finds (node_at place) bytes faults.BadUtf8
+  pub text_wrong : HasBadText (node_place x z) bytes → Finds (node_at (node_place x z)) bytes faults.BadUtf8
   unfolding node_at contents
   text_wrong (shape, n, e, t) = (n, ap (judged contents) e ∙ ap (λ good. judged_whole (judge good (node_of shape)) n) t)
 
-  pub value_wrong : HasBadValue place bytes → Finds (node_at place) bytes faults.BadValue
+  pub value_wrong : HasBadValue (node_place x z) bytes → Finds (node_at (node_place x z)) bytes faults.BadValue
   unfolding node_at contents
   value_wrong (shape, n, e, t, v) = (n, ap (judged contents) e ∙ ap (λ good. judged_whole (judge good (node_of shape)) n) t ∙ ap (λ o. judged_whole (judge true o) n) v)

@@ -20,7 +20,6 @@ use Rattle.nbfx_values.specs.declared.refusals.Reason.TheVariants as reasons
 use Rattle.nbfx_records.specs.declared.nodes.Node.{Node}
 use Rattle.nbfx_records.specs.declared.nodes.NodeFault.{NodeFault}
 use Rattle.nbfx_records.specs.declared.nodes.NodeFault.TheVariants as faults
-use Rattle.nbfx_records.specs.declared.nodes.NodePlace.{NodePlace}
 use Rattle.nbfx_records.specs.Meaning.{items_of}
 use Rattle.nbfx_records.specs.Places.{Stands}
 use Rattle.nbfx_records.specs.Reading.{node_at}
@@ -31,8 +30,8 @@ use Rattle.nbfx_decoder.specs.declared.section.Section.{Section}
 use Rattle.nbfx_decoder.specs.declared.section.Section.TheVariants.{TableSize, Strings, Nodes}
 use Rattle.nbfx_decoder.specs.Faults.{reason_of}
 use Rattle.nbfx_decoder.specs.Laws.{CutWhereUnended, FirstReasonRefuses, RefusedWhereShown}
-use Rattle.nbfx_decoder.specs.Payload.{Refusal, Settings, Situation, PayloadUnit, table_size, table_string, node, cut_at, payload, place_of, reason_in, refusal, refusal_from, refused, room_for, table_in, unit_in, unit_of}
-use Rattle.nbfx_decoder.specs.Reasons.{IsCutAt, Shows, ShowsAtNode, ShowsFrom}
+use Rattle.nbfx_decoder.specs.Payload.{Refusal, Settings, Situation, PayloadUnit, table_size, table_string, node, cut_at, payload, reason_in, refusal, refusal_from, refused, room_for, table_in, unit_in, unit_of}
+use Rattle.nbfx_decoder.specs.Reasons.{IsCutAt, Shows, ShowsAtNode, ShowsFrom, node_place}
 use Rattle.nbfx_decoder.specs.Standing.{from_of, situation_of}
 use Rattle.nbfx_decoder.specs.Tables.{an_integer, string_at}
 use Rattle.nbfx_decoder.proofs.NodeReasons.{built_wrong, node_shows, text_wrong, value_wrong}
@@ -47,9 +46,6 @@ seen_wrong f h (whole a n) s k e = cc
 seen_wrong f h (wrong r n) s k e = let same : h r ≡ s = cc in let size : n ≡ k = cc in (r, ap (wrong r) size, same)
 
 module _ (x : Settings) (z : Situation) (bytes : List ℕ) where
-  abbrev Place : NodePlace
-  Place = place_of x.limits.depth (position_of z.items)
-
   -- bytes that are no unit
   wrong_shows : (section : Section) (reason : Reason) (k : ℕ) → unit_of x z section bytes ≡ wrong reason k → Shows x z section bytes reason
   wrong_shows TableSize reason k e = let it = seen_wrong table_size (λ (r : Reason). r) (an_integer bytes) reason k e in integer_shows bytes reason k (it.1 ∙ ap (λ r. wrong r k) it.2)
@@ -58,12 +54,12 @@ module _ (x : Settings) (z : Situation) (bytes : List ℕ) where
       let it = seen_wrong table_string (λ (r : Reason). r) (string_at (room_for x.limits.dictionary z.strings) (suc more) bytes) reason k e in
       string_shows (room_for x.limits.dictionary z.strings) (suc more) bytes reason k (it.1 ∙ ap (λ r. wrong r k) it.2)
   wrong_shows Nodes reason k e =
-      let it = seen_wrong node reason_of (node_at (place_of x.limits.depth (position_of z.items)) bytes) reason k e in
-      subst (ShowsAtNode (table_in x z) (place_of x.limits.depth (position_of z.items)) x.limits.content z.items bytes) it.2
-      (node_shows (table_in x z) (place_of x.limits.depth (position_of z.items)) x.limits.content z.items bytes it.0 k it.1)
+      let it = seen_wrong node reason_of (node_at (node_place x z) bytes) reason k e in
+      subst (ShowsAtNode x z bytes) it.2
+      (node_shows x z bytes it.0 k it.1)
 
   -- a unit that is refused by what it says
-  module _ (n : Node) (is : IsNode n bytes) (stands : Stands (place_of x.limits.depth (position_of z.items)) n) where
+  module _ (n : Node) (is : IsNode n bytes) (stands : Stands (node_place x z) n) where
     by_content : (more : List Item) → items_of (table_in x z) n ≡ Some more → (above : Bool) → nat_lt x.limits.content (content_of (z.items ++ more)) ≡ above → (reason : Reason)
         → (if above then Some reasons.TooMuchContent else None) ≡ Some reason → Shows x z Nodes bytes reason
     by_content more e true t reason g =
@@ -84,7 +80,7 @@ module _ (x : Settings) (z : Situation) (bytes : List ℕ) where
   unit_shows unit reason (a_size n is here e) g = absurd (let told = sym (ap (refused x z) is) ∙ g in cc)
   unit_shows unit reason (a_string left s is here e) g = absurd (let told = sym (ap (refused x z) is) ∙ g in cc)
   unit_shows unit reason (a_node n is here e) g =
-      let it = (records_are_read (place_of x.limits.depth (position_of z.items)) bytes n (length bytes)).0 e in
+      let it = (records_are_read (node_place x z) bytes n (length bytes)).0 e in
       subst (λ (s : Section). Shows x z s bytes reason) (sym here) (refused_shows n (subst (IsNode n) (take-length bytes) it.1) it.2 reason (sym (ap (refused x z) is) ∙ g))
 
   -- the other way round
@@ -92,22 +88,22 @@ module _ (x : Settings) (z : Situation) (bytes : List ℕ) where
     by_bytes : (k : ℕ) → unit_of x z section bytes ≡ wrong reason k → Refuses section reason
     by_unit : (n : Node) → unit_of x z section bytes ≡ whole (node n) (length bytes) → refused x z (node n) ≡ Some reason → Refuses section reason
 
-  found : (fault : NodeFault) → Finds (node_at (place_of x.limits.depth (position_of z.items))) bytes fault → Refuses Nodes (reason_of fault)
+  found : (fault : NodeFault) → Finds (node_at (node_place x z)) bytes fault → Refuses Nodes (reason_of fault)
   found fault h = by_bytes h.0 (ap (seen node reason_of) h.1)
 
-  node_there : (n : Node) → IsNode n bytes → Stands (place_of x.limits.depth (position_of z.items)) n → unit_of x z Nodes bytes ≡ whole (node n) (length bytes)
-  node_there n is stands = ap (seen node reason_of) (read_of_all (place_of x.limits.depth (position_of z.items)) n bytes is stands)
+  node_there : (n : Node) → IsNode n bytes → Stands (node_place x z) n → unit_of x z Nodes bytes ≡ whole (node n) (length bytes)
+  node_there n is stands = ap (seen node reason_of) (read_of_all (node_place x z) n bytes is stands)
 
   node_refuses : (reason : Reason) → Shows x z Nodes bytes reason → Refuses Nodes reason
   unfolding refused
-  node_refuses reasons.TrailingBytes h = found faults.TrailingBytes (built_wrong (table_in x z) (place_of x.limits.depth (position_of z.items)) x.limits.content z.items bytes faults.TrailingBytes h)
-  node_refuses reasons.UnknownNode h = found faults.UnknownNode (built_wrong (table_in x z) (place_of x.limits.depth (position_of z.items)) x.limits.content z.items bytes faults.UnknownNode h)
-  node_refuses reasons.NodeOutOfPlace h = found faults.OutOfPlace (built_wrong (table_in x z) (place_of x.limits.depth (position_of z.items)) x.limits.content z.items bytes faults.OutOfPlace h)
-  node_refuses reasons.BadArray h = found faults.BadArray (built_wrong (table_in x z) (place_of x.limits.depth (position_of z.items)) x.limits.content z.items bytes faults.BadArray h)
-  node_refuses reasons.TooDeep h = found faults.TooDeep (built_wrong (table_in x z) (place_of x.limits.depth (position_of z.items)) x.limits.content z.items bytes faults.TooDeep h)
-  node_refuses reasons.BadInt h = found faults.BadInt (built_wrong (table_in x z) (place_of x.limits.depth (position_of z.items)) x.limits.content z.items bytes faults.BadInt h)
-  node_refuses reasons.BadUtf8 h = found faults.BadUtf8 (text_wrong (table_in x z) (place_of x.limits.depth (position_of z.items)) x.limits.content z.items bytes h)
-  node_refuses reasons.BadValue h = found faults.BadValue (value_wrong (table_in x z) (place_of x.limits.depth (position_of z.items)) x.limits.content z.items bytes h)
+  node_refuses reasons.TrailingBytes h = found faults.TrailingBytes (built_wrong x z bytes faults.TrailingBytes h)
+  node_refuses reasons.UnknownNode h = found faults.UnknownNode (built_wrong x z bytes faults.UnknownNode h)
+  node_refuses reasons.NodeOutOfPlace h = found faults.OutOfPlace (built_wrong x z bytes faults.OutOfPlace h)
+  node_refuses reasons.BadArray h = found faults.BadArray (built_wrong x z bytes faults.BadArray h)
+  node_refuses reasons.TooDeep h = found faults.TooDeep (built_wrong x z bytes faults.TooDeep h)
+  node_refuses reasons.BadInt h = found faults.BadInt (built_wrong x z bytes faults.BadInt h)
+  node_refuses reasons.BadUtf8 h = found faults.BadUtf8 (text_wrong x z bytes h)
+  node_refuses reasons.BadValue h = found faults.BadValue (value_wrong x z bytes h)
   node_refuses reasons.UnknownString (n, is, stands, lacks) =
       by_unit n (node_there n is stands) (ap (reason_in x.limits.content z.items) ((nothing_without_names (table_in x z) n).1 lacks))
   node_refuses reasons.TooMuchContent (n, more, is, stands, means, above) =

@@ -30,7 +30,7 @@ use Rattle.nbfx_records.specs.Shapes.{ScalarShape, bytes_of, named_by, qualified
 use Rattle.nbfx_records.proofs.ListFacts.{nothing_turned}
 use Rattle.nbfx_records.proofs.PartsFacts.{nothing_parted}
 use Rattle.nbfx_records.proofs.ShapeFronts.{reads_array_turn, reads_list_turn}
-use Rattle.nbfx_decoder.specs.WrongRecords.{NeverWrong, WrongArray, WrongAttribute, WrongBody, WrongCells, WrongElement, WrongInList, WrongInteger, WrongItem, WrongLed, WrongLength, WrongList, WrongNamed, WrongPart, WrongParts, WrongPrefix, WrongRecord, WrongText, WrongTextNode, WrongThen, WrongTurn, WrongValue, WrongValueOf}
+use Rattle.nbfx_decoder.specs.WrongRecords.{NeverWrong, WrongArray, WrongAttribute, WrongBody, WrongCells, WrongCount, WrongElement, WrongInList, WrongInteger, WrongItem, WrongLed, WrongLength, WrongList, WrongNamed, WrongPart, WrongParts, WrongPrefix, WrongRecord, WrongText, WrongTextNode, WrongThen, WrongTurn, WrongValue, WrongValueOf, WrongValues}
 use Rattle.nbfx_decoder.proofs.Wrongs.{Finds, Tells, tells_bytes, tells_first, tells_given, tells_led, tells_many, tells_refuse, tells_seen, tells_then}
 
 integer : Tells an_integer WrongInteger
@@ -179,7 +179,7 @@ element_tells None = tells_refuse faults.UnknownNode
 element_tells (Some (records.Element prefix name)) = named_tells named_shape prefix name
 element_tells (Some _) = tells_refuse faults.BadArray
 
-values_tell : (kind : ArrayKind) (count : ℕ) → Tells (array_values kind count) (λ values fault. (count ≡ 0) × (fault ≡ faults.BadArray))
+values_tell : (kind : ArrayKind) (count : ℕ) → Tells (array_values kind count) (WrongCount count)
 values_tell kind count = record {
   shows = λ bytes fault h. there (count == 0) refl bytes fault h.0 h.1;
   finds = λ bytes fault h. (0, ap (λ (none : Bool). (if none then refuse faults.BadArray else some_bytes (count * width_of kind)) bytes) (eq-eqb count 0 h.0) ∙ ap (λ f. wrong f 0) (sym h.1));
@@ -192,17 +192,17 @@ values_tell kind count = record {
 cells_tell : (kind : Option ArrayKind) → Tells (cells_of kind) (WrongCells kind)
 cells_tell None = tells_refuse faults.BadArray
 cells_tell (Some kind) =
-    tells_then an_integer (λ count bytes. seen (cells_shape kind count) (λ fault. fault) (array_values kind count bytes)) WrongInteger (λ count values fault. (count ≡ 0) × (fault ≡ faults.BadArray)) integer
-    (λ count. tells_seen (cells_shape kind count) (array_values kind count) (λ values fault. (count ≡ 0) × (fault ≡ faults.BadArray)) (values_tell kind count))
+    tells_then an_integer (λ count bytes. seen (cells_shape kind count) (λ fault. fault) (array_values kind count bytes)) WrongInteger WrongCount integer
+    (λ count. tells_seen (cells_shape kind count) (array_values kind count) (WrongCount count) (values_tell kind count))
 
 array_tells : Tells array_at WrongArray
 unfolding array_at
 array_tells =
     tells_then array_element (λ it. array_parts >>= λ parts bytes. seen (array_shape it parts.items) (λ fault. fault) (array_cells bytes)) (WrongLed (λ byte. WrongElement (record_kind byte)))
-    (λ it. WrongThen array_parts WrongParts (λ parts. WrongLed (λ byte. WrongCells (array_kind byte))))
+    (λ it. WrongThen array_parts WrongParts (λ parts. WrongValues))
     (tells_led (λ byte. element_of (record_kind byte)) (λ byte. WrongElement (record_kind byte)) (λ byte. element_tells (record_kind byte)))
-    (λ it. tells_then array_parts (λ parts bytes. seen (array_shape it parts.items) (λ fault. fault) (array_cells bytes)) WrongParts (λ parts. WrongLed (λ byte. WrongCells (array_kind byte))) parts_tell
-    (λ parts. tells_seen (array_shape it parts.items) array_cells (WrongLed (λ byte. WrongCells (array_kind byte)))
+    (λ it. tells_then array_parts (λ parts bytes. seen (array_shape it parts.items) (λ fault. fault) (array_cells bytes)) WrongParts (λ parts. WrongValues) parts_tell
+    (λ parts. tells_seen (array_shape it parts.items) array_cells WrongValues
     (tells_led (λ byte. cells_of (array_kind byte)) (λ byte. WrongCells (array_kind byte)) (λ byte. cells_tell (array_kind byte)))))
 
 -- records

@@ -70,7 +70,8 @@ abbrev pub ShowsAtSize : List ℕ → Reason → Type 0
 ShowsAtSize bytes reasons.BadInt = FifthIsAbove bytes
 ShowsAtSize bytes _ = ⊥
 
--- where a string of a table comes, of which so many bytes are left, and whose strings may cost so much more
+-- where a string of a table comes, of which so many bytes are left, and whose strings may cost so
+-- much more
 abbrev pub ShowsAtString : ℕ → ℕ → List ℕ → Reason → Type 0
 ShowsAtString room left bytes reasons.BadInt = FifthIsAbove (take left bytes)
 ShowsAtString room left bytes reasons.TableCut = TextPasses left bytes ⊎ LengthIsCut left bytes
@@ -80,49 +81,64 @@ ShowsAtString room left bytes _ = ⊥
 
 -- the structure of a record is whole, but one of its texts isn't UTF-8
 abbrev pub HasBadText : NodePlace → List ℕ → Type 0
-HasBadText place bytes = (shape : Shape) × (k : ℕ) × (shape_at place bytes ≡ whole shape k) × (is_text shape ≡ false)
+HasBadText place bytes = (shape : Shape) × (k : ℕ) × (shape_at place bytes ≡ whole shape k)
+    × (is_text shape ≡ false)
 
 -- or its texts are, and one of its values is none of its kind
 abbrev pub HasBadValue : NodePlace → List ℕ → Type 0
-HasBadValue place bytes = (shape : Shape) × (k : ℕ) × (shape_at place bytes ≡ whole shape k) × (is_text shape ≡ true) × (node_of shape ≡ None)
+HasBadValue place bytes = (shape : Shape) × (k : ℕ) × (shape_at place bytes ≡ whole shape k)
+    × (is_text shape ≡ true) × (node_of shape ≡ None)
 
 -- the bytes are a record that may stand there, and one of its identifiers names no string
 abbrev pub NamesNothing : StringTable → NodePlace → List ℕ → Type 0
-NamesNothing table place bytes = (node : Node) × IsNode node bytes × Stands place node × ((id : ℕ) × Contains (identifiers node) id × (named_text table id ≡ None))
+NamesNothing table place bytes = (node : Node) × IsNode node bytes × Stands place node
+    × ((id : ℕ) × Contains (identifiers node) id × (named_text table id ≡ None))
 
 -- or its items are more content than may be, with those before them
 abbrev pub IsTooMuch : StringTable → NodePlace → ℕ → List Item → List ℕ → Type 0
-IsTooMuch table place content items bytes = (node : Node) × (more : List Item) × IsNode node bytes × Stands place node × Means table node more × (content < content_of (items ++ more))
+IsTooMuch table place content items bytes = (node : Node) × (more : List Item) × IsNode node bytes
+    × Stands place node × Means table node more × (content < content_of (items ++ more))
 
--- where a node comes, behind these items
-abbrev pub ShowsAtNode : StringTable → NodePlace → ℕ → List Item → List ℕ → Reason → Type 0
-ShowsAtNode table place content items bytes reasons.TrailingBytes = IsBuiltWrong place bytes faults.TrailingBytes
-ShowsAtNode table place content items bytes reasons.UnknownNode = IsBuiltWrong place bytes faults.UnknownNode
-ShowsAtNode table place content items bytes reasons.NodeOutOfPlace = IsBuiltWrong place bytes faults.OutOfPlace
-ShowsAtNode table place content items bytes reasons.BadArray = IsBuiltWrong place bytes faults.BadArray
-ShowsAtNode table place content items bytes reasons.TooDeep = IsBuiltWrong place bytes faults.TooDeep
-ShowsAtNode table place content items bytes reasons.BadInt = IsBuiltWrong place bytes faults.BadInt
-ShowsAtNode table place content items bytes reasons.BadUtf8 = HasBadText place bytes
-ShowsAtNode table place content items bytes reasons.BadValue = HasBadValue place bytes
-ShowsAtNode table place content items bytes reasons.UnknownString = NamesNothing table place bytes
-ShowsAtNode table place content items bytes reasons.TooMuchContent = IsTooMuch table place content items bytes
-ShowsAtNode table place content items bytes _ = ⊥
+-- where a node comes
+abbrev pub node_place : Settings → Situation → NodePlace
+node_place x z = place_of x.limits.depth (position_of z.items)
+
+abbrev pub ShowsAtNode : Settings → Situation → List ℕ → Reason → Type 0
+ShowsAtNode x z bytes reasons.TrailingBytes = IsBuiltWrong (node_place x z) bytes faults.TrailingBytes
+ShowsAtNode x z bytes reasons.UnknownNode = IsBuiltWrong (node_place x z) bytes faults.UnknownNode
+ShowsAtNode x z bytes reasons.NodeOutOfPlace = IsBuiltWrong (node_place x z) bytes faults.OutOfPlace
+ShowsAtNode x z bytes reasons.BadArray = IsBuiltWrong (node_place x z) bytes faults.BadArray
+ShowsAtNode x z bytes reasons.TooDeep = IsBuiltWrong (node_place x z) bytes faults.TooDeep
+ShowsAtNode x z bytes reasons.BadInt = IsBuiltWrong (node_place x z) bytes faults.BadInt
+ShowsAtNode x z bytes reasons.BadUtf8 = HasBadText (node_place x z) bytes
+ShowsAtNode x z bytes reasons.BadValue = HasBadValue (node_place x z) bytes
+ShowsAtNode x z bytes reasons.UnknownString = NamesNothing (table_in x z) (node_place x z) bytes
+ShowsAtNode x z bytes reasons.TooMuchContent =
+    IsTooMuch (table_in x z) (node_place x z) x.limits.content z.items bytes
+ShowsAtNode x z bytes _ = ⊥
 
 -- where this section comes
 abbrev pub Shows : Settings → Situation → Section → List ℕ → Reason → Type 0
 Shows x z TableSize bytes reason = ShowsAtSize bytes reason
 Shows x z (Strings zero) bytes reason = ⊥
-Shows x z (Strings (suc more)) bytes reason = ShowsAtString (room_for x.limits.dictionary z.strings) (suc more) bytes reason
-Shows x z Nodes bytes reason = ShowsAtNode (table_in x z) (place_of x.limits.depth (position_of z.items)) x.limits.content z.items bytes reason
+Shows x z (Strings (suc more)) bytes reason =
+    ShowsAtString (room_for x.limits.dictionary z.strings) (suc more) bytes reason
+Shows x z Nodes bytes reason = ShowsAtNode x z bytes reason
+
+-- where a payload stands behind these bytes
+abbrev pub ShowsBehind : Settings → List (List ℕ) → List ℕ → List ℕ → Reason → Type 0
+ShowsBehind x strings before bytes reason =
+    let z = situation_of x strings before in Shows x z z.section bytes reason
 
 -- the payload bytes p are whole units, and then bytes from this offset on that show the reason
-pub record ShowsFrom (x : Settings) (strings : List (List ℕ)) (p : List ℕ) (from : ℕ) (reason : Reason) : Type 0 where
+pub record ShowsFrom (x : Settings) (strings : List (List ℕ)) (p : List ℕ) (from : ℕ)
+    (reason : Reason) : Type 0 where
   pub before : List ℕ
   pub bytes : List ℕ
   pub joined : p ≡ before ++ bytes
   pub place : from ≡ length before
   pub units : AreUnits (payload x strings) before
-  pub shows : Shows x (situation_of x strings before) (situation_of x strings before).section bytes reason
+  pub shows : ShowsBehind x strings before bytes reason
 
 -- the root hasn't ended, behind whole units up to this offset
 pub record IsCutAt (x : Settings) (strings : List (List ℕ)) (p : List ℕ) (from : ℕ) : Type 0 where
