@@ -1,3 +1,4 @@
+mod Worked
 -- Readable: the grammar's units are known by their own bytes. MeaningFacts: what nodes mean, found
 -- one after the other (meaning.rt). Places: where nodes stand, and where their items lead.
 pub mod Readable
