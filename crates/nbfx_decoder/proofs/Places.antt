@@ -1,6 +1,6 @@
 -- A node that stands where items lead means items that lead on from there, within the depth; and what leads on stands.
-use Rattle.std.proofs.Common.{◌≡◌, ℕ, zero, suc, ◌+◌, ◌<◌, ◌≤◌, List, [], ◌∷◌, ◌++◌, Bool, true, false, Option, Some, None, refl, sym, ap, ◌∙◌, subst, arith}
-use Rattle.std.specs.Prelude.{IsTrue, ◌&&◌, max, nat_lt, if◌then◌else◌}
+use Rattle.std.proofs.Common.{◌≡◌, ℕ, zero, suc, ◌+◌, ◌≤◌, List, [], ◌∷◌, ◌++◌, Bool, true, false, Option, Some, None, refl, sym, ap, ◌∙◌, subst, arith}
+use Rattle.std.specs.Prelude.{max, nat_lt, if◌then◌else◌}
 use Rattle.std.specs.List.{list_all}
 use Rattle.std.proofs.lemmas.Bool.{and_parts, lt-ltb, ltb-true}
 use Rattle.nbfx_values.specs.declared.content.Item.{Item}
@@ -8,15 +8,13 @@ use Rattle.nbfx_values.specs.declared.content.Item.TheVariants as items
 use Rattle.nbfx_values.specs.declared.position.Position.{Position}
 use Rattle.nbfx_values.specs.declared.position.Position.TheVariants as positions
 use Rattle.nbfx_values.specs.Items.{is_valid_item}
-use Rattle.nbfx_values.specs.Measures.{opened, open_at, opened_by, most_open, depth_of}
-use Rattle.nbfx_values.specs.Positions.{moved, next_position, open_count, position_from, position_of}
+use Rattle.nbfx_values.specs.Measures.{opened, opened_by, most_open, depth_of}
+use Rattle.nbfx_values.specs.Positions.{moved, open_count, position_from, position_of}
 use Rattle.nbfx_values.proofs.Heights.{most_open-append}
 use Rattle.nbfx_values.proofs.Positions.{led, open-position, passed, position_from-append, position_from-none, stepped}
 use Rattle.string_tables.specs.StringTable.{StringTable}
 use Rattle.nbfx_records.specs.declared.nodes.Node.{Node}
 use Rattle.nbfx_records.specs.declared.nodes.Node.TheVariants.{EndElement, Comment, Array, Attribute, Xmlns, Element, Text}
-use Rattle.nbfx_records.specs.declared.nodes.NodePlace.{NodePlace}
-use Rattle.nbfx_records.specs.declared.nodes.NodePlace.TheVariants.{BeforeRoot, Within, AfterRoot}
 use Rattle.nbfx_records.specs.Meaning.{Means, closing}
 use Rattle.nbfx_records.specs.Places.{Stands}
 use Rattle.nbfx_decoder.specs.Payload.{place_of}
@@ -122,23 +120,23 @@ module _ (table : StringTable) where
     leads_stands (positions.Within inner attributes) node more t means e deep = tt
     leads_stands positions.After node more t means e deep = let first = first_of node more means in none_leads positions.After first.0 first.1 more t first.2 refl e
 
-    -- and one that stands opens no more than the depth
-    stands_within : 0 < depth → (q : Position) (node : Node) (more : List Item) → Stands (place_of depth (Some q)) node → Means table node more → open_count q ≤ depth
-        → most_open (open_count q) more ≤ depth
-    stands_within some positions.Before (Element prefix name) more stands (local, named, is) within = subst (λ (m : List Item). most_open 0 m ≤ depth) (sym is) (omega (arith, some))
-    stands_within some positions.Before node more stands means within = absurd stands
-    stands_within some (positions.Within inner attributes) (Element prefix name) more stands (local, named, is) within =
-        let deeper = ltb-true (inner + 1) depth stands in subst (λ (m : List Item). most_open (inner + 1) m ≤ depth) (sym is) (omega (arith, deeper))
-    stands_within some (positions.Within inner attributes) (Array a) more stands (item, means, is) within =
-        let deeper = ltb-true (inner + 1) depth stands in subst (λ (m : List Item). most_open (inner + 1) m ≤ depth) (sym is) (omega (arith, deeper))
-    stands_within some (positions.Within inner attributes) EndElement more stands is within = subst (λ (m : List Item). most_open (inner + 1) m ≤ depth) (sym is) (omega (arith, within))
-    stands_within some (positions.Within inner attributes) (Comment text) more stands is within = subst (λ (m : List Item). most_open (inner + 1) m ≤ depth) (sym is) (omega (arith, within))
-    stands_within some (positions.Within inner attributes) (Attribute prefix name raw) more stands (local, value, named, means, is) within =
-        subst (λ (m : List Item). most_open (inner + 1) m ≤ depth) (sym is) (omega (arith, within))
-    stands_within some (positions.Within inner attributes) (Xmlns prefix name) more stands (uri, named, is) within = subst (λ (m : List Item). most_open (inner + 1) m ≤ depth) (sym is) (omega (arith, within))
-    stands_within some (positions.Within inner attributes) (Text raw false) more stands (value, means, is) within = subst (λ (m : List Item). most_open (inner + 1) m ≤ depth) (sym is) (omega (arith, within))
-    stands_within some (positions.Within inner attributes) (Text raw true) more stands (value, means, is) within = subst (λ (m : List Item). most_open (inner + 1) m ≤ depth) (sym is) (omega (arith, within))
-    stands_within some positions.After node more stands means within = absurd stands
+    -- and one that stands opens no more than the depth, but for a root
+    stands_within : (q : Position) (node : Node) (more : List Item) → Stands (place_of depth (Some q)) node → Means table node more → open_count q ≤ max 1 depth
+        → most_open (open_count q) more ≤ max 1 depth
+    stands_within positions.Before (Element prefix name) more stands (local, named, is) within = subst (λ (m : List Item). most_open 0 m ≤ max 1 depth) (sym is) (omega arith)
+    stands_within positions.Before node more stands means within = absurd stands
+    stands_within (positions.Within inner attributes) (Element prefix name) more stands (local, named, is) within =
+        let deeper = ltb-true (inner + 1) depth stands in subst (λ (m : List Item). most_open (inner + 1) m ≤ max 1 depth) (sym is) (omega (arith, deeper))
+    stands_within (positions.Within inner attributes) (Array a) more stands (item, means, is) within =
+        let deeper = ltb-true (inner + 1) depth stands in subst (λ (m : List Item). most_open (inner + 1) m ≤ max 1 depth) (sym is) (omega (arith, deeper))
+    stands_within (positions.Within inner attributes) EndElement more stands is within = subst (λ (m : List Item). most_open (inner + 1) m ≤ max 1 depth) (sym is) (omega (arith, within))
+    stands_within (positions.Within inner attributes) (Comment text) more stands is within = subst (λ (m : List Item). most_open (inner + 1) m ≤ max 1 depth) (sym is) (omega (arith, within))
+    stands_within (positions.Within inner attributes) (Attribute prefix name raw) more stands (local, value, named, means, is) within =
+        subst (λ (m : List Item). most_open (inner + 1) m ≤ max 1 depth) (sym is) (omega (arith, within))
+    stands_within (positions.Within inner attributes) (Xmlns prefix name) more stands (uri, named, is) within = subst (λ (m : List Item). most_open (inner + 1) m ≤ max 1 depth) (sym is) (omega (arith, within))
+    stands_within (positions.Within inner attributes) (Text raw false) more stands (value, means, is) within = subst (λ (m : List Item). most_open (inner + 1) m ≤ max 1 depth) (sym is) (omega (arith, within))
+    stands_within (positions.Within inner attributes) (Text raw true) more stands (value, means, is) within = subst (λ (m : List Item). most_open (inner + 1) m ≤ max 1 depth) (sym is) (omega (arith, within))
+    stands_within positions.After node more stands means within = absurd stands
 
 -- where items lead somewhere, so do those before them
 pub position_before : (before more : List Item) (t : Position) → position_of (before ++ more) ≡ Some t → (q : Position) × (position_of before ≡ Some q) × (position_from (Some q) more ≡ Some t)
@@ -168,14 +166,14 @@ module _ (table : StringTable) (depth : ℕ) (before : List Item) (node : Node) 
       let most = depth_more before more at.0 at.1 in
       subst (λ (o : Option Position). Stands (place_of depth o) node) (sym at.1) (leads_stands table depth at.0 node more t means at.2 (omega (arith, most, deep)))
 
-  stands_deep : 0 < depth → (o : Option Position) → position_of before ≡ o → Stands (place_of depth o) node → depth_of before ≤ depth → depth_of (before ++ more) ≤ depth
-  stands_deep some None e stands within = absurd stands
-  stands_deep some (Some q) e stands within =
+  stands_deep : (o : Option Position) → position_of before ≡ o → Stands (place_of depth o) node → depth_of before ≤ max 1 depth → depth_of (before ++ more) ≤ max 1 depth
+  stands_deep None e stands within = absurd stands
+  stands_deep (Some q) e stands within =
       let open_now = open-position before q e in
       let most = depth_more before more q e in
-      let few = stands_within table depth some q node more stands means (omega (arith, open_now, open_within_depth before, within)) in
+      let few = stands_within table depth q node more stands means (omega (arith, open_now, open_within_depth before, within)) in
       omega (arith, most, few, within)
 
-  -- what stands there keeps within the depth
-  pub stands_depth : 0 < depth → Stands (place_of depth (position_of before)) node → depth_of before ≤ depth → depth_of (before ++ more) ≤ depth
-  stands_depth some stands within = stands_deep some (position_of before) refl stands within
+  -- what stands there keeps within the depth, but for a root
+  pub stands_depth : Stands (place_of depth (position_of before)) node → depth_of before ≤ max 1 depth → depth_of (before ++ more) ≤ max 1 depth
+  stands_depth stands within = stands_deep (position_of before) refl stands within

@@ -1,7 +1,7 @@
 -- The units of a payload are known by their own bytes.
-use Rattle.std.proofs.Common.{◌≡◌, ℕ, zero, suc, ◌<◌, inl, List, [], refl, ap, ◌∙◌, arith}
-use Rattle.unit_streams.specs.Front.{Front, begun, ReadsFront}
-use Rattle.unit_streams.specs.Parts.{Reader, some_bytes, ◌>>=◌, seen, judged, judged_at, within}
+use Rattle.std.proofs.Common.{◌≡◌, ℕ, zero, suc, ◌<◌, inl, List, [], refl, ap, arith}
+use Rattle.unit_streams.specs.Front.{begun, ReadsFront}
+use Rattle.unit_streams.specs.Parts.{some_bytes, seen, judged, judged_at, within}
 use Rattle.unit_streams.specs.Grammar.{IsReadable}
 use Rattle.unit_streams.proofs.Fronts.{reads_by}
 use Rattle.unit_streams.proofs.Parts.{reads_bytes, reads_then, reads_seen, reads_judged, then_begun}
@@ -18,8 +18,8 @@ use Rattle.nbfx_records.proofs.ShapeFronts.{node_fronts, node_of_nothing}
 use Rattle.nbfx_decoder.specs.declared.section.Section.{Section}
 use Rattle.nbfx_decoder.specs.declared.section.Section.TheVariants.{TableSize, Strings, Nodes}
 use Rattle.nbfx_decoder.specs.Faults.{reason_of}
-use Rattle.nbfx_decoder.specs.Tables.{TableString, StringHead, an_integer, length_judged, head_at, text_judged, text_at, string_at}
-use Rattle.nbfx_decoder.specs.Payload.{Settings, Situation, PayloadUnit, table_size, table_string, node, Refusal, refusal, place_of, room_for, node_behind, unit_of, unit_in, payload}
+use Rattle.nbfx_decoder.specs.Tables.{StringHead, an_integer, length_judged, head_at, text_judged, text_at, string_at}
+use Rattle.nbfx_decoder.specs.Payload.{Settings, Situation, PayloadUnit, table_size, table_string, node, refusal, place_of, room_for, node_behind, unit_of, unit_in, payload}
 
 -- an integer
 pub reads_integer : ReadsFront an_integer

@@ -3,8 +3,13 @@ pub mod Sections
 pub mod Faults
 pub mod Tables
 pub mod Payload
+pub mod Values
+pub mod Bounds
 pub mod Spelled
 pub mod Standing
+pub mod WrongRecords
+pub mod Reasons
+pub mod Laws
 pub mod Meant
 pub mod Units
 pub mod Taking

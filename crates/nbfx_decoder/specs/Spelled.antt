@@ -23,13 +23,15 @@ pub record IsRecordOf (table : StringTable) (items : List Item) (bytes : List �
 -- records, one behind the other, whose items joined are these
 pub data AreRecords (table : StringTable) : List Item → List ℕ → Type 0 where
   no_record : AreRecords table [] []
-  record_then : (items more : List Item) (bytes rest : List ℕ) → IsRecordOf table items bytes → AreRecords table more rest
+  record_then : (items more : List Item) (bytes rest : List ℕ) → IsRecordOf table items bytes
+      → AreRecords table more rest
       → AreRecords table (items ++ more) (bytes ++ rest)
 
 -- strings, one behind the other
 abbrev pub AreStrings : List (List ℕ) → List ℕ → Type 0
 AreStrings [] bytes = bytes ≡ []
-AreStrings (string ∷ strings) bytes = (front : List ℕ) × (rest : List ℕ) × (bytes ≡ front ++ rest) × IsString string front × AreStrings strings rest
+AreStrings (string ∷ strings) bytes = (front : List ℕ) × (rest : List ℕ) × (bytes ≡ front ++ rest)
+    × IsString string front × AreStrings strings rest
 
 -- a table of these strings: how many bytes they have, and then they
 pub record IsTable (strings : List (List ℕ)) (bytes : List ℕ) : Type 0 where
@@ -45,7 +47,8 @@ IsOpening Plain strings bytes = (strings ≡ []) × (bytes ≡ [])
 IsOpening Session strings bytes = IsTable strings bytes
 
 -- under this table the bytes are a payload of a document, with these strings of its own
-pub record IsPayload (kind : Kind) (table : StringTable) (own : List (List ℕ)) (items : List Item) (bytes : List ℕ) : Type 0 where
+pub record IsPayload (kind : Kind) (table : StringTable) (own : List (List ℕ)) (items : List Item)
+    (bytes : List ℕ) : Type 0 where
   pub opening : List ℕ
   pub nodes : List ℕ
   pub joined : bytes ≡ opening ++ nodes
@@ -53,9 +56,14 @@ pub record IsPayload (kind : Kind) (table : StringTable) (own : List (List ℕ))
   pub document : IsDocument items
   pub are_nodes : AreRecords (with_strings table own) items nodes
 
--- within what is admitted: its bytes, its nesting, its content, and the strings of the direction behind it
-pub record IsWithin (limits : Limits) (items : List Item) (bytes : List ℕ) (strings : List (List ℕ)) : Type 0 where
-  pub payload : length bytes ≤ limits.payload
+-- within what is admitted: its nesting, its content, and the strings of the direction behind it
+pub record IsAdmitted (limits : Limits) (items : List Item) (strings : List (List ℕ)) : Type 0 where
   pub depth : depth_of items ≤ limits.depth
   pub content : content_of items ≤ limits.content
   pub dictionary : used_cost strings ≤ limits.dictionary
+
+-- the same, and its bytes
+pub record IsWithin (limits : Limits) (items : List Item) (bytes : List ℕ)
+    (strings : List (List ℕ)) : Type 0 where
+  pub payload : length bytes ≤ limits.payload
+  pub admitted : IsAdmitted limits items strings
