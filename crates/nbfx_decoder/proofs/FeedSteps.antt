@@ -1,11 +1,25 @@
 -- What a decoder's public calls answer, and what they leave.
-use Rattle.std.proofs.Common.{◌≡◌, ℕ, ◌+◌, ◌<◌, ◌≤◌, ◌^◌, List, [], ◌++◌, length, take, Option, Some, None, Result, Ok, Err, refl, sym, ap, ◌∙◌, subst, arith}
-use Rattle.unit_streams.specs.Grammar.{standing}
-use Rattle.unit_streams.specs.Judging.{refusal_at, answer, goes_on, offends}
+use Rattle.std.proofs.Common.{◌≡◌, ℕ, suc, ◌+◌, ◌<◌, ◌≤◌, ◌^◌, ◌⊎◌, inl, inr, List, [], ◌∷◌, ◌++◌, length, take, Option, Some, None, Result, Ok, Err, refl, sym, ap, ◌∙◌, subst, arith, length-append}
+use Rattle.unit_streams.specs.Front.{Front, begun, whole, wrong}
+use Rattle.unit_streams.specs.Parts.{◌>>=◌, seen}
+use Rattle.unit_streams.specs.Grammar.{Standing, standing}
+use Rattle.unit_streams.specs.Judging.{refusal_at, ending_at, answer, goes_on, offends}
 use Rattle.unit_streams.specs.Going.{IsGoing, IsQuiet}
 use Rattle.unit_streams.proofs.Answers.{answers_are_first}
 use Rattle.unit_streams.proofs.Passing.{going_refusal, refusal_from}
-use Rattle.unit_streams.proofs.Standing.{standing_length}
+use Rattle.unit_streams.proofs.Standing.{standing_keeps, standing_length, standing_nothing}
+use Rattle.nbfx_values.specs.Documents.{IsDocument}
+use Rattle.nbfx_values.proofs.Walks.{document-position, position_of-document}
+use Rattle.nbfx_values.specs.Measures.{capped, content_of, opened_by}
+use Rattle.nbfx_values.specs.Positions.{position_of}
+use Rattle.nbfx_values.specs.declared.position.Position.{Position}
+use Rattle.nbfx_values.specs.declared.position.Position.TheVariants as positions
+use Rattle.nbfx_values.specs.declared.refusals.Reason.TheVariants.{DocumentCut}
+use Rattle.nbfx_records.specs.declared.nodes.Node.{Node}
+use Rattle.nbfx_records.specs.declared.nodes.NodeFault.{NodeFault}
+use Rattle.nbfx_records.specs.declared.nodes.NodePlace.TheVariants.{AfterRoot}
+use Rattle.nbfx_records.specs.Shapes.{shape_at}
+use Rattle.nbfx_records.specs.Reading.{node_at}
 use Rattle.nbfx_values.specs.QuotasOf.{limits_of}
 use Rattle.nbfx_decoder.specs.declared.decoder.Decoder.{Decoder}
 use Rattle.nbfx_decoder.specs.declared.faults.DecodeFault.{DecodeFault}
@@ -13,11 +27,18 @@ use Rattle.nbfx_decoder.specs.declared.faults.DecodeFault.TheVariants as decode_
 use Rattle.nbfx_decoder.specs.declared.faults.UnitFault.{UnitFault}
 use Rattle.nbfx_decoder.specs.declared.faults.UnitFault.TheVariants.{Refused, Memory}
 use Rattle.nbfx_decoder.specs.Answers.{ShowsFault}
-use Rattle.nbfx_decoder.specs.Payload.{Settings, refusal, payload}
-use Rattle.nbfx_decoder.specs.Standing.{settings_of, failure_of, taken_of, situation_of, from_of, begun_of, Reached, StandsFor, Failed, FailedBehind, FailedWithin, ShownBy, FeedAnswers}
+use Rattle.nbfx_decoder.specs.declared.section.Section.{Section}
+use Rattle.nbfx_decoder.specs.declared.section.Section.TheVariants.{TableSize, Strings, Nodes}
+use Rattle.nbfx_decoder.specs.Sections.{first_section}
+use Rattle.nbfx_decoder.specs.Faults.{reason_of}
+use Rattle.nbfx_decoder.specs.Payload.{Settings, Situation, PayloadUnit, node, NoEvent, Refusal, place_of, unit_of, unit_in, refusal, after, cut_at, beginning, payload}
+use Rattle.nbfx_decoder.specs.Standing.{settings_of, failure_of, taken_of, situation_of, from_of, begun_of, Reached, StandsFor, Failed, FailedBehind, FailedWithin, ShownBy, FeedAnswers, FinishAnswers}
 use Rattle.nbfx_decoder.specs.Taking.{AllAnswers}
-use Rattle.nbfx_decoder.specs.Units.{HasStrings, Keeps, KeepsSettings}
+use Rattle.nbfx_decoder.specs.Units.{HasStrings, IsAt, Keeps, KeepsSettings}
+use Rattle.nbfx_decoder.specs.Bounds.{KeepsWithin}
 use Rattle.nbfx_decoder.proofs.Readable.{readable}
+use Rattle.nbfx_decoder.proofs.Sound.{keeps_within}
+use Rattle.nbfx_decoder.proofs.UnitCases.{UnitCase, a_size, a_string, a_node, unit_case}
 
 -- the words of public clauses
 pub settings_kept : (d new : Decoder) → KeepsSettings d.units new.units → settings_of new ≡ settings_of d
@@ -29,11 +50,15 @@ settings_kept d new kept =
 
 pub reached_of : (d : Decoder) (strings : List (List ℕ)) (p : List ℕ) → StandsFor d strings p → Reached d (settings_of d) strings p
 unfolding StandsFor
-reached_of d strings p h = h
+reached_of d strings p h = h.0
 
-pub stands_of : (d : Decoder) (x : Settings) (strings : List (List ℕ)) (p : List ℕ) → settings_of d ≡ x → Reached d x strings p → StandsFor d strings p
+pub within_of : (d : Decoder) (strings : List (List ℕ)) (p : List ℕ) → StandsFor d strings p → length p ≤ (settings_of d).limits.payload
 unfolding StandsFor
-stands_of d x strings p is h = subst (λ (s : Settings). Reached d s strings p) (sym is) h
+within_of d strings p h = h.1
+
+pub stands_of : (d : Decoder) (x : Settings) (strings : List (List ℕ)) (p : List ℕ) → settings_of d ≡ x → Reached d x strings p → length p ≤ x.limits.payload → StandsFor d strings p
+unfolding StandsFor
+stands_of d x strings p is h le = subst (λ (s : Settings). Reached d s strings p × (length p ≤ s.limits.payload)) (sym is) (h, le)
 
 pub failed_of : (d : Decoder) (x : Settings) (fault : DecodeFault) (strings : List (List ℕ)) (p : List ℕ) → settings_of d ≡ x → Failed d x fault strings p → FailedBehind d fault strings p
 unfolding FailedBehind
@@ -63,6 +88,22 @@ few_bytes d n none within =
     let most = d.units.quotas.good.payload_most in
     omega (arith, le, most)
 
+pub payload_small : (d : Decoder) → (settings_of d).limits.payload ≤ 1048576
+unfolding settings_of
+payload_small d = d.units.quotas.good.payload_most
+
+pub content_most : (d : Decoder) → (settings_of d).limits.content ≤ 16777216
+unfolding settings_of
+content_most d = d.units.quotas.good.content_most
+
+pub depth_some : (d : Decoder) → 0 < (settings_of d).limits.depth
+unfolding settings_of
+depth_some d = let least = d.units.quotas.good.depth_least in omega (arith, least)
+
+pub depth_most : (d : Decoder) → (settings_of d).limits.depth ≤ 128
+unfolding settings_of
+depth_most d = d.units.quotas.good.depth_most
+
 -- a decoder has taken the bytes that it stands for
 pub counts_taken : (d : Decoder) (strings : List (List ℕ)) (p : List ℕ) → StandsFor d strings p → d.units.from + length d.begun ≡ length p
 counts_taken d strings p h =
@@ -86,8 +127,11 @@ module _ (d mid : Decoder) (strings : List (List ℕ)) (p y : List ℕ) (h : Sta
     pub answer_goes_on : answer (payload (settings_of d) strings) p y ≡ goes_on
     answer_goes_on = (answers_are_first (payload (settings_of d) strings) p y goes_on).1 (all.0, going_unrefused (settings_of d) strings (p ++ y) all.1.going)
 
-    pub stands_behind : StandsFor mid strings (p ++ y)
-    stands_behind = stands_of mid (settings_of d) strings (p ++ y) (settings_kept d mid kept) all.1
+    pub stands_behind : taken_of d + length y ≤ (settings_of d).limits.payload → StandsFor mid strings (p ++ y)
+    stands_behind le =
+        let size = length-append p y in
+        let taken = taken_is d strings p h in
+        stands_of mid (settings_of d) strings (p ++ y) (settings_kept d mid kept) all.1 (omega (arith, le, size, taken))
 
   -- or a fault is shown
   module _ (new : Decoder) (fault : UnitFault) (told : DecodeFault) (shows : ShowsFault mid.units.from fault told) (failure : new.failure ≡ Some told) (no_bytes : new.begun ≡ []) (no_items : new.units.document ≡ [])
@@ -147,3 +191,206 @@ module _ (d mid : Decoder) (strings : List (List ℕ)) (p y : List ℕ) (h : Sta
                 shown = subst (λ (t : DecodeFault). ShownBy t (length p + n)) (sym s) tt;
                 behind = failed_at (p ++ take n y) at set;
               }
+
+-- before the nodes there are no items
+abbrev NodesOrNone : Situation → Type 0
+NodesOrNone z = (z.section ≡ Nodes) ⊎ (z.items ≡ [])
+
+not_nodes : (z : Situation) (section : Section) → z.section ≡ section → (section ≡ Nodes → ⊥) → NodesOrNone z → z.items ≡ []
+not_nodes z section here not (inl e) = absurd (not (sym here ∙ e))
+not_nodes z section here not (inr e) = e
+
+keeps_none : (x : Settings) (z : Situation) (b : List ℕ) (u : PayloadUnit) (k : ℕ) → UnitCase x z b u k → NodesOrNone z → NodesOrNone (after x z u)
+unfolding after
+keeps_none x z b u k (a_size n is here e) h = rw is (inr (not_nodes z TableSize here (λ e. cc) h))
+keeps_none x z b u k (a_string left s is here e) h = rw is (inr (not_nodes z (Strings (suc left)) here (λ e. cc) h))
+keeps_none x z b u k (a_node n is here e) h = rw is (inl here)
+
+nodes_or_none : (x : Settings) (strings : List (List ℕ)) (p : List ℕ) → NodesOrNone (situation_of x strings p)
+nodes_or_none x strings p =
+    standing_keeps (payload x strings) (readable x strings) (λ z from. NodesOrNone z) (inr refl) (λ z from b u k e some h. keeps_none x z b u k (unit_case x z b u k from e) h) p
+
+-- no byte may come behind the root
+nothing_after : (bytes : List ℕ) → node_at AfterRoot bytes ≡ begun → bytes ≡ []
+unfolding node_at shape_at ◌>>=◌
+nothing_after [] e = refl
+nothing_after (byte ∷ bytes) e = cc
+
+-- what has begun of a node
+node_begun : (from : ℕ) (v : Front Node NodeFault) → seen (λ (unit : PayloadUnit). unit) (refusal from) (seen node reason_of v) ≡ begun → v ≡ begun
+node_begun from begun e = refl
+node_begun from (whole n k) e = cc
+node_begun from (wrong r k) e = cc
+
+-- where the next unit is a node
+next_node : (x : Settings) (z : Situation) (from : ℕ) (b : List ℕ) → z.section ≡ Nodes → unit_in x z from b ≡ begun → node_at (place_of x.limits.depth (position_of z.items)) b ≡ begun
+unfolding unit_in
+next_node x z from b nodes e = node_begun from _ (ap (λ s. seen (λ (unit : PayloadUnit). unit) (refusal from) (unit_of x z s b)) (sym nodes) ∙ e)
+
+module _ (d : Decoder) (strings : List (List ℕ)) (p : List ℕ) (h : StandsFor d strings p) where
+  pub items_here : d.units.document ≡ (situation_of (settings_of d) strings p).items
+  items_here = (reached_of d strings p h).at.items
+
+  ending_is : ending_at (payload (settings_of d) strings) p ≡ cut_at (position_of (situation_of (settings_of d) strings p).items) (from_of (settings_of d) strings p)
+  unfolding ending_at
+  ending_is = refl
+
+  -- the root has ended
+  module _ (document : IsDocument d.units.document) where
+    ended : position_of (situation_of (settings_of d) strings p).items ≡ Some positions.After
+    ended = ap position_of (sym items_here) ∙ document-position d.units.document document
+
+    pub nothing_cut : ending_at (payload (settings_of d) strings) p ≡ None
+    nothing_cut = ending_is ∙ ap (λ o. cut_at o (from_of (settings_of d) strings p)) ended
+
+    -- then no bytes are begun
+    none_begun : d.begun ≡ []
+    none_begun = elim (nodes_or_none (settings_of d) strings p) [
+      | inr none ↦ absurd (let bad = sym ended ∙ ap position_of none in cc)
+      | inl nodes ↦ (reached_of d strings p h).begun ∙ nothing_after (begun_of (settings_of d) strings p)
+          (ap (λ o. node_at (place_of (settings_of d).limits.depth o) (begun_of (settings_of d) strings p)) (sym ended)
+          ∙ next_node (settings_of d) (situation_of (settings_of d) strings p) (from_of (settings_of d) strings p) (begun_of (settings_of d) strings p) nodes (reached_of d strings p h).going.next)
+    ]
+
+    -- and the next payload may come
+    pub stands_anew : (new : Decoder) → Keeps d.units new.units → new.units.document ≡ [] → new.units.section ≡ first_section d.units.kind → new.units.from ≡ 0 → new.begun ≡ d.begun → new.failure ≡ d.failure
+        → StandsFor new (situation_of (settings_of d) strings p).strings []
+    stands_anew new same items section from bytes failure =
+        let r = reached_of d strings p h in
+        let left = (situation_of (settings_of d) strings p).strings in
+        let first = standing_nothing (payload (settings_of d) left) (readable (settings_of d) left) in
+        let none : new.begun ≡ [] = bytes ∙ none_begun in
+        let place : new.units.kind ≡ (settings_of d).kind = same.kind ∙ r.at.set.kind in
+        let at : IsAt new.units (settings_of d) (beginning (settings_of d) left) 0 = record {
+          set = record {
+            statics = ap (λ s. s.now) same.statics ∙ r.at.set.statics;
+            kind = place;
+            limits = ap limits_of same.quotas ∙ r.at.set.limits;
+            table = same.table ∙ r.at.set.table;
+            from_is = from;
+          };
+          section = section ∙ ap first_section r.at.set.kind;
+          items = items;
+        } in
+        stands_of new (settings_of d) left [] (settings_kept d new (record { statics = same.statics; quotas = same.quotas; kind = same.kind })) (record {
+          at = subst (λ (s : Standing Situation NoEvent Refusal). IsAt new.units (settings_of d) s.situation s.from) (sym first) at;
+          begun = subst (λ (s : Standing Situation NoEvent Refusal). new.begun ≡ s.begun) (sym first) none;
+          waits = λ some. absurd (let n = ap length none in omega (arith, n, some));
+          going = subst (λ (s : Standing Situation NoEvent Refusal). IsGoing (payload (settings_of d) left) s) (sym first)
+          (record { next = (readable (settings_of d) left).nothing (beginning (settings_of d) left) 0; last = refl });
+          unfailed = failure ∙ r.unfailed;
+        }) (omega arith)
+
+  -- the root hasn't ended
+  module _ (none : IsDocument d.units.document → ⊥) where
+    cut_there : ending_at (payload (settings_of d) strings) p ≡ Some (refusal (from_of (settings_of d) strings p) DocumentCut)
+    cut_there = ending_is ∙ by_position (position_of (situation_of (settings_of d) strings p).items) refl
+      where
+        by_position : (o : Option Position) → position_of (situation_of (settings_of d) strings p).items ≡ o → cut_at o (from_of (settings_of d) strings p) ≡ Some (refusal (from_of (settings_of d) strings p) DocumentCut)
+        by_position (Some positions.After) e = absurd (none (position_of-document d.units.document (ap position_of items_here ∙ e)))
+        by_position None e = refl
+        by_position (Some positions.Before) e = refl
+        by_position (Some (positions.Within inner attributes)) e = refl
+
+    -- it fails for good then
+    pub finish_failed : (new : Decoder) (told : DecodeFault) → new.failure ≡ Some told → new.begun ≡ [] → new.units.document ≡ [] → Keeps d.units new.units → FailedBehind new told strings p
+    finish_failed new told failure no_bytes no_items same =
+        let set = (reached_of d strings p h).at.set in
+        failed_of new (settings_of d) told strings p (settings_kept d new (record { statics = same.statics; quotas = same.quotas; kind = same.kind })) (record {
+          failure = failure;
+          strings_are = record {
+            statics = ap (λ s. s.now) same.statics ∙ set.statics;
+            kind = same.kind ∙ set.kind;
+            limits = ap limits_of same.quotas ∙ set.limits;
+            table = same.table ∙ set.table;
+            from_is = refl;
+          };
+          no_bytes = no_bytes;
+          no_items = no_items;
+        })
+
+    pub finish_fault : (told : DecodeFault) (from len : ℕ) → from ≡ d.units.from → len ≡ length d.begun → ShowsFault from (Refused DocumentCut len) told → FinishAnswers (settings_of d) strings p (Err told)
+    finish_fault told from len gone bytes shows =
+        let size = counts_taken d strings p h in
+        let le = within_of d strings p h in
+        let most = payload_small d in
+        let place = (reached_of d strings p h).at.set.from_is in
+        rw (shows (omega (arith, size, le, most, gone, bytes))) (cut_there ∙ ap (λ n. Some (refusal n DocumentCut)) (sym (gone ∙ place)), omega (arith, size, gone, bytes))
+
+-- what the decoder shows of what it stands for
+module _ (d : Decoder) (strings : List (List ℕ)) (p : List ℕ) (h : StandsFor d strings p) where
+  pub raw_here : length d.begun ≡ length (begun_of (settings_of d) strings p)
+  raw_here = ap length (reached_of d strings p h).begun
+
+  bounds : KeepsWithin (settings_of d).limits strings (situation_of (settings_of d) strings p) (from_of (settings_of d) strings p)
+  bounds = keeps_within (settings_of d) strings (readable (settings_of d) strings) p
+
+  pub content_small : content_of d.units.document ≤ (settings_of d).limits.content
+  content_small = let le = bounds.content in let same = ap content_of (items_here d strings p h) in omega (arith, le, same)
+
+  pub content_is : capped (content_of d.units.document) ≡ content_of (situation_of (settings_of d) strings p).items
+  content_is =
+      let le = content_small in
+      let most = content_most d in
+      let same = ap content_of (items_here d strings p h) in
+      omega (arith, le, most, same)
+
+  pub open_here : opened_by 0 d.units.document ≡ opened_by 0 (situation_of (settings_of d) strings p).items
+  open_here = ap (opened_by 0) (items_here d strings p h)
+
+  pub open_small : opened_by 0 d.units.document ≤ (settings_of d).limits.depth
+  open_small = let le = bounds.open_elements in let some = depth_some d in let same = open_here in omega (arith, le, some, same)
+
+  pub table_here : d.units.table ≡ record { strings = (situation_of (settings_of d) strings p).strings; limit = (settings_of d).limits.dictionary }
+  table_here = (reached_of d strings p h).at.set.table
+
+-- and of what has failed
+module _ (d : Decoder) (fault : DecodeFault) (strings : List (List ℕ)) (p : List ℕ) (h : FailedBehind d fault strings p) where
+  failed_here : Failed d (settings_of d) fault strings p
+  unfolding FailedBehind
+  failed_here = h
+
+  pub failed_table : d.units.table ≡ record { strings = (situation_of (settings_of d) strings p).strings; limit = (settings_of d).limits.dictionary }
+  failed_table = failed_here.strings_are.table
+
+  pub failed_bytes : d.begun ≡ []
+  failed_bytes = failed_here.no_bytes
+
+  pub failed_items : d.units.document ≡ []
+  failed_items = failed_here.no_items
+
+-- nothing of it changes where a document's room is used again
+module _ (d new : Decoder) (items : new.units.document ≡ d.units.document) (section : new.units.section ≡ d.units.section) (from : new.units.from ≡ d.units.from) (same : Keeps d.units new.units)
+    (bytes : new.begun ≡ d.begun) (wants : new.wants ≡ d.wants) (failure : new.failure ≡ d.failure) where
+  pub settings_stay : settings_of new ≡ settings_of d
+  settings_stay = settings_kept d new (record { statics = same.statics; quotas = same.quotas; kind = same.kind })
+
+  set_stays : (x : Settings) (strings : List (List ℕ)) (n : ℕ) → HasStrings d.units x strings n → HasStrings new.units x strings n
+  set_stays x strings n set = record {
+    statics = ap (λ s. s.now) same.statics ∙ set.statics;
+    kind = same.kind ∙ set.kind;
+    limits = ap limits_of same.quotas ∙ set.limits;
+    table = same.table ∙ set.table;
+    from_is = from ∙ set.from_is;
+  }
+
+  pub stands_still : (strings : List (List ℕ)) (p : List ℕ) → StandsFor d strings p → StandsFor new strings p
+  stands_still strings p h =
+      let r = reached_of d strings p h in
+      stands_of new (settings_of d) strings p settings_stay (record {
+        at = record { set = set_stays (settings_of d) _ _ r.at.set; section = section ∙ r.at.section; items = items ∙ r.at.items };
+        begun = bytes ∙ r.begun;
+        waits = λ some. rw (bytes, wants) (r.waits (let n = ap length bytes in omega (arith, n, some)));
+        going = r.going;
+        unfailed = failure ∙ r.unfailed;
+      }) (within_of d strings p h)
+
+  pub failed_still : (fault : DecodeFault) (strings : List (List ℕ)) (p : List ℕ) → FailedBehind d fault strings p → FailedBehind new fault strings p
+  failed_still fault strings p h =
+      let f = failed_here d fault strings p h in
+      failed_of new (settings_of d) fault strings p settings_stay (record {
+        failure = failure ∙ f.failure;
+        strings_are = subst (λ (n : ℕ). HasStrings new.units (settings_of d) (situation_of (settings_of d) strings p).strings n) (sym from) (set_stays (settings_of d) _ _ f.strings_are);
+        no_bytes = bytes ∙ f.no_bytes;
+        no_items = items ∙ f.no_items;
+      })

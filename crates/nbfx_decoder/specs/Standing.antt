@@ -46,7 +46,7 @@ pub record Reached (d : Decoder) (x : Settings) (strings : List (List ℕ)) (p :
 
 -- the strings before the payload, and its bytes so far, of which nothing is refused
 unfoldable pub StandsFor : Decoder → List (List ℕ) → List ℕ → Type 0
-StandsFor d strings p = Reached d (settings_of d) strings p
+StandsFor d strings p = Reached d (settings_of d) strings p × (length p ≤ (settings_of d).limits.payload)
 
 -- what a decoder shows that has failed: the fault, and behind the bytes p of the payload its strings alone
 pub record Failed (d : Decoder) (x : Settings) (fault : DecodeFault) (strings : List (List ℕ)) (p : List ℕ) : Type 0 where

@@ -23,7 +23,7 @@ returns-in-Ok-clause-answers c strings p h =
 
 pub returns-in-Ok-clause-stands : goal.returns-in-Ok-clause-stands
 returns-in-Ok-clause-stands c strings p h =
-    stands_behind c.args.self.now c.take_all.new.self strings p c.args.piece.now h c.take_all.ensures.kept (c.in-Ok.ensures.answers _ strings p (reached_of c.args.self.now strings p h))
+    stands_behind c.args.self.now c.take_all.new.self strings p c.args.piece.now h c.take_all.ensures.kept (c.in-Ok.ensures.answers _ strings p (reached_of c.args.self.now strings p h)) (c.requires (failure_is c.args.self.now _ c.in_default.is))
 
 pub returns-in-Ok-clause-repeated : goal.returns-in-Ok-clause-repeated
 returns-in-Ok-clause-repeated c fault told = absurd (unfailed_failure c.args.self.now fault c.in_default.is told)
