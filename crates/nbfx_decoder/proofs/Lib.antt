@@ -25,3 +25,4 @@ pub mod Wrongs
 pub mod WrongParts
 pub mod NodeReasons
 pub mod PayloadReasons
+pub mod PayloadAnswers
