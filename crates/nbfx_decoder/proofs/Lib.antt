@@ -9,6 +9,8 @@ pub mod Waits
 pub mod StringSteps
 pub mod UnitSteps
 pub mod TakeSteps
+pub mod AllSteps
+pub mod FeedSteps
 -- for the laws. TableBytes: a string that is read of a table is what bytes there are. Counts: how
 -- many items and values a node means. UnitCases: which unit was read. Sound: what bounds situations.
 pub mod TableBytes

@@ -29,7 +29,7 @@ pub struct Decoder<'s> {
 impl<'s> Decoder<'s> {
     ghost use Rattle.nbfx_decoder.specs.Payload.{Settings};
     ghost use Rattle.nbfx_decoder.specs.Standing.{settings_of, failure_of, taken_of, situation_of, from_of, begun_of, Reached, StandsFor, FailedBehind, FailedWithin, FeedAnswers, FinishAnswers};
-    ghost use Rattle.nbfx_decoder.specs.Taking.{TakeAnswers};
+    ghost use Rattle.nbfx_decoder.specs.Taking.{AllAnswers, TakeAnswers};
     ghost use Rattle.nbfx_decoder.specs.Units.{Keeps, KeepsSettings};
 
     /// A reader before the first payload, with no strings.
@@ -60,14 +60,10 @@ impl<'s> Decoder<'s> {
         if let Some(fault) = self.failure {
             return Err(fault);
         }
-        let mut used = 0;
-        while used < piece.len() {
-            match self.take(&piece[used..]) {
-                Ok(n) => used += n,
-                Err(fault) => return Err(self.fail(fault)),
-            }
+        match self.take_all(piece) {
+            Ok(()) => Ok(()),
+            Err(fault) => Err(self.fail(fault)),
         }
-        Ok(())
     }
 
     /// Says that the payload is whole, and hands out its document. The next payload may come then.
@@ -86,13 +82,14 @@ impl<'s> Decoder<'s> {
         if let Some(fault) = self.failure {
             return Err(fault);
         }
-        match self.units.finish() {
-            Some(doc) => Ok(doc),
-            None => Err(self.fail(UnitFault::Refused {
-                reason: Reason::DocumentCut,
-                shown_by: self.begun.len(),
-            })),
+        if let Some(doc) = self.units.finish() {
+            return Ok(doc);
         }
+        let fault = UnitFault::Refused {
+            reason: Reason::DocumentCut,
+            shown_by: self.begun.len(),
+        };
+        Err(self.fail(fault))
     }
 
     /// Hands back a document that is done with, whose room serves the next payload.
@@ -140,6 +137,21 @@ impl<'s> Decoder<'s> {
             → result.now ≡ record { strings = (situation_of (settings_of self.now) strings p).strings; limit = (settings_of self.now).limits.dictionary } }
     {
         self.units.table()
+    }
+
+    // Takes all of the bytes.
+    fn take_all(&mut self, bytes: &[u8]) -> Result<(), UnitFault>
+        requires few { self.old.units.from + length self.old.begun + length bytes.now < 2 ^ 32 }
+        ensures answers { (x : Settings) (strings : List (List ℕ)) (p : List ℕ) → Reached self.old x strings p
+            → AllAnswers x strings p bytes.now self.new result }
+        ensures failure { self.new.failure ≡ self.old.failure }
+        ensures kept { KeepsSettings self.old.units self.new.units }
+    {
+        let mut used = 0;
+        while used < bytes.len() {
+            used += self.take(&bytes[used..])?;
+        }
+        Ok(())
     }
 
     // Takes some of the bytes: at most one unit, or what is wanted of one.
