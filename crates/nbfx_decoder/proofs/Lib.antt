@@ -27,3 +27,4 @@ pub mod Wrongs
 pub mod WrongParts
 pub mod NodeReasons
 pub mod PayloadReasons
+pub mod PayloadAnswers

@@ -89,6 +89,9 @@ module _ (x : Settings) (strings : List (List ℕ)) (bytes : List ℕ) where
       strings_are = ap (λ (z : Situation). z.strings) stands;
     }
 
+pub accepted_strings : (x : Settings) (strings : List (List ℕ)) (bytes : List ℕ) → offence (payload x strings) bytes ≡ None → (own : List (List ℕ)) × ((situation_of x strings bytes).strings ≡ strings ++ own)
+accepted_strings x strings bytes none = ((all_units x strings bytes none).own, (all_units x strings bytes none).strings_are)
+
 pub payloads_are_accepted : PayloadsAreAccepted
 payloads_are_accepted x strings bytes items own may = (there x strings bytes items own may, λ h. back x strings bytes items own h.0 h.1)
 

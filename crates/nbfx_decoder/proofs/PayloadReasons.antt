@@ -29,7 +29,7 @@ use Rattle.nbfx_records.proofs.NodeBytes.{read_of_all, records_are_read}
 use Rattle.nbfx_decoder.specs.declared.section.Section.{Section}
 use Rattle.nbfx_decoder.specs.declared.section.Section.TheVariants.{TableSize, Strings, Nodes}
 use Rattle.nbfx_decoder.specs.Faults.{reason_of}
-use Rattle.nbfx_decoder.specs.Laws.{CutWhereUnended, FirstReasonRefuses, RefusedWhereShown}
+use Rattle.nbfx_decoder.specs.Laws.{CutWhereUnended, FirstReasonRefuses, RefusedWhereShown, ShowsNothing}
 use Rattle.nbfx_decoder.specs.Payload.{Refusal, Settings, Situation, PayloadUnit, table_size, table_string, node, cut_at, payload, reason_in, refusal, refusal_from, refused, room_for, table_in, unit_in, unit_of}
 use Rattle.nbfx_decoder.specs.Reasons.{IsCutAt, Shows, ShowsAtNode, ShowsFrom, node_place}
 use Rattle.nbfx_decoder.specs.Standing.{from_of, situation_of}
@@ -227,13 +227,10 @@ cut_where_unended x strings p from reason = (cut_there x strings p from reason, 
 
 -- whole payloads
 module _ (x : Settings) (strings : List (List ℕ)) (p : List ℕ) where
-  abbrev NothingShown : Type 0
-  NothingShown = (at : ℕ) (other : Reason) → ShowsFrom x strings p at other → ⊥
-
-  unrefused_nothing : refusal_at (payload x strings) p ≡ None → NothingShown
+  pub unrefused_nothing : refusal_at (payload x strings) p ≡ None → ShowsNothing x strings p
   unrefused_nothing none at other h = let some = back x strings p at other h in cc
 
-  nothing_unrefused : NothingShown → refusal_at (payload x strings) p ≡ None
+  pub nothing_unrefused : ShowsNothing x strings p → refusal_at (payload x strings) p ≡ None
   nothing_unrefused nothing = by (refusal_at (payload x strings) p) refl
     where
       by : (o : Option Refusal) → refusal_at (payload x strings) p ≡ o → o ≡ None

@@ -1,6 +1,6 @@
 -- What holds of payloads by their definitions alone.
-use Rattle.std.specs.Prelude.{◌≡◌, ℕ, ◌<◌, ◌≤◌, ◌↔◌, ◌⊎◌, List, ◌++◌, length, take, None, Some, IsSome}
-use Rattle.unit_streams.specs.Judging.{ending_at, offence, refusal_at}
+use Rattle.std.specs.Prelude.{◌≡◌, ℕ, ◌<◌, ◌≤◌, ◌↔◌, ◌⊎◌, List, [], ◌++◌, length, take, None, Some, IsSome, Ok}
+use Rattle.unit_streams.specs.Judging.{answer, ending_at, goes_on, offence, offends, refusal_at}
 use Rattle.multibyte_ints.specs.Integer.{IsBytes}
 use Rattle.nbfx_values.specs.Positions.{position_of}
 use Rattle.nbfx_values.specs.declared.content.Item.{Item}
@@ -13,7 +13,7 @@ use Rattle.nbfx_decoder.specs.Bounds.{KeepsWithin, NamesTexts}
 use Rattle.nbfx_decoder.specs.Payload.{Settings, payload, refusal, table_in}
 use Rattle.nbfx_decoder.specs.Reasons.{IsCutAt, ShowsFrom}
 use Rattle.nbfx_decoder.specs.Spelled.{IsAdmitted, IsPayload}
-use Rattle.nbfx_decoder.specs.Standing.{from_of, situation_of}
+use Rattle.nbfx_decoder.specs.Standing.{FinishAnswers, from_of, situation_of}
 
 -- as a whole payload the bytes have no offence: behind them stand these items, and these strings
 -- behind those of before
@@ -78,20 +78,22 @@ CutWhereUnended = (x : Settings) (strings : List (List ℕ)) (p : List ℕ) (fro
     → (ending_at (payload x strings) p ≡ Some (refusal from reason))
     ↔ ((reason ≡ DocumentCut) × IsCutAt x strings p from)
 
+-- nothing refuses these bytes
+abbrev pub ShowsNothing : Settings → List (List ℕ) → List ℕ → Type 0
+ShowsNothing x strings p = (at : ℕ) (other : Reason) → ShowsFrom x strings p at other → ⊥
+
 -- some of the first bytes of a payload show this, and no fewer show anything
 pub record ShowsFirst (x : Settings) (strings : List (List ℕ)) (bytes : List ℕ) (from : ℕ)
     (reason : Reason) : Type 0 where
   pub place : ℕ
   pub within : place ≤ length bytes
-  pub before : (i : ℕ) → i < place → (at : ℕ) (other : Reason)
-      → ShowsFrom x strings (take i bytes) at other → ⊥
+  pub before : (i : ℕ) → i < place → ShowsNothing x strings (take i bytes)
   pub shows : ShowsFrom x strings (take place bytes) from reason
 
 -- no first bytes show anything, and the root hasn't ended
 pub record EndsUnended (x : Settings) (strings : List (List ℕ)) (bytes : List ℕ)
     (from : ℕ) : Type 0 where
-  pub nothing : (i : ℕ) → i ≤ length bytes → (at : ℕ) (other : Reason)
-      → ShowsFrom x strings (take i bytes) at other → ⊥
+  pub nothing : (i : ℕ) → i ≤ length bytes → ShowsNothing x strings (take i bytes)
   pub cut : IsCutAt x strings bytes from
 
 -- a whole payload is refused for the first reason that is shown, or else because its root hasn't
@@ -102,3 +104,48 @@ FirstReasonRefuses = (x : Settings) (strings : List (List ℕ)) (bytes : List �
     → (offence (payload x strings) bytes ≡ Some (refusal from reason))
     ↔ (ShowsFirst x strings bytes from reason
     ⊎ ((reason ≡ DocumentCut) × EndsUnended x strings bytes from))
+
+-- behind p, so many bytes of y show this, and no fewer show anything
+pub record ShowsWithin (x : Settings) (strings : List (List ℕ)) (p y : List ℕ) (n from : ℕ)
+    (reason : Reason) : Type 0 where
+  pub within : n ≤ length y
+  pub before : (i : ℕ) → i < n → ShowsNothing x strings (p ++ take i y)
+  pub shows : ShowsFrom x strings (p ++ take n y) from reason
+
+-- a piece is refused just so, and goes on where no bytes of it show anything
+abbrev pub OffendsWhereShown : Type 0
+OffendsWhereShown = (x : Settings) (strings : List (List ℕ)) (p y : List ℕ) (n from : ℕ)
+    (reason : Reason)
+    → (answer (payload x strings) p y ≡ offends n (refusal from reason))
+    ↔ ShowsWithin x strings p y n from reason
+
+abbrev pub GoesOnWhereNothing : Type 0
+GoesOnWhereNothing = (x : Settings) (strings : List (List ℕ)) (p y : List ℕ)
+    → (answer (payload x strings) p y ≡ goes_on)
+    ↔ ((i : ℕ) → i ≤ length y → ShowsNothing x strings (p ++ take i y))
+
+-- no first bytes of p show anything
+abbrev pub IsUnrefused : Settings → List (List ℕ) → List ℕ → Type 0
+IsUnrefused x strings p = (i : ℕ) → ShowsNothing x strings (take i p)
+
+-- which is so before the first byte, and stays so with each piece that goes on
+abbrev pub NothingIsRefused : Type 0
+NothingIsRefused = (x : Settings) (strings : List (List ℕ)) → IsUnrefused x strings []
+
+abbrev pub GoesOnUnrefused : Type 0
+GoesOnUnrefused = (x : Settings) (strings : List (List ℕ)) (p y : List ℕ) → IsUnrefused x strings p
+    → answer (payload x strings) p y ≡ goes_on → IsUnrefused x strings (p ++ y)
+
+-- these are the bytes of a document that is admitted, and of the strings that stand behind it
+pub record IsWhole (x : Settings) (strings : List (List ℕ)) (p : List ℕ) (items : List Item)
+    : Type 0 where
+  pub own : List (List ℕ)
+  pub is_payload : IsPayload x.kind (table_before x strings) own items p
+  pub admitted : IsAdmitted x.limits items (strings ++ own)
+  pub strings_are : (situation_of x strings p).strings ≡ strings ++ own
+
+-- then the end is answered by a document exactly where the bytes are its payload
+abbrev pub FinishedWhereWhole : Type 0
+FinishedWhereWhole = (x : Settings) (strings : List (List ℕ)) (p : List ℕ) (doc : List Item)
+    → MayBegin x strings → IsUnrefused x strings p
+    → FinishAnswers x strings p (Ok doc) ↔ IsWhole x strings p doc

@@ -4,7 +4,7 @@
 ghost use Rattle.std.specs.Prelude.{ℕ, List};
 ghost use Rattle.unit_streams.specs.Laws.{StandingsGoOn, AnswersAreFirst, CutsChangeNothing, HistoryIsAnswers, NoUnitGoesOn, OffencesAreFirst, AcceptedOrOffended};
 ghost use Rattle.nbfx_decoder.specs.Payload.{Settings, payload};
-ghost use Rattle.nbfx_decoder.specs.Laws.{PayloadsAreAccepted, SpellsOneDocument, SituationsKeepWithin, SituationsAreFronts, StringsStayTexts, RefusedWhereShown, CutWhereUnended, FirstReasonRefuses};
+ghost use Rattle.nbfx_decoder.specs.Laws.{PayloadsAreAccepted, SpellsOneDocument, SituationsKeepWithin, SituationsAreFronts, StringsStayTexts, RefusedWhereShown, CutWhereUnended, FirstReasonRefuses, OffendsWhereShown, GoesOnWhereNothing, NothingIsRefused, GoesOnUnrefused, FinishedWhereWhole};
 
 /// The bytes that have no offence are the payloads of the standards' records, whose nesting,
 /// content and strings are within what is admitted; the items and the strings that the bytes lead
@@ -64,4 +64,17 @@ pub fn reasons()
     ensures shown { RefusedWhereShown }
     ensures cut { CutWhereUnended }
     ensures first { FirstReasonRefuses }
+{}
+
+/// What [`Decoder::feed`](crate::Decoder::feed) answers: a piece is refused just where some of its bytes
+/// show a reason behind those before, and no fewer show any; it goes on where none do. Where no bytes of a
+/// payload have shown any, [`Decoder::finish`](crate::Decoder::finish) gives a document exactly where the
+/// bytes are a payload of that document, within what is admitted, and its strings are those that stand
+/// behind it.
+pub fn reading()
+    ensures offends { OffendsWhereShown }
+    ensures goes_on { GoesOnWhereNothing }
+    ensures begins { NothingIsRefused }
+    ensures unrefused { GoesOnUnrefused }
+    ensures finished { FinishedWhereWhole }
 {}
