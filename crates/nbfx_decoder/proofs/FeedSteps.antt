@@ -1,17 +1,20 @@
 -- What a decoder's public calls answer, and what they leave.
-use Rattle.std.proofs.Common.{◌≡◌, ℕ, suc, ◌+◌, ◌<◌, ◌≤◌, ◌^◌, ◌⊎◌, inl, inr, List, [], ◌∷◌, ◌++◌, length, take, Option, Some, None, Result, Ok, Err, refl, sym, ap, ◌∙◌, subst, arith, length-append}
+use Rattle.std.proofs.Common.{◌≡◌, ℕ, suc, ◌+◌, ◌<◌, ◌≤◌, ◌^◌, ◌↔◌, ◌⊎◌, inl, inr, List, [], ◌∷◌, ◌++◌, length, take, false, Option, Some, None, Result, Ok, Err, refl, sym, ap, ◌∙◌, subst, arith, length-append}
 use Rattle.unit_streams.specs.Front.{Front, begun, whole, wrong}
 use Rattle.unit_streams.specs.Parts.{◌>>=◌, seen}
 use Rattle.unit_streams.specs.Grammar.{Standing, standing}
-use Rattle.unit_streams.specs.Judging.{refusal_at, ending_at, answer, goes_on, offends}
-use Rattle.unit_streams.specs.Going.{IsGoing, IsQuiet}
+use Rattle.unit_streams.specs.Judging.{refusal_at, is_over_at, ending_at, answer, goes_on, offends}
+use Rattle.unit_streams.specs.Going.{IsGoing, IsPending, IsQuiet}
 use Rattle.unit_streams.proofs.Answers.{answers_are_first}
+use Rattle.std.proofs.Math.Seq.{take-nil}
+use Rattle.unit_streams.proofs.Pending.{open_longer, open_pending, pending_open}
 use Rattle.unit_streams.proofs.Passing.{going_refusal, refusal_from}
 use Rattle.unit_streams.proofs.Standing.{standing_keeps, standing_length, standing_nothing}
 use Rattle.nbfx_values.specs.Documents.{IsDocument}
 use Rattle.nbfx_values.proofs.Walks.{document-position, position_of-document}
 use Rattle.nbfx_values.specs.Measures.{capped, content_of, opened_by}
 use Rattle.nbfx_values.specs.Positions.{position_of}
+use Rattle.nbfx_values.specs.declared.content.Item.{Item}
 use Rattle.nbfx_values.specs.declared.position.Position.{Position}
 use Rattle.nbfx_values.specs.declared.position.Position.TheVariants as positions
 use Rattle.nbfx_values.specs.declared.refusals.Reason.TheVariants.{DocumentCut}
@@ -32,12 +35,16 @@ use Rattle.nbfx_decoder.specs.declared.section.Section.TheVariants.{TableSize, S
 use Rattle.nbfx_decoder.specs.Sections.{first_section}
 use Rattle.nbfx_decoder.specs.Faults.{reason_of}
 use Rattle.nbfx_decoder.specs.Payload.{Settings, Situation, PayloadUnit, node, NoEvent, Refusal, place_of, unit_of, unit_in, refusal, after, cut_at, beginning, payload}
-use Rattle.nbfx_decoder.specs.Standing.{settings_of, failure_of, taken_of, situation_of, from_of, begun_of, Reached, StandsFor, Failed, FailedBehind, FailedWithin, ShownBy, FeedAnswers, FinishAnswers}
+use Rattle.nbfx_decoder.specs.Standing.{settings_of, failure_of, taken_of, situation_of, from_of, begun_of, Reached, Stands, StandsFor, Failed, FailedBehind, FailedWithin, ShownBy, FeedAnswers, FinishAnswers}
 use Rattle.nbfx_decoder.specs.Taking.{AllAnswers}
 use Rattle.nbfx_decoder.specs.Units.{HasStrings, IsAt, Keeps, KeepsSettings}
+use Rattle.string_tables.specs.SessionStrings.{used_cost}
 use Rattle.nbfx_decoder.specs.Bounds.{KeepsWithin}
+use Rattle.nbfx_decoder.specs.Laws.{MayBegin, IsUnrefused, IsWhole}
 use Rattle.nbfx_decoder.proofs.Readable.{readable}
 use Rattle.nbfx_decoder.proofs.Sound.{keeps_within}
+use Rattle.nbfx_decoder.proofs.PayloadAnswers.{finished_where_whole}
+use Rattle.nbfx_decoder.proofs.PayloadReasons.{refused_where_shown}
 use Rattle.nbfx_decoder.proofs.UnitCases.{UnitCase, a_size, a_string, a_node, unit_case}
 
 -- the words of public clauses
@@ -48,17 +55,16 @@ settings_kept d new kept =
     ∙ ap (λ kind. record { statics = d.units.statics.now; kind = kind; limits = limits_of new.units.quotas }) kept.kind
     ∙ ap (λ quotas. record { statics = d.units.statics.now; kind = d.units.kind; limits = limits_of quotas }) kept.quotas
 
+pub stands_as : (d : Decoder) (strings : List (List ℕ)) (p : List ℕ) → StandsFor d strings p → Stands d (settings_of d) strings p
+unfolding StandsFor
+stands_as d strings p h = h
+
 pub reached_of : (d : Decoder) (strings : List (List ℕ)) (p : List ℕ) → StandsFor d strings p → Reached d (settings_of d) strings p
-unfolding StandsFor
-reached_of d strings p h = h.0
+reached_of d strings p h = (stands_as d strings p h).reached
 
-pub within_of : (d : Decoder) (strings : List (List ℕ)) (p : List ℕ) → StandsFor d strings p → length p ≤ (settings_of d).limits.payload
+pub stands_of : (d : Decoder) (x : Settings) (strings : List (List ℕ)) (p : List ℕ) → settings_of d ≡ x → Stands d x strings p → StandsFor d strings p
 unfolding StandsFor
-within_of d strings p h = h.1
-
-pub stands_of : (d : Decoder) (x : Settings) (strings : List (List ℕ)) (p : List ℕ) → settings_of d ≡ x → Reached d x strings p → length p ≤ x.limits.payload → StandsFor d strings p
-unfolding StandsFor
-stands_of d x strings p is h le = subst (λ (s : Settings). Reached d s strings p × (length p ≤ s.limits.payload)) (sym is) (h, le)
+stands_of d x strings p is h = subst (λ (s : Settings). Stands d s strings p) (sym is) h
 
 pub failed_of : (d : Decoder) (x : Settings) (fault : DecodeFault) (strings : List (List ℕ)) (p : List ℕ) → settings_of d ≡ x → Failed d x fault strings p → FailedBehind d fault strings p
 unfolding FailedBehind
@@ -121,6 +127,39 @@ taken_is d strings p h = counts_taken d strings p h
 pub going_unrefused : (x : Settings) (strings : List (List ℕ)) (p : List ℕ) → IsGoing (payload x strings) (standing (payload x strings) p) → refusal_at (payload x strings) p ≡ None
 going_unrefused x strings p going = refusal_from (payload x strings) p (standing (payload x strings) p) refl ∙ going_refusal (payload x strings) (standing (payload x strings) p) (length p) going
 
+-- nothing of a payload ends it
+never_over : (x : Settings) (strings : List (List ℕ)) (p : List ℕ) → is_over_at (payload x strings) p ≡ false
+unfolding is_over_at
+never_over x strings p = refl
+
+-- bytes that aren't refused, and more
+still_pending : (x : Settings) (strings : List (List ℕ)) (p y : List ℕ) → IsPending (payload x strings) p → IsQuiet (payload x strings) p y (length y) → refusal_at (payload x strings) (p ++ y) ≡ None
+    → IsPending (payload x strings) (p ++ y)
+still_pending x strings p y pending quiet none =
+    open_pending (payload x strings) p y
+    (open_longer (payload x strings) p y (pending_open (payload x strings) p pending) quiet.unrefused (λ i le. never_over x strings (p ++ take i y))) none
+
+-- before the first byte
+none_pending : (x : Settings) (strings : List (List ℕ)) → IsGoing (payload x strings) (standing (payload x strings) []) → IsPending (payload x strings) []
+none_pending x strings going = record {
+  unrefused = λ n. ap (refusal_at (payload x strings)) (take-nil n) ∙ going_unrefused x strings [] going;
+  going_on = λ n. never_over x strings (take n []);
+}
+
+-- a decoder before a payload
+pub stands_first : (d : Decoder) (x : Settings) (strings : List (List ℕ)) → settings_of d ≡ x → IsAt d.units x (beginning x strings) 0 → d.begun ≡ [] → d.failure ≡ None → used_cost strings ≤ x.limits.dictionary
+    → StandsFor d strings []
+stands_first d x strings is at none unfailed cost =
+    let first = standing_nothing (payload x strings) (readable x strings) in
+    let reached : Reached d x strings [] = record {
+      at = subst (λ (s : Standing Situation NoEvent Refusal). IsAt d.units x s.situation s.from) (sym first) at;
+      begun = subst (λ (s : Standing Situation NoEvent Refusal). d.begun ≡ s.begun) (sym first) none;
+      waits = λ some. absurd (let n = ap length none in omega (arith, n, some));
+      going = subst (λ (s : Standing Situation NoEvent Refusal). IsGoing (payload x strings) s) (sym first) (record { next = (readable x strings).nothing (beginning x strings) 0; last = refl });
+      unfailed = unfailed;
+    } in
+    stands_of d x strings [] is (record { reached = reached; pending = none_pending x strings reached.going; within = omega arith; before = cost })
+
 module _ (d mid : Decoder) (strings : List (List ℕ)) (p y : List ℕ) (h : StandsFor d strings p) (kept : KeepsSettings d.units mid.units) where
   -- all of the piece is taken
   module _ (all : AllAnswers (settings_of d) strings p y mid (Ok tt)) where
@@ -131,7 +170,13 @@ module _ (d mid : Decoder) (strings : List (List ℕ)) (p y : List ℕ) (h : Sta
     stands_behind le =
         let size = length-append p y in
         let taken = taken_is d strings p h in
-        stands_of mid (settings_of d) strings (p ++ y) (settings_kept d mid kept) all.1 (omega (arith, le, size, taken))
+        let s = stands_as d strings p h in
+        stands_of mid (settings_of d) strings (p ++ y) (settings_kept d mid kept) (record {
+          reached = all.1;
+          pending = still_pending (settings_of d) strings p y s.pending all.0 (going_unrefused (settings_of d) strings (p ++ y) all.1.going);
+          within = omega (arith, le, size, taken);
+          before = s.before;
+        })
 
   -- or a fault is shown
   module _ (new : Decoder) (fault : UnitFault) (told : DecodeFault) (shows : ShowsFault mid.units.from fault told) (failure : new.failure ≡ Some told) (no_bytes : new.begun ≡ []) (no_items : new.units.document ≡ [])
@@ -256,30 +301,22 @@ module _ (d : Decoder) (strings : List (List ℕ)) (p : List ℕ) (h : StandsFor
     pub stands_anew : (new : Decoder) → Keeps d.units new.units → new.units.document ≡ [] → new.units.section ≡ first_section d.units.kind → new.units.from ≡ 0 → new.begun ≡ d.begun → new.failure ≡ d.failure
         → StandsFor new (situation_of (settings_of d) strings p).strings []
     stands_anew new same items section from bytes failure =
-        let r = reached_of d strings p h in
+        let s = stands_as d strings p h in
+        let set = s.reached.at.set in
         let left = (situation_of (settings_of d) strings p).strings in
-        let first = standing_nothing (payload (settings_of d) left) (readable (settings_of d) left) in
-        let none : new.begun ≡ [] = bytes ∙ none_begun in
-        let place : new.units.kind ≡ (settings_of d).kind = same.kind ∙ r.at.set.kind in
-        let at : IsAt new.units (settings_of d) (beginning (settings_of d) left) 0 = record {
+        let bounds = (keeps_within (settings_of d) strings (readable (settings_of d) strings) p).dictionary in
+        let before = s.before in
+        stands_first new (settings_of d) left (settings_kept d new (record { statics = same.statics; quotas = same.quotas; kind = same.kind })) (record {
           set = record {
-            statics = ap (λ s. s.now) same.statics ∙ r.at.set.statics;
-            kind = place;
-            limits = ap limits_of same.quotas ∙ r.at.set.limits;
-            table = same.table ∙ r.at.set.table;
+            statics = ap (λ s. s.now) same.statics ∙ set.statics;
+            kind = same.kind ∙ set.kind;
+            limits = ap limits_of same.quotas ∙ set.limits;
+            table = same.table ∙ set.table;
             from_is = from;
           };
-          section = section ∙ ap first_section r.at.set.kind;
+          section = section ∙ ap first_section set.kind;
           items = items;
-        } in
-        stands_of new (settings_of d) left [] (settings_kept d new (record { statics = same.statics; quotas = same.quotas; kind = same.kind })) (record {
-          at = subst (λ (s : Standing Situation NoEvent Refusal). IsAt new.units (settings_of d) s.situation s.from) (sym first) at;
-          begun = subst (λ (s : Standing Situation NoEvent Refusal). new.begun ≡ s.begun) (sym first) none;
-          waits = λ some. absurd (let n = ap length none in omega (arith, n, some));
-          going = subst (λ (s : Standing Situation NoEvent Refusal). IsGoing (payload (settings_of d) left) s) (sym first)
-          (record { next = (readable (settings_of d) left).nothing (beginning (settings_of d) left) 0; last = refl });
-          unfailed = failure ∙ r.unfailed;
-        }) (omega arith)
+        }) (bytes ∙ none_begun) (failure ∙ s.reached.unfailed) (omega (arith, bounds, before))
 
   -- the root hasn't ended
   module _ (none : IsDocument d.units.document → ⊥) where
@@ -312,7 +349,7 @@ module _ (d : Decoder) (strings : List (List ℕ)) (p : List ℕ) (h : StandsFor
     pub finish_fault : (told : DecodeFault) (from len : ℕ) → from ≡ d.units.from → len ≡ length d.begun → ShowsFault from (Refused DocumentCut len) told → FinishAnswers (settings_of d) strings p (Err told)
     finish_fault told from len gone bytes shows =
         let size = counts_taken d strings p h in
-        let le = within_of d strings p h in
+        let le = (stands_as d strings p h).within in
         let most = payload_small d in
         let place = (reached_of d strings p h).at.set.from_is in
         rw (shows (omega (arith, size, le, most, gone, bytes))) (cut_there ∙ ap (λ n. Some (refusal n DocumentCut)) (sym (gone ∙ place)), omega (arith, size, gone, bytes))
@@ -377,13 +414,19 @@ module _ (d new : Decoder) (items : new.units.document ≡ d.units.document) (se
   pub stands_still : (strings : List (List ℕ)) (p : List ℕ) → StandsFor d strings p → StandsFor new strings p
   stands_still strings p h =
       let r = reached_of d strings p h in
+      let s = stands_as d strings p h in
       stands_of new (settings_of d) strings p settings_stay (record {
-        at = record { set = set_stays (settings_of d) _ _ r.at.set; section = section ∙ r.at.section; items = items ∙ r.at.items };
-        begun = bytes ∙ r.begun;
-        waits = λ some. rw (bytes, wants) (r.waits (let n = ap length bytes in omega (arith, n, some)));
-        going = r.going;
-        unfailed = failure ∙ r.unfailed;
-      }) (within_of d strings p h)
+        pending = s.pending;
+        within = s.within;
+        before = s.before;
+        reached = record {
+          at = record { set = set_stays (settings_of d) _ _ r.at.set; section = section ∙ r.at.section; items = items ∙ r.at.items };
+          begun = bytes ∙ r.begun;
+          waits = λ some. rw (bytes, wants) (r.waits (let n = ap length bytes in omega (arith, n, some)));
+          going = r.going;
+          unfailed = failure ∙ r.unfailed;
+        };
+      })
 
   pub failed_still : (fault : DecodeFault) (strings : List (List ℕ)) (p : List ℕ) → FailedBehind d fault strings p → FailedBehind new fault strings p
   failed_still fault strings p h =
@@ -394,3 +437,28 @@ module _ (d new : Decoder) (items : new.units.document ≡ d.units.document) (se
         no_bytes = bytes ∙ f.no_bytes;
         no_items = items ∙ f.no_items;
       })
+
+-- what the end of a payload is answered with: its document exactly where its bytes are its payload
+module _ (d : Decoder) (strings : List (List ℕ)) (p : List ℕ) (h : StandsFor d strings p) (result : Result (List Item) DecodeFault) (answers : FinishAnswers (settings_of d) strings p result) where
+  unrefused_here : IsUnrefused (settings_of d) strings p
+  unrefused_here n from reason shows =
+      let none = (stands_as d strings p h).pending.unrefused n in
+      let bad = sym none ∙ (refused_where_shown (settings_of d) strings (take n p) from reason).1 shows in
+      cc
+
+  may_begin : MayBegin (settings_of d) strings
+  may_begin = record { depth = depth_some d; dictionary = (stands_as d strings p h).before }
+
+  law : (items : List Item) → FinishAnswers (settings_of d) strings p (Ok items) ↔ IsWhole (settings_of d) strings p items
+  law items = finished_where_whole (settings_of d) strings p items may_begin unrefused_here
+
+  pub finishes_whole : (items : List Item) → (result ≡ Ok items) ↔ IsWhole (settings_of d) strings p items
+  finishes_whole items = (
+    λ e. (law items).0 (subst (λ (r : Result (List Item) DecodeFault). FinishAnswers (settings_of d) strings p r) e answers),
+    λ whole. by_result result answers ((law items).1 whole),
+  )
+    where
+      by_result : (r : Result (List Item) DecodeFault) → FinishAnswers (settings_of d) strings p r → FinishAnswers (settings_of d) strings p (Ok items) → r ≡ Ok items
+      by_result (Ok doc) a b = ap Ok (a.1 ∙ sym b.1)
+      by_result (Err (decode_faults.Payload at reason shown_by)) a b = let bad = sym b.0 ∙ a.0 in cc
+      by_result (Err decode_faults.Memory) a b = absurd a

@@ -1,10 +1,11 @@
 -- What a decoder stands for, and what it shows. Of a payload's bytes it keeps those of the unit that isn't whole.
 use Rattle.std.specs.Prelude.{◌≡◌, ⊤, ℕ, ◌+◌, ◌<◌, ◌≤◌, List, [], ◌++◌, length, take, Option, Some, None, Result, Ok, Err}
 use Rattle.unit_streams.specs.Grammar.{standing}
-use Rattle.unit_streams.specs.Judging.{answer, goes_on, offends, refusal_at, ending_at}
-use Rattle.unit_streams.specs.Going.{IsGoing, IsQuiet}
+use Rattle.unit_streams.specs.Judging.{answer, goes_on, offends, ending_at}
+use Rattle.unit_streams.specs.Going.{IsGoing, IsPending}
 use Rattle.nbfx_values.specs.QuotasOf.{limits_of}
 use Rattle.nbfx_values.specs.declared.content.Item.{Item}
+use Rattle.string_tables.specs.SessionStrings.{used_cost}
 use Rattle.nbfx_decoder.specs.declared.decoder.Decoder.{Decoder}
 use Rattle.nbfx_decoder.specs.declared.faults.DecodeFault.{DecodeFault}
 use Rattle.nbfx_decoder.specs.declared.faults.DecodeFault.TheVariants.{Payload, Memory}
@@ -35,7 +36,7 @@ from_of x strings p = (standing (payload x strings) p).from
 abbrev pub begun_of : Settings → List (List ℕ) → List ℕ → List ℕ
 begun_of x strings p = (standing (payload x strings) p).begun
 
--- it has come as far as p, and isn't refused
+-- it has come as far as p, whose last unit isn't refused
 pub record Reached (d : Decoder) (x : Settings) (strings : List (List ℕ)) (p : List ℕ) : Type 0 where
   pub at : IsAt d.units x (situation_of x strings p) (from_of x strings p)
   pub begun : d.begun ≡ begun_of x strings p
@@ -44,9 +45,17 @@ pub record Reached (d : Decoder) (x : Settings) (strings : List (List ℕ)) (p :
   pub going : IsGoing (payload x strings) (standing (payload x strings) p)
   pub unfailed : d.failure ≡ None
 
--- the strings before the payload, and its bytes so far, of which nothing is refused
+-- it stands for these bytes of a payload: none of the first of them is refused, they are no more than a payload may have, and the strings
+-- before it cost no more than they may
+pub record Stands (d : Decoder) (x : Settings) (strings : List (List ℕ)) (p : List ℕ) : Type 0 where
+  pub reached : Reached d x strings p
+  pub pending : IsPending (payload x strings) p
+  pub within : length p ≤ x.limits.payload
+  pub before : used_cost strings ≤ x.limits.dictionary
+
+-- the strings before the payload, and its bytes so far
 unfoldable pub StandsFor : Decoder → List (List ℕ) → List ℕ → Type 0
-StandsFor d strings p = Reached d (settings_of d) strings p × (length p ≤ (settings_of d).limits.payload)
+StandsFor d strings p = Stands d (settings_of d) strings p
 
 -- what a decoder shows that has failed: the fault, and behind the bytes p of the payload its strings alone
 pub record Failed (d : Decoder) (x : Settings) (fault : DecodeFault) (strings : List (List ℕ)) (p : List ℕ) : Type 0 where

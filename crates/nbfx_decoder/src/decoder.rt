@@ -1,6 +1,6 @@
 //! A payload, in any pieces.
 
-ghost use Rattle.std.specs.Prelude.{◌≡◌, ℕ, ◌+◌, ◌<◌, ◌≤◌, ◌^◌, List, [], ◌++◌, length, IfOk, IfErr, OnOk, OnErr, Err, Some, None};
+ghost use Rattle.std.specs.Prelude.{◌≡◌, ℕ, ◌+◌, ◌<◌, ◌≤◌, ◌^◌, ◌↔◌, List, [], ◌++◌, length, IfOk, IfErr, OnOk, Ok, Err, Some, None};
 ghost use Rattle.nbfx_values.specs.Measures.{content_of, opened_by};
 ghost use Rattle.nbfx_values.specs.QuotasOf.{limits_of};
 ghost use Rattle.nbfx_decoder.specs.declared.faults.DecodeFault.{DecodeFault as Fault};
@@ -27,6 +27,8 @@ pub struct Decoder<'s> {
 }
 
 impl<'s> Decoder<'s> {
+    ghost use Rattle.nbfx_values.specs.declared.content.Item.{Item as Content};
+    ghost use Rattle.nbfx_decoder.specs.Laws.{IsWhole};
     ghost use Rattle.nbfx_decoder.specs.Payload.{Settings};
     ghost use Rattle.nbfx_decoder.specs.Standing.{settings_of, failure_of, taken_of, situation_of, from_of, begun_of, Reached, StandsFor, FailedBehind, FailedWithin, FeedAnswers, FinishAnswers};
     ghost use Rattle.nbfx_decoder.specs.Taking.{AllAnswers, TakeAnswers};
@@ -70,6 +72,9 @@ impl<'s> Decoder<'s> {
     pub fn finish(&mut self) -> Result<Doc, DecodeFault>
         ensures answers { (strings : List (List ℕ)) (p : List ℕ) → StandsFor self.old strings p
             → FinishAnswers (settings_of self.old) strings p result }
+        // It gives a document exactly where the bytes are a payload of it.
+        ensures whole { (strings : List (List ℕ)) (p : List ℕ) (items : List Content) → StandsFor self.old strings p
+            → (result ≡ Ok items) ↔ IsWhole (settings_of self.old) strings p items }
         ensures anew { (strings : List (List ℕ)) (p : List ℕ) → StandsFor self.old strings p
             → OnOk result (StandsFor self.new (situation_of (settings_of self.old) strings p).strings []) }
         ensures failed { (strings : List (List ℕ)) (p : List ℕ) → StandsFor self.old strings p
