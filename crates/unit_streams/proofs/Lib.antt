@@ -3,6 +3,7 @@ pub mod Peeling
 pub mod Fronts
 pub mod Taken
 pub mod Parts
+pub mod Within
 pub mod Behind
 pub mod Spelled
 pub mod Repeated
