@@ -55,6 +55,13 @@ settings_kept d new kept =
     ∙ ap (λ kind. record { statics = d.units.statics.now; kind = kind; limits = limits_of new.units.quotas }) kept.kind
     ∙ ap (λ quotas. record { statics = d.units.statics.now; kind = d.units.kind; limits = limits_of quotas }) kept.quotas
 
+pub settings_at : (d : Decoder) (x : Settings) (z : Situation) (from : ℕ) → IsAt d.units x z from → settings_of d ≡ x
+unfolding settings_of
+settings_at d x z from at =
+    ap (λ statics. record { statics = statics; kind = d.units.kind; limits = limits_of d.units.quotas }) at.set.statics
+    ∙ ap (λ kind. record { statics = x.statics; kind = kind; limits = limits_of d.units.quotas }) at.set.kind
+    ∙ ap (λ limits. record { statics = x.statics; kind = x.kind; limits = limits }) at.set.limits
+
 pub stands_as : (d : Decoder) (strings : List (List ℕ)) (p : List ℕ) → StandsFor d strings p → Stands d (settings_of d) strings p
 unfolding StandsFor
 stands_as d strings p h = h

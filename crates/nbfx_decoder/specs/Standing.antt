@@ -6,6 +6,7 @@ use Rattle.unit_streams.specs.Going.{IsGoing, IsPending}
 use Rattle.nbfx_values.specs.QuotasOf.{limits_of}
 use Rattle.nbfx_values.specs.declared.content.Item.{Item}
 use Rattle.string_tables.specs.SessionStrings.{used_cost}
+use Rattle.session_dictionary.specs.Strings.{LimitedStrings}
 use Rattle.nbfx_decoder.specs.declared.decoder.Decoder.{Decoder}
 use Rattle.nbfx_decoder.specs.declared.faults.DecodeFault.{DecodeFault}
 use Rattle.nbfx_decoder.specs.declared.faults.DecodeFault.TheVariants.{Payload, Memory}
@@ -57,6 +58,10 @@ pub record Stands (d : Decoder) (x : Settings) (strings : List (List ℕ)) (p : 
 unfoldable pub StandsFor : Decoder → List (List ℕ) → List ℕ → Type 0
 StandsFor d strings p = Stands d (settings_of d) strings p
 
+-- this holds wherever it stands
+abbrev pub WhereItStands : Decoder → (List (List ℕ) → List ℕ → Type 0) → Type 0
+WhereItStands d Holds = (strings : List (List ℕ)) (p : List ℕ) → StandsFor d strings p → Holds strings p
+
 -- what a decoder shows that has failed: the fault, and behind the bytes p of the payload its strings alone
 pub record Failed (d : Decoder) (x : Settings) (fault : DecodeFault) (strings : List (List ℕ)) (p : List ℕ) : Type 0 where
   pub failure : d.failure ≡ Some fault
@@ -66,6 +71,14 @@ pub record Failed (d : Decoder) (x : Settings) (fault : DecodeFault) (strings : 
 
 unfoldable pub FailedBehind : Decoder → DecodeFault → List (List ℕ) → List ℕ → Type 0
 FailedBehind d fault strings p = Failed d (settings_of d) fault strings p
+
+-- this holds wherever it has failed
+abbrev pub WhereItFailed : Decoder → (DecodeFault → List (List ℕ) → List ℕ → Type 0) → Type 0
+WhereItFailed d Holds = (fault : DecodeFault) (strings : List (List ℕ)) (p : List ℕ) → FailedBehind d fault strings p → Holds fault strings p
+
+-- the table that stands there
+abbrev pub table_at : Decoder → List (List ℕ) → List ℕ → LimitedStrings
+table_at d strings p = record { strings = (situation_of (settings_of d) strings p).strings; limit = (settings_of d).limits.dictionary }
 
 -- so many bytes of the payload show the fault
 abbrev pub ShownBy : DecodeFault → ℕ → Type 0

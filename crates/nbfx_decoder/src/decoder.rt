@@ -30,12 +30,16 @@ impl<'s> Decoder<'s> {
     ghost use Rattle.nbfx_values.specs.declared.content.Item.{Item as Content};
     ghost use Rattle.nbfx_decoder.specs.Laws.{IsWhole};
     ghost use Rattle.nbfx_decoder.specs.Payload.{Settings};
-    ghost use Rattle.nbfx_decoder.specs.Standing.{settings_of, failure_of, taken_of, situation_of, from_of, begun_of, Reached, StandsFor, FailedBehind, FailedWithin, FeedAnswers, FinishAnswers};
+    ghost use Rattle.nbfx_decoder.specs.Standing.{settings_of, failure_of, taken_of, situation_of, begun_of, table_at, Reached, StandsFor, FailedBehind, FailedWithin, WhereItStands, WhereItFailed, FeedAnswers, FinishAnswers};
     ghost use Rattle.nbfx_decoder.specs.Taking.{AllAnswers, TakeAnswers};
     ghost use Rattle.nbfx_decoder.specs.Units.{Keeps, KeepsSettings};
 
     /// A reader before the first payload, with no strings.
-    pub fn new(alloc: Global, statics: &'s StaticTable, quotas: Quotas, kind: Kind) -> Decoder<'s> {
+    pub fn new(alloc: Global, statics: &'s StaticTable, quotas: Quotas, kind: Kind) -> Decoder<'s>
+        ensures stands { StandsFor result [] [] }
+        ensures settings { settings_of result
+            ≡ record { statics = statics.now; kind = kind; limits = limits_of quotas } }
+    {
         Decoder {
             units: UnitReader::new(alloc, statics, quotas, kind),
             begun: Begun::new(alloc),
@@ -47,13 +51,14 @@ impl<'s> Decoder<'s> {
     /// Takes the next bytes of the payload. A refusal comes at the first byte that shows it, and is
     /// given from then on.
     pub fn feed(&mut self, piece: &[u8]) -> Result<(), DecodeFault>
-        requires { failure_of self.old ≡ None → taken_of self.old + length piece.now ≤ (settings_of self.old).limits.payload }
-        ensures answers { (strings : List (List ℕ)) (p : List ℕ) → StandsFor self.old strings p
-            → FeedAnswers (settings_of self.old) strings p piece.now result }
-        ensures stands { (strings : List (List ℕ)) (p : List ℕ) → StandsFor self.old strings p
-            → OnOk result (StandsFor self.new strings (p ++ piece.now)) }
-        ensures failed { (strings : List (List ℕ)) (p : List ℕ) → StandsFor self.old strings p
-            → IfErr result (λ fault. FailedWithin self.new fault strings p piece.now) }
+        requires { failure_of self.old ≡ None
+            → taken_of self.old + length piece.now ≤ (settings_of self.old).limits.payload }
+        ensures answers { WhereItStands self.old (λ strings p.
+            FeedAnswers (settings_of self.old) strings p piece.now result) }
+        ensures stands { WhereItStands self.old (λ strings p.
+            OnOk result (StandsFor self.new strings (p ++ piece.now))) }
+        ensures failed { WhereItStands self.old (λ strings p.
+            IfErr result (λ fault. FailedWithin self.new fault strings p piece.now)) }
         ensures refused { IfErr result (λ fault. failure_of self.new ≡ Some fault) }
         ensures repeated { (fault : Fault) → failure_of self.old ≡ Some fault → result ≡ Err fault }
         ensures unchanged { (fault : Fault) → failure_of self.old ≡ Some fault → self.new ≡ self.old }
@@ -70,15 +75,15 @@ impl<'s> Decoder<'s> {
 
     /// Says that the payload is whole, and hands out its document. The next payload may come then.
     pub fn finish(&mut self) -> Result<Doc, DecodeFault>
-        ensures answers { (strings : List (List ℕ)) (p : List ℕ) → StandsFor self.old strings p
-            → FinishAnswers (settings_of self.old) strings p result }
+        ensures answers { WhereItStands self.old (λ strings p.
+            FinishAnswers (settings_of self.old) strings p result) }
         // It gives a document exactly where the bytes are a payload of it.
-        ensures whole { (strings : List (List ℕ)) (p : List ℕ) (items : List Content) → StandsFor self.old strings p
-            → (result ≡ Ok items) ↔ IsWhole (settings_of self.old) strings p items }
-        ensures anew { (strings : List (List ℕ)) (p : List ℕ) → StandsFor self.old strings p
-            → OnOk result (StandsFor self.new (situation_of (settings_of self.old) strings p).strings []) }
-        ensures failed { (strings : List (List ℕ)) (p : List ℕ) → StandsFor self.old strings p
-            → IfErr result (λ fault. FailedBehind self.new fault strings p) }
+        ensures whole { WhereItStands self.old (λ strings p. (items : List Content)
+            → (result ≡ Ok items) ↔ IsWhole (settings_of self.old) strings p items) }
+        ensures anew { WhereItStands self.old (λ strings p. OnOk result
+            (StandsFor self.new (situation_of (settings_of self.old) strings p).strings [])) }
+        ensures failed { WhereItStands self.old (λ strings p.
+            IfErr result (λ fault. FailedBehind self.new fault strings p)) }
         ensures refused { IfErr result (λ fault. failure_of self.new ≡ Some fault) }
         ensures repeated { (fault : Fault) → failure_of self.old ≡ Some fault → result ≡ Err fault }
         ensures unchanged { (fault : Fault) → failure_of self.old ≡ Some fault → self.new ≡ self.old }
@@ -99,8 +104,8 @@ impl<'s> Decoder<'s> {
 
     /// Hands back a document that is done with, whose room serves the next payload.
     pub fn reuse(&mut self, doc: Doc)
-        ensures stands { (strings : List (List ℕ)) (p : List ℕ) → StandsFor self.old strings p → StandsFor self.new strings p }
-        ensures failed { (fault : Fault) (strings : List (List ℕ)) (p : List ℕ) → FailedBehind self.old fault strings p → FailedBehind self.new fault strings p }
+        ensures stands { WhereItStands self.old (StandsFor self.new) }
+        ensures failed { WhereItFailed self.old (FailedBehind self.new) }
         ensures settings { settings_of self.new ≡ settings_of self.old }
     {
         self.units.reuse(doc);
@@ -108,14 +113,14 @@ impl<'s> Decoder<'s> {
 
     /// What it holds of the payload.
     pub fn kept(&self) -> Kept
-        ensures raw { (strings : List (List ℕ)) (p : List ℕ) → StandsFor self.now strings p
-            → result.raw ≡ length (begun_of (settings_of self.now) strings p) }
-        ensures content { (strings : List (List ℕ)) (p : List ℕ) → StandsFor self.now strings p
-            → result.content ≡ content_of (situation_of (settings_of self.now) strings p).items }
-        ensures within { (strings : List (List ℕ)) (p : List ℕ) → StandsFor self.now strings p
-            → result.content ≤ (settings_of self.now).limits.content }
-        ensures failed { (fault : Fault) (strings : List (List ℕ)) (p : List ℕ) → FailedBehind self.now fault strings p
-            → result ≡ record { raw = 0; content = 0 } }
+        ensures raw { WhereItStands self.now (λ strings p.
+            result.raw ≡ length (begun_of (settings_of self.now) strings p)) }
+        ensures content { WhereItStands self.now (λ strings p.
+            result.content ≡ content_of (situation_of (settings_of self.now) strings p).items) }
+        ensures within { WhereItStands self.now (λ strings p.
+            result.content ≤ (settings_of self.now).limits.content) }
+        ensures failed { WhereItFailed self.now (λ fault strings p.
+            result ≡ record { raw = 0; content = 0 }) }
     {
         Kept {
             raw: self.begun.len() as u64,
@@ -125,21 +130,19 @@ impl<'s> Decoder<'s> {
 
     /// How many elements are open.
     pub fn depth(&self) -> u32
-        ensures open { (strings : List (List ℕ)) (p : List ℕ) → StandsFor self.now strings p
-            → result ≡ opened_by 0 (situation_of (settings_of self.now) strings p).items }
-        ensures within { (strings : List (List ℕ)) (p : List ℕ) → StandsFor self.now strings p
-            → result ≤ (settings_of self.now).limits.depth }
-        ensures failed { (fault : Fault) (strings : List (List ℕ)) (p : List ℕ) → FailedBehind self.now fault strings p → result ≡ 0 }
+        ensures open { WhereItStands self.now (λ strings p.
+            result ≡ opened_by 0 (situation_of (settings_of self.now) strings p).items) }
+        ensures within { WhereItStands self.now (λ strings p.
+            result ≤ (settings_of self.now).limits.depth) }
+        ensures failed { WhereItFailed self.now (λ fault strings p. result ≡ 0) }
     {
         self.units.depth()
     }
 
     /// The strings of the direction so far.
     pub fn table(&self) -> &SessionTable
-        ensures strings { (strings : List (List ℕ)) (p : List ℕ) → StandsFor self.now strings p
-            → result.now ≡ record { strings = (situation_of (settings_of self.now) strings p).strings; limit = (settings_of self.now).limits.dictionary } }
-        ensures failed { (fault : Fault) (strings : List (List ℕ)) (p : List ℕ) → FailedBehind self.now fault strings p
-            → result.now ≡ record { strings = (situation_of (settings_of self.now) strings p).strings; limit = (settings_of self.now).limits.dictionary } }
+        ensures strings { WhereItStands self.now (λ strings p. result.now ≡ table_at self.now strings p) }
+        ensures failed { WhereItFailed self.now (λ fault strings p. result.now ≡ table_at self.now strings p) }
     {
         self.units.table()
     }

@@ -86,9 +86,11 @@ module _ {A R : Type 0} (limit : ℕ) (r : R) (f : Reader A R) (reads : ReadsFro
   parts : (b more : List ℕ) → (rest : List ℕ) × (take limit (b ++ more) ≡ take limit b ++ rest)
   parts b more =
       elim (cases_lt (length b) limit) [
-        | inl lt ↦ (take (limit - length b) more,
-            (let sum : limit ≡ length b + (limit - length b) = omega (arith, lt) in ap (λ n. take n (b ++ more)) sum ∙ take-append-add b more (limit - length b))
-            ∙ ap (λ c. c ++ take (limit - length b) more) (sym (take_all limit b (omega arith))))
+        | inl lt ↦ (
+          take (limit - length b) more,
+          (let sum : limit ≡ length b + (limit - length b) = omega (arith, lt) in ap (λ n. take n (b ++ more)) sum ∙ take-append-add b more (limit - length b))
+              ∙ ap (λ c. c ++ take (limit - length b) more) (sym (take_all limit b (omega arith))),
+        )
         | inr le ↦ ([], take-append-le limit b more le ∙ sym (append-nil (take limit b)))
       ]
 
