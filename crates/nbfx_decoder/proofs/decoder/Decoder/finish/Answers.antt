@@ -63,15 +63,15 @@ returns-clause-settings c =
     settings_kept c.args.self.now c.fail.new.self (record { statics = then.statics ∙ same.statics; quotas = then.quotas ∙ same.quotas; kind = then.kind ∙ same.kind })
 
 pub returns-in-Some-clause-whole : goal.returns-in-Some-clause-whole
-returns-in-Some-clause-whole c strings p items h = absurd (unfailed_stands c.args.self.now c.in-Some.fault strings p c.in-Some.is h)
+returns-in-Some-clause-whole c strings p h items = absurd (unfailed_stands c.args.self.now c.in-Some.fault strings p c.in-Some.is h)
 
 pub returns-in-Some-finish-clause-whole : goal.returns-in-Some-finish-clause-whole
-returns-in-Some-finish-clause-whole c strings p items h =
+returns-in-Some-finish-clause-whole c strings p h items =
     finishes_whole c.args.self.now strings p h (Ok c.in-Some-finish.doc)
     (nothing_cut c.args.self.now strings p h (c.in-Some-finish.ensures.document.0 refl), c.in-Some-finish.ensures.same ∙ items_here c.args.self.now strings p h) items
 
 pub returns-clause-whole : goal.returns-clause-whole
-returns-clause-whole c strings p items h =
+returns-clause-whole c strings p h items =
     finishes_whole c.args.self.now strings p h (Err c.fail.result)
     (finish_fault c.args.self.now strings p h (λ document. let bad = c.in_default-finish.ensures.document.1 document in cc) c.fail.result c.finish.new.self.from c.len.result
     c.in_default-finish.ensures.unchanged.0 c.len.ensures c.fail.ensures.fault) items
