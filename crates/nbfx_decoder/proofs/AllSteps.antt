@@ -62,7 +62,7 @@ module _ (x : Settings) (strings : List (List ℕ)) (p y : List ℕ) (used : ℕ
         (let n = size in omega (arith, n, sum)),
         subst (λ (q : List ℕ). HasStrings new.units x (situation_of x strings q).strings (from_of x strings (p ++ take used y))) (joined k) set,
       )
-      by_fault Memory set = (used, from_of x strings (p ++ take used y), quiet.within, set)
+      by_fault Memory set = (used, from_of x strings (p ++ take used y), quiet, set)
 
 -- all
 pub taken_all : (d : Decoder) (x : Settings) (strings : List (List ℕ)) (p y : List ℕ) (used : ℕ) → length y ≤ used → HasTaken d x strings p y used → AllAnswers x strings p y d (Ok tt)

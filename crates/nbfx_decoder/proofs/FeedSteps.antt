@@ -35,7 +35,7 @@ use Rattle.nbfx_decoder.specs.declared.section.Section.TheVariants.{TableSize, S
 use Rattle.nbfx_decoder.specs.Sections.{first_section}
 use Rattle.nbfx_decoder.specs.Faults.{reason_of}
 use Rattle.nbfx_decoder.specs.Payload.{Settings, Situation, PayloadUnit, node, NoEvent, Refusal, place_of, unit_of, unit_in, refusal, after, cut_at, beginning, payload}
-use Rattle.nbfx_decoder.specs.Standing.{settings_of, failure_of, taken_of, situation_of, from_of, begun_of, Reached, Stands, StandsFor, Failed, FailedBehind, FailedWithin, ShownBy, FeedAnswers, FinishAnswers}
+use Rattle.nbfx_decoder.specs.Standing.{settings_of, failure_of, taken_of, situation_of, from_of, begun_of, Reached, StandsSo, StandsFor, Failed, FailedBehind, FailedWithin, ShownBy, FeedAnswers, FinishAnswers}
 use Rattle.nbfx_decoder.specs.Taking.{AllAnswers}
 use Rattle.nbfx_decoder.specs.Units.{HasStrings, IsAt, Keeps, KeepsSettings}
 use Rattle.string_tables.specs.SessionStrings.{used_cost}
@@ -43,7 +43,7 @@ use Rattle.nbfx_decoder.specs.Bounds.{KeepsWithin}
 use Rattle.nbfx_decoder.specs.Laws.{MayBegin, IsUnrefused, IsWhole}
 use Rattle.nbfx_decoder.proofs.Readable.{readable}
 use Rattle.nbfx_decoder.proofs.Sound.{keeps_within}
-use Rattle.nbfx_decoder.proofs.PayloadAnswers.{finished_where_whole}
+use Rattle.nbfx_decoder.proofs.PayloadAnswers.{finished_where_whole, strings_behind}
 use Rattle.nbfx_decoder.proofs.PayloadReasons.{refused_where_shown}
 use Rattle.nbfx_decoder.proofs.UnitCases.{UnitCase, a_size, a_string, a_node, unit_case}
 
@@ -62,16 +62,16 @@ settings_at d x z from at =
     ∙ ap (λ kind. record { statics = x.statics; kind = kind; limits = limits_of d.units.quotas }) at.set.kind
     ∙ ap (λ limits. record { statics = x.statics; kind = x.kind; limits = limits }) at.set.limits
 
-pub stands_as : (d : Decoder) (strings : List (List ℕ)) (p : List ℕ) → StandsFor d strings p → Stands d (settings_of d) strings p
+pub stands_as : (d : Decoder) (strings : List (List ℕ)) (p : List ℕ) → StandsFor d strings p → StandsSo d (settings_of d) strings p
 unfolding StandsFor
 stands_as d strings p h = h
 
 pub reached_of : (d : Decoder) (strings : List (List ℕ)) (p : List ℕ) → StandsFor d strings p → Reached d (settings_of d) strings p
 reached_of d strings p h = (stands_as d strings p h).reached
 
-pub stands_of : (d : Decoder) (x : Settings) (strings : List (List ℕ)) (p : List ℕ) → settings_of d ≡ x → Stands d x strings p → StandsFor d strings p
+pub stands_of : (d : Decoder) (x : Settings) (strings : List (List ℕ)) (p : List ℕ) → settings_of d ≡ x → StandsSo d x strings p → StandsFor d strings p
 unfolding StandsFor
-stands_of d x strings p is h = subst (λ (s : Settings). Stands d s strings p) (sym is) h
+stands_of d x strings p is h = subst (λ (s : Settings). StandsSo d s strings p) (sym is) h
 
 pub failed_of : (d : Decoder) (x : Settings) (fault : DecodeFault) (strings : List (List ℕ)) (p : List ℕ) → settings_of d ≡ x → Failed d x fault strings p → FailedBehind d fault strings p
 unfolding FailedBehind
@@ -116,6 +116,11 @@ depth_some d = let least = d.units.quotas.good.depth_least in omega (arith, leas
 pub depth_most : (d : Decoder) → (settings_of d).limits.depth ≤ 128
 unfolding settings_of
 depth_most d = d.units.quotas.good.depth_most
+
+-- how many bytes it has taken, by where the unit that isn't whole begins
+pub taken_as : (d : Decoder) → taken_of d ≡ d.units.from + length d.begun
+unfolding taken_of
+taken_as d = refl
 
 -- a decoder has taken the bytes that it stands for
 pub counts_taken : (d : Decoder) (strings : List (List ℕ)) (p : List ℕ) → StandsFor d strings p → d.units.from + length d.begun ≡ length p
@@ -206,6 +211,9 @@ module _ (d mid : Decoder) (strings : List (List ℕ)) (p y : List ℕ) (h : Sta
           no_items = no_items;
         })
 
+    unrefused_before : (n : ℕ) → IsQuiet (payload (settings_of d) strings) p y n → (i : ℕ) → i < n → refusal_at (payload (settings_of new) strings) (p ++ take i y) ≡ None
+    unrefused_before n quiet i lt = ap (λ s. refusal_at (payload s strings) (p ++ take i y)) (settings_kept d new all_kept) ∙ quiet.unrefused i lt
+
     module _ (few : d.units.from + length d.begun + length y < 2 ^ 32) where
       told_as : (reason : _) (k n at : ℕ) → fault ≡ Refused reason k → n ≤ length y → at + k ≡ length p + n → mid.units.from ≡ at → told ≡ decode_faults.Payload at reason (length p + n)
       told_as reason k n at is le sum place =
@@ -232,14 +240,16 @@ module _ (d mid : Decoder) (strings : List (List ℕ)) (p y : List ℕ) (h : Sta
           by_fault (Refused reason k) is (n, at, quiet, refused, sum, set) = record {
             count = n;
             within = quiet.within;
+            before = unrefused_before n quiet;
             shown = subst (λ (t : DecodeFault). ShownBy t (length p + n)) (sym (told_as reason k n at is quiet.within sum set.from_is)) refl;
             behind = failed_at (p ++ take n y) at set;
           }
-          by_fault Memory is (n, at, within, set) =
+          by_fault Memory is (n, at, quiet, set) =
               let s : ShowsFault mid.units.from Memory told = subst (λ (f : UnitFault). ShowsFault mid.units.from f told) is shows in
               record {
                 count = n;
-                within = within;
+                within = quiet.within;
+                before = unrefused_before n quiet;
                 shown = subst (λ (t : DecodeFault). ShownBy t (length p + n)) (sym s) tt;
                 behind = failed_at (p ++ take n y) at set;
               }
@@ -385,6 +395,15 @@ module _ (d : Decoder) (strings : List (List ℕ)) (p : List ℕ) (h : StandsFor
   pub open_small : opened_by 0 d.units.document ≤ (settings_of d).limits.depth
   open_small = let le = bounds.open_elements in let some = depth_some d in let same = open_here in omega (arith, le, some, same)
 
+  pub raw_small : length d.begun ≤ (settings_of d).limits.payload
+  raw_small =
+      let taken = counts_taken d strings p h in
+      let le = (stands_as d strings p h).within in
+      omega (arith, taken, le)
+
+  pub cost_small : used_cost (situation_of (settings_of d) strings p).strings ≤ (settings_of d).limits.dictionary
+  cost_small = let le = bounds.dictionary in let before = (stands_as d strings p h).before in omega (arith, le, before)
+
   pub table_here : d.units.table ≡ record { strings = (situation_of (settings_of d) strings p).strings; limit = (settings_of d).limits.dictionary }
   table_here = (reached_of d strings p h).at.set.table
 
@@ -456,10 +475,10 @@ module _ (d : Decoder) (strings : List (List ℕ)) (p : List ℕ) (h : StandsFor
   may_begin : MayBegin (settings_of d) strings
   may_begin = record { depth = depth_some d; dictionary = (stands_as d strings p h).before }
 
-  law : (items : List Item) → FinishAnswers (settings_of d) strings p (Ok items) ↔ IsWhole (settings_of d) strings p items
-  law items = finished_where_whole (settings_of d) strings p items may_begin unrefused_here
+  law : (items : List Item) → FinishAnswers (settings_of d) strings p (Ok items) ↔ ((own : List (List ℕ)) × IsWhole (settings_of d) strings own items p)
+  law items = finished_where_whole (settings_of d) strings p items may_begin unrefused_here (stands_as d strings p h).within
 
-  pub finishes_whole : (items : List Item) → (result ≡ Ok items) ↔ IsWhole (settings_of d) strings p items
+  pub finishes_whole : (items : List Item) → (result ≡ Ok items) ↔ ((own : List (List ℕ)) × IsWhole (settings_of d) strings own items p)
   finishes_whole items = (
     λ e. (law items).0 (subst (λ (r : Result (List Item) DecodeFault). FinishAnswers (settings_of d) strings p r) e answers),
     λ whole. by_result result answers ((law items).1 whole),
@@ -469,3 +488,8 @@ module _ (d : Decoder) (strings : List (List ℕ)) (p : List ℕ) (h : StandsFor
       by_result (Ok doc) a b = ap Ok (a.1 ∙ sym b.1)
       by_result (Err (decode_faults.Payload at reason shown_by)) a b = let bad = sym b.0 ∙ a.0 in cc
       by_result (Err decode_faults.Memory) a b = absurd a
+
+  -- the strings that are carried on
+  pub carries_on : (own : List (List ℕ)) (items : List Item) (new : Decoder) → IsWhole (settings_of d) strings own items p → StandsFor new (situation_of (settings_of d) strings p).strings [] → StandsFor new (strings ++ own) []
+  carries_on own items new is stands =
+      subst (λ (s : List (List ℕ)). StandsFor new s []) (strings_behind (settings_of d) strings own items p may_begin is) stands

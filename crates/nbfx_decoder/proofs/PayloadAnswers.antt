@@ -17,7 +17,7 @@ use Rattle.nbfx_values.specs.declared.content.Item.{Item}
 use Rattle.nbfx_values.specs.declared.refusals.Reason.{Reason}
 use Rattle.nbfx_decoder.specs.Laws.{FinishedWhereWhole, GoesOnUnrefused, GoesOnWhereNothing, IsUnrefused, IsWhole, MayBegin, NothingIsRefused, OffendsWhereShown, ShowsNothing, ShowsWithin}
 use Rattle.nbfx_decoder.specs.Payload.{NoEvent, Settings, payload, refusal}
-use Rattle.nbfx_decoder.specs.Standing.{FinishAnswers}
+use Rattle.nbfx_decoder.specs.Standing.{FinishAnswers, situation_of}
 use Rattle.nbfx_decoder.proofs.PayloadLaws.{accepted_strings, payloads_are_accepted}
 use Rattle.nbfx_decoder.proofs.PayloadReasons.{nothing_unrefused, refused_where_shown, unrefused_nothing}
 use Rattle.nbfx_decoder.proofs.Readable.{readable}
@@ -95,17 +95,21 @@ nothing_is_refused x strings i =
 
 -- the end
 module _ (x : Settings) (strings : List (List ℕ)) (p : List ℕ) (doc : List Item) (may : MayBegin x strings) where
-  finished_whole : IsUnrefused x strings p → FinishAnswers x strings p (Ok doc) → IsWhole x strings p doc
-  finished_whole clean h =
+  finished_whole : IsUnrefused x strings p → length p ≤ x.limits.payload → FinishAnswers x strings p (Ok doc) → (own : List (List ℕ)) × IsWhole x strings own doc p
+  finished_whole clean le h =
       let none : offence (payload x strings) p ≡ None = unrefused_offence (payload x strings) p (λ i le. nothing_unrefused x strings (take i p) (clean i)) ∙ h.0 in
       let own = accepted_strings x strings p none in
       let it = (payloads_are_accepted x strings p doc own.0 may).0 (record { offenceless = none; items_are = sym h.1; strings_are = own.1 }) in
-      record { own = own.0; is_payload = it.0; admitted = it.1; strings_are = own.1 }
+      (own.0, record { is_payload = it.0; within = record { payload = le; admitted = it.1 } })
 
-  whole_finished : IsWhole x strings p doc → FinishAnswers x strings p (Ok doc)
-  whole_finished h =
-      let it = (payloads_are_accepted x strings p doc h.own may).1 (h.is_payload, h.admitted) in
+  whole_finished : (own : List (List ℕ)) × IsWhole x strings own doc p → FinishAnswers x strings p (Ok doc)
+  whole_finished (own, h) =
+      let it = (payloads_are_accepted x strings p doc own may).1 (h.is_payload, h.within.admitted) in
       ((no_offence (payload x strings) p it.offenceless).1, sym it.items_are)
 
 pub finished_where_whole : FinishedWhereWhole
-finished_where_whole x strings p doc may clean = (finished_whole x strings p doc may clean, whole_finished x strings p doc may)
+finished_where_whole x strings p doc may clean le = (finished_whole x strings p doc may clean le, whole_finished x strings p doc may)
+
+-- the strings that stand behind a whole payload
+pub strings_behind : (x : Settings) (strings own : List (List ℕ)) (items : List Item) (p : List ℕ) → MayBegin x strings → IsWhole x strings own items p → (situation_of x strings p).strings ≡ strings ++ own
+strings_behind x strings own items p may h = ((payloads_are_accepted x strings p items own may).1 (h.is_payload, h.within.admitted)).strings_are

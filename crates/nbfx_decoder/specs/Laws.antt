@@ -12,7 +12,7 @@ use Rattle.string_tables.specs.StringTable.{StringTable}
 use Rattle.nbfx_decoder.specs.Bounds.{KeepsWithin, NamesTexts}
 use Rattle.nbfx_decoder.specs.Payload.{Settings, payload, refusal, table_in}
 use Rattle.nbfx_decoder.specs.Reasons.{IsCutAt, ShowsFrom}
-use Rattle.nbfx_decoder.specs.Spelled.{IsAdmitted, IsPayload}
+use Rattle.nbfx_decoder.specs.Spelled.{IsAdmitted, IsPayload, IsWithin}
 use Rattle.nbfx_decoder.specs.Standing.{FinishAnswers, from_of, situation_of}
 
 -- as a whole payload the bytes have no offence: behind them stand these items, and these strings
@@ -136,16 +136,15 @@ abbrev pub GoesOnUnrefused : Type 0
 GoesOnUnrefused = (x : Settings) (strings : List (List ℕ)) (p y : List ℕ) → IsUnrefused x strings p
     → answer (payload x strings) p y ≡ goes_on → IsUnrefused x strings (p ++ y)
 
--- these are the bytes of a document that is admitted, and of the strings that stand behind it
-pub record IsWhole (x : Settings) (strings : List (List ℕ)) (p : List ℕ) (items : List Item)
+-- the bytes are a payload of these items, with these strings of its own, within what is admitted
+pub record IsWhole (x : Settings) (strings own : List (List ℕ)) (items : List Item) (p : List ℕ)
     : Type 0 where
-  pub own : List (List ℕ)
   pub is_payload : IsPayload x.kind (table_before x strings) own items p
-  pub admitted : IsAdmitted x.limits items (strings ++ own)
-  pub strings_are : (situation_of x strings p).strings ≡ strings ++ own
+  pub within : IsWithin x.limits items p (strings ++ own)
 
 -- then the end is answered by a document exactly where the bytes are its payload
 abbrev pub FinishedWhereWhole : Type 0
 FinishedWhereWhole = (x : Settings) (strings : List (List ℕ)) (p : List ℕ) (doc : List Item)
-    → MayBegin x strings → IsUnrefused x strings p
-    → FinishAnswers x strings p (Ok doc) ↔ IsWhole x strings p doc
+    → MayBegin x strings → IsUnrefused x strings p → length p ≤ x.limits.payload
+    → FinishAnswers x strings p (Ok doc)
+    ↔ ((own : List (List ℕ)) × IsWhole x strings own doc p)

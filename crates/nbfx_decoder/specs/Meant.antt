@@ -5,11 +5,11 @@ use Rattle.nbfx_values.specs.declared.content.Item.TheVariants as items
 use Rattle.string_tables.specs.StringTable.{StringTable}
 use Rattle.nbfx_decoder.specs.declared.meaning.Meant.{Meant}
 use Rattle.nbfx_decoder.specs.declared.meaning.Meant.TheVariants as meants
-use Rattle.nbfx_decoder.specs.declared.meaning.Names.{Names}
+use Rattle.nbfx_decoder.specs.declared.meaning.Lookup.{Lookup}
 use Rattle.nbfx_decoder.specs.declared.meaning.Unmeant.{Unmeant}
 use Rattle.nbfx_decoder.specs.declared.meaning.Unmeant.TheVariants.{UnknownString, Memory}
 
-abbrev pub table_of : Names → StringTable
+abbrev pub table_of : Lookup → StringTable
 table_of names = record { statics = names.statics.now; strings = names.strings.now.strings }
 
 -- what is there is found, and where nothing is an identifier names no string

@@ -1,7 +1,7 @@
 -- What a decoder stands for, and what it shows. Of a payload's bytes it keeps those of the unit that isn't whole.
 use Rattle.std.specs.Prelude.{◌≡◌, ⊤, ℕ, ◌+◌, ◌<◌, ◌≤◌, List, [], ◌++◌, length, take, Option, Some, None, Result, Ok, Err}
 use Rattle.unit_streams.specs.Grammar.{standing}
-use Rattle.unit_streams.specs.Judging.{answer, goes_on, offends, ending_at}
+use Rattle.unit_streams.specs.Judging.{answer, goes_on, offends, refusal_at, ending_at}
 use Rattle.unit_streams.specs.Going.{IsGoing, IsPending}
 use Rattle.nbfx_values.specs.QuotasOf.{limits_of}
 use Rattle.nbfx_values.specs.declared.content.Item.{Item}
@@ -48,7 +48,7 @@ pub record Reached (d : Decoder) (x : Settings) (strings : List (List ℕ)) (p :
 
 -- it stands for these bytes of a payload: none of the first of them is refused, they are no more than a payload may have, and the strings
 -- before it cost no more than they may
-pub record Stands (d : Decoder) (x : Settings) (strings : List (List ℕ)) (p : List ℕ) : Type 0 where
+pub record StandsSo (d : Decoder) (x : Settings) (strings : List (List ℕ)) (p : List ℕ) : Type 0 where
   pub reached : Reached d x strings p
   pub pending : IsPending (payload x strings) p
   pub within : length p ≤ x.limits.payload
@@ -56,7 +56,7 @@ pub record Stands (d : Decoder) (x : Settings) (strings : List (List ℕ)) (p : 
 
 -- the strings before the payload, and its bytes so far
 unfoldable pub StandsFor : Decoder → List (List ℕ) → List ℕ → Type 0
-StandsFor d strings p = Stands d (settings_of d) strings p
+StandsFor d strings p = StandsSo d (settings_of d) strings p
 
 -- this holds wherever it stands
 abbrev pub WhereItStands : Decoder → (List (List ℕ) → List ℕ → Type 0) → Type 0
@@ -85,10 +85,11 @@ abbrev pub ShownBy : DecodeFault → ℕ → Type 0
 ShownBy (Payload at reason shown_by) n = shown_by ≡ n
 ShownBy Memory n = ⊤
 
--- it has failed with some bytes of y, behind p
+-- it has failed with some bytes of y, behind p; none of fewer is refused
 pub record FailedWithin (d : Decoder) (fault : DecodeFault) (strings : List (List ℕ)) (p y : List ℕ) : Type 0 where
   pub count : ℕ
   pub within : count ≤ length y
+  pub before : (i : ℕ) → i < count → refusal_at (payload (settings_of d) strings) (p ++ take i y) ≡ None
   pub shown : ShownBy fault (length p + count)
   pub behind : FailedBehind d fault strings (p ++ take count y)
 

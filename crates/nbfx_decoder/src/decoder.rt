@@ -1,8 +1,9 @@
 //! A payload, in any pieces.
 
-ghost use Rattle.std.specs.Prelude.{◌≡◌, ℕ, ◌+◌, ◌<◌, ◌≤◌, ◌^◌, ◌↔◌, List, [], ◌++◌, length, IfOk, IfErr, OnOk, Ok, Err, Some, None};
+ghost use Rattle.std.specs.Prelude.{◌≡◌, ℕ, ◌+◌, ◌-◌, ◌<◌, ◌≤◌, ◌^◌, ◌↔◌, List, [], ◌++◌, length, IfOk, IfErr, OnOk, Ok, Err, Some, None};
 ghost use Rattle.nbfx_values.specs.Measures.{content_of, opened_by};
 ghost use Rattle.nbfx_values.specs.QuotasOf.{limits_of};
+ghost use Rattle.string_tables.specs.SessionStrings.{used_cost};
 ghost use Rattle.nbfx_decoder.specs.declared.faults.DecodeFault.{DecodeFault as Fault};
 ghost use Rattle.nbfx_decoder.specs.Answers.{ShowsFault};
 
@@ -14,8 +15,10 @@ use session_dictionary::SessionTable;
 use static_dictionary::StaticTable;
 use std::alloc::Global;
 
-/// Reads payloads of one direction, one after the other, in whatever pieces their bytes come. It holds
-/// of a payload the items of its whole units, and the bytes of the unit that isn't whole.
+/// Reads payloads of one direction, one after the other, in whatever pieces their bytes come: nodes of
+/// MC-NBFX, whose identifiers name strings of MC-NBFS's static dictionary and, under [`Kind::Session`], of
+/// the tables of MC-NBFSE with which payloads begin. It holds of a payload the items of its whole units,
+/// and the bytes of the unit that isn't whole.
 #[derive(Drop)]
 pub struct Decoder<'s> {
     units: UnitReader<'s>,
@@ -48,8 +51,10 @@ impl<'s> Decoder<'s> {
         }
     }
 
-    /// Takes the next bytes of the payload. A refusal comes at the first byte that shows it, and is
-    /// given from then on.
+    /// Takes the next bytes of the payload, which with those before are no more than the payload quota. A
+    /// refusal comes at the first byte that shows it. After it, and after want of memory, the answer is
+    /// the same from then on: the payload's items and bytes are given up, and its strings that were whole
+    /// stay in the table.
     pub fn feed(&mut self, piece: &[u8]) -> Result<(), DecodeFault>
         requires { failure_of self.old ≡ None
             → taken_of self.old + length piece.now ≤ (settings_of self.old).limits.payload }
@@ -73,13 +78,19 @@ impl<'s> Decoder<'s> {
         }
     }
 
-    /// Says that the payload is whole, and hands out its document. The next payload may come then.
+    /// Says that the payload is whole, and hands out its document. The next payload may come then. Where
+    /// its root hasn't ended it is refused as `DocumentCut`, and fails for good.
     pub fn finish(&mut self) -> Result<Doc, DecodeFault>
         ensures answers { WhereItStands self.old (λ strings p.
             FinishAnswers (settings_of self.old) strings p result) }
         // It gives a document exactly where the bytes are a payload of it.
         ensures whole { WhereItStands self.old (λ strings p. (items : List Content)
-            → (result ≡ Ok items) ↔ IsWhole (settings_of self.old) strings p items) }
+            → (result ≡ Ok items)
+            ↔ ((own : List (List ℕ)) × IsWhole (settings_of self.old) strings own items p)) }
+        // Then the strings are those of before, and the payload's own.
+        ensures carried { WhereItStands self.old (λ strings p. (own : List (List ℕ))
+            (items : List Content) → IsWhole (settings_of self.old) strings own items p
+            → OnOk result (StandsFor self.new (strings ++ own) [])) }
         ensures anew { WhereItStands self.old (λ strings p. OnOk result
             (StandsFor self.new (situation_of (settings_of self.old) strings p).strings [])) }
         ensures failed { WhereItStands self.old (λ strings p.
@@ -111,14 +122,15 @@ impl<'s> Decoder<'s> {
         self.units.reuse(doc);
     }
 
-    /// What it holds of the payload.
+    /// What it holds of the payload: in bytes, the unit that isn't whole, and the content of the items.
     pub fn kept(&self) -> Kept
         ensures raw { WhereItStands self.now (λ strings p.
             result.raw ≡ length (begun_of (settings_of self.now) strings p)) }
         ensures content { WhereItStands self.now (λ strings p.
             result.content ≡ content_of (situation_of (settings_of self.now) strings p).items) }
         ensures within { WhereItStands self.now (λ strings p.
-            result.content ≤ (settings_of self.now).limits.content) }
+            (result.raw ≤ (settings_of self.now).limits.payload)
+            × (result.content ≤ (settings_of self.now).limits.content)) }
         ensures failed { WhereItFailed self.now (λ fault strings p.
             result ≡ record { raw = 0; content = 0 }) }
     {
@@ -128,7 +140,16 @@ impl<'s> Decoder<'s> {
         }
     }
 
-    /// How many elements are open.
+    /// How many bytes of the payload it has taken; 0 before the first one.
+    pub fn taken(&self) -> u32
+        ensures counted { result < 2 ^ 32 - 1 → result ≡ taken_of self.now }
+        ensures stands { WhereItStands self.now (λ strings p. result ≡ length p) }
+    {
+        let begun = self.begun.len().min(u32::MAX as usize) as u32;
+        self.units.from().saturating_add(begun)
+    }
+
+    /// How many elements are open behind the whole units, the root among them.
     pub fn depth(&self) -> u32
         ensures open { WhereItStands self.now (λ strings p.
             result ≡ opened_by 0 (situation_of (settings_of self.now) strings p).items) }
@@ -142,7 +163,10 @@ impl<'s> Decoder<'s> {
     /// The strings of the direction so far.
     pub fn table(&self) -> &SessionTable
         ensures strings { WhereItStands self.now (λ strings p. result.now ≡ table_at self.now strings p) }
-        ensures failed { WhereItFailed self.now (λ fault strings p. result.now ≡ table_at self.now strings p) }
+        ensures within { WhereItStands self.now (λ strings p.
+            used_cost result.now.strings ≤ (settings_of self.now).limits.dictionary) }
+        ensures failed { WhereItFailed self.now (λ fault strings p.
+            result.now ≡ table_at self.now strings p) }
     {
         self.units.table()
     }

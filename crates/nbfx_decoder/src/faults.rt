@@ -1,6 +1,6 @@
 //! Why a payload isn't read.
 
-ghost use Rattle.std.specs.Prelude.{◌≡◌};
+ghost use Rattle.std.specs.Prelude.{◌≡◌, Err};
 ghost use Rattle.nbfx_decoder.specs.Faults as spec;
 
 use nbfx_records::{NodeFault, ReadFault};
@@ -10,7 +10,8 @@ use unit_streams::Memory;
 /// Why a payload isn't read.
 #[derive(Clone, Copy, Debug, PartialEq, Eq)]
 pub enum DecodeFault {
-    /// The payload is refused: the unit that begins at offset `at`, as its first `shown_by` bytes show.
+    /// The payload is refused: the unit that begins at offset `at`, as the payload's first `shown_by`
+    /// bytes show, and fewer do not.
     Payload {
         at: u32,
         reason: Reason,
@@ -23,7 +24,7 @@ pub enum DecodeFault {
 /// Why the unit at the front of some bytes isn't read.
 #[derive(Clone, Copy, Debug, PartialEq, Eq)]
 pub(crate) enum UnitFault {
-    /// It is refused, as the first so many bytes show.
+    /// It is refused, as its first so many bytes show.
     Refused { reason: Reason, shown_by: usize },
     Memory,
 }
@@ -37,6 +38,13 @@ impl From<Memory> for UnitFault {
     fn from(_memory: Memory) -> UnitFault {
         UnitFault::Memory
     }
+}
+
+/// A refusal.
+pub(crate) fn refused<T>(reason: Reason, shown_by: usize) -> Result<T, UnitFault>
+    ensures { result ≡ Err (UnitFault.Refused reason shown_by) }
+{
+    Err(UnitFault::Refused { reason, shown_by })
 }
 
 // The reason of a node that no record is which may stand there.

@@ -48,13 +48,13 @@ pub(crate) enum Meant {
 
 /// What identifiers name.
 #[derive(Clone, Copy)]
-pub(crate) struct Names<'a> {
+pub(crate) struct Lookup<'a> {
     pub(crate) alloc: Global,
     pub(crate) statics: &'a StaticTable,
     pub(crate) strings: &'a SessionTable,
 }
 
-impl Names<'_> {
+impl Lookup<'_> {
     fn text(&self, id: u32) -> Option<&str>
         ensures { option_map (λ text. text.now) result ≡ named_text (table_of self.now) id }
     {

@@ -3,7 +3,7 @@
 ghost use Rattle.std.specs.Prelude.{◌≡◌, ◌<◌, ◌≤◌, ◌^◌, Err};
 ghost use Rattle.nbfx_decoder.specs.Units.{HeadStands, StringStands};
 
-use crate::faults::UnitFault;
+use crate::faults::{UnitFault, refused};
 use multibyte_ints::{IntRead, read_int};
 use nbfx_values::Reason;
 use std::str;
@@ -22,12 +22,6 @@ pub(crate) enum StringRead<'a> {
 struct Head {
     used: usize,
     size: usize,
-}
-
-fn refused<T>(reason: Reason, shown_by: usize) -> Result<T, UnitFault>
-    ensures { result ≡ Err (UnitFault.Refused reason shown_by) }
-{
-    Err(UnitFault::Refused { reason, shown_by })
 }
 
 // The length of a string, where so many bytes of the table are left, and so much of the dictionary

@@ -14,8 +14,8 @@ ghost use Rattle.nbfx_records.specs.Valid.{is_valid_node};
 ghost use Rattle.nbfx_decoder.specs.Sections.{first_section, left_in};
 
 use crate::begun::Begun;
-use crate::faults::{UnitFault, unread};
-use crate::meaning::{Meant, Names, Unmeant};
+use crate::faults::{UnitFault, refused, unread};
+use crate::meaning::{Lookup, Meant, Unmeant};
 use crate::section::Section;
 use crate::strings::{StringRead, string_at};
 use multibyte_ints::{IntRead, read_int};
@@ -47,12 +47,6 @@ pub(crate) struct UnitReader<'s> {
     /// How many bytes the whole units have.
     from: u32,
     ghost some: { 0 < left_in section },
-}
-
-fn refused<T>(reason: Reason, shown_by: usize) -> Result<T, UnitFault>
-    ensures { result ≡ Err (UnitFault.Refused reason shown_by) }
-{
-    Err(UnitFault::Refused { reason, shown_by })
 }
 
 impl<'s> UnitReader<'s> {
@@ -222,7 +216,7 @@ impl<'s> UnitReader<'s> {
         ensures from { self.new.from ≡ self.old.from }
         ensures kept { KeepsSettings self.old self.new }
     {
-        let names = Names {
+        let names = Lookup {
             alloc: self.alloc,
             statics: self.statics,
             strings: &self.table,

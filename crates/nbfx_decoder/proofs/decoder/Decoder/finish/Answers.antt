@@ -1,5 +1,5 @@
 use Rattle.std.proofs.Common.{◌∙◌, Ok, Err, ap, refl}
-use Rattle.nbfx_decoder.proofs.FeedSteps.{settings_kept, failure_is, unfailed_stands, unfailed_failure, same_failure, items_here, nothing_cut, stands_anew, finish_failed, finish_fault, finishes_whole}
+use Rattle.nbfx_decoder.proofs.FeedSteps.{settings_kept, failure_is, unfailed_stands, unfailed_failure, same_failure, items_here, nothing_cut, stands_anew, finish_failed, finish_fault, finishes_whole, carries_on}
 use Rattle.nbfx_decoder.proofs.decoder.Decoder.finish.Goals as goal
 
 pub returns-in-Some-clause-answers : goal.returns-in-Some-clause-answers
@@ -75,3 +75,12 @@ returns-clause-whole c strings p h items =
     finishes_whole c.args.self.now strings p h (Err c.fail.result)
     (finish_fault c.args.self.now strings p h (λ document. let bad = c.in_default-finish.ensures.document.1 document in cc) c.fail.result c.finish.new.self.from c.len.result
     c.in_default-finish.ensures.unchanged.0 c.len.ensures c.fail.ensures.fault) items
+
+pub returns-in-Some-clause-carried : goal.returns-in-Some-clause-carried
+returns-in-Some-clause-carried c strings p h = absurd (unfailed_stands c.args.self.now c.in-Some.fault strings p c.in-Some.is h)
+
+pub returns-in-Some-finish-clause-carried : goal.returns-in-Some-finish-clause-carried
+returns-in-Some-finish-clause-carried c strings p h own items whole =
+    carries_on c.args.self.now strings p h (Ok c.in-Some-finish.doc)
+    (nothing_cut c.args.self.now strings p h (c.in-Some-finish.ensures.document.0 refl), c.in-Some-finish.ensures.same ∙ items_here c.args.self.now strings p h) own items _ whole
+    (stands_anew c.args.self.now strings p h (c.in-Some-finish.ensures.document.0 refl) _ c.finish.ensures.kept c.in-Some-finish.ensures.anew.0 c.in-Some-finish.ensures.anew.1 c.in-Some-finish.ensures.anew.2 refl refl)

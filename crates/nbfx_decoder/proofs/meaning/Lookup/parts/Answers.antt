@@ -8,7 +8,7 @@ use Rattle.nbfx_records.specs.Meaning.{meant_part}
 use Rattle.nbfx_records.specs.Valid.{is_valid_part}
 use Rattle.nbfx_decoder.specs.Meant.{table_of}
 use Rattle.nbfx_decoder.proofs.MeaningFacts.{AreFound, each_none, handed_on, one_more}
-use Rattle.nbfx_decoder.proofs.meaning.Names.parts.Goals as goal
+use Rattle.nbfx_decoder.proofs.meaning.Lookup.parts.Goals as goal
 
 pub returns-in_err-part-clause-found : goal.returns-in_err-part-clause-found
 returns-in_err-part-clause-found c =

@@ -8,7 +8,7 @@ use Rattle.nbfx_records.specs.Meaning.{meant_scalar}
 use Rattle.nbfx_records.specs.Valid.{is_valid_raw}
 use Rattle.nbfx_decoder.specs.Meant.{table_of}
 use Rattle.nbfx_decoder.proofs.MeaningFacts.{AreFound, each_none, handed_on, one_more}
-use Rattle.nbfx_decoder.proofs.meaning.Names.scalars.Goals as goal
+use Rattle.nbfx_decoder.proofs.meaning.Lookup.scalars.Goals as goal
 
 pub returns-in_err-scalar-clause-found : goal.returns-in_err-scalar-clause-found
 returns-in_err-scalar-clause-found c =

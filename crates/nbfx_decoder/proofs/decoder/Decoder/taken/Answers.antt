@@ -1,0 +1,23 @@
+use Rattle.std.proofs.Common.{◌∙◌, sym, arith}
+use Rattle.nbfx_decoder.proofs.FeedSteps.{stands_as, taken_as, counts_taken, payload_small}
+use Rattle.nbfx_decoder.proofs.decoder.Decoder.taken.Goals as goal
+
+pub returns-clause-counted : goal.returns-clause-counted
+returns-clause-counted c few =
+    let sum = c.saturating_add.ensures in
+    let from = c.from.ensures in
+    let begun = c.min-begun.ensures in
+    let len = c.len.ensures in
+    let taken = taken_as c.args.self.now in
+    omega (arith, few, sum, from, begun, len, taken)
+
+pub returns-clause-stands : goal.returns-clause-stands
+returns-clause-stands c strings p h =
+    let sum = c.saturating_add.ensures in
+    let from = c.from.ensures in
+    let begun = c.min-begun.ensures in
+    let len = c.len.ensures in
+    let taken = counts_taken c.args.self.now strings p h in
+    let le = (stands_as c.args.self.now strings p h).within in
+    let most = payload_small c.args.self.now in
+    omega (arith, sum, from, begun, len, taken, le, most)
