@@ -1,4 +1,7 @@
-mod Worked
+-- Worked payloads, by computation.
+pub mod OnLiterals
+mod WorkedPayloads
+mod WorkedRefusals
 -- Readable: the grammar's units are known by their own bytes. MeaningFacts: what nodes mean, found
 -- one after the other (meaning.rt). Places: where nodes stand, and where their items lead.
 pub mod Readable
