@@ -28,8 +28,8 @@ use Rattle.nbfx_decoder.specs.declared.section.Section.TheVariants.{TableSize, S
 use Rattle.nbfx_decoder.specs.Faults.{reason_of}
 use Rattle.nbfx_decoder.specs.Payload.{Settings, Situation, PayloadUnit, table_size, table_string, node, after, beginning, cut_at, payload, place_of, refusal, refusal_from, refused, room_for, table_in, unit_in, unit_of}
 use Rattle.nbfx_decoder.specs.Sections.{first_section, section_of}
-use Rattle.nbfx_decoder.specs.Spelled.{AreRecords, no_record, record_then, AreStrings, IsOpening, IsPayload, IsRecordOf}
-use Rattle.nbfx_decoder.specs.Tables.{TableString, an_integer, string_at}
+use Rattle.nbfx_decoder.specs.Spelled.{AreRecords, no_record, record_then, AreStrings, IsOpening, IsPayload, IsRecordMeaning}
+use Rattle.nbfx_decoder.specs.Tables.{TableString, table_integer, table_string_at}
 use Rattle.nbfx_decoder.proofs.TableBytes.{just_integer, just_string}
 use Rattle.nbfx_decoder.proofs.UnitCases.{UnitCase, a_node, a_size, a_string, NodeCase, adds, refuses, node_case, unit_case}
 
@@ -58,7 +58,7 @@ module _ (x : Settings) (strings : List (List ℕ)) where
     pub are : AreRecords (table_in x z) more front
 
   -- one more
-  node_before : (z : Situation) (bytes : List ℕ) (k : ℕ) (n : Node) (more : List Item) (z' : Situation) (rest : List ℕ) → (after x z (node n)).items ≡ z.items ++ more → IsRecordOf (table_in x z) more (take k bytes)
+  node_before : (z : Situation) (bytes : List ℕ) (k : ℕ) (n : Node) (more : List Item) (z' : Situation) (rest : List ℕ) → (after x z (node n)).items ≡ z.items ++ more → IsRecordMeaning (table_in x z) more (take k bytes)
       → AreNodes (after x z (node n)) (drop k bytes) z' rest → AreNodes z bytes z' rest
   unfolding after
   node_before z bytes k n more z' rest items is h = record {
@@ -148,7 +148,7 @@ module _ (x : Settings) (strings : List (List ℕ)) where
       Behind : Type 0
       Behind = (left : ℕ) (y : Situation) → y.section ≡ section_of left → y.items ≡ [] → UnitsLead (payload x strings) y (from + one.size) units (drop one.size bytes) z' rest → AreTable y left (drop one.size bytes) z' rest
 
-      by_string : Behind → (s : TableString) → one.unit ≡ table_string s → string_at (room_for x.limits.dictionary z.strings) (suc less) bytes ≡ whole s one.size → AreTable z (suc less) bytes z' rest
+      by_string : Behind → (s : TableString) → one.unit ≡ table_string s → table_string_at (room_for x.limits.dictionary z.strings) (suc less) bytes ≡ whole s one.size → AreTable z (suc less) bytes z' rest
       by_string lead s is e =
           let read = (just_string (room_for x.limits.dictionary z.strings) (suc less) bytes s one.size).0 e in
           let size = length-take-le one.size bytes read.0 in
@@ -162,7 +162,7 @@ module _ (x : Settings) (strings : List (List ℕ)) where
       by_case lead (a_size n is there e) = absurd (let both : Strings (suc less) ≡ TableSize = sym (some_left less) ∙ sym here ∙ there in cc)
       by_case lead (a_string other s is there e) =
           let same : other ≡ less = let both : Strings (suc other) ≡ Strings (suc less) = sym there ∙ here ∙ some_left less in cc in
-          by_string lead s is (ap (λ m. string_at (room_for x.limits.dictionary z.strings) (suc m) bytes) (sym same) ∙ e)
+          by_string lead s is (ap (λ m. table_string_at (room_for x.limits.dictionary z.strings) (suc m) bytes) (sym same) ∙ e)
       by_case lead (a_node n is there e) = absurd (let both : Strings (suc less) ≡ Nodes = sym (some_left less) ∙ sym here ∙ there in cc)
 
   -- all units of a payload, and the bytes behind them
@@ -206,7 +206,7 @@ module _ (x : Settings) (strings : List (List ℕ)) where
       z : Situation
       z = beginning x strings
 
-      by_size : (n : ℕ) → one.unit ≡ table_size n → an_integer bytes ≡ whole n one.size → AreAll z bytes z' rest
+      by_size : (n : ℕ) → one.unit ≡ table_size n → table_integer bytes ≡ whole n one.size → AreAll z bytes z' rest
       by_size n is e =
           let read = (just_integer bytes n one.size).0 e in
           let table = strings_lead units n (after x z (table_size n)) (0 + one.size) (drop one.size bytes) z' rest refl refl at

@@ -40,7 +40,7 @@ use Rattle.nbfx_decoder.specs.Taking.{AllAnswers}
 use Rattle.nbfx_decoder.specs.Units.{HasStrings, IsAt, Keeps, KeepsSettings}
 use Rattle.string_tables.specs.SessionStrings.{used_cost}
 use Rattle.nbfx_decoder.specs.Bounds.{KeepsWithin}
-use Rattle.nbfx_decoder.specs.Laws.{MayBegin, IsUnrefused, IsWhole}
+use Rattle.nbfx_decoder.specs.Laws.{MayBegin, IsUnrefused, IsWholePayload}
 use Rattle.nbfx_decoder.proofs.Readable.{readable}
 use Rattle.nbfx_decoder.proofs.Sound.{keeps_within}
 use Rattle.nbfx_decoder.proofs.PayloadAnswers.{finished_where_whole, strings_behind}
@@ -475,10 +475,10 @@ module _ (d : Decoder) (strings : List (List ℕ)) (p : List ℕ) (h : StandsFor
   may_begin : MayBegin (settings_of d) strings
   may_begin = record { depth = depth_some d; dictionary = (stands_as d strings p h).before }
 
-  law : (items : List Item) → FinishAnswers (settings_of d) strings p (Ok items) ↔ ((own : List (List ℕ)) × IsWhole (settings_of d) strings own items p)
+  law : (items : List Item) → FinishAnswers (settings_of d) strings p (Ok items) ↔ ((own : List (List ℕ)) × IsWholePayload (settings_of d) strings own items p)
   law items = finished_where_whole (settings_of d) strings p items may_begin unrefused_here (stands_as d strings p h).within
 
-  pub finishes_whole : (items : List Item) → (result ≡ Ok items) ↔ ((own : List (List ℕ)) × IsWhole (settings_of d) strings own items p)
+  pub finishes_whole : (items : List Item) → (result ≡ Ok items) ↔ ((own : List (List ℕ)) × IsWholePayload (settings_of d) strings own items p)
   finishes_whole items = (
     λ e. (law items).0 (subst (λ (r : Result (List Item) DecodeFault). FinishAnswers (settings_of d) strings p r) e answers),
     λ whole. by_result result answers ((law items).1 whole),
@@ -490,6 +490,6 @@ module _ (d : Decoder) (strings : List (List ℕ)) (p : List ℕ) (h : StandsFor
       by_result (Err decode_faults.Memory) a b = absurd a
 
   -- the strings that are carried on
-  pub carries_on : (own : List (List ℕ)) (items : List Item) (new : Decoder) → IsWhole (settings_of d) strings own items p → StandsFor new (situation_of (settings_of d) strings p).strings [] → StandsFor new (strings ++ own) []
+  pub carries_on : (own : List (List ℕ)) (items : List Item) (new : Decoder) → IsWholePayload (settings_of d) strings own items p → StandsFor new (situation_of (settings_of d) strings p).strings [] → StandsFor new (strings ++ own) []
   carries_on own items new is stands =
       subst (λ (s : List (List ℕ)). StandsFor new s []) (strings_behind (settings_of d) strings own items p may_begin is) stands

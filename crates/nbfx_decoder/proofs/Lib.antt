@@ -24,10 +24,8 @@ pub mod Sound
 pub mod AcceptedUnits
 pub mod PayloadPasses
 pub mod PayloadLaws
--- which bytes give each reason: of a table's strings, of the structure of records, of nodes
+-- which bytes give each reason: of a table's strings, of nodes
 pub mod TableReasons
-pub mod Wrongs
-pub mod WrongParts
 pub mod NodeReasons
 pub mod PayloadReasons
 pub mod PayloadAnswers

@@ -15,11 +15,11 @@ use Rattle.nbfx_records.specs.Shapes.{array_at, record_at, shape_at}
 use Rattle.nbfx_records.specs.Contents.{scalar_of, contents}
 use Rattle.nbfx_records.specs.Reading.{node_at}
 use Rattle.nbfx_decoder.specs.Payload.{Refusal, Settings, after, payload, refused, unit_in}
-use Rattle.nbfx_decoder.specs.Tables.{head_at, string_at}
+use Rattle.nbfx_decoder.specs.Tables.{head_at, table_string_at}
 
 -- what a proof unfolds to compute payloads
 unfoldable pub payloads_on_literals : ⊤
-unfolding encode_utf8 utf16_chars chars is_utf8 ◌>>=◌ many repeated int_at int_ending_at value_of record_kind array_at record_at shape_at scalar_of contents node_at head_at string_at unit_in after refused peeled peel standing event_at refusal_at ending_at history_from history offence
+unfolding encode_utf8 utf16_chars chars is_utf8 ◌>>=◌ many repeated int_at int_ending_at value_of record_kind array_at record_at shape_at scalar_of contents node_at head_at table_string_at unit_in after refused peeled peel standing event_at refusal_at ending_at history_from history offence
 payloads_on_literals = tt
 
 -- the first strings of the published dictionary that an addressed envelope uses

@@ -15,7 +15,7 @@ use Rattle.unit_streams.proofs.Passing.{refusal_from}
 use Rattle.unit_streams.proofs.Standing.{standing_nothing}
 use Rattle.nbfx_values.specs.declared.content.Item.{Item}
 use Rattle.nbfx_values.specs.declared.refusals.Reason.{Reason}
-use Rattle.nbfx_decoder.specs.Laws.{FinishedWhereWhole, GoesOnUnrefused, GoesOnWhereNothing, IsUnrefused, IsWhole, MayBegin, NothingIsRefused, OffendsWhereShown, ShowsNothing, ShowsWithin}
+use Rattle.nbfx_decoder.specs.Laws.{FinishedWhereWhole, GoesOnUnrefused, GoesOnWhereNothing, IsUnrefused, IsWholePayload, MayBegin, NothingIsRefused, OffendsWhereShown, ShowsNothing, ShowsWithin}
 use Rattle.nbfx_decoder.specs.Payload.{NoEvent, Settings, payload, refusal}
 use Rattle.nbfx_decoder.specs.Standing.{FinishAnswers, situation_of}
 use Rattle.nbfx_decoder.proofs.PayloadLaws.{accepted_strings, payloads_are_accepted}
@@ -95,14 +95,14 @@ nothing_is_refused x strings i =
 
 -- the end
 module _ (x : Settings) (strings : List (List ℕ)) (p : List ℕ) (doc : List Item) (may : MayBegin x strings) where
-  finished_whole : IsUnrefused x strings p → length p ≤ x.limits.payload → FinishAnswers x strings p (Ok doc) → (own : List (List ℕ)) × IsWhole x strings own doc p
+  finished_whole : IsUnrefused x strings p → length p ≤ x.limits.payload → FinishAnswers x strings p (Ok doc) → (own : List (List ℕ)) × IsWholePayload x strings own doc p
   finished_whole clean le h =
       let none : offence (payload x strings) p ≡ None = unrefused_offence (payload x strings) p (λ i le. nothing_unrefused x strings (take i p) (clean i)) ∙ h.0 in
       let own = accepted_strings x strings p none in
       let it = (payloads_are_accepted x strings p doc own.0 may).0 (record { offenceless = none; items_are = sym h.1; strings_are = own.1 }) in
       (own.0, record { is_payload = it.0; within = record { payload = le; admitted = it.1 } })
 
-  whole_finished : (own : List (List ℕ)) × IsWhole x strings own doc p → FinishAnswers x strings p (Ok doc)
+  whole_finished : (own : List (List ℕ)) × IsWholePayload x strings own doc p → FinishAnswers x strings p (Ok doc)
   whole_finished (own, h) =
       let it = (payloads_are_accepted x strings p doc own may).1 (h.is_payload, h.within.admitted) in
       ((no_offence (payload x strings) p it.offenceless).1, sym it.items_are)
@@ -111,5 +111,5 @@ pub finished_where_whole : FinishedWhereWhole
 finished_where_whole x strings p doc may clean le = (finished_whole x strings p doc may clean le, whole_finished x strings p doc may)
 
 -- the strings that stand behind a whole payload
-pub strings_behind : (x : Settings) (strings own : List (List ℕ)) (items : List Item) (p : List ℕ) → MayBegin x strings → IsWhole x strings own items p → (situation_of x strings p).strings ≡ strings ++ own
+pub strings_behind : (x : Settings) (strings own : List (List ℕ)) (items : List Item) (p : List ℕ) → MayBegin x strings → IsWholePayload x strings own items p → (situation_of x strings p).strings ≡ strings ++ own
 strings_behind x strings own items p may h = ((payloads_are_accepted x strings p items own may).1 (h.is_payload, h.within.admitted)).strings_are

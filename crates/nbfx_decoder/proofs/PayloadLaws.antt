@@ -19,7 +19,7 @@ use Rattle.nbfx_values.specs.declared.session.Kind.{Kind}
 use Rattle.nbfx_values.proofs.Walks.{document-position}
 use Rattle.string_tables.specs.SessionStrings.{used_cost}
 use Rattle.string_tables.specs.StringTable.{StringTable}
-use Rattle.nbfx_decoder.specs.Laws.{IsAccepted, MayBegin, PayloadsAreAccepted, SpellsOneDocument, table_before}
+use Rattle.nbfx_decoder.specs.Laws.{IsDecoded, MayBegin, PayloadsAreAccepted, SpellsOneDocument, table_before}
 use Rattle.nbfx_decoder.specs.Payload.{Settings, Situation, beginning, cut_at, payload}
 use Rattle.nbfx_decoder.specs.Spelled.{IsAdmitted, IsPayload}
 use Rattle.nbfx_decoder.specs.Standing.{begun_of, from_of, situation_of}
@@ -51,7 +51,7 @@ module _ (x : Settings) (strings : List (List ℕ)) (bytes : List ℕ) where
         let joined : bytes ≡ all_units.front = all_units.joined ∙ ap (λ c. all_units.front ++ c) nothing_left ∙ append-nil all_units.front in
         subst (λ (c : List ℕ). IsPayload x.kind (table_before x strings) all_units.own (situation_of x strings bytes).items c) (sym joined) all_units.is_payload
 
-  there : (items : List Item) (own : List (List ℕ)) → MayBegin x strings → IsAccepted x strings bytes items own → IsPayload x.kind (table_before x strings) own items bytes × IsAdmitted x.limits items (strings ++ own)
+  there : (items : List Item) (own : List (List ℕ)) → MayBegin x strings → IsDecoded x strings bytes items own → IsPayload x.kind (table_before x strings) own items bytes × IsAdmitted x.limits items (strings ++ own)
   there items own may h =
       let none = h.offenceless in
       let same : (all_units none).own ≡ own = append_cancel_left strings (all_units none).own own (sym (all_units none).strings_are ∙ h.strings_are) in
@@ -82,7 +82,7 @@ module _ (x : Settings) (strings : List (List ℕ)) (bytes : List ℕ) where
     stands : situation_of x strings bytes ≡ behind_payload x strings (readable x strings) items own
     stands = (passes_between (payload x strings) (readable x strings) (length bytes) (λ z from n lt. refl) bytes [] (behind_payload x strings (readable x strings) items own) [] passes (omega arith)).situation
 
-    back : IsAccepted x strings bytes items own
+    back : IsDecoded x strings bytes items own
     back = record {
       offenceless = (accepted_or_offended (payload x strings) (readable x strings) bytes).1 accepted;
       items_are = ap (λ (z : Situation). z.items) stands;

@@ -28,7 +28,7 @@ use Rattle.nbfx_decoder.specs.declared.section.Section.TheVariants.{TableSize, S
 use Rattle.nbfx_decoder.specs.Faults.{reason_of}
 use Rattle.nbfx_decoder.specs.Payload.{Settings, Situation, PayloadUnit, table_size, table_string, node, after, beginning, payload, place_of, refusal, refusal_from, refused, room_for, table_in, unit_in, unit_of}
 use Rattle.nbfx_decoder.specs.Sections.{first_section, section_of}
-use Rattle.nbfx_decoder.specs.Spelled.{AreRecords, no_record, record_then, AreStrings, IsAdmitted, IsOpening, IsPayload, IsRecordOf}
+use Rattle.nbfx_decoder.specs.Spelled.{AreRecords, no_record, record_then, AreStrings, IsAdmitted, IsOpening, IsPayload, IsRecordMeaning}
 use Rattle.nbfx_decoder.specs.Tables.{TableString}
 use Rattle.nbfx_decoder.proofs.AcceptedUnits.{some_left}
 use Rattle.nbfx_decoder.proofs.Places.{behind_stands, position_before}
@@ -57,7 +57,7 @@ module _ (x : Settings) (strings : List (List ℕ)) (readable : IsReadable (payl
 
   -- nodes
   module _ (all : List Item) (last : Position) (at : position_of all ≡ Some last) (depth : depth_of all ≤ x.limits.depth) (content : content_of all ≤ x.limits.content) where
-    one_node : (z : Situation) (from : ℕ) (items more : List Item) (bytes : List ℕ) → z.section ≡ Nodes → IsRecordOf (table_in x z) items bytes → all ≡ (z.items ++ items) ++ more
+    one_node : (z : Situation) (from : ℕ) (items more : List Item) (bytes : List ℕ) → z.section ≡ Nodes → IsRecordMeaning (table_in x z) items bytes → all ≡ (z.items ++ items) ++ more
         → Passes (payload x strings) z from bytes (record z { items = z.items ++ items }) []
     one_node z from items more bytes here is total =
         let at_front = position_before (z.items ++ items) more last (ap position_of (sym total) ∙ at) in
@@ -74,7 +74,7 @@ module _ (x : Settings) (strings : List (List ℕ)) (readable : IsReadable (payl
     nodes_pass table z from more bytes here same no_record total =
         subst (λ (l : List Item). Passes (payload x strings) z from [] (record z { items = l }) []) (sym (append-nil z.items)) (passes_none (payload x strings) z from)
     nodes_pass table z from more bytes here same (record_then items others front rest is are) total =
-        let first = one_node z from items others front here (subst (λ (t : StringTable). IsRecordOf t items front) (sym same) is) (total ∙ sym (append_assoc z.items items others)) in
+        let first = one_node z from items others front here (subst (λ (t : StringTable). IsRecordMeaning t items front) (sym same) is) (total ∙ sym (append_assoc z.items items others)) in
         let behind = nodes_pass table (record z { items = z.items ++ items }) (from + length front) others rest here same are (total ∙ sym (append_assoc z.items items others)) in
         passes_then (payload x strings) z from front rest (record z { items = z.items ++ items }) (record z { items = z.items ++ (items ++ others) }) [] [] first
         (subst (λ (l : List Item). Passes (payload x strings) (record z { items = z.items ++ items }) (from + length front) rest (record z { items = l }) []) (append_assoc z.items items others) behind)

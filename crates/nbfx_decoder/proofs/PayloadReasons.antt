@@ -24,6 +24,7 @@ use Rattle.nbfx_records.specs.Meaning.{items_of}
 use Rattle.nbfx_records.specs.Places.{Stands}
 use Rattle.nbfx_records.specs.Reading.{node_at}
 use Rattle.nbfx_records.specs.Records.{IsNode}
+use Rattle.nbfx_records.proofs.FaultCauses.{wrong_by_text, wrong_by_value}
 use Rattle.nbfx_records.proofs.MeaningFacts.{meanings_are_found, nothing_without_names}
 use Rattle.nbfx_records.proofs.NodeBytes.{read_of_all, records_are_read}
 use Rattle.nbfx_decoder.specs.declared.section.Section.{Section}
@@ -33,12 +34,11 @@ use Rattle.nbfx_decoder.specs.Laws.{CutWhereUnended, FirstReasonRefuses, Refused
 use Rattle.nbfx_decoder.specs.Payload.{Refusal, Settings, Situation, PayloadUnit, table_size, table_string, node, cut_at, payload, reason_in, refusal, refusal_from, refused, room_for, table_in, unit_in, unit_of}
 use Rattle.nbfx_decoder.specs.Reasons.{IsCutAt, Shows, ShowsAtNode, ShowsFrom, node_place}
 use Rattle.nbfx_decoder.specs.Standing.{from_of, situation_of}
-use Rattle.nbfx_decoder.specs.Tables.{an_integer, string_at}
-use Rattle.nbfx_decoder.proofs.NodeReasons.{built_wrong, node_shows, text_wrong, value_wrong}
+use Rattle.nbfx_decoder.specs.Tables.{table_integer, table_string_at}
+use Rattle.nbfx_decoder.proofs.NodeReasons.{node_shows, part_wrong}
 use Rattle.nbfx_decoder.proofs.Readable.{readable}
 use Rattle.nbfx_decoder.proofs.TableReasons.{integer_shows, shows_integer, shows_string, string_shows}
 use Rattle.nbfx_decoder.proofs.UnitCases.{UnitCase, a_node, a_size, a_string, unit_case}
-use Rattle.nbfx_decoder.proofs.Wrongs.{Finds}
 
 seen_wrong : {A B R S : Type 0} (f : A → B) (h : R → S) (v : Front A R) (s : S) (k : ℕ) → seen f h v ≡ wrong s k → (r : R) × (v ≡ wrong r k) × (h r ≡ s)
 seen_wrong f h begun s k e = cc
@@ -48,10 +48,10 @@ seen_wrong f h (wrong r n) s k e = let same : h r ≡ s = cc in let size : n ≡
 module _ (x : Settings) (z : Situation) (bytes : List ℕ) where
   -- bytes that are no unit
   wrong_shows : (section : Section) (reason : Reason) (k : ℕ) → unit_of x z section bytes ≡ wrong reason k → Shows x z section bytes reason
-  wrong_shows TableSize reason k e = let it = seen_wrong table_size (λ (r : Reason). r) (an_integer bytes) reason k e in integer_shows bytes reason k (it.1 ∙ ap (λ r. wrong r k) it.2)
+  wrong_shows TableSize reason k e = let it = seen_wrong table_size (λ (r : Reason). r) (table_integer bytes) reason k e in integer_shows bytes reason k (it.1 ∙ ap (λ r. wrong r k) it.2)
   wrong_shows (Strings zero) reason k e = cc
   wrong_shows (Strings (suc more)) reason k e =
-      let it = seen_wrong table_string (λ (r : Reason). r) (string_at (room_for x.limits.dictionary z.strings) (suc more) bytes) reason k e in
+      let it = seen_wrong table_string (λ (r : Reason). r) (table_string_at (room_for x.limits.dictionary z.strings) (suc more) bytes) reason k e in
       string_shows (room_for x.limits.dictionary z.strings) (suc more) bytes reason k (it.1 ∙ ap (λ r. wrong r k) it.2)
   wrong_shows Nodes reason k e =
       let it = seen_wrong node reason_of (node_at (node_place x z) bytes) reason k e in
@@ -88,7 +88,7 @@ module _ (x : Settings) (z : Situation) (bytes : List ℕ) where
     by_bytes : (k : ℕ) → unit_of x z section bytes ≡ wrong reason k → Refuses section reason
     by_unit : (n : Node) → unit_of x z section bytes ≡ whole (node n) (length bytes) → refused x z (node n) ≡ Some reason → Refuses section reason
 
-  found : (fault : NodeFault) → Finds (node_at (node_place x z)) bytes fault → Refuses Nodes (reason_of fault)
+  found : (fault : NodeFault) → (n : ℕ) × (node_at (node_place x z) bytes ≡ wrong fault n) → Refuses Nodes (reason_of fault)
   found fault h = by_bytes h.0 (ap (seen node reason_of) h.1)
 
   node_there : (n : Node) → IsNode n bytes → Stands (node_place x z) n → unit_of x z Nodes bytes ≡ whole (node n) (length bytes)
@@ -96,14 +96,14 @@ module _ (x : Settings) (z : Situation) (bytes : List ℕ) where
 
   node_refuses : (reason : Reason) → Shows x z Nodes bytes reason → Refuses Nodes reason
   unfolding refused
-  node_refuses reasons.TrailingBytes h = found faults.TrailingBytes (built_wrong x z bytes faults.TrailingBytes h)
-  node_refuses reasons.UnknownNode h = found faults.UnknownNode (built_wrong x z bytes faults.UnknownNode h)
-  node_refuses reasons.NodeOutOfPlace h = found faults.OutOfPlace (built_wrong x z bytes faults.OutOfPlace h)
-  node_refuses reasons.BadArray h = found faults.BadArray (built_wrong x z bytes faults.BadArray h)
-  node_refuses reasons.TooDeep h = found faults.TooDeep (built_wrong x z bytes faults.TooDeep h)
-  node_refuses reasons.BadInt h = found faults.BadInt (built_wrong x z bytes faults.BadInt h)
-  node_refuses reasons.BadUtf8 h = found faults.BadUtf8 (text_wrong x z bytes h)
-  node_refuses reasons.BadValue h = found faults.BadValue (value_wrong x z bytes h)
+  node_refuses reasons.TrailingBytes h = found faults.TrailingBytes (part_wrong x z bytes faults.TrailingBytes (λ t. cc t) (λ t. cc t) h)
+  node_refuses reasons.UnknownNode h = found faults.UnknownNode (part_wrong x z bytes faults.UnknownNode (λ t. cc t) (λ t. cc t) h)
+  node_refuses reasons.NodeOutOfPlace h = found faults.OutOfPlace (part_wrong x z bytes faults.OutOfPlace (λ t. cc t) (λ t. cc t) h)
+  node_refuses reasons.BadArray h = found faults.BadArray (part_wrong x z bytes faults.BadArray (λ t. cc t) (λ t. cc t) h)
+  node_refuses reasons.TooDeep h = found faults.TooDeep (part_wrong x z bytes faults.TooDeep (λ t. cc t) (λ t. cc t) h)
+  node_refuses reasons.BadInt h = found faults.BadInt (part_wrong x z bytes faults.BadInt (λ t. cc t) (λ t. cc t) h)
+  node_refuses reasons.BadUtf8 h = found faults.BadUtf8 (h.0, (wrong_by_text (node_place x z) bytes h.0).1 h.1)
+  node_refuses reasons.BadValue h = found faults.BadValue (h.0, (wrong_by_value (node_place x z) bytes h.0).1 h.1)
   node_refuses reasons.UnknownString (n, is, stands, lacks) =
       by_unit n (node_there n is stands) (ap (reason_in x.limits.content z.items) ((nothing_without_names (table_in x z) n).1 lacks))
   node_refuses reasons.TooMuchContent (n, more, is, stands, means, above) =

@@ -18,38 +18,38 @@ use Rattle.nbfx_records.proofs.ShapeFronts.{node_fronts, node_of_nothing}
 use Rattle.nbfx_decoder.specs.declared.section.Section.{Section}
 use Rattle.nbfx_decoder.specs.declared.section.Section.TheVariants.{TableSize, Strings, Nodes}
 use Rattle.nbfx_decoder.specs.Faults.{reason_of}
-use Rattle.nbfx_decoder.specs.Tables.{StringHead, an_integer, length_judged, head_at, text_judged, text_at, string_at}
+use Rattle.nbfx_decoder.specs.Tables.{StringHead, table_integer, length_judged, head_at, text_judged, table_text_at, table_string_at}
 use Rattle.nbfx_decoder.specs.Payload.{Settings, Situation, PayloadUnit, table_size, table_string, node, refusal, place_of, room_for, node_behind, unit_of, unit_in, payload}
 
 -- an integer
-pub reads_integer : ReadsFront an_integer
+pub reads_integer : ReadsFront table_integer
 reads_integer = reads_seen (λ n. n) (λ _. BadInt) int_at (peels_front int_at int_peels)
 
-pub no_integer : an_integer [] ≡ begun
+pub no_integer : table_integer [] ≡ begun
 no_integer = ap (seen (λ n. n) (λ _. BadInt)) int_peels.nothing
 
 -- a string of a table of which some bytes are left
 module _ (room left : ℕ) (some : 0 < left) where
   pub reads_head : ReadsFront (head_at room left)
   unfolding head_at
-  reads_head = reads_judged_at (length_judged room left) (within left TableCut an_integer) (reads_within left TableCut an_integer reads_integer some)
+  reads_head = reads_judged_at (length_judged room left) (within left TableCut table_integer) (reads_within left TableCut table_integer reads_integer some)
 
   pub no_head : head_at room left [] ≡ begun
   unfolding head_at
-  no_head = ap (judged_at (length_judged room left)) (within_nothing left TableCut an_integer reads_integer some no_integer)
+  no_head = ap (judged_at (length_judged room left)) (within_nothing left TableCut table_integer reads_integer some no_integer)
 
-  pub reads_text : (head : StringHead) → ReadsFront (text_at head)
+  pub reads_text : (head : StringHead) → ReadsFront (table_text_at head)
   reads_text head =
       reads_seen (λ text. record { text = text; left = head.left }) (λ reason. reason) (λ b. judged text_judged (some_bytes head.size b))
       (reads_judged text_judged (some_bytes head.size) (reads_bytes head.size))
 
-  pub reads_string : ReadsFront (string_at room left)
-  unfolding string_at
-  reads_string = reads_then (head_at room left) text_at reads_head reads_text
+  pub reads_string : ReadsFront (table_string_at room left)
+  unfolding table_string_at
+  reads_string = reads_then (head_at room left) table_text_at reads_head reads_text
 
-  pub no_string : string_at room left [] ≡ begun
-  unfolding string_at
-  no_string = then_begun (head_at room left) text_at [] no_head
+  pub no_string : table_string_at room left [] ≡ begun
+  unfolding table_string_at
+  no_string = then_begun (head_at room left) table_text_at [] no_head
 
 -- a node
 pub reads_node : (depth : ℕ) (items : List Item) → ReadsFront (node_behind depth items)
@@ -64,10 +64,10 @@ reads_nothing = reads_by (λ bytes. begun) (λ b. inl refl)
 
 module _ (x : Settings) (z : Situation) where
   pub reads_section : (section : Section) → ReadsFront (unit_of x z section)
-  reads_section TableSize = reads_seen table_size (λ reason. reason) an_integer reads_integer
+  reads_section TableSize = reads_seen table_size (λ reason. reason) table_integer reads_integer
   reads_section (Strings zero) = reads_nothing
   reads_section (Strings (suc more)) =
-      reads_seen table_string (λ reason. reason) (string_at (room_for x.limits.dictionary z.strings) (suc more)) (reads_string (room_for x.limits.dictionary z.strings) (suc more) (omega arith))
+      reads_seen table_string (λ reason. reason) (table_string_at (room_for x.limits.dictionary z.strings) (suc more)) (reads_string (room_for x.limits.dictionary z.strings) (suc more) (omega arith))
   reads_section Nodes = reads_node x.limits.depth z.items
 
   pub no_unit : (section : Section) → unit_of x z section [] ≡ begun

@@ -18,8 +18,8 @@ use Rattle.nbfx_decoder.specs.declared.faults.UnitFault.{UnitFault}
 use Rattle.nbfx_decoder.specs.declared.faults.UnitFault.TheVariants.{Refused, Memory}
 use Rattle.nbfx_decoder.specs.declared.strings.Head.{Head}
 use Rattle.nbfx_decoder.specs.declared.strings.StringRead.{StringRead}
-use Rattle.nbfx_decoder.specs.Tables.{TableString, StringHead, an_integer, length_judged, head_at, text_judged, text_at, string_at}
-use Rattle.nbfx_decoder.specs.Units.{WaitsFor, head_seen, HeadStands, StringStands}
+use Rattle.nbfx_decoder.specs.Tables.{TableString, StringHead, table_integer, length_judged, head_at, text_judged, table_text_at, table_string_at}
+use Rattle.nbfx_decoder.specs.Units.{AwaitsBytes, head_seen, HeadStands, StringStands}
 use Rattle.nbfx_decoder.proofs.Readable.{reads_head}
 use Rattle.nbfx_decoder.proofs.Waits.{waits_one}
 
@@ -60,13 +60,13 @@ module _ (room left : ℕ) (some : 0 < left) (b : List ℕ) (m : ℕ) (is : m �
 
 -- a string whose length isn't whole, or is wrong
 module _ (room left : ℕ) (some : 0 < left) (b : List ℕ) where
-  pub waits_for_length : head_at room left b ≡ begun → WaitsFor (string_at room left) b (length b + 1)
-  unfolding string_at
-  waits_for_length e = waits_one (string_at room left) b (then_begun (head_at room left) text_at b e)
+  pub waits_for_length : head_at room left b ≡ begun → AwaitsBytes (table_string_at room left) b (length b + 1)
+  unfolding table_string_at
+  waits_for_length e = waits_one (table_string_at room left) b (then_begun (head_at room left) table_text_at b e)
 
-  pub string_wrong : (reason : Reason) (k : ℕ) → head_at room left b ≡ wrong reason k → string_at room left b ≡ wrong reason k
-  unfolding string_at
-  string_wrong reason k e = then_wrong (head_at room left) text_at b reason k e
+  pub string_wrong : (reason : Reason) (k : ℕ) → head_at room left b ≡ wrong reason k → table_string_at room left b ≡ wrong reason k
+  unfolding table_string_at
+  string_wrong reason k e = then_wrong (head_at room left) table_text_at b reason k e
 
 -- a string whose length is whole
 module _ (room left : ℕ) (some : 0 < left) (b : List ℕ) (head : Head) (e : head_at room left b ≡ whole (head_seen left head) head.used) where
@@ -76,18 +76,18 @@ module _ (room left : ℕ) (some : 0 < left) (b : List ℕ) (head : Head) (e : h
   pub length_within : head.used ≤ length b
   length_within = (reads_head room left some).whole_within b seen_head head.used e
 
-  text_begun : (c : List ℕ) → length c < head.size → text_at seen_head c ≡ begun
+  text_begun : (c : List ℕ) → length c < head.size → table_text_at seen_head c ≡ begun
   text_begun c lt = rw (lt-ltb (length c) head.size lt) refl
 
-  pub waits_for_text : length b < head.used + head.size → WaitsFor (string_at room left) b (head.used + head.size)
-  unfolding string_at
+  pub waits_for_text : length b < head.used + head.size → AwaitsBytes (table_string_at room left) b (head.used + head.size)
+  unfolding table_string_at
   waits_for_text lt = record {
     more = lt;
     begins = λ next few.
         let size = length-drop head.used (b ++ next) in
         let longer = length-append b next in
         let le = length_within in
-        then_whole (head_at room left) text_at (b ++ next) seen_head head.used ((reads_head room left some).whole_stays b next seen_head head.used e)
+        then_whole (head_at room left) table_text_at (b ++ next) seen_head head.used ((reads_head room left some).whole_stays b next seen_head head.used e)
         ∙ ap (further head.used) (text_begun (drop head.used (b ++ next)) (omega (arith, size, longer, le, few)));
   }
 
@@ -95,11 +95,11 @@ module _ (room left : ℕ) (some : 0 < left) (b : List ℕ) (head : Head) (e : h
   text_of = take head.size (drop head.used b)
 
   text_there : head.used + head.size ≤ length b → (v : Bool) → is_utf8 text_of ≡ v
-      → string_at room left b ≡ further head.used (seen (λ text. record { text = text; left = seen_head.left }) (λ reason. reason) (judged_whole (if v then Ok text_of else Err BadUtf8) head.size))
-  unfolding string_at
+      → table_string_at room left b ≡ further head.used (seen (λ text. record { text = text; left = seen_head.left }) (λ reason. reason) (judged_whole (if v then Ok text_of else Err BadUtf8) head.size))
+  unfolding table_string_at
   text_there le v is =
       let size = length-drop head.used b in
-      then_whole (head_at room left) text_at b seen_head head.used e
+      then_whole (head_at room left) table_text_at b seen_head head.used e
       ∙ rw (le-ltb (length (drop head.used b)) head.size (omega (arith, size, le)), is) refl
 
   -- the text, as the bytes between two offsets
@@ -113,14 +113,14 @@ module _ (room left : ℕ) (some : 0 < left) (b : List ℕ) (head : Head) (e : h
   same_text = let size : head.used + head.size - head.used ≡ head.size = omega arith in ap (λ n. take n (drop head.used b)) size
 
   pub string_whole : (text : List ℕ) → head.used + head.size ≤ length b → text ≡ between → IsUtf8 between
-      → string_at room left b ≡ whole (record { text = text; left = left - (head.used + head.size) }) (head.used + head.size)
+      → table_string_at room left b ≡ whole (record { text = text; left = left - (head.used + head.size) }) (head.used + head.size)
   string_whole text le is utf8 =
       let sum : left - head.used - head.size ≡ left - (head.used + head.size) = omega arith in
       text_there le true (is_utf8-from_IsUtf8 text_of (subst IsUtf8 same_text utf8))
       ∙ ap (λ n. whole (record { text = text_of; left = n }) (head.used + head.size)) sum
       ∙ ap (λ t. whole (record { text = t; left = left - (head.used + head.size) }) (head.used + head.size)) (sym (is ∙ same_text))
 
-  pub string_bad : head.used + head.size ≤ length b → (IsUtf8 between → ⊥) → string_at room left b ≡ wrong BadUtf8 (head.used + head.size)
+  pub string_bad : head.used + head.size ≤ length b → (IsUtf8 between → ⊥) → table_string_at room left b ≡ wrong BadUtf8 (head.used + head.size)
   string_bad le bad = text_there le false (false_from_ne_true (is_utf8 text_of) (λ h. bad (subst IsUtf8 (sym same_text) (IsUtf8-from_is_utf8 text_of h))))
 
 -- a whole length and its text are within the table

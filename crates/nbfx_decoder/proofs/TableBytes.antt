@@ -12,10 +12,10 @@ use Rattle.multibyte_ints.specs.Integer.{Spells, int_at}
 use Rattle.multibyte_ints.specs.Text.{IsString}
 use Rattle.multibyte_ints.proofs.IntegerLaws.{spells_from_whole, whole_from_spells}
 use Rattle.nbfx_values.specs.declared.refusals.Reason.TheVariants.{BadInt, TableCut, DictionaryFull, BadUtf8}
-use Rattle.nbfx_decoder.specs.Tables.{TableString, StringHead, an_integer, length_judged, head_at, text_judged, text_at, string_at}
+use Rattle.nbfx_decoder.specs.Tables.{TableString, StringHead, table_integer, length_judged, head_at, text_judged, table_text_at, table_string_at}
 
 -- an integer
-pub just_integer : ReadsJust an_integer Spells
+pub just_integer : ReadsJust table_integer Spells
 just_integer b n k = (λ e. there (int_at b) refl e, λ h. ap (seen (λ n. n) (λ _. BadInt)) (whole_from_spells b n k h.0 h.1))
   where
     there : (v : Front ℕ ⊤) → int_at b ≡ v → seen (λ n. n) (λ _. BadInt) v ≡ whole n k → (k ≤ length b) × Spells n (take k b)
@@ -109,7 +109,7 @@ module _ (room left : ℕ) where
   just_head b head n = (there, back)
     where
       inner : ReadsJust (head_at room left) (λ head b. (size : ℕ) × (Spells size b × (length b ≤ left)) × (length_judged room left size (length b) ≡ Ok head))
-      inner = just_judged_at (length_judged room left) (within left TableCut an_integer) (λ size b. Spells size b × (length b ≤ left)) (just_within left TableCut an_integer Spells just_integer)
+      inner = just_judged_at (length_judged room left) (within left TableCut table_integer) (λ size b. Spells size b × (length b ≤ left)) (just_within left TableCut table_integer Spells just_integer)
 
       there : head_at room left b ≡ whole head n → (n ≤ length b) × IsHead room left head (take n b)
       there e =
@@ -131,10 +131,10 @@ module _ (room left : ℕ) where
           let fits = is.fits in
           (inner b head n).1 (h.0, (head.size, (is.spelled, omega (arith, fits)), length_passes head.size (length (take n b)) is.fits is.pays ∙ ap (λ m. Ok (record { size = head.size; left = m })) (sym is.left_is)))
 
-  pub just_text : (head : StringHead) → ReadsJust (text_at head) (λ s b. IsUtf8 s.text × (b ≡ s.text) × (length b ≡ head.size) × (s.left ≡ head.left))
+  pub just_text : (head : StringHead) → ReadsJust (table_text_at head) (λ s b. IsUtf8 s.text × (b ≡ s.text) × (length b ≡ head.size) × (s.left ≡ head.left))
   just_text head b s n = (there, back)
     where
-      inner : ReadsJust (text_at head)
+      inner : ReadsJust (table_text_at head)
           (λ s b. (text : List ℕ) × ((content : List ℕ) × ((b ≡ content) × (length b ≡ head.size)) × (text_judged content ≡ Ok text)) × (record { text = text; left = head.left } ≡ s))
       inner = just_seen (λ text. record { text = text; left = head.left }) (λ reason. reason) (λ b. judged text_judged (some_bytes head.size b))
           (λ text b. (content : List ℕ) × ((b ≡ content) × (length b ≡ head.size)) × (text_judged content ≡ Ok text))
@@ -147,14 +147,14 @@ module _ (room left : ℕ) where
           by true t g = (cc, t)
           by false t g = cc
 
-      there : text_at head b ≡ whole s n → (n ≤ length b) × (IsUtf8 s.text × (take n b ≡ s.text) × (length (take n b) ≡ head.size) × (s.left ≡ head.left))
+      there : table_text_at head b ≡ whole s n → (n ≤ length b) × (IsUtf8 s.text × (take n b ≡ s.text) × (length (take n b) ≡ head.size) × (s.left ≡ head.left))
       there e =
           let h = (inner b s n).0 e in
           let t = judged_text h.1.1.0 h.1.0 h.1.1.2 in
           let text : h.1.0 ≡ s.text = ap (λ (k : TableString). k.text) h.1.2 in
           (h.0, (subst IsUtf8 (t.0 ∙ text) (IsUtf8-from_is_utf8 h.1.1.0 t.1), h.1.1.1.0 ∙ t.0 ∙ text, h.1.1.1.1, sym (ap (λ (k : TableString). k.left) h.1.2)))
 
-      back : (n ≤ length b) × (IsUtf8 s.text × (take n b ≡ s.text) × (length (take n b) ≡ head.size) × (s.left ≡ head.left)) → text_at head b ≡ whole s n
+      back : (n ≤ length b) × (IsUtf8 s.text × (take n b ≡ s.text) × (length (take n b) ≡ head.size) × (s.left ≡ head.left)) → table_text_at head b ≡ whole s n
       back h =
           (inner b s n).1 (h.0, (s.text, (s.text, (h.1.1, h.1.2), rw (is_utf8-from_IsUtf8 s.text h.1.0) refl), ap (λ m. record { text = s.text; left = m }) (sym h.1.3)))
 
@@ -166,12 +166,12 @@ pub record IsTableString (room left : ℕ) (s : TableString) (bytes : List ℕ) 
   pub left_is : s.left ≡ left - length bytes
 
 module _ (room left : ℕ) where
-  pub just_string : ReadsJust (string_at room left) (IsTableString room left)
-  unfolding string_at
+  pub just_string : ReadsJust (table_string_at room left) (IsTableString room left)
+  unfolding table_string_at
   just_string b s n = (λ e. let h = (inner b s n).0 e in (h.0, there (take n b) h.1), λ h. (inner b s n).1 (h.0, back (take n b) h.1))
     where
-      inner : ReadsJust (string_at room left) (Joined (IsHead room left) (λ head s b. IsUtf8 s.text × (b ≡ s.text) × (length b ≡ head.size) × (s.left ≡ head.left)))
-      inner = just_then (head_at room left) text_at (IsHead room left) (λ head s b. IsUtf8 s.text × (b ≡ s.text) × (length b ≡ head.size) × (s.left ≡ head.left)) (just_head room left) (just_text room left)
+      inner : ReadsJust (table_string_at room left) (Joined (IsHead room left) (λ head s b. IsUtf8 s.text × (b ≡ s.text) × (length b ≡ head.size) × (s.left ≡ head.left)))
+      inner = just_then (head_at room left) table_text_at (IsHead room left) (λ head s b. IsUtf8 s.text × (b ≡ s.text) × (length b ≡ head.size) × (s.left ≡ head.left)) (just_head room left) (just_text room left)
 
       there : (bytes : List ℕ) → Joined (IsHead room left) (λ head s b. IsUtf8 s.text × (b ≡ s.text) × (length b ≡ head.size) × (s.left ≡ head.left)) s bytes → IsTableString room left s bytes
       there bytes j =

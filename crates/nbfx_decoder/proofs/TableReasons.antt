@@ -17,7 +17,7 @@ use Rattle.multibyte_ints.proofs.IntegerLaws.{begun_from_spells, goes_on_from_be
 use Rattle.nbfx_values.specs.declared.refusals.Reason.{Reason}
 use Rattle.nbfx_values.specs.declared.refusals.Reason.TheVariants.{BadInt, TableCut, DictionaryFull, BadUtf8}
 use Rattle.nbfx_decoder.specs.Reasons.{HasLength, IsBadString, ShowsAtSize, ShowsAtString}
-use Rattle.nbfx_decoder.specs.Tables.{TableString, StringHead, an_integer, length_judged, head_at, text_judged, text_at, string_at}
+use Rattle.nbfx_decoder.specs.Tables.{TableString, StringHead, table_integer, length_judged, head_at, text_judged, table_text_at, table_string_at}
 use Rattle.nbfx_decoder.proofs.TableBytes.{IsHead, just_head}
 
 abbrev head_of : (left n j : ℕ) → StringHead
@@ -27,7 +27,7 @@ abbrev read_as : StringHead → List ℕ → TableString
 read_as head text = record { text = text; left = head.left }
 
 -- an integer
-pub integer_shows : (bytes : List ℕ) (reason : Reason) (k : ℕ) → an_integer bytes ≡ wrong reason k → ShowsAtSize bytes reason
+pub integer_shows : (bytes : List ℕ) (reason : Reason) (k : ℕ) → table_integer bytes ≡ wrong reason k → ShowsAtSize bytes reason
 integer_shows bytes reason k e = by (int_at bytes) refl e
   where
     by : (v : Front ℕ ⊤) → int_at bytes ≡ v → seen (λ n. n) (λ _. BadInt) v ≡ wrong reason k → ShowsAtSize bytes reason
@@ -35,7 +35,7 @@ integer_shows bytes reason k e = by (int_at bytes) refl e
     by (whole n j) t g = cc
     by (wrong r j) t g = let same : BadInt ≡ reason = cc in subst (ShowsAtSize bytes) same (above_from bytes r j t).1
 
-pub shows_integer : (bytes : List ℕ) → FifthIsAbove bytes → an_integer bytes ≡ wrong BadInt 5
+pub shows_integer : (bytes : List ℕ) → FifthIsAbove bytes → table_integer bytes ≡ wrong BadInt 5
 shows_integer bytes h = ap (seen (λ n. n) (λ _. BadInt)) (wrong_is bytes h)
 
 module _ (left : ℕ) (bytes : List ℕ) where
@@ -105,7 +105,7 @@ module _ (room left : ℕ) (bytes : List ℕ) where
       by (wrong r j) t g = let same : BadInt ≡ reason = cc in subst (ShowsAtString room left bytes) same (above_from (take left bytes) r j t).1
 
   -- and its text
-  text_shows : (head : StringHead) (n : ℕ) (reason : Reason) (k : ℕ) → head_at room left bytes ≡ whole head n → text_at head (drop n bytes) ≡ wrong reason k → ShowsAtString room left bytes reason
+  text_shows : (head : StringHead) (n : ℕ) (reason : Reason) (k : ℕ) → head_at room left bytes ≡ whole head n → table_text_at head (drop n bytes) ≡ wrong reason k → ShowsAtString room left bytes reason
   text_shows head n reason k e g = by (nat_lt (length (drop n bytes)) head.size) refl g
     where
       text : List ℕ
@@ -139,34 +139,34 @@ module _ (room left : ℕ) (bytes : List ℕ) where
       by true t g = cc
       by false t g = by_text (ltb-false (length (drop n bytes)) head.size t) (is_utf8 (take head.size (drop n bytes))) refl g
 
-  pub string_shows : (reason : Reason) (k : ℕ) → string_at room left bytes ≡ wrong reason k → ShowsAtString room left bytes reason
-  unfolding string_at
+  pub string_shows : (reason : Reason) (k : ℕ) → table_string_at room left bytes ≡ wrong reason k → ShowsAtString room left bytes reason
+  unfolding table_string_at
   string_shows reason k e = by_head (head_at room left bytes) refl
     where
-      by_text : (head : StringHead) (n : ℕ) → head_at room left bytes ≡ whole head n → (v : Front TableString Reason) → text_at head (drop n bytes) ≡ v → further n v ≡ wrong reason k → ShowsAtString room left bytes reason
+      by_text : (head : StringHead) (n : ℕ) → head_at room left bytes ≡ whole head n → (v : Front TableString Reason) → table_text_at head (drop n bytes) ≡ v → further n v ≡ wrong reason k → ShowsAtString room left bytes reason
       by_text head n h begun t g = cc
       by_text head n h (whole s m) t g = cc
       by_text head n h (wrong r m) t g = let same : r ≡ reason = cc in text_shows head n reason m h (t ∙ ap (λ r. wrong r m) same)
 
       by_head : (v : Front StringHead Reason) → head_at room left bytes ≡ v → ShowsAtString room left bytes reason
-      by_head begun h = let none = then_begun (head_at room left) text_at bytes h in cc
-      by_head (whole head n) h = by_text head n h (text_at head (drop n bytes)) refl (sym (then_whole (head_at room left) text_at bytes head n h) ∙ e)
-      by_head (wrong r n) h = let told = then_wrong (head_at room left) text_at bytes r n h in let same : r ≡ reason = cc in head_shows reason n (h ∙ ap (λ r. wrong r n) same)
+      by_head begun h = let none = then_begun (head_at room left) table_text_at bytes h in cc
+      by_head (whole head n) h = by_text head n h (table_text_at head (drop n bytes)) refl (sym (then_whole (head_at room left) table_text_at bytes head n h) ∙ e)
+      by_head (wrong r n) h = let told = then_wrong (head_at room left) table_text_at bytes r n h in let same : r ≡ reason = cc in head_shows reason n (h ∙ ap (λ r. wrong r n) same)
 
   -- the other way round: what is shown is wrong
   abbrev pub Wrong : Reason → Type 0
-  Wrong reason = (k : ℕ) × (string_at room left bytes ≡ wrong reason k)
+  Wrong reason = (k : ℕ) × (table_string_at room left bytes ≡ wrong reason k)
 
   head_wrong : (reason : Reason) (k : ℕ) → head_at room left bytes ≡ wrong reason k → Wrong reason
-  unfolding string_at
-  head_wrong reason k e = (k, then_wrong (head_at room left) text_at bytes reason k e)
+  unfolding table_string_at
+  head_wrong reason k e = (k, then_wrong (head_at room left) table_text_at bytes reason k e)
 
   by_integer : (v : Front ℕ ⊤) → int_at (take left bytes) ≡ v → head_at room left bytes ≡ judged_at (length_judged room left) (closed_at left TableCut (length bytes) (seen (λ n. n) (λ _. BadInt) v))
   unfolding head_at
   by_integer v e = ap (λ v. judged_at (length_judged room left) (closed_at left TableCut (length bytes) (seen (λ n. n) (λ _. BadInt) v))) e
 
   bad_wrong : IsBadString room left bytes → Wrong BadUtf8
-  unfolding string_at
+  unfolding table_string_at
   bad_wrong h =
       let n : ℕ = length h.spelling in
       let head : StringHead = record { size = length h.text; left = left - n - length h.text } in
@@ -181,8 +181,8 @@ module _ (room left : ℕ) (bytes : List ℕ) where
       let no : is_utf8 h.text ≡ false = false_from_ne_true (is_utf8 h.text) (λ good. h.bad (IsUtf8-from_is_utf8 h.text good)) in
       let judged_no : judged text_judged (some_bytes {R = Reason} (length h.text) (h.text ++ h.rest)) ≡ wrong BadUtf8 (length h.text) =
       ap (judged text_judged) enough ∙ ap (λ good. judged_whole (if good then Ok h.text else Err BadUtf8) (length h.text)) no in
-      let refused : text_at head (drop n bytes) ≡ wrong BadUtf8 (length h.text) = ap (text_at head) behind ∙ ap (seen (read_as head) (λ reason. reason)) judged_no in
-      (n + length h.text, then_whole (head_at room left) text_at bytes head n read ∙ ap (further n) refused)
+      let refused : table_text_at head (drop n bytes) ≡ wrong BadUtf8 (length h.text) = ap (table_text_at head) behind ∙ ap (seen (read_as head) (λ reason. reason)) judged_no in
+      (n + length h.text, then_whole (head_at room left) table_text_at bytes head n read ∙ ap (further n) refused)
 
   pub shows_string : (reason : Reason) → ShowsAtString room left bytes reason → Wrong reason
   shows_string BadInt h = head_wrong BadInt 5 (by_integer (wrong tt 5) (wrong_is (take left bytes) h))

@@ -22,7 +22,7 @@ use Rattle.nbfx_decoder.specs.declared.faults.UnitFault.TheVariants.{Refused, Me
 use Rattle.nbfx_decoder.specs.declared.units.UnitRead.TheVariants.{More, Done}
 use Rattle.nbfx_decoder.specs.declared.units.UnitReader.{UnitReader}
 use Rattle.nbfx_decoder.specs.Payload.{Settings, Situation, PayloadUnit, table_size, table_string, node, NoEvent, Refusal, refusal, refusal_from, unit_in, after, refused, payload}
-use Rattle.nbfx_decoder.specs.Units.{WaitsFor, HasStrings, IsAt, IsRefused, UnitAnswers}
+use Rattle.nbfx_decoder.specs.Units.{AwaitsBytes, HasStrings, IsAt, IsUnitRefused, UnitAnswers}
 use Rattle.nbfx_decoder.specs.Standing.{Reached, situation_of, from_of, begun_of}
 use Rattle.nbfx_decoder.specs.Taking.{TakeAnswers}
 use Rattle.nbfx_decoder.proofs.Readable.{readable, reads_unit}
@@ -58,11 +58,11 @@ module _ (x : Settings) (strings : List (List ℕ)) (p c : List ℕ) (going : Is
 
   -- it stands so behind more bytes
   reached_at : (new : Decoder) (q : List ℕ) (d : Standing Situation NoEvent Refusal) → standing (payload x strings) q ≡ d → IsAt new.units x d.situation d.from → new.begun ≡ d.begun
-      → (0 < length new.begun → WaitsFor (unit_in x d.situation d.from) new.begun new.wants) → IsGoing (payload x strings) d → new.failure ≡ None → Reached new x strings q
+      → (0 < length new.begun → AwaitsBytes (unit_in x d.situation d.from) new.begun new.wants) → IsGoing (payload x strings) d → new.failure ≡ None → Reached new x strings q
   reached_at new q d e at kept waits on unfailed = record {
     at = subst (λ (s : Standing Situation NoEvent Refusal). IsAt new.units x s.situation s.from) (sym e) at;
     begun = subst (λ (s : Standing Situation NoEvent Refusal). new.begun ≡ s.begun) (sym e) kept;
-    waits = λ more. subst (λ (s : Standing Situation NoEvent Refusal). WaitsFor (unit_in x s.situation s.from) new.begun new.wants) (sym e) (waits more);
+    waits = λ more. subst (λ (s : Standing Situation NoEvent Refusal). AwaitsBytes (unit_in x s.situation s.from) new.begun new.wants) (sym e) (waits more);
     going = subst (λ (s : Standing Situation NoEvent Refusal). IsGoing (payload x strings) s) (sym e) on;
     unfailed = unfailed;
   }
@@ -81,7 +81,7 @@ module _ (x : Settings) (strings : List (List ℕ)) (p c : List ℕ) (going : Is
     on : IsGoing (payload x strings) (with_more (standing (payload x strings) p) c)
     on = record { next = e; last = given_none (begun_here ++ c) (standing (payload x strings) p).refusal (let n = length-append begun_here c in omega (arith, n, some)) }
 
-    pub takes_all : (new : Decoder) (wants : ℕ) → IsAt new.units x situation_here from_here → new.begun ≡ begun_here ++ c → new.wants ≡ wants → WaitsFor front (begun_here ++ c) wants → new.failure ≡ None → TakeAnswers x strings p c new (Ok (length c))
+    pub takes_all : (new : Decoder) (wants : ℕ) → IsAt new.units x situation_here from_here → new.begun ≡ begun_here ++ c → new.wants ≡ wants → AwaitsBytes front (begun_here ++ c) wants → new.failure ≡ None → TakeAnswers x strings p c new (Ok (length c))
     takes_all new wants at kept wanted waits unfailed =
         let all : p ++ take (length c) c ≡ p ++ c = ap (λ d. p ++ d) (take-length c) in
         let same : standing (payload x strings) (p ++ take (length c) c) ≡ with_more (standing (payload x strings) p) c = ap (standing (payload x strings)) all ∙ there in (
@@ -153,7 +153,7 @@ module _ (x : Settings) (strings : List (List ℕ)) (p c : List ℕ) (going : Is
         )
 
   -- what refuses it
-  pub takes_refused : (new : Decoder) (reason : Reason) (k : ℕ) → IsRefused x situation_here from_here (begun_here ++ c) reason k → HasStrings new.units x situation_here.strings from_here → TakeAnswers x strings p c new (Err (Refused reason k))
+  pub takes_refused : (new : Decoder) (reason : Reason) (k : ℕ) → IsUnitRefused x situation_here from_here (begun_here ++ c) reason k → HasStrings new.units x situation_here.strings from_here → TakeAnswers x strings p c new (Err (Refused reason k))
   takes_refused new reason k (inl e) set = shows_wrong (refusal from_here reason) k e new.units set
   takes_refused new reason k (inr (u, e, bad)) set =
       let place = standing_length (payload x strings) (readable x strings) p in
@@ -197,7 +197,7 @@ module _ (x : Settings) (strings : List (List ℕ)) (p c : List ℕ) (new : Deco
       by_fault Memory h = h
 
 -- the bytes that a whole unit has where so many were wanted and no more were taken
-module _ (x : Settings) (z : Situation) (place : ℕ) (b c : List ℕ) (wants : ℕ) (waits : WaitsFor (unit_in x z place) b wants) (u : PayloadUnit) (k : ℕ) (e : unit_in x z place (b ++ c) ≡ whole u k) where
+module _ (x : Settings) (z : Situation) (place : ℕ) (b c : List ℕ) (wants : ℕ) (waits : AwaitsBytes (unit_in x z place) b wants) (u : PayloadUnit) (k : ℕ) (e : unit_in x z place (b ++ c) ≡ whole u k) where
   reads : ReadsFront (unit_in x z place)
   reads = reads_unit x z place
 
@@ -228,7 +228,7 @@ module _ (x : Settings) (z : Situation) (place : ℕ) (b c : List ℕ) (wants : 
       omega (arith, most, size, least, le)
 
 -- where fewer bytes come than are wanted, as many are wanted then
-pub waits_still : (x : Settings) (z : Situation) (place : ℕ) (b c : List ℕ) (wants : ℕ) → WaitsFor (unit_in x z place) b wants → length (b ++ c) < wants → WaitsFor (unit_in x z place) (b ++ c) wants
+pub waits_still : (x : Settings) (z : Situation) (place : ℕ) (b c : List ℕ) (wants : ℕ) → AwaitsBytes (unit_in x z place) b wants → length (b ++ c) < wants → AwaitsBytes (unit_in x z place) (b ++ c) wants
 waits_still x z place b c wants w lt = record {
   more = lt;
   begins = λ next few. ap (unit_in x z place) (append_assoc b c next) ∙ w.begins (c ++ next) (let same = ap length (append_assoc b c next) in omega (arith, same, few));
@@ -245,8 +245,8 @@ module _ (d : Decoder) (x : Settings) (strings : List (List ℕ)) (p : List ℕ)
   some_taken : 0 < length taken
   some_taken = let n = size_taken in omega (arith, n, some)
 
-  waits_here : WaitsFor (unit_in x (situation_of x strings p) (from_of x strings p)) (begun_of x strings p) d.wants
-  waits_here = subst (λ (b : List ℕ). WaitsFor (unit_in x (situation_of x strings p) (from_of x strings p)) b d.wants) h.begun (h.waits more)
+  waits_here : AwaitsBytes (unit_in x (situation_of x strings p) (from_of x strings p)) (begun_of x strings p) d.wants
+  waits_here = subst (λ (b : List ℕ). AwaitsBytes (unit_in x (situation_of x strings p) (from_of x strings p)) b d.wants) h.begun (h.waits more)
 
   kept_here : d.begun ++ taken ≡ begun_of x strings p ++ taken
   kept_here = ap (λ b. b ++ taken) h.begun
@@ -270,7 +270,7 @@ module _ (d : Decoder) (x : Settings) (strings : List (List ℕ)) (p : List ℕ)
     pub on_more : (new : Decoder) (wants : ℕ) → UnitAnswers x (situation_of x strings p) (from_of x strings p) bytes new.units (Ok (More wants)) → new.begun ≡ bytes → new.wants ≡ wants → new.failure ≡ d.failure
         → TakeAnswers x strings p c new (Ok m)
     on_more new wants answers kept wanted unfailed =
-        let waits = subst (λ (b : List ℕ). WaitsFor (unit_in x (situation_of x strings p) (from_of x strings p)) b wants) bytes_here answers.0 in
+        let waits = subst (λ (b : List ℕ). AwaitsBytes (unit_in x (situation_of x strings p) (from_of x strings p)) b wants) bytes_here answers.0 in
         of_taken new (takes_all x strings p taken h.going (waits_now (unit_in x (situation_of x strings p) (from_of x strings p)) (begun_of x strings p ++ taken) wants waits) some_taken new wants
         answers.1 (kept ∙ bytes_here) wanted waits (unfailed ∙ h.unfailed))
 

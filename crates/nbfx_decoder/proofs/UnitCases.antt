@@ -15,7 +15,7 @@ use Rattle.nbfx_records.specs.Reading.{node_at}
 use Rattle.nbfx_decoder.specs.declared.section.Section.{Section}
 use Rattle.nbfx_decoder.specs.declared.section.Section.TheVariants.{TableSize, Strings, Nodes}
 use Rattle.nbfx_decoder.specs.Faults.{reason_of}
-use Rattle.nbfx_decoder.specs.Tables.{TableString, an_integer, string_at}
+use Rattle.nbfx_decoder.specs.Tables.{TableString, table_integer, table_string_at}
 use Rattle.nbfx_decoder.specs.Payload.{Settings, Situation, PayloadUnit, table_size, table_string, node, added, after, place_of, reason_in, refusal, refused, room_for, table_in, unit_in, unit_of}
 
 -- a thing that is seen, as it was read
@@ -26,16 +26,16 @@ seen_whole f h (wrong r n) b k e = cc
 
 -- the unit at the front of some bytes
 pub data UnitCase (x : Settings) (z : Situation) (b : List ℕ) (unit : PayloadUnit) (k : ℕ) : Type 0 where
-  a_size : (n : ℕ) → unit ≡ table_size n → z.section ≡ TableSize → an_integer b ≡ whole n k → UnitCase x z b unit k
-  a_string : (left : ℕ) (s : TableString) → unit ≡ table_string s → z.section ≡ Strings (suc left) → string_at (room_for x.limits.dictionary z.strings) (suc left) b ≡ whole s k → UnitCase x z b unit k
+  a_size : (n : ℕ) → unit ≡ table_size n → z.section ≡ TableSize → table_integer b ≡ whole n k → UnitCase x z b unit k
+  a_string : (left : ℕ) (s : TableString) → unit ≡ table_string s → z.section ≡ Strings (suc left) → table_string_at (room_for x.limits.dictionary z.strings) (suc left) b ≡ whole s k → UnitCase x z b unit k
   a_node : (n : Node) → unit ≡ node n → z.section ≡ Nodes → node_at (place_of x.limits.depth (position_of z.items)) b ≡ whole n k → UnitCase x z b unit k
 
 module _ (x : Settings) (z : Situation) (b : List ℕ) (unit : PayloadUnit) (k : ℕ) where
   by_section : (section : Section) → z.section ≡ section → unit_of x z section b ≡ whole unit k → UnitCase x z b unit k
-  by_section TableSize here e = let it = seen_whole table_size (λ (r : Reason). r) (an_integer b) unit k e in a_size it.0 (sym it.2) here it.1
+  by_section TableSize here e = let it = seen_whole table_size (λ (r : Reason). r) (table_integer b) unit k e in a_size it.0 (sym it.2) here it.1
   by_section (Strings zero) here e = cc
   by_section (Strings (suc left)) here e =
-      let it = seen_whole table_string (λ (r : Reason). r) (string_at (room_for x.limits.dictionary z.strings) (suc left) b) unit k e in a_string left it.0 (sym it.2) here it.1
+      let it = seen_whole table_string (λ (r : Reason). r) (table_string_at (room_for x.limits.dictionary z.strings) (suc left) b) unit k e in a_string left it.0 (sym it.2) here it.1
   by_section Nodes here e = let it = seen_whole node reason_of (node_at (place_of x.limits.depth (position_of z.items)) b) unit k e in a_node it.0 (sym it.2) here it.1
 
   pub unit_case : (from : ℕ) → unit_in x z from b ≡ whole unit k → UnitCase x z b unit k

@@ -48,9 +48,9 @@ use Rattle.nbfx_decoder.specs.declared.units.UnitRead.{UnitRead}
 use Rattle.nbfx_decoder.specs.declared.units.UnitReader.{UnitReader}
 use Rattle.nbfx_decoder.specs.Sections.{section_of, left_in}
 use Rattle.nbfx_decoder.specs.Faults.{reason_of, unread}
-use Rattle.nbfx_decoder.specs.Tables.{TableString, an_integer, string_at}
+use Rattle.nbfx_decoder.specs.Tables.{TableString, table_integer, table_string_at}
 use Rattle.nbfx_decoder.specs.Payload.{Settings, Situation, PayloadUnit, table_size, table_string, node, Refusal, refusal, place_of, room_for, node_behind, unit_of, unit_in, table_in, reason_in, added, after, refused}
-use Rattle.nbfx_decoder.specs.Units.{WaitsFor, HasStrings, Keeps, IsAt, StringStands, AddAnswers, UnitAnswers}
+use Rattle.nbfx_decoder.specs.Units.{AwaitsBytes, HasStrings, Keeps, IsAt, StringStands, AddAnswers, UnitAnswers}
 use Rattle.nbfx_decoder.proofs.Readable.{reads_string, no_string}
 use Rattle.nbfx_decoder.proofs.Places.{stands_behind}
 use Rattle.nbfx_decoder.proofs.Waits.{waits_one}
@@ -60,8 +60,8 @@ pub integer_size : (b : List ℕ) (n k : ℕ) → int_at b ≡ whole n k → (0 
 integer_size b n k e = whole_some int_at (peels_front int_at int_peels) int_peels.nothing b n k e
 
 -- and so has a string
-pub string_size : (room left : ℕ) (b : List ℕ) (s : TableString) (k : ℕ) → 0 < left → string_at room left b ≡ whole s k → (0 < k) × (k ≤ length b)
-string_size room left b s k some e = whole_some (string_at room left) (reads_string room left some) (no_string room left some) b s k e
+pub string_size : (room left : ℕ) (b : List ℕ) (s : TableString) (k : ℕ) → 0 < left → table_string_at room left b ≡ whole s k → (0 < k) × (k ≤ length b)
+string_size room left b s k some e = whole_some (table_string_at room left) (reads_string room left some) (no_string room left some) b s k e
 
 -- and a node
 pub node_size : (place : NodePlace) (b : List ℕ) (n : Node) (k : ℕ) → node_at place b ≡ whole n k → (0 < k) × (k ≤ length b)
@@ -116,7 +116,7 @@ module _ (r : UnitReader) (x : Settings) (z : Situation) (from : ℕ) (at : IsAt
     pub size_bad : int_at b ≡ wrong tt 5 → unit_in x z from b ≡ wrong (refusal from BadInt) 5
     size_bad e = size_here (wrong tt 5) e
 
-    pub size_waits : int_at b ≡ begun → WaitsFor (unit_in x z from) b (length b + 1)
+    pub size_waits : int_at b ≡ begun → AwaitsBytes (unit_in x z from) b (length b + 1)
     size_waits e = waits_one (unit_in x z from) b (size_here begun e)
 
     pub behind_size : (new : UnitReader) (n k : ℕ) → Keeps r new → new.from ≡ r.from + k → new.section ≡ section_of n → new.document ≡ r.document → IsAt new x (after x z (table_size n)) (from + k)
@@ -136,25 +136,25 @@ module _ (r : UnitReader) (x : Settings) (z : Situation) (from : ℕ) (at : IsAt
     room_here : room ≡ room_for x.limits.dictionary z.strings
     room_here = is ∙ ap (λ n. n - used) quota_here ∙ ap (λ n. x.limits.dictionary - n) (paid ∙ ap used_cost same_strings)
 
-    strings_here : (n : ℕ) (b : List ℕ) → left ≡ n → unit_in x z from b ≡ seen (λ unit. unit) (refusal from) (seen table_string (λ reason. reason) (string_at (room_for x.limits.dictionary z.strings) left b))
+    strings_here : (n : ℕ) (b : List ℕ) → left ≡ n → unit_in x z from b ≡ seen (λ unit. unit) (refusal from) (seen table_string (λ reason. reason) (table_string_at (room_for x.limits.dictionary z.strings) left b))
     strings_here zero b is = absurd (omega (arith, some, is))
     strings_here (suc more) b is =
         unit_here b (Strings (suc more)) (here ∙ ap Strings is)
-        ∙ ap (λ n. seen (λ unit. unit) (refusal from) (seen table_string (λ reason. reason) (string_at (room_for x.limits.dictionary z.strings) n b))) (sym is)
+        ∙ ap (λ n. seen (λ unit. unit) (refusal from) (seen table_string (λ reason. reason) (table_string_at (room_for x.limits.dictionary z.strings) n b))) (sym is)
 
-    string_here : (b : List ℕ) (v : Front TableString Reason) → string_at room left b ≡ v
+    string_here : (b : List ℕ) (v : Front TableString Reason) → table_string_at room left b ≡ v
         → unit_in x z from b ≡ seen (λ unit. unit) (refusal from) (seen table_string (λ reason. reason) v)
     string_here b v e =
         strings_here left b refl
-        ∙ ap (λ w. seen (λ unit. unit) (refusal from) (seen table_string (λ reason. reason) w)) (ap (λ n. string_at n left b) (sym room_here) ∙ e)
+        ∙ ap (λ w. seen (λ unit. unit) (refusal from) (seen table_string (λ reason. reason) w)) (ap (λ n. table_string_at n left b) (sym room_here) ∙ e)
 
-    pub string_whole : (b : List ℕ) (s : TableString) (k : ℕ) → string_at room left b ≡ whole s k → unit_in x z from b ≡ whole (table_string s) k
+    pub string_whole : (b : List ℕ) (s : TableString) (k : ℕ) → table_string_at room left b ≡ whole s k → unit_in x z from b ≡ whole (table_string s) k
     string_whole b s k e = string_here b (whole s k) e
 
-    pub string_wrong : (b : List ℕ) (reason : Reason) (k : ℕ) → string_at room left b ≡ wrong reason k → unit_in x z from b ≡ wrong (refusal from reason) k
+    pub string_wrong : (b : List ℕ) (reason : Reason) (k : ℕ) → table_string_at room left b ≡ wrong reason k → unit_in x z from b ≡ wrong (refusal from reason) k
     string_wrong b reason k e = string_here b (wrong reason k) e
 
-    pub string_waits : (b : List ℕ) (n : ℕ) → WaitsFor (string_at room left) b n → WaitsFor (unit_in x z from) b n
+    pub string_waits : (b : List ℕ) (n : ℕ) → AwaitsBytes (table_string_at room left) b n → AwaitsBytes (unit_in x z from) b n
     string_waits b n w = record { more = w.more; begins = λ next lt. string_here (b ++ next) begun (w.begins next lt) }
 
     -- what a `?` hands on
@@ -216,7 +216,7 @@ module _ (r : UnitReader) (x : Settings) (z : Situation) (from : ℕ) (at : IsAt
     node_unread b (Fault fault shown_by) e = (inl (node_wrong b fault shown_by e), at.set)
     node_unread b NoMemory e = at.set
 
-    pub node_waits : (b : List ℕ) (n : ℕ) → NodeWaitsFor (place_of r.quotas.depth (position_of r.document)) b n → WaitsFor (unit_in x z from) b n
+    pub node_waits : (b : List ℕ) (n : ℕ) → NodeWaitsFor (place_of r.quotas.depth (position_of r.document)) b n → AwaitsBytes (unit_in x z from) b n
     node_waits b n w = record { more = w.more; begins = λ next lt. node_here (b ++ next) begun (w.begins next lt) }
 
   -- what a whole node is answered with, of which more items were found

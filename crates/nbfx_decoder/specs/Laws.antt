@@ -17,7 +17,7 @@ use Rattle.nbfx_decoder.specs.Standing.{FinishAnswers, from_of, situation_of}
 
 -- as a whole payload the bytes have no offence: behind them stand these items, and these strings
 -- behind those of before
-pub record IsAccepted (x : Settings) (strings : List (List ℕ)) (bytes : List ℕ) (items : List Item)
+pub record IsDecoded (x : Settings) (strings : List (List ℕ)) (bytes : List ℕ) (items : List Item)
     (own : List (List ℕ)) : Type 0 where
   pub offenceless : offence (payload x strings) bytes ≡ None
   pub items_are : (situation_of x strings bytes).items ≡ items
@@ -36,7 +36,7 @@ table_before x strings = record { statics = x.statics; strings = strings }
 abbrev pub PayloadsAreAccepted : Type 0
 PayloadsAreAccepted = (x : Settings) (strings : List (List ℕ)) (bytes : List ℕ)
     (items : List Item) (own : List (List ℕ)) → MayBegin x strings
-    → IsAccepted x strings bytes items own
+    → IsDecoded x strings bytes items own
     ↔ (IsPayload x.kind (table_before x strings) own items bytes
     × IsAdmitted x.limits items (strings ++ own))
 
@@ -137,7 +137,7 @@ GoesOnUnrefused = (x : Settings) (strings : List (List ℕ)) (p y : List ℕ) �
     → answer (payload x strings) p y ≡ goes_on → IsUnrefused x strings (p ++ y)
 
 -- the bytes are a payload of these items, with these strings of its own, within what is admitted
-pub record IsWhole (x : Settings) (strings own : List (List ℕ)) (items : List Item) (p : List ℕ)
+pub record IsWholePayload (x : Settings) (strings own : List (List ℕ)) (items : List Item) (p : List ℕ)
     : Type 0 where
   pub is_payload : IsPayload x.kind (table_before x strings) own items p
   pub within : IsWithin x.limits items p (strings ++ own)
@@ -147,4 +147,4 @@ abbrev pub FinishedWhereWhole : Type 0
 FinishedWhereWhole = (x : Settings) (strings : List (List ℕ)) (p : List ℕ) (doc : List Item)
     → MayBegin x strings → IsUnrefused x strings p → length p ≤ x.limits.payload
     → FinishAnswers x strings p (Ok doc)
-    ↔ ((own : List (List ℕ)) × IsWhole x strings own doc p)
+    ↔ ((own : List (List ℕ)) × IsWholePayload x strings own doc p)

@@ -1,4 +1,5 @@
--- Public contracts cite Payload with what it stands on (Sections, Faults, Tables), Spelled, Standing and Laws; the others are for private calls.
+-- The public contracts cite these, up to Laws and with Units, which Standing stands on; Meant, Taking
+-- and Answers are for private calls.
 pub mod Sections
 pub mod Faults
 pub mod Tables
@@ -7,7 +8,6 @@ pub mod Values
 pub mod Bounds
 pub mod Spelled
 pub mod Standing
-pub mod WrongRecords
 pub mod Reasons
 pub mod Laws
 pub mod Meant

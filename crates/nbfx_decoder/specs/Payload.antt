@@ -25,7 +25,7 @@ use Rattle.nbfx_decoder.specs.declared.section.Section.{Section}
 use Rattle.nbfx_decoder.specs.declared.section.Section.TheVariants.{TableSize, Strings, Nodes}
 use Rattle.nbfx_decoder.specs.Sections.{first_section, section_of}
 use Rattle.nbfx_decoder.specs.Faults.{reason_of}
-use Rattle.nbfx_decoder.specs.Tables.{TableString, an_integer, string_at}
+use Rattle.nbfx_decoder.specs.Tables.{TableString, table_integer, table_string_at}
 
 -- what payloads are read by: the static strings, whether each payload begins with strings, and what is admitted
 pub record Settings : Type 0 where
@@ -70,9 +70,9 @@ node_behind depth items bytes = seen node reason_of (node_at (place_of depth (po
 
 -- the unit at the front of some bytes
 abbrev pub unit_of : Settings → Situation → Section → Reader PayloadUnit Reason
-unit_of x z TableSize bytes = seen table_size (λ reason. reason) (an_integer bytes)
+unit_of x z TableSize bytes = seen table_size (λ reason. reason) (table_integer bytes)
 unit_of x z (Strings zero) bytes = begun
-unit_of x z (Strings (suc more)) bytes = seen table_string (λ reason. reason) (string_at (room_for x.limits.dictionary z.strings) (suc more) bytes)
+unit_of x z (Strings (suc more)) bytes = seen table_string (λ reason. reason) (table_string_at (room_for x.limits.dictionary z.strings) (suc more) bytes)
 unit_of x z Nodes bytes = node_behind x.limits.depth z.items bytes
 
 abbrev pub refusal : ℕ → Reason → Refusal

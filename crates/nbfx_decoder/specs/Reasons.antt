@@ -1,6 +1,5 @@
 -- Which bytes of a payload give each reason for refusing it.
 use Rattle.std.specs.Prelude.{◌≡◌, ℕ, suc, zero, ◌+◌, ◌<◌, ◌≤◌, ◌⊎◌, List, ◌++◌, length, take, max, true, false, None, Some, Contains, IsUtf8}
-use Rattle.unit_streams.specs.Front.{whole}
 use Rattle.unit_streams.specs.Refusals.{AreUnits}
 use Rattle.multibyte_ints.specs.Integer.{Spells}
 use Rattle.multibyte_ints.specs.Laws.{FifthIsAbove}
@@ -12,18 +11,17 @@ use Rattle.nbfx_values.specs.declared.refusals.Reason.{Reason}
 use Rattle.nbfx_values.specs.declared.refusals.Reason.TheVariants as reasons
 use Rattle.string_tables.specs.StringTable.{StringTable, named_text}
 use Rattle.nbfx_records.specs.declared.nodes.Node.{Node}
+use Rattle.nbfx_records.specs.declared.nodes.NodeFault.{NodeFault}
 use Rattle.nbfx_records.specs.declared.nodes.NodeFault.TheVariants as faults
 use Rattle.nbfx_records.specs.declared.nodes.NodePlace.{NodePlace}
-use Rattle.nbfx_records.specs.Contents.{is_text, node_of}
+use Rattle.nbfx_records.specs.Causes.{Caused, HasBadText, HasBadValue, InRecord}
 use Rattle.nbfx_records.specs.Meaning.{Means, identifiers}
 use Rattle.nbfx_records.specs.Places.{Stands}
 use Rattle.nbfx_records.specs.Records.{IsNode}
-use Rattle.nbfx_records.specs.Shapes.{Shape, shape_at}
 use Rattle.nbfx_decoder.specs.declared.section.Section.{Section}
 use Rattle.nbfx_decoder.specs.declared.section.Section.TheVariants.{TableSize, Strings, Nodes}
 use Rattle.nbfx_decoder.specs.Payload.{Settings, Situation, payload, place_of, room_for, table_in}
 use Rattle.nbfx_decoder.specs.Standing.{from_of, situation_of}
-use Rattle.nbfx_decoder.specs.WrongRecords.{IsBuiltWrong}
 
 -- a length at the front of the bytes, within so many bytes of a table that are left
 pub record HasLength (left n : ℕ) (bytes : List ℕ) : Type 0 where
@@ -79,15 +77,9 @@ ShowsAtString room left bytes reasons.DictionaryFull = CostsMore room left bytes
 ShowsAtString room left bytes reasons.BadUtf8 = IsBadString room left bytes
 ShowsAtString room left bytes _ = ⊥
 
--- the structure of a record is whole, but one of its texts isn't UTF-8
-abbrev pub HasBadText : NodePlace → List ℕ → Type 0
-HasBadText place bytes = (shape : Shape) × (k : ℕ) × (shape_at place bytes ≡ whole shape k)
-    × (is_text shape ≡ false)
-
--- or its texts are, and one of its values is none of its kind
-abbrev pub HasBadValue : NodePlace → List ℕ → Type 0
-HasBadValue place bytes = (shape : Shape) × (k : ℕ) × (shape_at place bytes ≡ whole shape k)
-    × (is_text shape ≡ true) × (node_of shape ≡ None)
+-- the bytes are no record that may stand there: by a type byte, a number or a length
+abbrev pub IsCaused : NodePlace → List ℕ → NodeFault → Type 0
+IsCaused place bytes fault = (n : ℕ) × Caused (InRecord place) fault bytes n
 
 -- the bytes are a record that may stand there, and one of its identifiers names no string
 abbrev pub NamesNothing : StringTable → NodePlace → List ℕ → Type 0
@@ -104,14 +96,14 @@ abbrev pub node_place : Settings → Situation → NodePlace
 node_place x z = place_of x.limits.depth (position_of z.items)
 
 abbrev pub ShowsAtNode : Settings → Situation → List ℕ → Reason → Type 0
-ShowsAtNode x z bytes reasons.TrailingBytes = IsBuiltWrong (node_place x z) bytes faults.TrailingBytes
-ShowsAtNode x z bytes reasons.UnknownNode = IsBuiltWrong (node_place x z) bytes faults.UnknownNode
-ShowsAtNode x z bytes reasons.NodeOutOfPlace = IsBuiltWrong (node_place x z) bytes faults.OutOfPlace
-ShowsAtNode x z bytes reasons.BadArray = IsBuiltWrong (node_place x z) bytes faults.BadArray
-ShowsAtNode x z bytes reasons.TooDeep = IsBuiltWrong (node_place x z) bytes faults.TooDeep
-ShowsAtNode x z bytes reasons.BadInt = IsBuiltWrong (node_place x z) bytes faults.BadInt
-ShowsAtNode x z bytes reasons.BadUtf8 = HasBadText (node_place x z) bytes
-ShowsAtNode x z bytes reasons.BadValue = HasBadValue (node_place x z) bytes
+ShowsAtNode x z bytes reasons.TrailingBytes = IsCaused (node_place x z) bytes faults.TrailingBytes
+ShowsAtNode x z bytes reasons.UnknownNode = IsCaused (node_place x z) bytes faults.UnknownNode
+ShowsAtNode x z bytes reasons.NodeOutOfPlace = IsCaused (node_place x z) bytes faults.OutOfPlace
+ShowsAtNode x z bytes reasons.BadArray = IsCaused (node_place x z) bytes faults.BadArray
+ShowsAtNode x z bytes reasons.TooDeep = IsCaused (node_place x z) bytes faults.TooDeep
+ShowsAtNode x z bytes reasons.BadInt = IsCaused (node_place x z) bytes faults.BadInt
+ShowsAtNode x z bytes reasons.BadUtf8 = (n : ℕ) × HasBadText (node_place x z) bytes n
+ShowsAtNode x z bytes reasons.BadValue = (n : ℕ) × HasBadValue (node_place x z) bytes n
 ShowsAtNode x z bytes reasons.UnknownString = NamesNothing (table_in x z) (node_place x z) bytes
 ShowsAtNode x z bytes reasons.TooMuchContent =
     IsTooMuch (table_in x z) (node_place x z) x.limits.content z.items bytes

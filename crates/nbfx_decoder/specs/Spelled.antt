@@ -15,7 +15,7 @@ use Rattle.nbfx_records.specs.Records.{IsNode}
 use Rattle.nbfx_records.specs.Meaning.{Means}
 
 -- one record, and the items that it means
-pub record IsRecordOf (table : StringTable) (items : List Item) (bytes : List ℕ) : Type 0 where
+pub record IsRecordMeaning (table : StringTable) (items : List Item) (bytes : List ℕ) : Type 0 where
   pub node : Node
   pub is_node : IsNode node bytes
   pub means : Means table node items
@@ -23,7 +23,7 @@ pub record IsRecordOf (table : StringTable) (items : List Item) (bytes : List �
 -- records, one behind the other, whose items joined are these
 pub data AreRecords (table : StringTable) : List Item → List ℕ → Type 0 where
   no_record : AreRecords table [] []
-  record_then : (items more : List Item) (bytes rest : List ℕ) → IsRecordOf table items bytes
+  record_then : (items more : List Item) (bytes rest : List ℕ) → IsRecordMeaning table items bytes
       → AreRecords table more rest
       → AreRecords table (items ++ more) (bytes ++ rest)
 
@@ -34,7 +34,7 @@ AreStrings (string ∷ strings) bytes = (front : List ℕ) × (rest : List ℕ) 
     × IsString string front × AreStrings strings rest
 
 -- a table of these strings: how many bytes they have, and then they
-pub record IsTable (strings : List (List ℕ)) (bytes : List ℕ) : Type 0 where
+pub record IsStringTable (strings : List (List ℕ)) (bytes : List ℕ) : Type 0 where
   pub size : List ℕ
   pub content : List ℕ
   pub joined : bytes ≡ size ++ content
@@ -44,7 +44,7 @@ pub record IsTable (strings : List (List ℕ)) (bytes : List ℕ) : Type 0 where
 -- strings of its own, where a payload of this kind begins with such
 abbrev pub IsOpening : Kind → List (List ℕ) → List ℕ → Type 0
 IsOpening Plain strings bytes = (strings ≡ []) × (bytes ≡ [])
-IsOpening Session strings bytes = IsTable strings bytes
+IsOpening Session strings bytes = IsStringTable strings bytes
 
 -- under this table the bytes are a payload of a document, with these strings of its own
 pub record IsPayload (kind : Kind) (table : StringTable) (own : List (List ℕ)) (items : List Item)

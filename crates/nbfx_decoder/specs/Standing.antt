@@ -13,7 +13,7 @@ use Rattle.nbfx_decoder.specs.declared.faults.DecodeFault.TheVariants.{Payload, 
 use Rattle.nbfx_decoder.specs.declared.faults.UnitFault.{UnitFault}
 use Rattle.nbfx_decoder.specs.declared.faults.UnitFault.TheVariants as faults
 use Rattle.nbfx_decoder.specs.Payload.{Settings, Situation, refusal, unit_in, payload}
-use Rattle.nbfx_decoder.specs.Units.{WaitsFor, HasStrings, IsAt}
+use Rattle.nbfx_decoder.specs.Units.{AwaitsBytes, HasStrings, IsAt}
 
 -- what the decoder is set to
 unfoldable pub settings_of : Decoder → Settings
@@ -42,7 +42,7 @@ pub record Reached (d : Decoder) (x : Settings) (strings : List (List ℕ)) (p :
   pub at : IsAt d.units x (situation_of x strings p) (from_of x strings p)
   pub begun : d.begun ≡ begun_of x strings p
   -- of the unit that has begun so many bytes are wanted at least
-  pub waits : 0 < length d.begun → WaitsFor (unit_in x (situation_of x strings p) (from_of x strings p)) d.begun d.wants
+  pub waits : 0 < length d.begun → AwaitsBytes (unit_in x (situation_of x strings p) (from_of x strings p)) d.begun d.wants
   pub going : IsGoing (payload x strings) (standing (payload x strings) p)
   pub unfailed : d.failure ≡ None
 

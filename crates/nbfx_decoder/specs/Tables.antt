@@ -16,8 +16,8 @@ pub record StringHead : Type 0 where
   pub size : ℕ
   pub left : ℕ
 
-abbrev pub an_integer : Reader ℕ Reason
-an_integer bytes = seen (λ n. n) (λ _. BadInt) (int_at bytes)
+abbrev pub table_integer : Reader ℕ Reason
+table_integer bytes = seen (λ n. n) (λ _. BadInt) (int_at bytes)
 
 -- A length of so many bytes, where so many bytes of the table are left, and so much of what its strings may cost: the text may not pass the
 -- table's end, nor cost more.
@@ -29,15 +29,15 @@ length_judged room left size used =
 
 -- the length of a string; one that isn't whole at the table's end is cut
 unfoldable pub head_at : ℕ → ℕ → Reader StringHead Reason
-head_at room left bytes = judged_at (length_judged room left) (within left TableCut an_integer bytes)
+head_at room left bytes = judged_at (length_judged room left) (within left TableCut table_integer bytes)
 
 abbrev pub text_judged : List ℕ → Result (List ℕ) Reason
 text_judged bytes = if is_utf8 bytes then Ok bytes else Err BadUtf8
 
 -- the text of a string
-abbrev pub text_at : StringHead → Reader TableString Reason
-text_at head bytes = seen (λ text. record { text = text; left = head.left }) (λ reason. reason) (judged text_judged (some_bytes head.size bytes))
+abbrev pub table_text_at : StringHead → Reader TableString Reason
+table_text_at head bytes = seen (λ text. record { text = text; left = head.left }) (λ reason. reason) (judged text_judged (some_bytes head.size bytes))
 
 -- a string of a table of which so many bytes are left, where its strings may cost so much more
-unfoldable pub string_at : ℕ → ℕ → Reader TableString Reason
-string_at room left = head_at room left >>= text_at
+unfoldable pub table_string_at : ℕ → ℕ → Reader TableString Reason
+table_string_at room left = head_at room left >>= table_text_at

@@ -1,4 +1,5 @@
--- What a reader of units answers. Public contracts cite none of this.
+-- What a reader of units answers. The public contracts cite of it, through Standing, where a unit may
+-- come, what it waits for and the strings that it has read.
 use Rattle.std.specs.Prelude.{◌≡◌, ⊤, ℕ, ◌+◌, ◌-◌, ◌<◌, ◌≤◌, ◌⊎◌, max, List, ◌++◌, length, Option, Some, None, Result, Ok, Err}
 use Rattle.unit_streams.specs.Front.{Front, begun, whole, wrong}
 use Rattle.nbfx_values.specs.QuotasOf.{limits_of}
@@ -13,11 +14,11 @@ use Rattle.nbfx_decoder.specs.declared.strings.StringRead.TheVariants as strings
 use Rattle.nbfx_decoder.specs.declared.units.UnitRead.{UnitRead}
 use Rattle.nbfx_decoder.specs.declared.units.UnitRead.TheVariants.{More, Done}
 use Rattle.nbfx_decoder.specs.declared.units.UnitReader.{UnitReader}
-use Rattle.nbfx_decoder.specs.Tables.{StringHead, head_at, string_at}
+use Rattle.nbfx_decoder.specs.Tables.{StringHead, head_at, table_string_at}
 use Rattle.nbfx_decoder.specs.Payload.{Settings, Situation, PayloadUnit, node, refusal, unit_in, after, refused}
 
 -- it has begun, and fewer than so many bytes in all decide nothing, however they go on
-pub record WaitsFor {A R : Type 0} (reader : List ℕ → Front A R) (bytes : List ℕ) (wants : ℕ) : Type 0 where
+pub record AwaitsBytes {A R : Type 0} (reader : List ℕ → Front A R) (bytes : List ℕ) (wants : ℕ) : Type 0 where
   pub more : length bytes < wants
   pub begins : (next : List ℕ) → length (bytes ++ next) < wants → reader (bytes ++ next) ≡ begun
 
@@ -33,10 +34,10 @@ HeadStands room left bytes (Err Memory) = ⊥
 
 -- and of a string
 abbrev pub StringStands : ℕ → ℕ → List ℕ → Result StringRead UnitFault → Type 0
-StringStands room left bytes (Ok (strings_read.More wants)) = WaitsFor (string_at room left) bytes wants
+StringStands room left bytes (Ok (strings_read.More wants)) = AwaitsBytes (table_string_at room left) bytes wants
 StringStands room left bytes (Ok (strings_read.Done text used)) =
-    (string_at room left bytes ≡ whole (record { text = text.now; left = left - used }) used) × (cost text.now ≤ room)
-StringStands room left bytes (Err (Refused reason shown_by)) = string_at room left bytes ≡ wrong reason shown_by
+    (table_string_at room left bytes ≡ whole (record { text = text.now; left = left - used }) used) × (cost text.now ≤ room)
+StringStands room left bytes (Err (Refused reason shown_by)) = table_string_at room left bytes ≡ wrong reason shown_by
 StringStands room left bytes (Err Memory) = ⊥
 
 -- it is set so, and has these strings, behind so many bytes of a payload
@@ -77,8 +78,8 @@ counted (More wants) = 0
 counted (Done used) = used
 
 -- the unit at the front is refused, which so many bytes show
-abbrev pub IsRefused : Settings → Situation → ℕ → List ℕ → Reason → ℕ → Type 0
-IsRefused x z from bytes reason shown_by =
+abbrev pub IsUnitRefused : Settings → Situation → ℕ → List ℕ → Reason → ℕ → Type 0
+IsUnitRefused x z from bytes reason shown_by =
     (unit_in x z from bytes ≡ wrong (refusal from reason) shown_by)
     ⊎ ((unit : PayloadUnit) × (unit_in x z from bytes ≡ whole unit shown_by) × (refused x z unit ≡ Some reason))
 
@@ -86,8 +87,8 @@ IsRefused x z from bytes reason shown_by =
 abbrev pub UnitAnswers : Settings → Situation → ℕ → List ℕ → UnitReader → Result UnitRead UnitFault → Type 0
 UnitAnswers x z from bytes new (Ok (Done used)) =
     (unit : PayloadUnit) × (unit_in x z from bytes ≡ whole unit used) × (refused x z unit ≡ None) × IsAt new x (after x z unit) (from + used)
-UnitAnswers x z from bytes new (Ok (More wants)) = WaitsFor (unit_in x z from) bytes wants × IsAt new x z from
-UnitAnswers x z from bytes new (Err (Refused reason shown_by)) = IsRefused x z from bytes reason shown_by × HasStrings new x z.strings from
+UnitAnswers x z from bytes new (Ok (More wants)) = AwaitsBytes (unit_in x z from) bytes wants × IsAt new x z from
+UnitAnswers x z from bytes new (Err (Refused reason shown_by)) = IsUnitRefused x z from bytes reason shown_by × HasStrings new x z.strings from
 UnitAnswers x z from bytes new (Err Memory) = HasStrings new x z.strings from
 
 -- what a whole node of so many bytes is answered with

@@ -31,7 +31,7 @@ pub struct Decoder<'s> {
 
 impl<'s> Decoder<'s> {
     ghost use Rattle.nbfx_values.specs.declared.content.Item.{Item as Content};
-    ghost use Rattle.nbfx_decoder.specs.Laws.{IsWhole};
+    ghost use Rattle.nbfx_decoder.specs.Laws.{IsWholePayload};
     ghost use Rattle.nbfx_decoder.specs.Payload.{Settings};
     ghost use Rattle.nbfx_decoder.specs.Standing.{settings_of, failure_of, taken_of, situation_of, begun_of, table_at, Reached, StandsFor, FailedBehind, FailedWithin, WhereItStands, WhereItFailed, FeedAnswers, FinishAnswers};
     ghost use Rattle.nbfx_decoder.specs.Taking.{AllAnswers, TakeAnswers};
@@ -86,10 +86,10 @@ impl<'s> Decoder<'s> {
         // It gives a document exactly where the bytes are a payload of it.
         ensures whole { WhereItStands self.old (λ strings p. (items : List Content)
             → (result ≡ Ok items)
-            ↔ ((own : List (List ℕ)) × IsWhole (settings_of self.old) strings own items p)) }
+            ↔ ((own : List (List ℕ)) × IsWholePayload (settings_of self.old) strings own items p)) }
         // Then the strings are those of before, and the payload's own.
         ensures carried { WhereItStands self.old (λ strings p. (own : List (List ℕ))
-            (items : List Content) → IsWhole (settings_of self.old) strings own items p
+            (items : List Content) → IsWholePayload (settings_of self.old) strings own items p
             → OnOk result (StandsFor self.new (strings ++ own) [])) }
         ensures anew { WhereItStands self.old (λ strings p. OnOk result
             (StandsFor self.new (situation_of (settings_of self.old) strings p).strings [])) }
