@@ -7,5 +7,6 @@ use Rattle.nbfx_decoder.specs.declared.faults.UnitFault.TheVariants.{Refused, Me
 
 -- that of the unit which begins at this offset
 abbrev pub ShowsFault : ℕ → UnitFault → DecodeFault → Type 0
-ShowsFault from (Refused reason shown_by) fault = from + shown_by < 2 ^ 32 → fault ≡ decode_faults.Payload from reason (from + shown_by)
+ShowsFault from (Refused reason shown_by) fault = from + shown_by < 2 ^ 32
+    → fault ≡ decode_faults.Payload from reason (from + shown_by)
 ShowsFault from Memory fault = fault ≡ decode_faults.Memory

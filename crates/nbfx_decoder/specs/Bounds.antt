@@ -8,8 +8,8 @@ use Rattle.nbfx_decoder.specs.Payload.{Situation}
 use Rattle.nbfx_decoder.specs.Values.{values_of}
 
 -- behind whole units of so many bytes, where the direction had some strings before: no more content
--- than is admitted, nor deeper, but for a root; strings that cost no more, or no more than before; at
--- most as many values as bytes, and at most twice as many items
+-- than is admitted, nor deeper, but for a root; strings that cost no more, or no more than before;
+-- at most as many values as bytes, and at most twice as many items
 pub record KeepsWithin (limits : Limits) (before : List (List ℕ)) (z : Situation) (from : ℕ)
     : Type 0 where
   pub content : content_of z.items ≤ limits.content

@@ -137,8 +137,8 @@ GoesOnUnrefused = (x : Settings) (strings : List (List ℕ)) (p y : List ℕ) �
     → answer (payload x strings) p y ≡ goes_on → IsUnrefused x strings (p ++ y)
 
 -- the bytes are a payload of these items, with these strings of its own, within what is admitted
-pub record IsWholePayload (x : Settings) (strings own : List (List ℕ)) (items : List Item) (p : List ℕ)
-    : Type 0 where
+pub record IsWholePayload (x : Settings) (strings own : List (List ℕ)) (items : List Item)
+    (p : List ℕ) : Type 0 where
   pub is_payload : IsPayload x.kind (table_before x strings) own items p
   pub within : IsWithin x.limits items p (strings ++ own)
 

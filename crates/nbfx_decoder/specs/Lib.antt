@@ -1,5 +1,5 @@
--- The public contracts cite these, up to Laws and with Units, which Standing stands on; Meant, Taking
--- and Answers are for private calls.
+-- The public contracts cite these, up to Laws and with Units, which Standing stands on; Meant,
+-- Taking and Answers are for private calls.
 pub mod Sections
 pub mod Faults
 pub mod Tables

@@ -1,5 +1,5 @@
--- What an envelope's payload is read by (MC-NBFS, and MC-NBFSE where it begins with strings of its own): a table's size, the table's
--- strings, and nodes.
+-- What an envelope's payload is read by (MC-NBFS, and MC-NBFSE where it begins with strings of its
+-- own): a table's size, the table's strings, and nodes.
 use Rattle.std.specs.Prelude.{ℕ, zero, suc, ◌+◌, ◌-◌, List, [], ◌∷◌, ◌++◌, false, Option, Some, None, nat_lt, if◌then◌else◌}
 use Rattle.unit_streams.specs.Front.{Front, begun}
 use Rattle.unit_streams.specs.Parts.{Reader, seen}
@@ -27,7 +27,8 @@ use Rattle.nbfx_decoder.specs.Sections.{first_section, section_of}
 use Rattle.nbfx_decoder.specs.Faults.{reason_of}
 use Rattle.nbfx_decoder.specs.Tables.{TableString, table_integer, table_string_at}
 
--- what payloads are read by: the static strings, whether each payload begins with strings, and what is admitted
+-- what payloads are read by: the static strings, whether each payload begins with strings, and what
+-- is admitted
 pub record Settings : Type 0 where
   pub statics : List Entry
   pub kind : Kind
@@ -38,7 +39,8 @@ pub record Refusal : Type 0 where
   pub at : ℕ
   pub reason : Reason
 
--- behind whole units: what comes next, the strings of the direction so far, and the document's items so far
+-- behind whole units: what comes next, the strings of the direction so far, and the document's
+-- items so far
 pub record Situation : Type 0 where
   pub section : Section
   pub strings : List (List ℕ)
@@ -61,18 +63,21 @@ room_for quota strings = quota - used_cost strings
 abbrev pub place_of : ℕ → Option Position → NodePlace
 place_of depth None = AfterRoot
 place_of depth (Some positions.Before) = BeforeRoot
-place_of depth (Some (positions.Within inner attributes)) = Within attributes (nat_lt (inner + 1) depth)
+place_of depth (Some (positions.Within inner attributes)) =
+    Within attributes (nat_lt (inner + 1) depth)
 place_of depth (Some positions.After) = AfterRoot
 
 -- a node, behind these items
 abbrev pub node_behind : ℕ → List Item → Reader PayloadUnit Reason
-node_behind depth items bytes = seen node reason_of (node_at (place_of depth (position_of items)) bytes)
+node_behind depth items bytes =
+    seen node reason_of (node_at (place_of depth (position_of items)) bytes)
 
 -- the unit at the front of some bytes
 abbrev pub unit_of : Settings → Situation → Section → Reader PayloadUnit Reason
 unit_of x z TableSize bytes = seen table_size (λ reason. reason) (table_integer bytes)
 unit_of x z (Strings zero) bytes = begun
-unit_of x z (Strings (suc more)) bytes = seen table_string (λ reason. reason) (table_string_at (room_for x.limits.dictionary z.strings) (suc more) bytes)
+unit_of x z (Strings (suc more)) bytes = seen table_string (λ reason. reason)
+    (table_string_at (room_for x.limits.dictionary z.strings) (suc more) bytes)
 unit_of x z Nodes bytes = node_behind x.limits.depth z.items bytes
 
 abbrev pub refusal : ℕ → Reason → Refusal
@@ -88,7 +93,9 @@ table_in x z = record { statics = x.statics; strings = z.strings }
 -- why a node is refused that means these items, or names what isn't there
 abbrev pub reason_in : ℕ → List Item → Option (List Item) → Option Reason
 reason_in content items None = Some reasons.UnknownString
-reason_in content items (Some more) = if nat_lt content (content_of (items ++ more)) then Some reasons.TooMuchContent else None
+reason_in content items (Some more) =
+    if nat_lt content (content_of (items ++ more)) then Some reasons.TooMuchContent
+    else None
 
 -- what it adds, where it isn't refused
 abbrev pub added : Option Reason → Option (List Item) → List Item
@@ -98,7 +105,10 @@ added _ _ = []
 -- the situation behind a whole unit
 unfoldable pub after : Settings → Situation → PayloadUnit → Situation
 after x z (table_size n) = record z { section = section_of n }
-after x z (table_string s) = record z { section = section_of s.left; strings = z.strings ++ s.text ∷ [] }
+after x z (table_string s) = record z {
+  section = section_of s.left;
+  strings = z.strings ++ s.text ∷ [];
+}
 after x z (node n) = record z { items = z.items ++ added (reason_in x.limits.content z.items (items_of (table_in x z) n)) (items_of (table_in x z) n) }
 
 -- why a whole unit is refused

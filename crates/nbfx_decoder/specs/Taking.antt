@@ -10,17 +10,27 @@ use Rattle.nbfx_decoder.specs.Units.{HasStrings}
 use Rattle.nbfx_decoder.specs.Standing.{Reached, situation_of, from_of}
 
 -- some bytes of c behind p, of which there is one at least
-abbrev pub TakeAnswers : Settings → List (List ℕ) → List ℕ → List ℕ → Decoder → Result ℕ UnitFault → Type 0
-TakeAnswers x strings p c new (Ok k) = (0 < k) × IsQuiet (payload x strings) p c k × Reached new x strings (p ++ take k c)
+abbrev pub TakeAnswers : Settings → List (List ℕ) → List ℕ → List ℕ → Decoder → Result ℕ UnitFault
+    → Type 0
+TakeAnswers x strings p c new (Ok k) = (0 < k) × IsQuiet (payload x strings) p c k
+    × Reached new x strings (p ++ take k c)
 TakeAnswers x strings p c new (Err (Refused reason shown_by)) =
-    (k : ℕ) × IsQuiet (payload x strings) p c k × (refusal_at (payload x strings) (p ++ take k c) ≡ Some (refusal (from_of x strings p) reason))
-    × (from_of x strings p + shown_by ≡ length p + k) × HasStrings new.units x (situation_of x strings (p ++ take k c)).strings (from_of x strings p)
-TakeAnswers x strings p c new (Err Memory) = HasStrings new.units x (situation_of x strings p).strings (from_of x strings p)
+    (k : ℕ) × IsQuiet (payload x strings) p c k
+    × (refusal_at (payload x strings) (p ++ take k c) ≡ Some (refusal (from_of x strings p) reason))
+    × (from_of x strings p + shown_by ≡ length p + k)
+    × HasStrings new.units x (situation_of x strings (p ++ take k c)).strings (from_of x strings p)
+TakeAnswers x strings p c new (Err Memory) =
+    HasStrings new.units x (situation_of x strings p).strings (from_of x strings p)
 
 -- all bytes of c behind p
-abbrev pub AllAnswers : Settings → List (List ℕ) → List ℕ → List ℕ → Decoder → Result (Unit {0}) UnitFault → Type 0
-AllAnswers x strings p c new (Ok done) = IsQuiet (payload x strings) p c (length c) × Reached new x strings (p ++ c)
+abbrev pub AllAnswers : Settings → List (List ℕ) → List ℕ → List ℕ → Decoder
+    → Result (Unit {0}) UnitFault → Type 0
+AllAnswers x strings p c new (Ok done) = IsQuiet (payload x strings) p c (length c)
+    × Reached new x strings (p ++ c)
 AllAnswers x strings p c new (Err (Refused reason shown_by)) =
-    (k : ℕ) × (at : ℕ) × IsQuiet (payload x strings) p c k × (refusal_at (payload x strings) (p ++ take k c) ≡ Some (refusal at reason))
-    × (at + shown_by ≡ length p + k) × HasStrings new.units x (situation_of x strings (p ++ take k c)).strings at
-AllAnswers x strings p c new (Err Memory) = (k : ℕ) × (at : ℕ) × IsQuiet (payload x strings) p c k × HasStrings new.units x (situation_of x strings (p ++ take k c)).strings at
+    (k : ℕ) × (at : ℕ) × IsQuiet (payload x strings) p c k
+    × (refusal_at (payload x strings) (p ++ take k c) ≡ Some (refusal at reason))
+    × (at + shown_by ≡ length p + k)
+    × HasStrings new.units x (situation_of x strings (p ++ take k c)).strings at
+AllAnswers x strings p c new (Err Memory) = (k : ℕ) × (at : ℕ) × IsQuiet (payload x strings) p c k
+    × HasStrings new.units x (situation_of x strings (p ++ take k c)).strings at

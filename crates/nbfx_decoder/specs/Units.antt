@@ -1,5 +1,5 @@
--- What a reader of units answers. The public contracts cite of it, through Standing, where a unit may
--- come, what it waits for and the strings that it has read.
+-- What a reader of units answers. The public contracts cite of it, through Standing, where a unit
+-- may come, what it waits for and the strings that it has read.
 use Rattle.std.specs.Prelude.{◌≡◌, ⊤, ℕ, ◌+◌, ◌-◌, ◌<◌, ◌≤◌, ◌⊎◌, max, List, ◌++◌, length, Option, Some, None, Result, Ok, Err}
 use Rattle.unit_streams.specs.Front.{Front, begun, whole, wrong}
 use Rattle.nbfx_values.specs.QuotasOf.{limits_of}
@@ -18,7 +18,8 @@ use Rattle.nbfx_decoder.specs.Tables.{StringHead, head_at, table_string_at}
 use Rattle.nbfx_decoder.specs.Payload.{Settings, Situation, PayloadUnit, node, refusal, unit_in, after, refused}
 
 -- it has begun, and fewer than so many bytes in all decide nothing, however they go on
-pub record AwaitsBytes {A R : Type 0} (reader : List ℕ → Front A R) (bytes : List ℕ) (wants : ℕ) : Type 0 where
+pub record AwaitsBytes {A R : Type 0} (reader : List ℕ
+    → Front A R) (bytes : List ℕ) (wants : ℕ) : Type 0 where
   pub more : length bytes < wants
   pub begins : (next : List ℕ) → length (bytes ++ next) < wants → reader (bytes ++ next) ≡ begun
 
@@ -28,20 +29,26 @@ head_seen left head = record { size = head.size; left = left - head.used - head.
 
 abbrev pub HeadStands : ℕ → ℕ → List ℕ → Result (Option Head) UnitFault → Type 0
 HeadStands room left bytes (Ok None) = head_at room left bytes ≡ begun
-HeadStands room left bytes (Ok (Some head)) = (head_at room left bytes ≡ whole (head_seen left head) head.used) × (max head.size 1 ≤ room)
-HeadStands room left bytes (Err (Refused reason shown_by)) = head_at room left bytes ≡ wrong reason shown_by
+HeadStands room left bytes (Ok (Some head)) =
+    (head_at room left bytes ≡ whole (head_seen left head) head.used) × (max head.size 1 ≤ room)
+HeadStands room left bytes (Err (Refused reason shown_by)) =
+    head_at room left bytes ≡ wrong reason shown_by
 HeadStands room left bytes (Err Memory) = ⊥
 
 -- and of a string
 abbrev pub StringStands : ℕ → ℕ → List ℕ → Result StringRead UnitFault → Type 0
-StringStands room left bytes (Ok (strings_read.More wants)) = AwaitsBytes (table_string_at room left) bytes wants
+StringStands room left bytes (Ok (strings_read.More wants)) =
+    AwaitsBytes (table_string_at room left) bytes wants
 StringStands room left bytes (Ok (strings_read.Done text used)) =
-    (table_string_at room left bytes ≡ whole (record { text = text.now; left = left - used }) used) × (cost text.now ≤ room)
-StringStands room left bytes (Err (Refused reason shown_by)) = table_string_at room left bytes ≡ wrong reason shown_by
+    (table_string_at room left bytes ≡ whole (record { text = text.now; left = left - used }) used)
+    × (cost text.now ≤ room)
+StringStands room left bytes (Err (Refused reason shown_by)) =
+    table_string_at room left bytes ≡ wrong reason shown_by
 StringStands room left bytes (Err Memory) = ⊥
 
 -- it is set so, and has these strings, behind so many bytes of a payload
-pub record HasStrings (r : UnitReader) (x : Settings) (strings : List (List ℕ)) (from : ℕ) : Type 0 where
+pub record HasStrings (r : UnitReader) (x : Settings) (strings : List (List ℕ)) (from : ℕ)
+    : Type 0 where
   pub statics : r.statics.now ≡ x.statics
   pub kind : r.kind ≡ x.kind
   pub limits : limits_of r.quotas ≡ x.limits
@@ -81,18 +88,27 @@ counted (Done used) = used
 abbrev pub IsUnitRefused : Settings → Situation → ℕ → List ℕ → Reason → ℕ → Type 0
 IsUnitRefused x z from bytes reason shown_by =
     (unit_in x z from bytes ≡ wrong (refusal from reason) shown_by)
-    ⊎ ((unit : PayloadUnit) × (unit_in x z from bytes ≡ whole unit shown_by) × (refused x z unit ≡ Some reason))
+    ⊎ ((unit : PayloadUnit) × (unit_in x z from bytes ≡ whole unit shown_by)
+    × (refused x z unit ≡ Some reason))
 
--- What bytes are answered with at whose front a unit is read: behind a whole one, and where nothing is read, the reader stands so.
-abbrev pub UnitAnswers : Settings → Situation → ℕ → List ℕ → UnitReader → Result UnitRead UnitFault → Type 0
+-- What bytes are answered with at whose front a unit is read: behind a whole one, and where nothing
+-- is read, the reader stands so.
+abbrev pub UnitAnswers : Settings → Situation → ℕ → List ℕ → UnitReader → Result UnitRead UnitFault
+    → Type 0
 UnitAnswers x z from bytes new (Ok (Done used)) =
-    (unit : PayloadUnit) × (unit_in x z from bytes ≡ whole unit used) × (refused x z unit ≡ None) × IsAt new x (after x z unit) (from + used)
-UnitAnswers x z from bytes new (Ok (More wants)) = AwaitsBytes (unit_in x z from) bytes wants × IsAt new x z from
-UnitAnswers x z from bytes new (Err (Refused reason shown_by)) = IsUnitRefused x z from bytes reason shown_by × HasStrings new x z.strings from
+    (unit : PayloadUnit) × (unit_in x z from bytes ≡ whole unit used) × (refused x z unit ≡ None)
+    × IsAt new x (after x z unit) (from + used)
+UnitAnswers x z from bytes new (Ok (More wants)) = AwaitsBytes (unit_in x z from) bytes wants
+    × IsAt new x z from
+UnitAnswers x z from bytes new (Err (Refused reason shown_by)) =
+    IsUnitRefused x z from bytes reason shown_by × HasStrings new x z.strings from
 UnitAnswers x z from bytes new (Err Memory) = HasStrings new x z.strings from
 
 -- what a whole node of so many bytes is answered with
-abbrev pub AddAnswers : Settings → Situation → ℕ → Node → ℕ → UnitReader → Result (Unit {0}) UnitFault → Type 0
-AddAnswers x z from n used new (Ok done) = (refused x z (node n) ≡ None) × IsAt new x (after x z (node n)) from
-AddAnswers x z from n used new (Err (Refused reason shown_by)) = (refused x z (node n) ≡ Some reason) × (shown_by ≡ used) × HasStrings new x z.strings from
+abbrev pub AddAnswers : Settings → Situation → ℕ → Node → ℕ → UnitReader
+    → Result (Unit {0}) UnitFault → Type 0
+AddAnswers x z from n used new (Ok done) = (refused x z (node n) ≡ None)
+    × IsAt new x (after x z (node n)) from
+AddAnswers x z from n used new (Err (Refused reason shown_by)) =
+    (refused x z (node n) ≡ Some reason) × (shown_by ≡ used) × HasStrings new x z.strings from
 AddAnswers x z from n used new (Err Memory) = HasStrings new x z.strings from

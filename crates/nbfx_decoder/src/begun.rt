@@ -9,8 +9,8 @@ use std::alloc::Global;
 use std::marker::Model;
 use unit_streams::Memory;
 
-/// The bytes of a unit that has begun, and what was seen of them, so that what is whole of a list isn't
-/// read again. Contracts see the bytes.
+/// The bytes of a unit that has begun, and what was seen of them, so that what is whole of a list
+/// isn't read again. Contracts see the bytes.
 #[derive(Drop)]
 pub(crate) struct Begun {
     bytes: Vec<u8>,

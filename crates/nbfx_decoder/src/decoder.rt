@@ -15,10 +15,10 @@ use session_dictionary::SessionTable;
 use static_dictionary::StaticTable;
 use std::alloc::Global;
 
-/// Reads payloads of one direction, one after the other, in whatever pieces their bytes come: nodes of
-/// MC-NBFX, whose identifiers name strings of MC-NBFS's static dictionary and, under [`Kind::Session`], of
-/// the tables of MC-NBFSE with which payloads begin. It holds of a payload the items of its whole units,
-/// and the bytes of the unit that isn't whole.
+/// Reads payloads of one direction, one after the other, in whatever pieces their bytes come: nodes
+/// of MC-NBFX, whose identifiers name strings of MC-NBFS's static dictionary and, under
+/// [`Kind::Session`], of the tables of MC-NBFSE with which payloads begin. It holds of a payload
+/// the items of its whole units, and the bytes of the unit that isn't whole.
 #[derive(Drop)]
 pub struct Decoder<'s> {
     units: UnitReader<'s>,
@@ -51,10 +51,10 @@ impl<'s> Decoder<'s> {
         }
     }
 
-    /// Takes the next bytes of the payload, which with those before are no more than the payload quota. A
-    /// refusal comes at the first byte that shows it. After it, and after want of memory, the answer is
-    /// the same from then on: the payload's items and bytes are given up, and its strings that were whole
-    /// stay in the table.
+    /// Takes the next bytes of the payload, which with those before are no more than the payload
+    /// quota. A refusal comes at the first byte that shows it. After it, and after want of memory,
+    /// the answer is the same from then on: the payload's items and bytes are given up, and its
+    /// strings that were whole stay in the table.
     pub fn feed(&mut self, piece: &[u8]) -> Result<(), DecodeFault>
         requires { failure_of self.old ≡ None
             → taken_of self.old + length piece.now ≤ (settings_of self.old).limits.payload }
@@ -66,7 +66,8 @@ impl<'s> Decoder<'s> {
             IfErr result (λ fault. FailedWithin self.new fault strings p piece.now)) }
         ensures refused { IfErr result (λ fault. failure_of self.new ≡ Some fault) }
         ensures repeated { (fault : Fault) → failure_of self.old ≡ Some fault → result ≡ Err fault }
-        ensures unchanged { (fault : Fault) → failure_of self.old ≡ Some fault → self.new ≡ self.old }
+        ensures unchanged { (fault : Fault) → failure_of self.old ≡ Some fault
+            → self.new ≡ self.old }
         ensures settings { settings_of self.new ≡ settings_of self.old }
     {
         if let Some(fault) = self.failure {
@@ -78,8 +79,8 @@ impl<'s> Decoder<'s> {
         }
     }
 
-    /// Says that the payload is whole, and hands out its document. The next payload may come then. Where
-    /// its root hasn't ended it is refused as `DocumentCut`, and fails for good.
+    /// Says that the payload is whole, and hands out its document. The next payload may come then.
+    /// Where its root hasn't ended it is refused as `DocumentCut`, and fails for good.
     pub fn finish(&mut self) -> Result<Doc, DecodeFault>
         ensures answers { WhereItStands self.old (λ strings p.
             FinishAnswers (settings_of self.old) strings p result) }
@@ -97,7 +98,8 @@ impl<'s> Decoder<'s> {
             IfErr result (λ fault. FailedBehind self.new fault strings p)) }
         ensures refused { IfErr result (λ fault. failure_of self.new ≡ Some fault) }
         ensures repeated { (fault : Fault) → failure_of self.old ≡ Some fault → result ≡ Err fault }
-        ensures unchanged { (fault : Fault) → failure_of self.old ≡ Some fault → self.new ≡ self.old }
+        ensures unchanged { (fault : Fault) → failure_of self.old ≡ Some fault
+            → self.new ≡ self.old }
         ensures settings { settings_of self.new ≡ settings_of self.old }
     {
         if let Some(fault) = self.failure {
@@ -122,7 +124,8 @@ impl<'s> Decoder<'s> {
         self.units.reuse(doc);
     }
 
-    /// What it holds of the payload: in bytes, the unit that isn't whole, and the content of the items.
+    /// What it holds of the payload: in bytes, the unit that isn't whole, and the content of the
+    /// items.
     pub fn kept(&self) -> Kept
         ensures raw { WhereItStands self.now (λ strings p.
             result.raw ≡ length (begun_of (settings_of self.now) strings p)) }
@@ -162,7 +165,8 @@ impl<'s> Decoder<'s> {
 
     /// The strings of the direction so far.
     pub fn table(&self) -> &SessionTable
-        ensures strings { WhereItStands self.now (λ strings p. result.now ≡ table_at self.now strings p) }
+        ensures strings { WhereItStands self.now (λ strings p.
+            result.now ≡ table_at self.now strings p) }
         ensures within { WhereItStands self.now (λ strings p.
             used_cost result.now.strings ≤ (settings_of self.now).limits.dictionary) }
         ensures failed { WhereItFailed self.now (λ fault strings p.
@@ -174,7 +178,8 @@ impl<'s> Decoder<'s> {
     // Takes all of the bytes.
     fn take_all(&mut self, bytes: &[u8]) -> Result<(), UnitFault>
         requires few { self.old.units.from + length self.old.begun + length bytes.now < 2 ^ 32 }
-        ensures answers { (x : Settings) (strings : List (List ℕ)) (p : List ℕ) → Reached self.old x strings p
+        ensures answers { (x : Settings) (strings : List (List ℕ)) (p : List ℕ)
+            → Reached self.old x strings p
             → AllAnswers x strings p bytes.now self.new result }
         ensures failure { self.new.failure ≡ self.old.failure }
         ensures kept { KeepsSettings self.old.units self.new.units }
@@ -190,10 +195,12 @@ impl<'s> Decoder<'s> {
     fn take(&mut self, bytes: &[u8]) -> Result<usize, UnitFault>
         requires some { 0 < length bytes.now }
         requires few { self.old.units.from + length self.old.begun + length bytes.now < 2 ^ 32 }
-        ensures answers { (x : Settings) (strings : List (List ℕ)) (p : List ℕ) → Reached self.old x strings p
+        ensures answers { (x : Settings) (strings : List (List ℕ)) (p : List ℕ)
+            → Reached self.old x strings p
             → TakeAnswers x strings p bytes.now self.new result }
         ensures within { IfOk result (λ used. (0 < used) × (used ≤ length bytes.now)) }
-        ensures taken { IfOk result (λ used. self.new.units.from + length self.new.begun ≤ self.old.units.from + length self.old.begun + used) }
+        ensures taken { IfOk result (λ used. self.new.units.from + length self.new.begun
+            ≤ self.old.units.from + length self.old.begun + used) }
         ensures failure { self.new.failure ≡ self.old.failure }
         ensures kept { KeepsSettings self.old.units self.new.units }
     {
@@ -209,10 +216,12 @@ impl<'s> Decoder<'s> {
         requires none { self.old.begun ≡ [] }
         requires some { 0 < length bytes.now }
         requires few { self.old.units.from + length self.old.begun + length bytes.now < 2 ^ 32 }
-        ensures answers { (x : Settings) (strings : List (List ℕ)) (p : List ℕ) → Reached self.old x strings p
+        ensures answers { (x : Settings) (strings : List (List ℕ)) (p : List ℕ)
+            → Reached self.old x strings p
             → TakeAnswers x strings p bytes.now self.new result }
         ensures within { IfOk result (λ used. (0 < used) × (used ≤ length bytes.now)) }
-        ensures taken { IfOk result (λ used. self.new.units.from + length self.new.begun ≤ self.old.units.from + length self.old.begun + used) }
+        ensures taken { IfOk result (λ used. self.new.units.from + length self.new.begun
+            ≤ self.old.units.from + length self.old.begun + used) }
         ensures failure { self.new.failure ≡ self.old.failure }
         ensures kept { KeepsSettings self.old.units self.new.units }
     {
@@ -231,10 +240,12 @@ impl<'s> Decoder<'s> {
         requires begun { 0 < length self.old.begun }
         requires some { 0 < length bytes.now }
         requires few { self.old.units.from + length self.old.begun + length bytes.now < 2 ^ 32 }
-        ensures answers { (x : Settings) (strings : List (List ℕ)) (p : List ℕ) → Reached self.old x strings p
+        ensures answers { (x : Settings) (strings : List (List ℕ)) (p : List ℕ)
+            → Reached self.old x strings p
             → TakeAnswers x strings p bytes.now self.new result }
         ensures within { IfOk result (λ used. (0 < used) × (used ≤ length bytes.now)) }
-        ensures taken { IfOk result (λ used. self.new.units.from + length self.new.begun ≤ self.old.units.from + length self.old.begun + used) }
+        ensures taken { IfOk result (λ used. self.new.units.from + length self.new.begun
+            ≤ self.old.units.from + length self.old.begun + used) }
         ensures failure { self.new.failure ≡ self.old.failure }
         ensures kept { KeepsSettings self.old.units self.new.units }
     {

@@ -10,8 +10,8 @@ use unit_streams::Memory;
 /// Why a payload isn't read.
 #[derive(Clone, Copy, Debug, PartialEq, Eq)]
 pub enum DecodeFault {
-    /// The payload is refused: the unit that begins at offset `at`, as the payload's first `shown_by`
-    /// bytes show, and fewer do not.
+    /// The payload is refused: the unit that begins at offset `at`, as the payload's first
+    /// `shown_by` bytes show, and fewer do not.
     Payload {
         at: u32,
         reason: Reason,

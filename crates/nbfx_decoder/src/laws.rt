@@ -66,11 +66,11 @@ pub fn reasons()
     ensures first { FirstReasonRefuses }
 {}
 
-/// What [`Decoder::feed`](crate::Decoder::feed) answers: a piece is refused just where some of its bytes
-/// show a reason behind those before, and no fewer show any; it goes on where none do. Where no bytes of a
-/// payload have shown any, [`Decoder::finish`](crate::Decoder::finish) gives a document exactly where the
-/// bytes are a payload of that document, within what is admitted, and its strings are those that stand
-/// behind it.
+/// What [`Decoder::feed`](crate::Decoder::feed) answers: a piece is refused just where some of its
+/// bytes show a reason behind those before, and no fewer show any; it goes on where none do. Where
+/// no bytes of a payload have shown any, [`Decoder::finish`](crate::Decoder::finish) gives a
+/// document exactly where the bytes are a payload of that document, within what is admitted, and
+/// its strings are those that stand behind it.
 pub fn reading()
     ensures offends { OffendsWhereShown }
     ensures goes_on { GoesOnWhereNothing }

@@ -87,7 +87,8 @@ impl Lookup<'_> {
 
     fn scalar(&self, scalar: RawScalar) -> Result<Scalar, Unmeant>
         ensures found { Finds (meant_scalar (table_of self.now) scalar) result }
-        ensures valid { IsTrue (is_valid_raw scalar) → IfOk result (λ scalar. IsTrue (is_valid_scalar scalar)) }
+        ensures valid { IsTrue (is_valid_raw scalar)
+            → IfOk result (λ scalar. IsTrue (is_valid_scalar scalar)) }
     {
         match scalar {
             RawScalar::Known(scalar) => Ok(scalar),
@@ -98,7 +99,8 @@ impl Lookup<'_> {
 
     fn scalars(&self, raw: RawValues) -> Result<Values, Unmeant>
         ensures found { Finds (each (meant_scalar (table_of self.now)) raw) result }
-        ensures valid { IsTrue (list_all is_valid_raw raw) → IfOk result (λ values. IsTrue (list_all is_valid_scalar values)) }
+        ensures valid { IsTrue (list_all is_valid_raw raw)
+            → IfOk result (λ values. IsTrue (list_all is_valid_scalar values)) }
     {
         let mut values = Values::new(self.alloc);
         for scalar in raw.into_vec() {
@@ -109,7 +111,8 @@ impl Lookup<'_> {
 
     fn value(&self, value: RawValue) -> Result<Value, Unmeant>
         ensures found { Finds (meant_value (table_of self.now) value) result }
-        ensures valid { IsTrue (is_valid_text value) → IfOk result (λ value. IsTrue (is_valid_value value)) }
+        ensures valid { IsTrue (is_valid_text value)
+            → IfOk result (λ value. IsTrue (is_valid_value value)) }
     {
         match value {
             RawValue::One(scalar) => Ok(Value::One(self.scalar(scalar)?)),
@@ -119,7 +122,8 @@ impl Lookup<'_> {
 
     fn part(&self, part: AttrNode) -> Result<AttrItem, Unmeant>
         ensures found { Finds (meant_part (table_of self.now) part) result }
-        ensures valid { IsTrue (is_valid_part part) → IfOk result (λ item. IsTrue (is_valid_attribute item)) }
+        ensures valid { IsTrue (is_valid_part part)
+            → IfOk result (λ item. IsTrue (is_valid_attribute item)) }
     {
         match part {
             AttrNode::Attribute {
@@ -140,7 +144,8 @@ impl Lookup<'_> {
 
     fn parts(&self, raw: AttrNodes) -> Result<Attrs, Unmeant>
         ensures found { Finds (each (meant_part (table_of self.now)) raw) result }
-        ensures valid { IsTrue (list_all is_valid_part raw) → IfOk result (λ items. IsTrue (list_all is_valid_attribute items)) }
+        ensures valid { IsTrue (list_all is_valid_part raw)
+            → IfOk result (λ items. IsTrue (list_all is_valid_attribute items)) }
     {
         let mut parts = Attrs::new(self.alloc);
         for part in raw.into_vec() {
@@ -151,7 +156,8 @@ impl Lookup<'_> {
 
     fn array(&self, array: ArrayNode) -> Result<ArrayItem, Unmeant>
         ensures found { Finds (meant_array (table_of self.now) array) result }
-        ensures valid { IsTrue (raw.is_valid_array array) → IfOk result (λ item. IsTrue (is_valid_array item)) }
+        ensures valid { IsTrue (raw.is_valid_array array)
+            → IfOk result (λ item. IsTrue (is_valid_array item)) }
     {
         let ArrayNode {
             prefix,
@@ -172,7 +178,8 @@ impl Lookup<'_> {
     /// What the node means.
     pub(crate) fn meant(&self, node: Node) -> Result<Meant, Unmeant>
         ensures found { FindsItems (items_of (table_of self.now) node) result }
-        ensures valid { IsTrue (is_valid_node node) → IfOk result (λ meant. IsTrue (list_all is_valid_item (items_in meant))) }
+        ensures valid { IsTrue (is_valid_node node)
+            → IfOk result (λ meant. IsTrue (list_all is_valid_item (items_in meant))) }
     {
         match node {
             Node::EndElement => Ok(Meant::Item(Item::Close)),

@@ -55,7 +55,8 @@ impl<'s> UnitReader<'s> {
 
     /// Before a payload's first byte, with no strings.
     pub(crate) fn new(alloc: Global, statics: &'s StaticTable, quotas: Quotas, kind: Kind) -> Self
-        ensures at { (x : Settings) → x ≡ record { statics = statics.now; kind = kind; limits = limits_of quotas }
+        ensures at { (x : Settings)
+            → x ≡ record { statics = statics.now; kind = kind; limits = limits_of quotas }
             → IsAt result x (beginning x []) 0 }
     {
         UnitReader {
@@ -188,7 +189,8 @@ impl<'s> UnitReader<'s> {
         requires there { (bytes : List ℕ) × (length bytes ≡ len)
             × Answers (place_of self.old.quotas.depth (position_of self.old.document)) bytes read
             × Wants (place_of self.old.quotas.depth (position_of self.old.document)) bytes read }
-        ensures answers { (x : Settings) (z : Situation) (from : ℕ) (bytes : List ℕ) → IsAt self.old x z from
+        ensures answers { (x : Settings) (z : Situation) (from : ℕ) (bytes : List ℕ)
+            → IsAt self.old x z from
             → Answers (place_of self.old.quotas.depth (position_of self.old.document)) bytes read
             → Wants (place_of self.old.quotas.depth (position_of self.old.document)) bytes read
             → UnitAnswers x z from bytes self.new result }
@@ -240,8 +242,10 @@ impl<'s> UnitReader<'s> {
     pub(crate) fn finish(&mut self) -> Option<Doc>
         ensures document { IsSome result ↔ IsDocument self.old.document }
         ensures same { IfSome result (λ doc. doc ≡ self.old.document) }
-        ensures anew { OnSome result ((self.new.document ≡ []) × (self.new.section ≡ first_section self.old.kind) × (self.new.from ≡ 0)) }
-        ensures unchanged { IfNone result ((self.new.from ≡ self.old.from) × (self.new.document ≡ self.old.document)) }
+        ensures anew { OnSome result ((self.new.document ≡ [])
+            × (self.new.section ≡ first_section self.old.kind) × (self.new.from ≡ 0)) }
+        ensures unchanged { IfNone result ((self.new.from ≡ self.old.from)
+            × (self.new.document ≡ self.old.document)) }
         ensures kept { Keeps self.old self.new }
     {
         let doc = self.document.finish()?;
