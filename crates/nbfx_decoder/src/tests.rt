@@ -472,11 +472,12 @@ fn numbers(rt: HostRuntime) -> Result<(), Fail> {
 
 // What is kept of a payload's first bytes: how many bytes, the content of the items, and how many
 // elements are open.
-fn kept(setting: Setting<'_>, front: &[u8]) -> Option<(u64, u64, u32)>
+fn kept(rt: &impl Abort, setting: Setting<'_>, front: &[u8]) -> Option<(u64, u64, u32)>
     requires { length front.now ≤ setting.quotas.payload }
 {
     let mut decoder = Decoder::new(setting.alloc, setting.statics, setting.quotas, setting.kind);
     decoder.feed(front).ok()?;
+    assert_eq!(rt; decoder.taken() as usize, front.len());
     let kept = decoder.kept();
     Some((kept.raw, kept.content, decoder.depth()))
 }
@@ -504,7 +505,7 @@ fn kept_at_each_byte(rt: HostRuntime) -> Result<(), Fail> {
     for (at, want) in rows.into_iter().enumerate() {
         let front = payload.get(..at + 1).unwrap_or_default();
         assert!(rt; front.len() <= 65_536);
-        assert_eq!(rt; kept(session, front), Some(want), "behind {at}");
+        assert_eq!(rt; kept(&rt, session, front), Some(want), "behind {at}");
     }
     Ok(())
 }
@@ -525,7 +526,7 @@ fn great_lengths(rt: HostRuntime) -> Result<(), Fail> {
     ];
     for (front, raw) in rows {
         assert!(rt; front.len() <= 65_536);
-        assert_eq!(rt; kept(session, front), Some((raw, 1, 1)));
+        assert_eq!(rt; kept(&rt, session, front), Some((raw, 1, 1)));
     }
     Ok(())
 }
