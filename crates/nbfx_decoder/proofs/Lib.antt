@@ -14,6 +14,8 @@ pub mod UnitSteps
 pub mod TakeSteps
 pub mod AllSteps
 pub mod FeedSteps
+-- what those know that call them
+pub mod Feeding
 -- for the laws. TableBytes: a string that is read of a table is what bytes there are. Counts: how
 -- many items and values a node means. UnitCases: which unit was read. Sound: what bounds situations.
 pub mod TableBytes

@@ -20,3 +20,6 @@ mod units;
 
 pub use decoder::Decoder;
 pub use faults::DecodeFault;
+
+#[cfg(test)]
+mod tests;
