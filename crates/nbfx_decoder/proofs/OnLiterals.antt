@@ -1,5 +1,5 @@
 -- What the worked payloads stand on: the definitions that they unfold, a static table, quotas.
-use Rattle.std.proofs.Common.{◌≡◌, ℕ, List, [], ◌∷◌, Option}
+use Rattle.std.proofs.Common.{ℕ, List, [], ◌∷◌}
 use Rattle.std.specs.Prelude.{⊤, codes}
 use Rattle.std.specs.Char.{encode_utf8}
 use Rattle.std.specs.Char.Utf16.{utf16_chars}
@@ -14,7 +14,7 @@ use Rattle.nbfx_records.specs.Kinds.{record_kind}
 use Rattle.nbfx_records.specs.Shapes.{array_at, record_at, shape_at}
 use Rattle.nbfx_records.specs.Contents.{scalar_of, contents}
 use Rattle.nbfx_records.specs.Reading.{node_at}
-use Rattle.nbfx_decoder.specs.Payload.{Refusal, Settings, after, payload, refused, unit_in}
+use Rattle.nbfx_decoder.specs.Payload.{Settings, after, refused, unit_in}
 use Rattle.nbfx_decoder.specs.Tables.{head_at, table_string_at}
 
 -- what a proof unfolds to compute payloads

@@ -1,13 +1,13 @@
 -- A string of a table is read off the front of some bytes.
-use Rattle.std.proofs.Common.{◌≡◌, ℕ, ◌+◌, ◌-◌, ◌<◌, ◌≤◌, min, List, [], ◌∷◌, ◌++◌, length, take, drop, Bool, true, false, Option, Some, None, Result, Ok, Err, refl, sym, ap, ◌∙◌, subst, arith, length-append, length-drop, length-take}
+use Rattle.std.proofs.Common.{◌≡◌, ℕ, ◌+◌, ◌-◌, ◌<◌, ◌≤◌, min, List, ◌++◌, length, take, drop, Bool, true, false, Result, Ok, Err, refl, sym, ap, ◌∙◌, subst, arith, length-append, length-drop, length-take}
 use Rattle.std.specs.Prelude.{max, nat_lt, nat_le, if◌then◌else◌, IsUtf8, IsErrAnd}
 use Rattle.std.specs.Str.{is_utf8}
 use Rattle.std.proofs.lemmas.Bool.{lt-ltb, le-ltb, le-leb, lt-leb, ltb-false, false_from_ne_true}
-use Rattle.std.proofs.lemmas.List.{append-nil, take_min, drop-append-le}
+use Rattle.std.proofs.lemmas.List.{take_min}
 use Rattle.std.proofs.lemmas.Result.{err_from_is_err_and}
 use Rattle.std.proofs.lemmas.Str.{is_utf8-from_IsUtf8, IsUtf8-from_is_utf8}
 use Rattle.unit_streams.specs.Front.{Front, begun, whole, wrong}
-use Rattle.unit_streams.specs.Parts.{some_bytes, further, ◌>>=◌, seen, judged_whole, judged, judged_at, closed_at, within}
+use Rattle.unit_streams.specs.Parts.{further, seen, judged_whole, judged_at, closed_at}
 use Rattle.unit_streams.proofs.Parts.{then_begun, then_whole, then_wrong}
 use Rattle.multibyte_ints.specs.Integer.{int_at}
 use Rattle.multibyte_ints.proofs.IntegerBytes.{int_peels}
@@ -18,7 +18,7 @@ use Rattle.nbfx_decoder.specs.declared.faults.UnitFault.{UnitFault}
 use Rattle.nbfx_decoder.specs.declared.faults.UnitFault.TheVariants.{Refused, Memory}
 use Rattle.nbfx_decoder.specs.declared.strings.Head.{Head}
 use Rattle.nbfx_decoder.specs.declared.strings.StringRead.{StringRead}
-use Rattle.nbfx_decoder.specs.Tables.{TableString, StringHead, table_integer, length_judged, head_at, text_judged, table_text_at, table_string_at}
+use Rattle.nbfx_decoder.specs.Tables.{StringHead, length_judged, head_at, table_text_at, table_string_at}
 use Rattle.nbfx_decoder.specs.Units.{AwaitsBytes, head_seen, HeadStands, StringStands}
 use Rattle.nbfx_decoder.proofs.Readable.{reads_head}
 use Rattle.nbfx_decoder.proofs.Waits.{waits_one}

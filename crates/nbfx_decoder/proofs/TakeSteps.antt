@@ -1,5 +1,5 @@
 -- A decoder takes bytes of one unit.
-use Rattle.std.proofs.Common.{◌≡◌, ℕ, ◌+◌, ◌-◌, ◌<◌, ◌≤◌, inl, inr, List, [], ◌∷◌, ◌++◌, length, take, drop, Option, Some, None, Result, Ok, Err, refl, sym, ap, ◌∙◌, subst, arith, append_assoc, length-append}
+use Rattle.std.proofs.Common.{◌≡◌, ℕ, ◌+◌, ◌-◌, ◌<◌, ◌≤◌, inl, inr, List, [], ◌++◌, length, take, drop, Some, None, Result, Ok, Err, refl, sym, ap, ◌∙◌, subst, arith, append_assoc, length-append}
 use Rattle.std.proofs.Math.Seq.{take-append-add, take-length}
 use Rattle.std.proofs.lemmas.List.{take-append-drop, take-append-le, length-take-le}
 use Rattle.std.specs.Prelude.{IsErrAnd}
@@ -11,7 +11,7 @@ use Rattle.unit_streams.specs.Judging.{refusal_at}
 use Rattle.unit_streams.specs.Going.{IsGoing, IsQuiet}
 use Rattle.unit_streams.proofs.Peeling.{extent, Decides, Leaves}
 use Rattle.unit_streams.proofs.Fronts.{left_begun, leaves_or_decides}
-use Rattle.unit_streams.proofs.Passing.{given_none, leaves_quiet, leaves_standing, whole_standing, whole_refusal, whole_quiet, whole_going, wrong_standing, wrong_quiet, wrong_refusal}
+use Rattle.unit_streams.proofs.Passing.{given_none, leaves_quiet, leaves_standing, whole_standing, whole_refusal, whole_quiet, wrong_standing, wrong_quiet, wrong_refusal}
 use Rattle.unit_streams.proofs.Quiet.{quiet_behind}
 use Rattle.unit_streams.proofs.Standing.{standing_length}
 use Rattle.std.specs.Option.{option_or}

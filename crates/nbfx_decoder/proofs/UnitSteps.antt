@@ -1,10 +1,10 @@
 -- A unit is read where all its bytes are there.
-use Rattle.std.proofs.Common.{◌≡◌, ℕ, zero, suc, ◌+◌, ◌-◌, ◌^◌, ◌<◌, ◌≤◌, inl, inr, List, [], ◌∷◌, ◌++◌, length, true, Option, Some, None, Result, Ok, Err, refl, sym, ap, ◌∙◌, subst, arith, append_assoc}
+use Rattle.std.proofs.Common.{◌≡◌, ℕ, zero, suc, ◌+◌, ◌-◌, ◌^◌, ◌<◌, ◌≤◌, inl, inr, List, [], ◌∷◌, ◌++◌, length, true, Option, Some, None, Result, Err, refl, sym, ap, ◌∙◌, subst, arith, append_assoc}
 use Rattle.std.specs.Prelude.{IsErrAnd, IsErrOf}
 use Rattle.std.specs.List.{list_all}
 use Rattle.std.proofs.lemmas.Bool.{lt-ltb, le-ltb}
 use Rattle.std.proofs.lemmas.Result.{err_from_is_err_and}
-use Rattle.unit_streams.specs.Front.{Front, begun, whole, wrong, ReadsFront}
+use Rattle.unit_streams.specs.Front.{Front, begun, whole, wrong}
 use Rattle.unit_streams.specs.Parts.{seen}
 use Rattle.unit_streams.proofs.Peeling.{peels_front}
 use Rattle.unit_streams.proofs.Fronts.{whole_some}
@@ -48,8 +48,8 @@ use Rattle.nbfx_decoder.specs.declared.units.UnitRead.{UnitRead}
 use Rattle.nbfx_decoder.specs.declared.units.UnitReader.{UnitReader}
 use Rattle.nbfx_decoder.specs.Sections.{section_of, left_in}
 use Rattle.nbfx_decoder.specs.Faults.{reason_of, unread}
-use Rattle.nbfx_decoder.specs.Tables.{TableString, table_integer, table_string_at}
-use Rattle.nbfx_decoder.specs.Payload.{Settings, Situation, PayloadUnit, table_size, table_string, node, Refusal, refusal, place_of, room_for, node_behind, unit_of, unit_in, table_in, reason_in, added, after, refused}
+use Rattle.nbfx_decoder.specs.Tables.{TableString, table_string_at}
+use Rattle.nbfx_decoder.specs.Payload.{Settings, Situation, table_size, table_string, node, refusal, place_of, room_for, unit_of, unit_in, table_in, reason_in, added, after, refused}
 use Rattle.nbfx_decoder.specs.Units.{AwaitsBytes, HasStrings, Keeps, IsAt, StringStands, AddAnswers, UnitAnswers}
 use Rattle.nbfx_decoder.proofs.Readable.{reads_string, no_string}
 use Rattle.nbfx_decoder.proofs.Places.{stands_behind}

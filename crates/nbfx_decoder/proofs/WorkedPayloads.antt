@@ -1,5 +1,5 @@
 -- Worked payloads that are documents, computed by the definitions.
-use Rattle.std.proofs.Common.{◌≡◌, ℕ, List, [], ◌∷◌, refl}
+use Rattle.std.proofs.Common.{ℕ, List, [], ◌∷◌, refl}
 use Rattle.std.specs.Prelude.{codes, pos, negsuc}
 use Rattle.nbfx_values.specs.declared.content.ArrayKind.TheVariants.{Int32}
 use Rattle.nbfx_values.specs.declared.content.Item.{Item}

@@ -11,8 +11,6 @@ use Rattle.session_dictionary.specs.Strings.{LimitedStrings}
 use Rattle.nbfx_decoder.specs.declared.decoder.Decoder.{Decoder}
 use Rattle.nbfx_decoder.specs.declared.faults.DecodeFault.{DecodeFault}
 use Rattle.nbfx_decoder.specs.declared.faults.DecodeFault.TheVariants.{Payload, Memory}
-use Rattle.nbfx_decoder.specs.declared.faults.UnitFault.{UnitFault}
-use Rattle.nbfx_decoder.specs.declared.faults.UnitFault.TheVariants as faults
 use Rattle.nbfx_decoder.specs.Payload.{Settings, Situation, refusal, unit_in, payload}
 use Rattle.nbfx_decoder.specs.Units.{AwaitsBytes, HasStrings, IsAt}
 

@@ -1,6 +1,6 @@
 -- What a reader of units answers. The public contracts cite of it, through Standing, where a unit
 -- may come, what it waits for and the strings that it has read.
-use Rattle.std.specs.Prelude.{◌≡◌, ⊤, ℕ, ◌+◌, ◌-◌, ◌<◌, ◌≤◌, ◌⊎◌, max, List, ◌++◌, length, Option, Some, None, Result, Ok, Err}
+use Rattle.std.specs.Prelude.{◌≡◌, ℕ, ◌+◌, ◌-◌, ◌<◌, ◌≤◌, ◌⊎◌, max, List, ◌++◌, length, Option, Some, None, Result, Ok, Err}
 use Rattle.unit_streams.specs.Front.{Front, begun, whole, wrong}
 use Rattle.nbfx_values.specs.QuotasOf.{limits_of}
 use Rattle.string_tables.specs.SessionStrings.{cost}

@@ -1,4 +1,4 @@
-use Rattle.std.proofs.Common.{◌≡◌, ◌∙◌, ap, Err}
+use Rattle.std.proofs.Common.{◌∙◌, ap, Err}
 use Rattle.nbfx_decoder.proofs.FeedSteps.{settings_kept, failure_is, unfailed_stands, unfailed_failure, same_failure, few_bytes, reached_of, answer_goes_on, stands_behind, answer_fault, failed_within}
 use Rattle.nbfx_decoder.proofs.decoder.Decoder.feed.Goals as goal
 

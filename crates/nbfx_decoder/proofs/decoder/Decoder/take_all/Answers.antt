@@ -1,4 +1,4 @@
-use Rattle.std.proofs.Common.{◌≡◌, ◌++◌, ◌∙◌, ℕ, List, Ok, Err, length, take, ap, subst, arith, length-drop}
+use Rattle.std.proofs.Common.{◌++◌, ◌∙◌, ℕ, List, Ok, Err, length, take, ap, subst, arith, length-drop}
 use Rattle.nbfx_decoder.specs.Taking.{TakeAnswers}
 use Rattle.nbfx_decoder.proofs.AllSteps.{rest_of, taken_more, taken_fault}
 use Rattle.nbfx_decoder.proofs.decoder.Decoder.take_all.Goals as goal

@@ -1,4 +1,4 @@
-use Rattle.std.proofs.Common.{◌≡◌, ◌+◌, ◌<◌, ◌≤◌, ◌∙◌, List, [], ℕ, Ok, length, take, refl, sym, ap, arith, length-append}
+use Rattle.std.proofs.Common.{◌≡◌, ◌+◌, ◌∙◌, Ok, length, take, refl, ap, arith, length-append}
 use Rattle.std.proofs.lemmas.List.{length-take-le}
 use Rattle.nbfx_decoder.specs.declared.units.UnitRead.TheVariants.{More, Done}
 use Rattle.nbfx_decoder.specs.Units.{Counts, UnitAnswers}

@@ -1,4 +1,4 @@
-use Rattle.std.proofs.Common.{◌∙◌, sym, arith}
+use Rattle.std.proofs.Common.{arith}
 use Rattle.nbfx_decoder.proofs.FeedSteps.{stands_as, taken_as, counts_taken, payload_small}
 use Rattle.nbfx_decoder.proofs.decoder.Decoder.taken.Goals as goal
 

@@ -1,4 +1,4 @@
-use Rattle.std.proofs.Common.{◌≡◌, ◌∙◌, List, ℕ, Result, Ok, ap, subst, arith}
+use Rattle.std.proofs.Common.{◌≡◌, ◌∙◌, Result, Ok, ap, subst, arith}
 use Rattle.nbfx_values.specs.Positions.{position_of}
 use Rattle.nbfx_records.specs.declared.read.NodeRead.{NodeRead}
 use Rattle.nbfx_records.specs.declared.read.NodeRead.TheVariants.{More, Done}

@@ -1,7 +1,6 @@
 use Rattle.std.proofs.Common.{◌∙◌, inl, arith}
 use Rattle.nbfx_decoder.specs.Payload.{table_size}
-use Rattle.nbfx_decoder.specs.Units.{Counts}
-use Rattle.nbfx_decoder.proofs.UnitSteps.{integer_size, size_unrefused, set_kept, size_whole, size_bad, size_waits, behind_size}
+use Rattle.nbfx_decoder.proofs.UnitSteps.{integer_size, size_unrefused, size_whole, size_bad, size_waits, behind_size}
 use Rattle.nbfx_decoder.proofs.units.UnitReader.table_size.Goals as goal
 
 pub pass-requires : goal.pass-requires

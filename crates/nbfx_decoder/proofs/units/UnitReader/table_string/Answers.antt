@@ -1,4 +1,4 @@
-use Rattle.std.proofs.Common.{◌≡◌, ◌-◌, ◌∙◌, ℕ, Ok, ap, arith}
+use Rattle.std.proofs.Common.{◌-◌, ◌∙◌, Ok, ap, arith}
 use Rattle.nbfx_decoder.specs.Tables.{TableString}
 use Rattle.nbfx_decoder.specs.Sections.{section_of}
 use Rattle.nbfx_decoder.specs.Payload.{table_string}
