@@ -13,7 +13,7 @@ use Rattle.dump_replay.specs.Laws.{ClosedOrRefused}
 use Rattle.dump_replay.specs.Sessions.{IsClosed}
 use Rattle.dump_replay.specs.Report.{report}
 use Rattle.dump_replay.specs.Running.{IsCheck, status_of, is_session_too_long}
-use Rattle.dump_replay.specs.Checking.{Judges, Reports, status_at}
+use Rattle.dump_replay.specs.Reading.{Judges, Reports, status_at}
 
 -- a status that is one of three is another, where that is the same whichever it is
 pub same_of : (status other : ℕ) {a b d : ℕ} → (status ≡ a) ⊎ (status ≡ b) ⊎ (status ≡ d)

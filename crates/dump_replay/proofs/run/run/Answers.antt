@@ -1,6 +1,6 @@
 use Rattle.std.proofs.Common.{◌≡◌, inl, inr, Some, ap, sym, ◌∙◌}
 use Rattle.dump_replay.specs.Stream.{usual}
-use Rattle.dump_replay.specs.Checking.{status_at}
+use Rattle.dump_replay.specs.Reading.{status_at}
 use Rattle.dump_replay.proofs.CheckSteps.{usual_set}
 use Rattle.dump_replay.proofs.Closed.{none_is_closed}
 use Rattle.dump_replay.proofs.RunSteps.{same_of, status_closed, status_ended, status_offended, status_reported, status_judged, status_broken, status_cut}
