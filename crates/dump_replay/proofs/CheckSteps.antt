@@ -25,8 +25,8 @@ use Rattle.dump_replay.specs.declared.check.Ending.TheVariants as endings
 use Rattle.dump_replay.specs.Stream.{Settings, initiators, IsInitiators, usual, beginning, ends, too_long, stream}
 use Rattle.dump_replay.specs.Judging.{offence}
 use Rattle.dump_replay.specs.Report.{history_lines, report, event_lines}
-use Rattle.dump_replay.specs.Checking.{Judges, Reports, Decides, Breaks, Grows, Reaches}
-use Rattle.dump_replay.specs.Reading.{HasRead, SaysOf, WritesOf, stopped_by}
+use Rattle.dump_replay.specs.Checking.{Decides, Breaks, Grows, Reaches}
+use Rattle.dump_replay.specs.Reading.{HasRead, SaysOf, WritesOf, stopped_by, Judges, Reports}
 use Rattle.dump_replay.proofs.Initiators.{set_so}
 use Rattle.dump_replay.proofs.Grammar.{within_quota, readable, short_enough}
 use Rattle.dump_replay.proofs.Ending.{tells}

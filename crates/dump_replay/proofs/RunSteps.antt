@@ -13,7 +13,14 @@ use Rattle.dump_replay.specs.Laws.{ClosedOrRefused}
 use Rattle.dump_replay.specs.Sessions.{IsClosed}
 use Rattle.dump_replay.specs.Report.{report}
 use Rattle.dump_replay.specs.Running.{IsCheck, status_of, is_session_too_long}
-use Rattle.dump_replay.specs.Checking.{Judges, Reports, status_at}
+use Rattle.dump_replay.specs.Reading.{Judges, Reports, status_at}
+
+-- a status that is one of three is another, where that is the same whichever it is
+pub same_of : (status other : ℕ) {a b d : ℕ} → (status ≡ a) ⊎ (status ≡ b) ⊎ (status ≡ d)
+    → (status ≡ a → other ≡ a) → (status ≡ b → other ≡ b) → (status ≡ d → other ≡ d) → other ≡ status
+same_of status other (inl e) one two three = one e ∙ sym e
+same_of status other (inr (inl e)) one two three = two e ∙ sym e
+same_of status other (inr (inr e)) one two three = three e ∙ sym e
 
 -- a refusal has one of two statuses
 refused_status : (o : Offence) (n : ℕ) → status_of (Some o) ≡ n → (n ≡ 10) ⊎ (n ≡ 1)

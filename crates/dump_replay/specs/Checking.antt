@@ -1,25 +1,12 @@
 -- What a check of a stream has read and written, however it ends.
 use Rattle.std.specs.Prelude.{◌≡◌, ℕ, ◌≤◌, ◌⊎◌, List, [], ◌++◌, length, Option}
-use Rattle.io_edges.specs.Flow.{Told, GrowsByPrefix}
+use Rattle.io_edges.specs.Flow.{Told}
 use Rattle.unit_streams.specs.Going.{IsPending}
 use Rattle.nbfx_values.specs.declared.refusals.Offence.{Offence}
 use Rattle.dump_replay.specs.declared.check.TheConstants.{ROOM}
-use Rattle.dump_replay.specs.declared.check.Ending.{Ending}
-use Rattle.dump_replay.specs.declared.check.Ending.TheVariants as endings
 use Rattle.dump_replay.specs.Stream.{Settings, stream}
 use Rattle.dump_replay.specs.Judging.{offence}
 use Rattle.dump_replay.specs.Report.{report, event_lines}
-use Rattle.dump_replay.specs.Running.{status_of}
-
--- a judgement is the stream's offence
-abbrev pub Judges : Settings → List ℕ → Ending → Type 0
-Judges x bytes (endings.Judged o) = offence x bytes ≡ o
-Judges x bytes _ = Unit {0}
-
--- what is written of the stream: its report, or the first bytes of it
-abbrev pub Reports : Settings → List ℕ → List ℕ → List ℕ → Ending → Type 0
-Reports x bytes w w' (endings.Judged o) = w' ≡ w ++ report x bytes
-Reports x bytes w w' _ = GrowsByPrefix w w' (report x bytes)
 
 -- what was read and written where reading failed: bytes of which no prefix is refused or ends the session, and the lines of their
 -- events
@@ -55,10 +42,3 @@ pub record Decides (x : Settings) (judged : Option Offence) (left left' taken ta
   pub stream : Told left left' (λ all rest. (all ≡ bytes ++ rest) × ((rest ≡ []) ⊎ ((more : List ℕ) → offence x (bytes ++ more) ≡ judged)))
   pub took : Told taken taken' (λ t t'. t' ≡ t ++ bytes)
   pub wrote : Told written written' (λ w w'. w' ≡ w ++ report x bytes)
-
--- the status of an ending
-abbrev pub status_at : Ending → ℕ
-status_at (endings.Judged o) = status_of o
-status_at endings.ReadFault = 3
-status_at endings.WriteFault = 4
-status_at endings.Memory = 5

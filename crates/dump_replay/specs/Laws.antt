@@ -1,4 +1,5 @@
--- What holds of initiator's streams by their definitions alone.
+-- What holds of streams by their definitions alone, whatever the settings. What is said of sessions,
+-- and of streams that are cut off, is said of an initiator's stream in duplex mode.
 use Rattle.std.specs.Prelude.{◌≡◌, ◌≤◌, ◌<◌, ℕ, List, ◌++◌, length, take, false, Some, None, ◌↔◌, ◌⊎◌}
 use Rattle.std.specs.List.{flat_map}
 use Rattle.unit_streams.specs.Judging.{refusal_at, is_over_at, ending_at, events, answer, offends}

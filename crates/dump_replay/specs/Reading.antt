@@ -11,6 +11,7 @@ use Rattle.dump_replay.specs.declared.check.Ending.TheVariants as endings
 use Rattle.dump_replay.specs.Stream.{Settings, stream}
 use Rattle.dump_replay.specs.Judging.{offence}
 use Rattle.dump_replay.specs.Report.{report, event_lines}
+use Rattle.dump_replay.specs.Running.{status_of}
 
 -- an end that stands for such bytes has read p, of which no shorter prefix is refused or ends the session
 pub record HasRead (stands : List ℕ → Type 0) (x : Settings) (p : List ℕ) : Type 0 where
@@ -33,3 +34,20 @@ WritesOf x p y w w' (Err fault) = (more : List ℕ) → GrowsByPrefix w w' (repo
 abbrev pub stopped_by : SinkFault → Ending
 stopped_by faults.Failed = endings.WriteFault
 stopped_by faults.Memory = endings.Memory
+
+-- a judgement is the stream's offence
+abbrev pub Judges : Settings → List ℕ → Ending → Type 0
+Judges x bytes (endings.Judged o) = offence x bytes ≡ o
+Judges x bytes _ = Unit {0}
+
+-- what is written of the stream: its report, or the first bytes of it
+abbrev pub Reports : Settings → List ℕ → List ℕ → List ℕ → Ending → Type 0
+Reports x bytes w w' (endings.Judged o) = w' ≡ w ++ report x bytes
+Reports x bytes w w' _ = GrowsByPrefix w w' (report x bytes)
+
+-- the status of an ending
+abbrev pub status_at : Ending → ℕ
+status_at (endings.Judged o) = status_of o
+status_at endings.ReadFault = 3
+status_at endings.WriteFault = 4
+status_at endings.Memory = 5

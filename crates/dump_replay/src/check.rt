@@ -10,8 +10,8 @@ ghost use Rattle.dump_replay.specs.Stream.{usual, StreamEvent, stream};
 ghost use Rattle.dump_replay.specs.Judging.{offence};
 ghost use Rattle.dump_replay.specs.Report.{event_line, event_lines, report};
 ghost use Rattle.dump_replay.specs.Saying.{step_for};
-ghost use Rattle.dump_replay.specs.Checking.{Judges, Reports, Decides, Breaks, Reaches, Grows};
-ghost use Rattle.dump_replay.specs.Reading.{HasRead, SaysOf, WritesOf, stopped_by};
+ghost use Rattle.dump_replay.specs.Checking.{Decides, Breaks, Reaches, Grows};
+ghost use Rattle.dump_replay.specs.Reading.{HasRead, SaysOf, WritesOf, stopped_by, Judges, Reports};
 
 use crate::output::put_line;
 use crate::reading::ReadingEnd;

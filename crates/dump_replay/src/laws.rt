@@ -2,7 +2,7 @@
 //! law, which a caller has where it calls the function. What a law says of sessions, or of a stream
 //! that is cut off, it says of settings for an initiator's stream in duplex mode.
 
-ghost use Rattle.unit_streams.specs.Laws.{StandingsGoOn, AnswersAreFirst, CutsChangeNothing, HistoryIsAnswers, NoUnitGoesOn, EndsAreClosed, OffencesAreFirst, AcceptedOrOffended};
+ghost use Rattle.unit_streams.specs.Laws.{StandingsGoOn, AnswersAreFirst, CutsChangeNothing, HistoryIsAnswers, PendingHistories, NoUnitGoesOn, EndsAreClosed, OffencesAreFirst, AcceptedOrOffended};
 ghost use Rattle.unit_streams.specs.Refusals.{RefusalsAreThree};
 ghost use Rattle.dump_replay.specs.Stream.{Settings, stream};
 ghost use Rattle.dump_replay.specs.Laws.{ClosedOrRefused, SessionsAreScripts, ReportsEvents, ReportsSessions, ThreeReasons, UnbuiltByRecord, UnbuiltFirst, TooLargeByHead, TooLargeFirst, TooLongByLength, TooLongAtQuota, NoPieceCutsOff, CutOffByEnd, EndCutsOff, CutOffUnrefused};
@@ -42,11 +42,13 @@ pub fn units()
 {}
 
 /// A piece is answered by the first event or refusal that a byte of it brings. Where pieces are cut
-/// changes nothing, and a stream's history is what a reader is answered, piece by piece.
+/// changes nothing, and a stream's history is what a reader is answered, piece by piece. That of bytes
+/// of which no prefix is refused or ends the stream is their events, and then what their end brings.
 pub fn answers()
     ensures are_first { (x : Settings) → AnswersAreFirst (stream x) }
     ensures cuts_change_nothing { (x : Settings) → CutsChangeNothing (stream x) }
     ensures make_the_history { (x : Settings) → HistoryIsAnswers (stream x) }
+    ensures so_far { (x : Settings) → PendingHistories (stream x) }
 {}
 
 /// A stream's offence is the first refusal of a prefix, or else its end's. A prefix is refused by

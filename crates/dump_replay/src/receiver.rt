@@ -140,8 +140,8 @@ impl Receiver {
         ensures taken { taken_of self.new ≡ taken_of self.old }
         ensures settings { settings_of self.new ≡ settings_of self.old }
     {
-        if let Some(offence) = self.failure {
-            return Err(offence);
+        if let Some(refusal) = self.failure {
+            return Err(refusal);
         }
         if self.has_ended() {
             return Ok(());

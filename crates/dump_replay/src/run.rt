@@ -10,7 +10,8 @@ ghost use Rattle.dump_replay.specs.Sessions.{IsClosed};
 ghost use Rattle.dump_replay.specs.Report.{report};
 ghost use Rattle.dump_replay.specs.Stream.{usual};
 ghost use Rattle.dump_replay.specs.Running.{IsCheck, IsStatus, status_of, note_of, is_session_too_long};
-ghost use Rattle.dump_replay.specs.Checking.{status_at, Decides, Breaks, Reaches};
+ghost use Rattle.dump_replay.specs.Checking.{Decides, Breaks, Reaches};
+ghost use Rattle.dump_replay.specs.Reading.{status_at};
 
 use crate::check::{self, Ending};
 use io_edges::{Sink, Source};

@@ -1,6 +1,7 @@
+-- cited by public contracts
 pub mod Adapters
 pub mod Faults
 pub mod Flow
 pub mod InMemory
-pub mod Plan
 pub mod Store
+pub mod Plan

@@ -1,3 +1,5 @@
+//! A shelf over the system's files.
+
 ghost use Rattle.std.specs.Prelude.{◌≡◌, ◌≤◌, ◌<◌, ◌^◌, ◌++◌, length, None, OnOk, OnErr, IfOk, IfSome, IsErrOf, IsOkUnless, Result};
 ghost use Rattle.std.specs.declared.io.Error.{Error};
 ghost use Rattle.std.specs.Io.KnownBytes.{Consumes, IsAtEnd};

@@ -1,3 +1,5 @@
+//! A shelf in memory, whose calls fail as planned.
+
 ghost use Rattle.std.specs.Prelude.{◌≡◌, ◌<◌, ◌^◌, true, false, Some, OnOk, IfOk, IsErrOf, IsOkUnless};
 ghost use Rattle.std.specs.Option.{option_map};
 ghost use Rattle.std.specs.BTreeMap.{get_by_text};

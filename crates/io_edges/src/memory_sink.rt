@@ -1,3 +1,5 @@
+//! A sink in memory, whose calls fail as planned.
+
 ghost use Rattle.std.specs.Prelude.{◌≡◌, ◌<◌, ◌^◌, ◌++◌, take, true, false, Some, OnOk, IsErrOf};
 ghost use Rattle.io_edges.specs.Plan.{is_due, counted, after_call};
 ghost use Rattle.io_edges.specs.InMemory.{new_sink};

@@ -1,3 +1,5 @@
+//! A source in memory, whose calls fail as planned.
+
 ghost use Rattle.std.specs.Prelude.{◌≡◌, ◌≤◌, ◌<◌, ◌^◌, ◌++◌, ℕ, length, take, drop, Some, min, IsErr, IsTrue, IfOk, OnErr, ◌↔◌};
 ghost use Rattle.io_edges.specs.Plan.{is_due};
 ghost use Rattle.io_edges.specs.InMemory.{new_source, next_count, after_take};

@@ -1,3 +1,5 @@
+//! A sink in memory that never fails by the outside.
+
 ghost use Rattle.std.specs.Prelude.{◌≡◌, [], ◌++◌, true, Some, OnOk, IsOkUnless, OnErr};
 
 use crate::{Sink, SinkFault};

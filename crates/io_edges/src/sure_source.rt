@@ -1,3 +1,5 @@
+//! A source in memory that never fails.
+
 ghost use Rattle.std.specs.Prelude.{◌≡◌, ◌++◌, length, take, drop, Some, min, IsOk, IfOk};
 ghost use Rattle.io_edges.specs.InMemory.{new_tape, advanced};
 

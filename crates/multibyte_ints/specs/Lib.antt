@@ -1,8 +1,10 @@
+-- cited by public contracts
 pub mod Integer
 pub mod Text
 pub mod Laws
-pub mod IntState
 pub mod Reader
 pub mod AtFront
-pub mod TextPart
 pub mod TextReader
+-- cited by private calls, and inside readers
+pub mod IntState
+pub mod TextPart

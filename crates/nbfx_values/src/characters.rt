@@ -1,3 +1,5 @@
+//! The characters of a value.
+
 ghost use Rattle.std.specs.Prelude.{◌≡◌, ◌≤◌, ◌+◌, ◌∷◌, IfOk, IsTrue};
 ghost use Rattle.uuid.specs.Parts.{swap_fields};
 ghost use Rattle.uuid.specs.Text.{hyphenated_text, lower, urn_text};

@@ -1,3 +1,5 @@
+//! The items of documents, and which of them are valid.
+
 ghost use Rattle.std.specs.Prelude.{◌≡◌};
 ghost use Rattle.std.specs.List.{list_all};
 ghost use Rattle.nbfx_values.specs.Items as spec;

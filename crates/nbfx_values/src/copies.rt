@@ -1,3 +1,5 @@
+//! Copies, which may want memory.
+
 ghost use Rattle.std.specs.Prelude.{◌≡◌, IfOk};
 
 use unit_streams::Memory;

@@ -1,3 +1,5 @@
+//! Quotas, and what a reading end holds against them.
+
 ghost use Rattle.nbfx_values.specs.Limits.{IsGood, limits};
 
 // The quotas of a stack that nobody has set otherwise.

@@ -1,3 +1,5 @@
+//! Lists that contracts see as their values.
+
 ghost use Rattle.std.specs.Prelude.{◌≡◌, [], ◌∷◌, ◌++◌, OnErr, OnOk, length, slice_get};
 ghost use Rattle.std.specs.Option.{option_copied};
 

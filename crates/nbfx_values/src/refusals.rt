@@ -1,3 +1,5 @@
+//! Why a stream is refused, and where.
+
 ghost use Rattle.std.specs.Prelude.{◌≡◌};
 ghost use Rattle.nbfx_values.specs.Refusals.{reason_name, reason_number};
 

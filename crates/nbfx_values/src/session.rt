@@ -1,3 +1,5 @@
+//! The modes and encodings of sessions.
+
 ghost use Rattle.std.specs.Prelude.{◌≡◌, ◌≢◌, IfNone, IfSome};
 ghost use Rattle.nbfx_values.specs.declared.session.Kind.{Kind};
 ghost use Rattle.nbfx_values.specs.declared.session.Mode.{Mode};

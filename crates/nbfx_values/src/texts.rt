@@ -1,3 +1,5 @@
+//! Texts and bytes.
+
 ghost use Rattle.std.specs.Prelude.{◌≡◌, IfOk, IsTrue, string_bytes};
 ghost use Rattle.std.specs.Str.{is_utf8};
 

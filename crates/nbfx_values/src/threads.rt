@@ -1,3 +1,5 @@
+//! Which types may move between threads, and which may be shared.
+
 use crate::builder::DocBuilder;
 use crate::content::Items;
 use crate::document::{Doc, Docs};
@@ -7,8 +9,7 @@ fn moves<T: Send>() {}
 
 fn is_shared<T: Sync>() {}
 
-// Which types may move between threads, and which may be shared. A type that may not fails here,
-// and not at the first thread that takes it.
+// A type that may not fails here, and not at the first thread that takes it.
 fn move_and_share() {
     moves::<Doc>();
     moves::<Docs>();

@@ -18,8 +18,7 @@ use Rattle.nmf_records.specs.declared.frame.Expect.{Expect}
 use Rattle.nmf_records.specs.declared.frame.Expect.TheVariants.{Types, Chunk}
 use Rattle.nmf_records.specs.declared.frame.FrameFault.{FrameFault}
 use Rattle.nmf_records.specs.declared.frame.FrameFault.TheVariants as faults
-use Rattle.nmf_records.specs.Reading.{text_at, typed_at, allows, record_at, frame_at, as_text}
-use Rattle.nmf_records.specs.Steps.{begins_text}
+use Rattle.nmf_records.specs.Reading.{text_at, typed_at, allows, record_at, frame_at, as_text, begins_text}
 use Rattle.nmf_records.specs.Laws.{BeginsUnknown, BeginsUnexpected, has_no_frame, has_integer, IntegerComes, HasLongText, HasBadText}
 use Rattle.nmf_records.proofs.Typed.{allowed_reads}
 use Rattle.nmf_records.proofs.Causes.{HasCause}

@@ -12,9 +12,8 @@ use Rattle.nmf_records.specs.declared.stage.Stage.{Stage}
 use Rattle.nmf_records.specs.declared.stage.Stage.TheVariants as stages
 use Rattle.nmf_records.specs.declared.reader.FrameReader.{FrameReader}
 use Rattle.nmf_records.specs.Records.{Read}
-use Rattle.nmf_records.specs.Reading.{frame_at}
-use Rattle.nmf_records.specs.Steps.{HasShape, begins_text, kind_of_text}
-use Rattle.nmf_records.specs.Reader.{StandsFor, ShowsText, HoldsText, text_after, text_read, limit_of, pending_of, failure_of, refusal_in}
+use Rattle.nmf_records.specs.Reading.{frame_at, begins_text}
+use Rattle.nmf_records.specs.Reader.{StandsFor, ShowsText, HoldsText, text_after, text_read, limit_of, pending_of, failure_of, refusal_in, HasShape, kind_of_text}
 use Rattle.unit_streams.proofs.Peeling.{goes_on, decided_some}
 use Rattle.nmf_records.proofs.Frames.{frame_peels}
 use Rattle.nmf_records.proofs.Showing.{plain_shows, field_head, size_head, text_shows}

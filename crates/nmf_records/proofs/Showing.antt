@@ -22,9 +22,9 @@ use Rattle.nmf_records.specs.declared.stage.Progress.{Progress}
 use Rattle.nmf_records.specs.declared.stage.Progress.TheVariants.{Going, Done, Wrong}
 use Rattle.nmf_records.specs.declared.reader.FrameReader.{FrameReader}
 use Rattle.nmf_records.specs.Records.{Read}
-use Rattle.nmf_records.specs.Reading.{with_text, allows, fault_of, text_at, frame_at, as_text}
-use Rattle.nmf_records.specs.Steps.{HasShape, Meets, begins_text, is_text_start, kind_of_text, texted}
-use Rattle.nmf_records.specs.Reader.{ShowsText, text_after, text_read, limit_of}
+use Rattle.nmf_records.specs.Reading.{with_text, allows, fault_of, text_at, frame_at, as_text, begins_text}
+use Rattle.nmf_records.specs.Steps.{Meets, is_text_start, texted}
+use Rattle.nmf_records.specs.Reader.{ShowsText, text_after, text_read, limit_of, HasShape, kind_of_text}
 use Rattle.nmf_records.specs.Advancing.{BeginsAnew, TextAnswers, Progresses}
 use Rattle.unit_streams.proofs.Behind.{behind_begun}
 use Rattle.multibyte_ints.proofs.TextBytes.{string_peels}

@@ -1,7 +1,9 @@
+-- cited by public contracts
 pub mod Records
 pub mod Reading
-pub mod Steps
 pub mod Reader
-pub mod Advancing
 pub mod Script
 pub mod Laws
+-- cited by private calls
+pub mod Steps
+pub mod Advancing

@@ -1,21 +1,26 @@
 -- What a reader of records stands for, and what it answers. It keeps of the bytes that it used no more than a text.
-use Rattle.std.specs.Prelude.{◌≡◌, ℕ, ◌+◌, List, [], ◌++◌, length, drop, if◌then◌else◌, Option, Some, None, Result, Ok, Err}
+use Rattle.std.specs.Prelude.{◌≡◌, ℕ, ◌+◌, List, [], ◌∷◌, ◌++◌, length, drop, if◌then◌else◌, Option, Some, None, Result, Ok, Err}
 use Rattle.unit_streams.specs.Front.{Front, begun, whole, wrong}
 use Rattle.multibyte_ints.specs.declared.text.StringReader.{StringReader}
 use Rattle.multibyte_ints.specs.Text.{string_at}
 use Rattle.multibyte_ints.specs.Reader.{StandsFor as IntStandsFor}
 use Rattle.multibyte_ints.specs.TextReader.{StringStandsFor, text_of, limit_of as text_limit_of, held_of as text_held_of}
+use Rattle.nmf_records.specs.declared.record_types.TheConstants.{VERSION, MODE, VIA, KNOWN_ENCODING, SIZED_ENVELOPE, FAULT}
 use Rattle.nmf_records.specs.declared.frame.Expect.{Expect}
+use Rattle.nmf_records.specs.declared.frame.Expect.TheVariants as expects
 use Rattle.nmf_records.specs.declared.frame.FrameStep.{FrameStep}
 use Rattle.nmf_records.specs.declared.frame.FrameStep.TheVariants.{More, Done}
 use Rattle.nmf_records.specs.declared.frame.FrameFault.{FrameFault}
 use Rattle.nmf_records.specs.declared.frame.FrameRefusal.{FrameRefusal}
+use Rattle.nmf_records.specs.declared.stage.TextRecord.{TextRecord}
+use Rattle.nmf_records.specs.declared.stage.TextRecord.TheVariants as texts
+use Rattle.nmf_records.specs.declared.stage.SizeRecord.TheVariants as sizes
+use Rattle.nmf_records.specs.declared.stage.Field.TheVariants as fields
 use Rattle.nmf_records.specs.declared.stage.Stage.{Stage}
 use Rattle.nmf_records.specs.declared.stage.Stage.TheVariants as stages
 use Rattle.nmf_records.specs.declared.reader.FrameReader.{FrameReader}
 use Rattle.nmf_records.specs.Records.{Read}
-use Rattle.nmf_records.specs.Reading.{with_text, frame_at}
-use Rattle.nmf_records.specs.Steps.{HasShape, size_bytes, begins_text}
+use Rattle.nmf_records.specs.Reading.{with_text, frame_at, begins_text}
 
 -- the greatest length of a text that the reader takes
 unfoldable pub limit_of : FrameReader → ℕ
@@ -37,6 +42,29 @@ refusal_in _ shown_by = None
 -- the refusal that it answers from now on
 unfoldable pub failure_of : FrameReader → Option FrameRefusal
 failure_of reader = refusal_in reader.stage reader.pending
+
+-- the type byte of a record with a text
+abbrev pub kind_of_text : TextRecord → ℕ
+kind_of_text texts.Via = VIA
+kind_of_text texts.Fault = FAULT
+
+-- the bytes at this stage
+abbrev pub HasShape : Expect → Stage → List ℕ → Type 0
+HasShape expect stages.Type p = p ≡ []
+HasShape expect (stages.Field fields.Major) p = p ≡ VERSION ∷ []
+HasShape expect (stages.Field (fields.Minor major)) p = p ≡ VERSION ∷ major ∷ []
+HasShape expect (stages.Field fields.Mode) p = p ≡ MODE ∷ []
+HasShape expect (stages.Field fields.Encoding) p = p ≡ KNOWN_ENCODING ∷ []
+HasShape expect (stages.Text record_of) p = p ≡ kind_of_text record_of ∷ drop 1 p
+HasShape expect (stages.Size sizes.SizedEnvelope) p = p ≡ SIZED_ENVELOPE ∷ drop 1 p
+HasShape expect (stages.Size sizes.Chunk) p = expect ≡ expects.Chunk
+HasShape expect (stages.Failed fault) p = ⊥
+
+-- of the bytes at this stage, those of a size that has begun
+abbrev pub size_bytes : Stage → List ℕ → List ℕ
+size_bytes (stages.Size sizes.SizedEnvelope) p = drop 1 p
+size_bytes (stages.Size sizes.Chunk) p = p
+size_bytes _ p = []
 
 -- the reader of texts has the bytes of one that has begun
 abbrev pub HoldsText : Stage → StringReader → List ℕ → Type 0

@@ -1,5 +1,5 @@
 -- What the front of some bytes is, where a record or a chunk's size is to come.
-use Rattle.std.specs.Prelude.{◌≡◌, ℕ, List, [], ◌∷◌, Bool, true, false, Option, Some, None, is_none, nat_lt, ◌==◌, if◌then◌else◌, ⊤}
+use Rattle.std.specs.Prelude.{◌≡◌, ℕ, List, [], ◌∷◌, Bool, true, false, Option, Some, None, is_none, nat_lt, ◌==◌, ◌&&◌, ◌||◌, if◌then◌else◌, ⊤}
 use Rattle.std.specs.Int.{bit_at}
 use Rattle.unit_streams.specs.Front.{Front, begun, whole, wrong}
 use Rattle.unit_streams.specs.Parts.{further, seen}
@@ -102,3 +102,9 @@ record_at limit types (kind ∷ bytes) =
 abbrev pub frame_at : ℕ → Expect → List ℕ → Front Read FrameFault
 frame_at limit (expects.Types types) bytes = record_at limit types bytes
 frame_at limit expects.Chunk bytes = size_at 0 frames.Chunk bytes
+
+-- a Via or a Fault has begun
+abbrev pub begins_text : Expect → List ℕ → Bool
+begins_text (expects.Types types) [] = false
+begins_text (expects.Types types) (kind ∷ rest) = allows types kind && ((kind == VIA) || (kind == FAULT))
+begins_text expects.Chunk p = false

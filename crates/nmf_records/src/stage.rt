@@ -5,8 +5,9 @@ ghost use Rattle.unit_streams.specs.Front.{begun};
 ghost use Rattle.nmf_records.specs.declared.record_types.TheConstants.{VIA, FAULT, GREATEST};
 ghost use Rattle.nmf_records.specs.declared.frame.Expect.{Expect};
 ghost use Rattle.nmf_records.specs.declared.frame.Expect.TheVariants.{Types};
-ghost use Rattle.nmf_records.specs.Reading.{frame_at, record_at, typed_at, allows};
-ghost use Rattle.nmf_records.specs.Steps.{Meets, GoesTo, HasShape, sized, texted, begins_text, is_text_start, progress_of};
+ghost use Rattle.nmf_records.specs.Reading.{frame_at, record_at, typed_at, allows, begins_text};
+ghost use Rattle.nmf_records.specs.Reader.{HasShape};
+ghost use Rattle.nmf_records.specs.Steps.{Meets, GoesTo, sized, texted, is_text_start, progress_of};
 
 use crate::frame::{Frame, FrameFault};
 use crate::record_types;

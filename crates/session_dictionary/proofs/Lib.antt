@@ -1,2 +1,3 @@
+-- the strings of a table, and the fields that hold them
 pub mod StringFacts
 pub mod TableFacts

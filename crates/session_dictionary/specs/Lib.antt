@@ -1,3 +1,5 @@
+-- cited by public contracts
 pub mod Strings
-pub mod Inside
 pub mod Marks
+-- inside tables
+pub mod Inside

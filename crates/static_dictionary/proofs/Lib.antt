@@ -1,3 +1,4 @@
+-- the file so far, a table's maps, the records of a text, one row; rows of written files
 pub mod FileFacts
 pub mod MapFacts
 pub mod RecordFacts

@@ -2,8 +2,8 @@
 use Rattle.std.specs.Prelude.{◌≡◌, ℕ, ◌+◌, ◌<◌, ◌≤◌, List, [], ◌++◌, length, take, true, Some, None, ◌↔◌, ◌⊎◌}
 use Rattle.unit_streams.specs.Front.{whole}
 use Rattle.unit_streams.specs.Grammar.{Grammar, standing, resumed}
-use Rattle.unit_streams.specs.Judging.{Answer, goes_on, completes, offends, answer, history_from, only, refusal_at, ending_at, is_over_at, offence}
-use Rattle.unit_streams.specs.Going.{Means, history_by}
+use Rattle.unit_streams.specs.Judging.{Answer, goes_on, completes, offends, answer, history, history_from, events_of, led_by, only, refusal_at, ending_at, is_over_at, offence}
+use Rattle.unit_streams.specs.Going.{Means, IsPending, history_by}
 use Rattle.unit_streams.specs.Units.{IsAccepted}
 
 -- an answer, its bytes counted with so many before them
@@ -34,6 +34,10 @@ module _ {Z U E R : Type 0} (g : Grammar Z U E R) where
   -- what comes behind a prefix is what a reader is answered, piece by piece
   abbrev pub HistoryIsAnswers : Type 0
   HistoryIsAnswers = (p y : List ℕ) → history_from g p y ≡ history_by g p y (answer g p y)
+
+  -- where nothing has refused or ended a stream yet, it has brought its prefixes' events, and has only its end left
+  abbrev pub PendingHistories : Type 0
+  PendingHistories = (bytes : List ℕ) → IsPending g bytes → history g bytes ≡ led_by (events_of g bytes) (only (ending_at g bytes))
 
   -- where a unit may come, none begins a longer one
   abbrev pub NoUnitGoesOn : Type 0

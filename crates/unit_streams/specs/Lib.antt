@@ -1,3 +1,4 @@
+-- Public contracts cite all of these: the laws here, and those of the crates above.
 pub mod Front
 pub mod Parts
 pub mod Grammar

@@ -6,7 +6,7 @@
 ghost use Rattle.std.specs.Prelude.{ℕ, List, ◌≡◌, length, OnSome, Some, None, Bool, true};
 ghost use Rattle.unit_streams.specs.Grammar.{Grammar, IsReadable, IsQuietWhenOver, TellsItsEnd};
 ghost use Rattle.unit_streams.specs.Judging.{History, only, history_from, refusal_at, is_over_at};
-ghost use Rattle.unit_streams.specs.Laws.{StandingsGoOn, AnswersAreFirst, CutsChangeNothing, HistoryIsAnswers, NoUnitGoesOn, EndsAreClosed, OffencesAreFirst, AcceptedOrOffended};
+ghost use Rattle.unit_streams.specs.Laws.{StandingsGoOn, AnswersAreFirst, CutsChangeNothing, HistoryIsAnswers, PendingHistories, NoUnitGoesOn, EndsAreClosed, OffencesAreFirst, AcceptedOrOffended};
 ghost use Rattle.unit_streams.specs.Refusals.{RefusalsAreThree};
 
 /// A stream stands where it stood before some bytes and went on by them.
@@ -28,6 +28,12 @@ pub fn cuts_change_nothing()
 /// A stream's events and then its offence are what a reader is answered, piece by piece.
 pub fn history_is_answers()
     ensures { (g : Grammar ℕ ℕ ℕ ℕ) → HistoryIsAnswers g }
+{}
+
+/// Where no prefix of a stream is refused and nothing of it ends it, its history is the events of its
+/// prefixes, and then what its end is refused as, if it is.
+pub fn pending_histories()
+    ensures { (g : Grammar ℕ ℕ ℕ ℕ) → PendingHistories g }
 {}
 
 /// No unit begins a longer one that may come in its place.

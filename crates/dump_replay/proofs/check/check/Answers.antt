@@ -1,5 +1,6 @@
 use Rattle.std.proofs.Common.{subst}
-use Rattle.dump_replay.specs.Checking.{Judges, Reports, Decides, Breaks, Reaches}
+use Rattle.dump_replay.specs.Checking.{Decides, Breaks, Reaches}
+use Rattle.dump_replay.specs.Reading.{Judges, Reports}
 use Rattle.dump_replay.proofs.CheckSteps.{usual_is, usual_set, usual_room, none_reaches}
 use Rattle.dump_replay.proofs.check.check.Goals as goal
 

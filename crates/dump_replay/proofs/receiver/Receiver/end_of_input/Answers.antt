@@ -8,7 +8,7 @@ use Rattle.dump_replay.proofs.receiver.Receiver.end_of_input.Goals as goal
 
 pub returns-in-Some-clause-answers : goal.returns-in-Some-clause-answers
 unfolding StandsFor
-returns-in-Some-clause-answers c = λ p h. absurd (not_failed c.args.self.now _ p c.in-Some.offence h c.in-Some.is)
+returns-in-Some-clause-answers c = λ p h. absurd (not_failed c.args.self.now _ p c.in-Some.refusal h c.in-Some.is)
 
 pub returns-in-Some-clause-repeated : goal.returns-in-Some-clause-repeated
 unfolding failure_of
@@ -16,7 +16,7 @@ returns-in-Some-clause-repeated c = λ o e. let same = c.in-Some.is in cc
 
 pub returns-in-Some-clause-failed : goal.returns-in-Some-clause-failed
 unfolding StandsFor
-returns-in-Some-clause-failed c = λ p h. absurd (not_failed c.args.self.now _ p c.in-Some.offence h c.in-Some.is)
+returns-in-Some-clause-failed c = λ p h. absurd (not_failed c.args.self.now _ p c.in-Some.refusal h c.in-Some.is)
 
 pub returns-in-Some-clause-refused : goal.returns-in-Some-clause-refused
 unfolding failure_of

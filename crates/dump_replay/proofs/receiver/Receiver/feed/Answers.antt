@@ -1,4 +1,4 @@
-use Rattle.std.proofs.Common.{◌≡◌, ℕ, Bool, ◌+◌, ◌-◌, ◌<◌, ◌≤◌, inl, inr, List, ◌++◌, length, take, drop, false, Some, refl, sym, ap, ◌∙◌, subst, arith, length-drop}
+use Rattle.std.proofs.Common.{◌≡◌, ℕ, Bool, ◌+◌, ◌-◌, ◌<◌, ◌≤◌, inl, inr, List, ◌++◌, length, take, drop, true, false, Some, refl, sym, ap, ◌∙◌, subst, arith, length-drop}
 use Rattle.std.proofs.lemmas.Bool.{cases_lt}
 use Rattle.std.proofs.lemmas.List.{take-append-drop, length-take-le}
 use Rattle.std.proofs.lemmas.Result.{err_from_is_err_and}
@@ -153,6 +153,14 @@ module _ (f : At-loop-used) where
   so_far : (p : List ℕ) → StandsFor f.args.self.now p → Along f.loop-used.self x p piece used
   so_far p stands = f.loop-used.invariant.along p stands (on p stands)
 
+  -- so what is said of one that was over, or of a receiver that had refused, is said of none
+  no_end : {A : Type 0} (p : List ℕ) → StandsFor f.args.self.now p → is_over_at (stream x) p ≡ true → A
+  no_end p stands over = let not_over = on p stands in cc
+
+  no_refusal : (A : Offence → Type 0) (o : Offence) → failure_of f.args.self.now ≡ Some o → A o
+  unfolding failure_of
+  no_refusal A o e = absurd (f.in_default.not-Some o e)
+
 -- a refusal of a unit
 pub returns-in_err-n : goal.returns-in_err-n
 unfolding settings_of FailedBehind failure_of
@@ -170,9 +178,9 @@ returns-in_err-n c =
     rw (q.1, q.2) (record {
       within = tt;
       answers = λ p stands not_over. sym (told p stands).0;
-      ended = λ p stands over. let not_over = on f p stands in cc;
-      repeated = λ o e. absurd (c.in_default.not-Some o e);
-      unchanged = λ o e. absurd (c.in_default.not-Some o e);
+      ended = no_end f;
+      repeated = no_refusal f _;
+      unchanged = no_refusal f _;
       stands = λ p stands. tt;
       failed = λ p stands. told_by c.unit.new.self p (piece f) c.in_err-n.field-0.0 _ _ (x f) (sym same) (told p stands).1;
       refused = c.in_err-n.ensures.refused;
@@ -195,9 +203,9 @@ returns-then-n-eq0 c =
     record {
       within = let len = here_len (piece f) (used f) room inv.within c.room-room.ensures.within in omega (arith, c.in_ok-n.ensures.within, inv.within, len, c.room-room.ensures.within);
       answers = λ p stands not_over. absurd (never p stands);
-      ended = λ p stands over. let not_over = on f p stands in cc;
-      repeated = λ o e. absurd (c.in_default.not-Some o e);
-      unchanged = λ o e. absurd (c.in_default.not-Some o e);
+      ended = no_end f;
+      repeated = no_refusal f _;
+      unchanged = no_refusal f _;
       stands = λ p stands. absurd (never p stands);
       failed = λ p stands. tt;
       refused = tt;
@@ -221,9 +229,9 @@ returns-in_default-step c =
     record {
       within = let len = here_len (piece f) (used f) room inv.within c.room-room.ensures.within in omega (arith, c.in_ok-n.ensures.within, inv.within, len, c.room-room.ensures.within);
       answers = λ p stands not_over. sym (told p stands).0;
-      ended = λ p stands over. let not_over = on f p stands in cc;
-      repeated = λ o e. absurd (c.in_default.not-Some o e);
-      unchanged = λ o e. absurd (c.in_default.not-Some o e);
+      ended = no_end f;
+      repeated = no_refusal f _;
+      unchanged = no_refusal f _;
       stands = λ p stands. stands_by c.unit.new.self (p ++ take ((used f) + n) (piece f)) _ _ (sym same) (told p stands).1;
       failed = λ p stands. tt;
       refused = tt;
@@ -254,9 +262,9 @@ returns-then-self c =
     record {
       within = tt;
       answers = λ p stands not_over. sym (told p stands).0;
-      ended = λ p stands over. let not_over = on f p stands in cc;
-      repeated = λ o e. absurd (c.in_default.not-Some o e);
-      unchanged = λ o e. absurd (c.in_default.not-Some o e);
+      ended = no_end f;
+      repeated = no_refusal f _;
+      unchanged = no_refusal f _;
       stands = λ p stands. tt;
       failed = λ p stands. told_by new p (piece f) c.refuse.result _ _ (x f) (sym same) (told p stands).1;
       refused = ap (λ (t : Receiver). t.failure) fields;
@@ -281,9 +289,9 @@ returns c =
     record {
       within = omega (arith, all);
       answers = λ p stands not_over. sym (told p stands).0;
-      ended = λ p stands over. let not_over = on f p stands in cc;
-      repeated = λ o e. absurd (c.in_default.not-Some o e);
-      unchanged = λ o e. absurd (c.in_default.not-Some o e);
+      ended = no_end f;
+      repeated = no_refusal f _;
+      unchanged = no_refusal f _;
       stands = λ p stands. stands_by c.loop-used.self (p ++ take (used f) (piece f)) _ _ (sym same) (told p stands).1;
       failed = λ p stands. tt;
       refused = tt;
