@@ -23,6 +23,7 @@ pub mod ManyFacts
 pub mod ListFacts
 pub mod PartsFacts
 pub mod ResumeFacts
+pub mod KeptFacts
 pub mod UnitFacts
 pub mod JudgedFacts
 pub mod CellFacts

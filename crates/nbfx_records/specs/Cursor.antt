@@ -1,5 +1,5 @@
 -- What is told of a part of a record that is read from an offset on: what stands there, whatever follows the bytes, or how many are wanted.
-use Rattle.std.specs.Prelude.{◌≡◌, ℕ, ◌<◌, ◌≤◌, List, ◌++◌, length, drop, Result, Ok, Err}
+use Rattle.std.specs.Prelude.{◌≡◌, ⊤, ℕ, ◌<◌, ◌≤◌, List, ◌++◌, length, drop, Result, Ok, Err}
 use Rattle.unit_streams.specs.Front.{Front, begun, whole, wrong}
 use Rattle.unit_streams.specs.Parts.{Reader, further}
 use Rattle.nbfx_records.specs.declared.cursor.Stop.{Stop}
@@ -37,6 +37,11 @@ pub record Stops {A : Type 0} (reader : Reader A NodeFault) (bytes : List ℕ) (
 abbrev pub Told : {X A : Type 0} → (X → A) → Reader A NodeFault → List ℕ → ℕ → Result (X × ℕ) Stop → Type 0
 Told see reader bytes at (Ok read) = IsWhole reader bytes at (see read.0) read.1
 Told see reader bytes at (Err stop) = Stops reader bytes at stop
+
+-- where it wants more bytes
+abbrev pub OnMore : {T : Type 0} → Result T Stop → Type 0 → Type 0
+OnMore (Err (More wants)) P = P
+OnMore _ P = ⊤
 
 -- what a part's function returns
 pub record Tells {X A : Type 0} (see : X → A) (reader : Reader A NodeFault) (bytes : List ℕ) (at : ℕ) (result : Result (X × ℕ) Stop) : Type 0 where

@@ -1,10 +1,18 @@
 -- How far a record that isn't whole was seen to be whole: positions alone.
-use Rattle.std.specs.Prelude.{◌≡◌, ℕ, ◌<◌, ◌≤◌, List, [], ◌∷◌, length, true}
-use Rattle.unit_streams.specs.Parts.{Reader, Turn, more}
+use Rattle.std.specs.Prelude.{◌≡◌, ⊤, ℕ, ◌<◌, ◌≤◌, List, [], ◌∷◌, length, true, Option, Some, None, Result, Ok}
+use Rattle.unit_streams.specs.Front.{begun, whole}
+use Rattle.unit_streams.specs.Parts.{Reader, Turn, more, a_byte}
 use Rattle.nbfx_records.specs.declared.nodes.NodeFault.{NodeFault}
+use Rattle.nbfx_records.specs.declared.kinds.RecordKind.{RecordKind}
+use Rattle.nbfx_records.specs.declared.kinds.RecordKind.TheVariants as records
+use Rattle.nbfx_records.specs.declared.kinds.TextKind.TheVariants as texts
+use Rattle.nbfx_records.specs.declared.read.NodeRead.{NodeRead}
+use Rattle.nbfx_records.specs.declared.read.NodeRead.TheVariants.{More}
+use Rattle.nbfx_records.specs.declared.read.ReadFault.{ReadFault}
 use Rattle.nbfx_records.specs.declared.resume.Resume.{Resume}
-use Rattle.nbfx_records.specs.Cursor.{IsWhole}
-use Rattle.nbfx_records.specs.Shapes.{list_turn, array_turn}
+use Rattle.nbfx_records.specs.Cursor.{IsWhole, read_from}
+use Rattle.nbfx_records.specs.Kinds.{record_kind}
+use Rattle.nbfx_records.specs.Shapes.{NamedShape, list_turn, array_element, array_parts, array_turn}
 
 -- whole things one behind the other, from an offset to another
 abbrev pub AreMore : {A B : Type 0} → Reader (Turn A B) NodeFault → List ℕ → ℕ → List A → ℕ → Type 0
@@ -20,3 +28,36 @@ pub record Passes {A B : Type 0} (turn : Reader (Turn A B) NodeFault) (bytes : L
 -- from the beginning of a list there are whole values up to where it goes on, and from the end of an array's element whole attributes
 unfoldable pub Fits : Resume → List ℕ → Type 0
 Fits resume bytes = Passes (list_turn true) bytes resume.list_from resume.list_at × Passes array_turn bytes resume.parts_from resume.parts_at
+
+-- What is kept where the bytes end within a list that begins at an offset: it goes on where a value, or its end, isn't whole.
+pub record KeepsList (from : ℕ) (resume : Resume) (bytes : List ℕ) : Type 0 where
+  pub begins : resume.list_from ≡ from
+  pub goes_on : read_from resume.list_at (list_turn true) bytes ≡ begun
+
+-- In the same way where they end within the attributes of an array that begin at an offset,
+pub record KeepsAttributes (from : ℕ) (resume : Resume) (bytes : List ℕ) : Type 0 where
+  pub begins : resume.parts_from ≡ from
+  pub goes_on : read_from resume.parts_at array_turn bytes ≡ begun
+
+-- which is behind its element
+abbrev pub KeepsArray : ℕ → Resume → List ℕ → Type 0
+KeepsArray at resume bytes =
+    (element : NamedShape) (from : ℕ) → read_from at array_element bytes ≡ whole element from → read_from from array_parts bytes ≡ begun → KeepsAttributes from resume bytes
+
+-- behind the type byte of a record
+abbrev pub KeepsOf : RecordKind → ℕ → Resume → List ℕ → Type 0
+KeepsOf (records.Text texts.StartList ends) at resume bytes = KeepsList at resume bytes
+KeepsOf records.Array at resume bytes = KeepsArray at resume bytes
+KeepsOf _ at resume bytes = ⊤
+
+abbrev pub KeepsAny : Option RecordKind → ℕ → Resume → List ℕ → Type 0
+KeepsAny None at resume bytes = ⊤
+KeepsAny (Some kind) at resume bytes = KeepsOf kind at resume bytes
+
+-- of a record that isn't whole
+abbrev pub KeepsWhole : Resume → List ℕ → Type 0
+KeepsWhole resume bytes = (byte at : ℕ) → read_from 0 a_byte bytes ≡ whole byte at → KeepsAny (record_kind byte) at resume bytes
+
+abbrev pub Keeps : Resume → List ℕ → Result NodeRead ReadFault → Type 0
+Keeps resume bytes (Ok (More wants)) = KeepsWhole resume bytes
+Keeps resume bytes _ = ⊤

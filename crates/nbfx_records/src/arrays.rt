@@ -1,8 +1,8 @@
 //! Arrays, as slices of a record's bytes: an element, its attributes, and values of one kind.
 
 ghost use Rattle.std.specs.Prelude.{◌≡◌, ◌*◌, ◌<◌, ◌≤◌, ◌^◌, IfOk, length};
-ghost use Rattle.nbfx_records.specs.Cursor.{Tells};
-ghost use Rattle.nbfx_records.specs.Resuming.{Fits};
+ghost use Rattle.nbfx_records.specs.Cursor.{OnMore, Tells};
+ghost use Rattle.nbfx_records.specs.Resuming.{Fits, KeepsArray, KeepsAttributes};
 ghost use Rattle.nbfx_records.specs.Kinds.{width_of};
 ghost use Rattle.nbfx_records.specs.Shapes as spec;
 ghost use Rattle.nbfx_records.specs.Views.{AreParts, AreSized, IsSoundTurn, array_seen, array_turn_seen, cells_seen, named_seen, parts_seen};
@@ -95,6 +95,7 @@ fn parts_at<'a>(
     requires fits { Fits resume.old bytes.now }
     ensures tells { Tells parts_seen spec.array_parts bytes.now from result }
     ensures parts { IfOk result (λ read. AreParts read.0.now) }
+    ensures kept { OnMore result (KeepsAttributes from resume.new bytes.now) }
     ensures fits { Fits resume.new bytes.now }
 {
     let mut at = resume.parts_go_on(from);
@@ -202,6 +203,7 @@ pub fn array_at<'a>(
     ensures tells { Tells array_seen spec.array_at bytes.now at result }
     ensures parts { IfOk result (λ read. AreParts read.0.attributes.now) }
     ensures sized { IfOk result (λ read. AreSized read.0.cells) }
+    ensures kept { OnMore result (KeepsArray at resume.new bytes.now) }
     ensures fits { Fits resume.new bytes.now }
 {
     let (element, at) = array_element_at(bytes, at)?;

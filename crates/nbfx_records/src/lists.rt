@@ -1,10 +1,10 @@
 //! Lists: values one behind the other, and an end.
 
-ghost use Rattle.std.specs.Prelude.{◌≤◌, IfOk, length};
-ghost use Rattle.nbfx_records.specs.Cursor.{Tells};
+ghost use Rattle.std.specs.Prelude.{◌≡◌, ◌≤◌, IfOk, length};
+ghost use Rattle.nbfx_records.specs.Cursor.{OnMore, Tells};
 ghost use Rattle.nbfx_records.specs.Shapes as spec;
 ghost use Rattle.nbfx_records.specs.Views.{IsList, list_seen, may_close, turn_seen};
-ghost use Rattle.nbfx_records.specs.Resuming.{Fits};
+ghost use Rattle.nbfx_records.specs.Resuming.{Fits, KeepsList};
 
 use crate::cursor::{Stop, byte_at, fault};
 use crate::kinds::{RecordKind, TextKind};
@@ -117,6 +117,7 @@ pub fn list_at<'a>(
     requires fits { Fits resume.old bytes.now }
     ensures tells { Tells list_seen (spec.list_at (may_close holder)) bytes.now from result }
     ensures list { IfOk result (λ read. IsList read.0.bytes.now) }
+    ensures kept { holder ≡ ListHolder.Text → OnMore result (KeepsList from resume.new bytes.now) }
     ensures fits { Fits resume.new bytes.now }
 {
     let mut at = resume.list_goes_on(from);
