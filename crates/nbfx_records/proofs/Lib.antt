@@ -4,6 +4,7 @@ mod WorkedTexts
 mod WorkedRecords
 mod WorkedLengths
 mod WorkedRefusals
+mod WorkedAsked
 -- What is read rests on its own bytes.
 pub mod ShapeFronts
 -- Reading and the relation are one, from type bytes up to records; records are of valid nodes.

@@ -1,3 +1,4 @@
+use Rattle.nbfx_records.specs.Asked as asked
 use Rattle.nbfx_records.specs.Shapes.{placed, shape_at}
 use Rattle.nbfx_records.proofs.CursorFacts.{then_stops, exit}
 use Rattle.nbfx_records.proofs.KeptFacts.{kept_whole}
@@ -10,7 +11,7 @@ returns-in_err-byte-clause-tells c = exit c.from_residual.ensures.1 (then_stops 
 
 pub returns-clause-tells : goal.returns-clause-tells
 unfolding shape_at
-returns-clause-tells c = typed_tells (placed c.args.place) c.in_ok-byte.ensures c.record_kind.ensures c.placed.ensures.tells
+returns-clause-tells c = typed_tells (placed c.args.place) (asked.placed c.args.place) c.in_ok-byte.ensures c.record_kind.ensures c.placed.ensures.tells
 
 pub returns-clause-kept : goal.returns-clause-kept
 returns-clause-kept c =
