@@ -21,11 +21,13 @@ Answers place bytes (Ok (More wants)) = node_at place bytes ≡ begun
 Answers place bytes (Err (Fault fault shown_by)) = node_at place bytes ≡ wrong fault shown_by
 Answers place bytes (Err Memory) = ¬ (node_at place bytes ≡ begun)
 
--- Fewer than so many bytes in all decide nothing, however they go on: so many are asked for where the bytes end within the record,
--- which is up to the end of a text, of bytes or of an array's values, where their number is known.
+-- Fewer than so many bytes in all decide nothing, however they go on: so many are asked for where
+-- the bytes end, which is up to the end of a text, of bytes or of an array's values where their
+-- number is known.
 pub record WaitsFor (place : NodePlace) (bytes : List ℕ) (wants : ℕ) : Type 0 where
   pub more : length bytes < wants
-  pub begins : (next : List ℕ) → length (bytes ++ next) < wants → node_at place (bytes ++ next) ≡ begun
+  pub begins : (next : List ℕ) → length (bytes ++ next) < wants
+      → node_at place (bytes ++ next) ≡ begun
   pub asks : asked.shape_at place bytes wants
 
 abbrev pub Wants : NodePlace → List ℕ → Result NodeRead ReadFault → Type 0

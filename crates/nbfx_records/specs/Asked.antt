@@ -1,4 +1,5 @@
--- How many bytes are asked for where the bytes end within a part of a record: those of a text, of bytes or of values whose number is known, to their last; else one more.
+-- How many bytes are asked for where the bytes end within a part of a record: those of a text, of
+-- bytes or of values whose number is known, to their last; else one more.
 use Rattle.std.specs.Prelude.{◌≡◌, ℕ, ◌+◌, ◌*◌, ◌<◌, List, [], length, Bool, true, false, Option, Some, None}
 use Rattle.std.specs.Int.{byte_len}
 use Rattle.unit_streams.specs.Front.{begun}
@@ -38,7 +39,8 @@ abbrev pub an_integer : List ℕ → ℕ → Type 0
 an_integer bytes m = (int_at bytes ≡ begun) × (m ≡ length bytes + 1)
 
 -- a part, or one behind it where it is whole
-pub data Either {A : Type 0} (reader : Reader A NodeFault) (first : List ℕ → ℕ → Type 0) (next : A → List ℕ → ℕ → Type 0) (bytes : List ℕ) (m : ℕ) : Type 0 where
+pub data Either {A : Type 0} (reader : Reader A NodeFault) (first : List ℕ → ℕ → Type 0)
+    (next : A → List ℕ → ℕ → Type 0) (bytes : List ℕ) (m : ℕ) : Type 0 where
   here : first bytes m → Either reader first next bytes m
   later : Behind reader next bytes m → Either reader first next bytes m
 
@@ -54,7 +56,9 @@ name_at Inlined = a_string
 name_at Identified = an_integer
 
 abbrev pub a_length : LengthForm → List ℕ → ℕ → Type 0
-a_length form = Either (parts.some_bytes (byte_len (shapes.width_in form))) (some_bytes (byte_len (shapes.width_in form))) (λ _. nothing)
+a_length form =
+    Either (parts.some_bytes (byte_len (shapes.width_in form)))
+    (some_bytes (byte_len (shapes.width_in form))) (λ _. nothing)
 
 abbrev pub counted_bytes : LengthForm → List ℕ → ℕ → Type 0
 counted_bytes form = Either (shapes.a_length form) (a_length form) some_bytes
@@ -106,7 +110,9 @@ abbrev pub value_at : List ℕ → ℕ → Type 0
 value_at = Either parts.a_byte a_byte (λ byte. value_of_kind (record_kind byte))
 
 abbrev pub attribute_at : PrefixForm → NameForm → List ℕ → ℕ → Type 0
-attribute_at prefix name = Either (shapes.prefix_at prefix) (prefix_at prefix) (λ _. Either (shapes.name_at name) (name_at name) (λ _. value_at))
+attribute_at prefix name =
+    Either (shapes.prefix_at prefix) (prefix_at prefix)
+    (λ _. Either (shapes.name_at name) (name_at name) (λ _. value_at))
 
 abbrev pub declaration_at : PrefixForm → NameForm → List ℕ → ℕ → Type 0
 declaration_at prefix uri = Either (shapes.prefix_at prefix) (prefix_at prefix) (λ _. name_at uri)
@@ -147,7 +153,9 @@ abbrev pub array_cells : List ℕ → ℕ → Type 0
 array_cells = Either parts.a_byte a_byte (λ byte. cells_of (array_kind byte))
 
 abbrev pub array_at : List ℕ → ℕ → Type 0
-array_at = Either shapes.array_element array_element (λ _. Either shapes.array_parts array_parts (λ _. array_cells))
+array_at =
+    Either shapes.array_element array_element
+    (λ _. Either shapes.array_parts array_parts (λ _. array_cells))
 
 -- a record
 abbrev pub text_at : TextKind → Bool → List ℕ → ℕ → Type 0

@@ -17,19 +17,26 @@ use Rattle.nbfx_records.specs.Shapes.{NamedShape, list_turn, array_element, arra
 -- whole things one behind the other, from an offset to another
 abbrev pub AreMore : {A B : Type 0} → Reader (Turn A B) NodeFault → List ℕ → ℕ → List A → ℕ → Type 0
 AreMore turn bytes from [] to = from ≡ to
-AreMore turn bytes from (a ∷ items) to = (mid : ℕ) × (from < mid) × IsWhole turn bytes from (more a) mid × AreMore turn bytes mid items to
+AreMore turn bytes from (a ∷ items) to =
+    (mid : ℕ) × (from < mid) × IsWhole turn bytes from (more a) mid
+    × AreMore turn bytes mid items to
 
 -- some
-pub record Passes {A B : Type 0} (turn : Reader (Turn A B) NodeFault) (bytes : List ℕ) (from to : ℕ) : Type 0 where
+pub record Passes {A B : Type 0} (turn : Reader (Turn A B) NodeFault) (bytes : List ℕ)
+    (from to : ℕ) : Type 0 where
   pub items : List A
   pub are : AreMore turn bytes from items to
   pub within : to ≤ length bytes
 
--- from the beginning of a list there are whole values up to where it goes on, and from the end of an array's element whole attributes
+-- from the beginning of a list there are whole values up to where it goes on, and from the end of
+-- an array's element whole attributes
 unfoldable pub Fits : Resume → List ℕ → Type 0
-Fits resume bytes = Passes (list_turn true) bytes resume.list_from resume.list_at × Passes array_turn bytes resume.parts_from resume.parts_at
+Fits resume bytes =
+    Passes (list_turn true) bytes resume.list_from resume.list_at
+    × Passes array_turn bytes resume.parts_from resume.parts_at
 
--- What is kept where the bytes end within a list that begins at an offset: it goes on where a value, or its end, isn't whole.
+-- What is kept where the bytes end within a list that begins at an offset: it goes on where a
+-- value, or its end, isn't whole.
 pub record KeepsList (from : ℕ) (resume : Resume) (bytes : List ℕ) : Type 0 where
   pub begins : resume.list_from ≡ from
   pub goes_on : read_from resume.list_at (list_turn true) bytes ≡ begun
@@ -42,7 +49,8 @@ pub record KeepsAttributes (from : ℕ) (resume : Resume) (bytes : List ℕ) : T
 -- which is behind its element
 abbrev pub KeepsArray : ℕ → Resume → List ℕ → Type 0
 KeepsArray at resume bytes =
-    (element : NamedShape) (from : ℕ) → read_from at array_element bytes ≡ whole element from → read_from from array_parts bytes ≡ begun → KeepsAttributes from resume bytes
+    (element : NamedShape) (from : ℕ) → read_from at array_element bytes ≡ whole element from
+    → read_from from array_parts bytes ≡ begun → KeepsAttributes from resume bytes
 
 -- behind the type byte of a record
 abbrev pub KeepsOf : RecordKind → ℕ → Resume → List ℕ → Type 0
@@ -56,7 +64,9 @@ KeepsAny (Some kind) at resume bytes = KeepsOf kind at resume bytes
 
 -- of a record that isn't whole
 abbrev pub KeepsWhole : Resume → List ℕ → Type 0
-KeepsWhole resume bytes = (byte at : ℕ) → read_from 0 a_byte bytes ≡ whole byte at → KeepsAny (record_kind byte) at resume bytes
+KeepsWhole resume bytes =
+    (byte at : ℕ) → read_from 0 a_byte bytes ≡ whole byte at
+    → KeepsAny (record_kind byte) at resume bytes
 
 abbrev pub Keeps : Resume → List ℕ → Result NodeRead ReadFault → Type 0
 Keeps resume bytes (Ok (More wants)) = KeepsWhole resume bytes

@@ -50,7 +50,8 @@ fn array_part<'a>(
 ) -> Result<(ArrayTurn<'a>, usize), Stop>
     requires within { at ≤ length bytes.now }
     requires fits { Fits resume.old bytes.now }
-    ensures tells { Tells array_turn_seen (spec.array_part kind) (asked.array_part kind) bytes.now at result }
+    ensures tells { Tells array_turn_seen (spec.array_part kind)
+        (asked.array_part kind) bytes.now at result }
     ensures sound { IfOk result (λ read. IsSoundTurn read.0) }
     ensures fits { Fits resume.new bytes.now }
 {
@@ -77,7 +78,8 @@ pub fn array_turn_at<'a>(
 ) -> Result<(ArrayTurn<'a>, usize), Stop>
     requires within { at ≤ length bytes.now }
     requires fits { Fits resume.old bytes.now }
-    ensures tells { Tells array_turn_seen spec.array_turn asked.array_turn bytes.now at result }
+    ensures tells { Tells array_turn_seen spec.array_turn
+        asked.array_turn bytes.now at result }
     ensures sound { IfOk result (λ read. IsSoundTurn read.0) }
     ensures fits { Fits resume.new bytes.now }
 {
@@ -94,7 +96,8 @@ fn parts_at<'a>(
 ) -> Result<(&'a [u8], usize), Stop>
     requires within { from ≤ length bytes.now }
     requires fits { Fits resume.old bytes.now }
-    ensures tells { Tells parts_seen spec.array_parts asked.array_parts bytes.now from result }
+    ensures tells { Tells parts_seen spec.array_parts
+        asked.array_parts bytes.now from result }
     ensures parts { IfOk result (λ read. AreParts read.0.now) }
     ensures kept { OnMore result (KeepsAttributes from resume.new bytes.now) }
     ensures fits { Fits resume.new bytes.now }
@@ -141,7 +144,8 @@ fn array_element_at(bytes: &[u8], at: usize) -> Result<(NamedPart<'_>, usize), S
 fn values_at(kind: ArrayKind, count: usize, bytes: &[u8], at: usize) -> Result<(&[u8], usize), Stop>
     requires within { at ≤ length bytes.now }
     requires few { count < 2 ^ 31 }
-    ensures tells { Tells (λ values. values.now) (spec.array_values kind count) (asked.array_values kind count) bytes.now at result }
+    ensures tells { Tells (λ values. values.now) (spec.array_values kind count)
+        (asked.array_values kind count) bytes.now at result }
     ensures size { IfOk result (λ read. length read.0.now ≡ count * width_of kind) }
 {
     if count == 0 {
@@ -153,7 +157,8 @@ fn values_at(kind: ArrayKind, count: usize, bytes: &[u8], at: usize) -> Result<(
 // How many values of this kind there are, and then these.
 fn counted_cells(kind: ArrayKind, bytes: &[u8], at: usize) -> Result<(CellsPart<'_>, usize), Stop>
     requires { at ≤ length bytes.now }
-    ensures tells { Tells cells_seen (spec.counted_cells kind) (asked.counted_cells kind) bytes.now at result }
+    ensures tells { Tells cells_seen (spec.counted_cells kind)
+        (asked.counted_cells kind) bytes.now at result }
     ensures sized { IfOk result (λ read. AreSized read.0) }
 {
     let (count, at) = integer_at(bytes, at)?;
@@ -174,7 +179,8 @@ fn cells_of(
     at: usize,
 ) -> Result<(CellsPart<'_>, usize), Stop>
     requires { at ≤ length bytes.now }
-    ensures tells { Tells cells_seen (spec.cells_of kind) (asked.cells_of kind) bytes.now at result }
+    ensures tells { Tells cells_seen (spec.cells_of kind)
+        (asked.cells_of kind) bytes.now at result }
     ensures sized { IfOk result (λ read. AreSized read.0) }
 {
     match kind {
@@ -186,7 +192,8 @@ fn cells_of(
 // The same with that byte.
 fn cells_at(bytes: &[u8], at: usize) -> Result<(CellsPart<'_>, usize), Stop>
     requires { at ≤ length bytes.now }
-    ensures tells { Tells cells_seen spec.array_cells asked.array_cells bytes.now at result }
+    ensures tells { Tells cells_seen spec.array_cells
+        asked.array_cells bytes.now at result }
     ensures sized { IfOk result (λ read. AreSized read.0) }
 {
     let (byte, at) = byte_at(bytes, at)?;
@@ -201,7 +208,8 @@ pub fn array_at<'a>(
 ) -> Result<(ArrayPart<'a>, usize), Stop>
     requires within { at ≤ length bytes.now }
     requires fits { Fits resume.old bytes.now }
-    ensures tells { Tells array_seen spec.array_at asked.array_at bytes.now at result }
+    ensures tells { Tells array_seen spec.array_at
+        asked.array_at bytes.now at result }
     ensures parts { IfOk result (λ read. AreParts read.0.attributes.now) }
     ensures sized { IfOk result (λ read. AreSized read.0.cells) }
     ensures kept { OnMore result (KeepsArray at resume.new bytes.now) }

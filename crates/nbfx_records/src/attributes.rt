@@ -47,7 +47,8 @@ fn text_value<'a>(
 ) -> Result<(ValuePart<'a>, usize), Stop>
     requires within { at ≤ length bytes.now }
     requires fits { Fits resume.old bytes.now }
-    ensures tells { Tells value_seen (spec.text_value kind ends) (asked.text_value kind ends) bytes.now at result }
+    ensures tells { Tells value_seen (spec.text_value kind ends)
+        (asked.text_value kind ends) bytes.now at result }
     ensures list { IfOk result (λ read. HoldsLists read.0) }
     ensures fits { Fits resume.new bytes.now }
 {
@@ -75,7 +76,8 @@ fn value_of_kind<'a>(
 ) -> Result<(ValuePart<'a>, usize), Stop>
     requires within { at ≤ length bytes.now }
     requires fits { Fits resume.old bytes.now }
-    ensures tells { Tells value_seen (spec.value_of_kind kind) (asked.value_of_kind kind) bytes.now at result }
+    ensures tells { Tells value_seen (spec.value_of_kind kind)
+        (asked.value_of_kind kind) bytes.now at result }
     ensures list { IfOk result (λ read. HoldsLists read.0) }
     ensures fits { Fits resume.new bytes.now }
 {
@@ -94,7 +96,8 @@ fn value_at<'a>(
 ) -> Result<(ValuePart<'a>, usize), Stop>
     requires within { at ≤ length bytes.now }
     requires fits { Fits resume.old bytes.now }
-    ensures tells { Tells value_seen spec.value_at asked.value_at bytes.now at result }
+    ensures tells { Tells value_seen spec.value_at
+        asked.value_at bytes.now at result }
     ensures list { IfOk result (λ read. HoldsLists read.0) }
     ensures fits { Fits resume.new bytes.now }
 {
@@ -112,7 +115,8 @@ pub fn attribute_at<'a>(
 ) -> Result<(AttributePart<'a>, usize), Stop>
     requires within { at ≤ length bytes.now }
     requires fits { Fits resume.old bytes.now }
-    ensures tells { Tells attribute_seen (spec.attribute_at prefix name) (asked.attribute_at prefix name) bytes.now at result }
+    ensures tells { Tells attribute_seen (spec.attribute_at prefix name)
+        (asked.attribute_at prefix name) bytes.now at result }
     ensures sound { IfOk result (λ read. IsSoundAttribute read.0) }
     ensures fits { Fits resume.new bytes.now }
 {
@@ -137,7 +141,8 @@ pub fn declaration_at(
     at: usize,
 ) -> Result<(AttributePart<'_>, usize), Stop>
     requires { at ≤ length bytes.now }
-    ensures tells { Tells attribute_seen (spec.declaration_at prefix uri) (asked.declaration_at prefix uri) bytes.now at result }
+    ensures tells { Tells attribute_seen (spec.declaration_at prefix uri)
+        (asked.declaration_at prefix uri) bytes.now at result }
     ensures sound { IfOk result (λ read. IsSoundAttribute read.0) }
 {
     let (prefix, at) = prefix_at(prefix, bytes, at)?;

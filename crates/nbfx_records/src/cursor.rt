@@ -41,7 +41,8 @@ pub fn byte_at(bytes: &[u8], at: usize) -> Result<(u8, usize), Stop>
 pub fn bytes_at(bytes: &[u8], at: usize, count: usize) -> Result<(&[u8], usize), Stop>
     requires within { at ≤ length bytes.now }
     requires few { count < 2 ^ 62 }
-    ensures tells { Tells (λ part. part.now) (some_bytes count) (asked.some_bytes count) bytes.now at result }
+    ensures tells { Tells (λ part. part.now) (some_bytes count)
+        (asked.some_bytes count) bytes.now at result }
     ensures size { IfOk result (λ read. length read.0.now ≡ count) }
 {
     let to = at + count;
@@ -54,7 +55,8 @@ pub fn bytes_at(bytes: &[u8], at: usize, count: usize) -> Result<(&[u8], usize),
 /// An integer.
 pub fn integer_at(bytes: &[u8], from: usize) -> Result<(u32, usize), Stop>
     requires { from ≤ length bytes.now }
-    ensures tells { Tells (λ n. n) an_integer asked.an_integer bytes.now from result }
+    ensures tells { Tells (λ n. n) an_integer
+        asked.an_integer bytes.now from result }
     ensures small { IfOk result (λ read. read.0 < 2 ^ 31) }
 {
     let mut reader = IntReader::new();

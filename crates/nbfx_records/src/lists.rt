@@ -38,7 +38,8 @@ fn end_of_list(
     at: usize,
 ) -> Result<(ListTurn<'_>, usize), Stop>
     requires { at ≤ length bytes.now }
-    ensures { Tells turn_seen (spec.end_turn (may_close holder) ends) (asked.end_turn (may_close holder) ends) bytes.now at result }
+    ensures { Tells turn_seen (spec.end_turn (may_close holder) ends)
+        (asked.end_turn (may_close holder) ends) bytes.now at result }
 {
     if ends && holder == ListHolder::Attribute {
         return fault(NodeFault::OutOfPlace, at);
@@ -55,7 +56,8 @@ fn text_in_list(
     at: usize,
 ) -> Result<(ListTurn<'_>, usize), Stop>
     requires { at ≤ length bytes.now }
-    ensures { Tells turn_seen (spec.text_turn (may_close holder) kind ends) (asked.text_turn (may_close holder) kind ends) bytes.now at result }
+    ensures { Tells turn_seen (spec.text_turn (may_close holder) kind ends)
+        (asked.text_turn (may_close holder) kind ends) bytes.now at result }
 {
     match kind {
         TextKind::EndList => end_of_list(holder, ends, bytes, at),
@@ -77,7 +79,8 @@ fn turn_of(
     at: usize,
 ) -> Result<(ListTurn<'_>, usize), Stop>
     requires { at ≤ length bytes.now }
-    ensures { Tells turn_seen (spec.turn_of (may_close holder) kind) (asked.turn_of (may_close holder) kind) bytes.now at result }
+    ensures { Tells turn_seen (spec.turn_of (may_close holder) kind)
+        (asked.turn_of (may_close holder) kind) bytes.now at result }
 {
     match kind {
         None => fault(NodeFault::UnknownNode, at),
@@ -93,7 +96,8 @@ pub fn list_turn_at(
     at: usize,
 ) -> Result<(ListTurn<'_>, usize), Stop>
     requires { at ≤ length bytes.now }
-    ensures { Tells turn_seen (spec.list_turn (may_close holder)) (asked.list_turn (may_close holder)) bytes.now at result }
+    ensures { Tells turn_seen (spec.list_turn (may_close holder))
+        (asked.list_turn (may_close holder)) bytes.now at result }
 {
     let (byte, at) = byte_at(bytes, at)?;
     turn_of(holder, record_kind(byte), bytes, at)
@@ -116,7 +120,8 @@ pub fn list_at<'a>(
 ) -> Result<(ListPart<'a>, usize), Stop>
     requires within { from ≤ length bytes.now }
     requires fits { Fits resume.old bytes.now }
-    ensures tells { Tells list_seen (spec.list_at (may_close holder)) (asked.list_at (may_close holder)) bytes.now from result }
+    ensures tells { Tells list_seen (spec.list_at (may_close holder))
+        (asked.list_at (may_close holder)) bytes.now from result }
     ensures list { IfOk result (λ read. IsList read.0.bytes.now) }
     ensures kept { holder ≡ ListHolder.Text → OnMore result (KeepsList from resume.new bytes.now) }
     ensures fits { Fits resume.new bytes.now }

@@ -84,7 +84,8 @@ pub fn element_at(
     at: usize,
 ) -> Result<(NamedPart<'_>, usize), Stop>
     requires { at ≤ length bytes.now }
-    ensures { Tells named_seen (spec.element_at prefix name) (asked.element_at prefix name) bytes.now at result }
+    ensures { Tells named_seen (spec.element_at prefix name)
+        (asked.element_at prefix name) bytes.now at result }
 {
     let (prefix, at) = prefix_at(prefix, bytes, at)?;
     let (name, at) = name_at(name, bytes, at)?;
@@ -125,7 +126,8 @@ fn length_said(form: LengthForm, said: &[u8]) -> Option<usize>
 /// A length in this form.
 pub fn length_at(form: LengthForm, bytes: &[u8], at: usize) -> Result<(usize, usize), Stop>
     requires { at ≤ length bytes.now }
-    ensures tells { Tells (λ n. n) (spec.a_length form) (asked.a_length form) bytes.now at result }
+    ensures tells { Tells (λ n. n) (spec.a_length form)
+        (asked.a_length form) bytes.now at result }
     ensures small { IfOk result (λ read. read.0 < 2 ^ 31) }
 {
     let (said, to) = bytes_at(bytes, at, length_width(form))?;
@@ -141,7 +143,8 @@ pub fn length_at(form: LengthForm, bytes: &[u8], at: usize) -> Result<(usize, us
 // A length, and as many bytes as it says.
 fn counted_at(form: LengthForm, bytes: &[u8], at: usize) -> Result<(&[u8], usize), Stop>
     requires { at ≤ length bytes.now }
-    ensures { Tells (λ part. part.now) (spec.counted_bytes form) (asked.counted_bytes form) bytes.now at result }
+    ensures { Tells (λ part. part.now) (spec.counted_bytes form)
+        (asked.counted_bytes form) bytes.now at result }
 {
     let (count, at) = length_at(form, bytes, at)?;
     bytes_at(bytes, at, count)

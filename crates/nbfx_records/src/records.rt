@@ -39,7 +39,8 @@ fn text_at<'a>(
 ) -> Result<(RecordPart<'a>, usize), Stop>
     requires within { at ≤ length bytes.now }
     requires fits { Fits resume.old bytes.now }
-    ensures tells { Tells record_seen (spec.text_at kind ends) (asked.text_at kind ends) bytes.now at result }
+    ensures tells { Tells record_seen (spec.text_at kind ends)
+        (asked.text_at kind ends) bytes.now at result }
     ensures sound { IfOk result (λ read. IsSoundRecord read.0) }
     ensures kept { OnMore result (KeepsOf (RecordKind.Text kind ends) at resume.new bytes.now) }
     ensures fits { Fits resume.new bytes.now }
@@ -69,7 +70,8 @@ fn record_at<'a>(
 ) -> Result<(RecordPart<'a>, usize), Stop>
     requires within { at ≤ length bytes.now }
     requires fits { Fits resume.old bytes.now }
-    ensures tells { Tells record_seen (spec.record_at kind) (asked.record_at kind) bytes.now at result }
+    ensures tells { Tells record_seen (spec.record_at kind)
+        (asked.record_at kind) bytes.now at result }
     ensures sound { IfOk result (λ read. IsSoundRecord read.0) }
     ensures kept { OnMore result (KeepsOf kind at resume.new bytes.now) }
     ensures fits { Fits resume.new bytes.now }
@@ -139,7 +141,8 @@ fn placed<'a>(
 ) -> Result<(RecordPart<'a>, usize), Stop>
     requires within { at ≤ length bytes.now }
     requires fits { Fits resume.old bytes.now }
-    ensures tells { Tells record_seen (spec.placed place kind) (asked.placed place kind) bytes.now at result }
+    ensures tells { Tells record_seen (spec.placed place kind)
+        (asked.placed place kind) bytes.now at result }
     ensures sound { IfOk result (λ read. IsSoundRecord read.0) }
     ensures kept { OnMore result (KeepsAny kind at resume.new bytes.now) }
     ensures fits { Fits resume.new bytes.now }
@@ -164,7 +167,8 @@ pub fn shape_at<'a>(
     resume: &mut Resume,
 ) -> Result<(RecordPart<'a>, usize), Stop>
     requires { Fits resume.old bytes.now }
-    ensures tells { Tells record_seen (spec.shape_at place) (asked.shape_at place) bytes.now 0 result }
+    ensures tells { Tells record_seen (spec.shape_at place)
+        (asked.shape_at place) bytes.now 0 result }
     ensures sound { IfOk result (λ read. IsSoundRecord read.0) }
     ensures kept { OnMore result (KeepsWhole resume.new bytes.now) }
     ensures fits { Fits resume.new bytes.now }

@@ -30,10 +30,8 @@ impl Resume {
 
     // Where a list that begins here goes on.
     pub(crate) fn list_goes_on(&self, from: usize) -> usize
-        ensures {
-            (bytes : List ℕ) → Fits self.now bytes → from ≤ length bytes
-            → Passes (list_turn true) bytes from result
-        }
+        ensures { (bytes : List ℕ) → Fits self.now bytes → from ≤ length bytes
+            → Passes (list_turn true) bytes from result }
     {
         if self.list_from == from {
             self.list_at
@@ -46,10 +44,8 @@ impl Resume {
     pub(crate) fn keep_list(&mut self, from: usize, at: usize)
         ensures begins { self.new.list_from ≡ from }
         ensures goes_on { self.new.list_at ≡ at }
-        ensures fits {
-            (bytes : List ℕ) → Fits self.old bytes → Passes (list_turn true) bytes from at
-            → Fits self.new bytes
-        }
+        ensures fits { (bytes : List ℕ) → Fits self.old bytes → Passes (list_turn true) bytes from
+            at → Fits self.new bytes }
     {
         self.list_from = from;
         self.list_at = at;
@@ -57,10 +53,8 @@ impl Resume {
 
     // Where the attributes of an array go on that begin here.
     pub(crate) fn parts_go_on(&self, from: usize) -> usize
-        ensures {
-            (bytes : List ℕ) → Fits self.now bytes → from ≤ length bytes
-            → Passes array_turn bytes from result
-        }
+        ensures { (bytes : List ℕ) → Fits self.now bytes → from ≤ length bytes
+            → Passes array_turn bytes from result }
     {
         if self.parts_from == from {
             self.parts_at
@@ -73,10 +67,8 @@ impl Resume {
     pub(crate) fn keep_parts(&mut self, from: usize, at: usize)
         ensures begins { self.new.parts_from ≡ from }
         ensures goes_on { self.new.parts_at ≡ at }
-        ensures fits {
-            (bytes : List ℕ) → Fits self.old bytes → Passes array_turn bytes from at
-            → Fits self.new bytes
-        }
+        ensures fits { (bytes : List ℕ) → Fits self.old bytes → Passes array_turn bytes from at
+            → Fits self.new bytes }
     {
         self.parts_from = from;
         self.parts_at = at;
