@@ -3,7 +3,7 @@
 ghost use Rattle.std.specs.Prelude.{◌≡◌, ◌*◌, ◌<◌, ◌≤◌, ◌^◌, IfOk, length};
 ghost use Rattle.nbfx_records.specs.Asked as asked;
 ghost use Rattle.nbfx_records.specs.Cursor.{OnMore, Tells};
-ghost use Rattle.nbfx_records.specs.Resuming.{Fits, KeepsArray, KeepsAttributes};
+ghost use Rattle.nbfx_records.specs.Resuming.{Fits, KeepsArray, KeepsParts};
 ghost use Rattle.nbfx_records.specs.Kinds.{width_of};
 ghost use Rattle.nbfx_records.specs.Shapes as spec;
 ghost use Rattle.nbfx_records.specs.Views.{AreParts, AreSized, IsSoundTurn, array_seen, array_turn_seen, cells_seen, named_seen, parts_seen};
@@ -99,7 +99,7 @@ fn parts_at<'a>(
     ensures tells { Tells parts_seen spec.array_parts
         asked.array_parts bytes.now from result }
     ensures parts { IfOk result (λ read. AreParts read.0.now) }
-    ensures kept { OnMore result (KeepsAttributes from resume.new bytes.now) }
+    ensures kept { OnMore result (KeepsParts from resume.new bytes.now) }
     ensures fits { Fits resume.new bytes.now }
 {
     let mut at = resume.parts_go_on(from);

@@ -2,8 +2,8 @@
 
 ghost use Rattle.std.specs.Prelude.{◌≤◌, IfOk, length};
 ghost use Rattle.nbfx_records.specs.Asked as asked;
-ghost use Rattle.nbfx_records.specs.Cursor.{Tells};
-ghost use Rattle.nbfx_records.specs.Resuming.{Fits};
+ghost use Rattle.nbfx_records.specs.Cursor.{OnMore, Tells};
+ghost use Rattle.nbfx_records.specs.Resuming.{Fits, KeepsAttribute, KeepsText, KeepsTextOf, KeepsValue};
 ghost use Rattle.nbfx_records.specs.Shapes as spec;
 ghost use Rattle.nbfx_records.specs.Views.{HoldsLists, IsSoundAttribute, attribute_seen, value_seen};
 
@@ -50,6 +50,7 @@ fn text_value<'a>(
     ensures tells { Tells value_seen (spec.text_value kind ends)
         (asked.text_value kind ends) bytes.now at result }
     ensures list { IfOk result (λ read. HoldsLists read.0) }
+    ensures kept { OnMore result (KeepsText kind at resume.new bytes.now) }
     ensures fits { Fits resume.new bytes.now }
 {
     if ends {
@@ -79,6 +80,7 @@ fn value_of_kind<'a>(
     ensures tells { Tells value_seen (spec.value_of_kind kind)
         (asked.value_of_kind kind) bytes.now at result }
     ensures list { IfOk result (λ read. HoldsLists read.0) }
+    ensures kept { OnMore result (KeepsTextOf kind at resume.new bytes.now) }
     ensures fits { Fits resume.new bytes.now }
 {
     match kind {
@@ -99,6 +101,7 @@ fn value_at<'a>(
     ensures tells { Tells value_seen spec.value_at
         asked.value_at bytes.now at result }
     ensures list { IfOk result (λ read. HoldsLists read.0) }
+    ensures kept { OnMore result (KeepsValue at resume.new bytes.now) }
     ensures fits { Fits resume.new bytes.now }
 {
     let (byte, at) = byte_at(bytes, at)?;
@@ -118,6 +121,7 @@ pub fn attribute_at<'a>(
     ensures tells { Tells attribute_seen (spec.attribute_at prefix name)
         (asked.attribute_at prefix name) bytes.now at result }
     ensures sound { IfOk result (λ read. IsSoundAttribute read.0) }
+    ensures kept { OnMore result (KeepsAttribute prefix name at resume.new bytes.now) }
     ensures fits { Fits resume.new bytes.now }
 {
     let (prefix, at) = prefix_at(prefix, bytes, at)?;

@@ -123,7 +123,7 @@ pub fn list_at<'a>(
     ensures tells { Tells list_seen (spec.list_at (may_close holder))
         (asked.list_at (may_close holder)) bytes.now from result }
     ensures list { IfOk result (λ read. IsList read.0.bytes.now) }
-    ensures kept { holder ≡ ListHolder.Text → OnMore result (KeepsList from resume.new bytes.now) }
+    ensures kept { OnMore result (KeepsList (may_close holder) from resume.new bytes.now) }
     ensures fits { Fits resume.new bytes.now }
 {
     let mut at = resume.list_goes_on(from);

@@ -1,5 +1,6 @@
 use Rattle.nbfx_records.specs.Asked as asked
 use Rattle.nbfx_records.specs.Shapes.{placed, shape_at}
+use Rattle.nbfx_records.specs.Resuming.{KeepsAny}
 use Rattle.nbfx_records.proofs.CursorFacts.{then_stops, exit}
 use Rattle.nbfx_records.proofs.KeptFacts.{kept_whole}
 use Rattle.nbfx_records.proofs.PartFacts.{typed_tells}
@@ -15,4 +16,4 @@ returns-clause-tells c = typed_tells (placed c.args.place) (asked.placed c.args.
 
 pub returns-clause-kept : goal.returns-clause-kept
 returns-clause-kept c =
-    kept_whole c.args.bytes.now c.placed.new.resume c.in_ok-byte.byte c.in_ok-byte.at c.record_kind.result c.in_ok-byte.ensures.told c.record_kind.ensures c.placed.result c.placed.ensures.kept
+    kept_whole (λ kind at. KeepsAny kind at c.placed.new.resume c.args.bytes.now) c.args.bytes.now 0 c.in_ok-byte.byte c.in_ok-byte.at c.record_kind.result c.in_ok-byte.ensures.told c.record_kind.ensures c.placed.result c.placed.ensures.kept
