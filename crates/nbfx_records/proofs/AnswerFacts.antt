@@ -14,6 +14,7 @@ use Rattle.nbfx_records.specs.declared.read.ReadFault.{ReadFault}
 use Rattle.nbfx_records.specs.declared.read.ReadFault.TheVariants.{Fault, Memory}
 use Rattle.nbfx_records.specs.Answers.{Answers, Wants, Gives, stopped_by}
 use Rattle.nbfx_records.specs.Contents.{contents}
+use Rattle.nbfx_records.specs.Asked as asked
 use Rattle.nbfx_records.specs.Cursor.{IsWhole, Stops}
 use Rattle.nbfx_records.specs.Reading.{node_at}
 use Rattle.nbfx_records.specs.Shapes.{Shape, shape_at}
@@ -59,10 +60,14 @@ module _ (place : NodePlace) (bytes : List ℕ) where
       let size : w.0 ≡ n = omega (arith, w.2) in
       ap (judged contents) (sym (here (shape_at place)) ∙ w.1) ∙ ap (wrong fault) size
 
-  pub stopped_answers : (stop : Stop) → Stops (shape_at place) bytes 0 stop → Answers place bytes (stopped_by stop)
+  pub stopped_answers : (stop : Stop) → Stops (shape_at place) (asked.shape_at place) bytes 0 stop → Answers place bytes (stopped_by stop)
   stopped_answers (stops.More wants) h = sym (here (node_at place)) ∙ begun_at [] (h.why.begins [] (subst (λ (b : List ℕ). length b < wants) (sym (append-nil bytes)) h.why.above))
   stopped_answers (stops.Fault fault shown_by) h = wrong_here fault shown_by (h.why.stands [])
 
-  pub stopped_wants : (stop : Stop) → Stops (shape_at place) bytes 0 stop → Wants place bytes (stopped_by stop)
-  stopped_wants (stops.More wants) h = record { more = h.why.above; begins = λ next lt. begun_at next (h.why.begins next lt) }
+  pub stopped_wants : (stop : Stop) → Stops (shape_at place) (asked.shape_at place) bytes 0 stop → Wants place bytes (stopped_by stop)
+  stopped_wants (stops.More wants) h = record {
+    more = h.why.above;
+    begins = λ next lt. begun_at next (h.why.begins next lt);
+    asks = let size : h.asks.0 ≡ wants = omega (arith, h.asks.1) in subst (asked.shape_at place bytes) size h.asks.2;
+  }
   stopped_wants (stops.Fault fault shown_by) h = tt

@@ -1,5 +1,5 @@
 -- The record that is chosen for a node is one of the node.
-use Rattle.std.proofs.Common.{◌≡◌, ℕ, List, [], ◌∷◌, ◌++◌, length, Bool, true, false, refl, sym, ap, ◌∙◌, inl, inr, arith, append_assoc}
+use Rattle.std.proofs.Common.{◌≡◌, ℕ, List, [], ◌∷◌, ◌++◌, length, Bool, true, false, refl, sym, inl, inr, arith, append_assoc}
 use Rattle.std.proofs.Math.Facts.{Fits-of_z}
 use Rattle.std.specs.Prelude.{◌^◌, nat_lt, ◌&&◌, flat_map}
 use Rattle.std.specs.Int.{w16, w32, w64, cast_unsigned}
@@ -191,18 +191,6 @@ cells_are kind (value ∷ values) valid =
     let v = and_parts (fits_kind kind value) (list_all (fits_kind kind) values) valid in
     (text_byte (text_kind_in kind), cell_bytes kind value, flat_map (cell_bytes kind) values, flat_map-cons (cell_bytes kind) value values, cell_is kind value v.0, cells_are kind values v.1)
 
-kind_byte : (kind : ArrayKind) → byte_of (records.Text (text_kind_in kind) true) ≡ array_byte kind
-kind_byte arrays.Bool = refl
-kind_byte arrays.Int16 = refl
-kind_byte arrays.Int32 = refl
-kind_byte arrays.Int64 = refl
-kind_byte arrays.Float = refl
-kind_byte arrays.Double = refl
-kind_byte arrays.Decimal = refl
-kind_byte arrays.DateTime = refl
-kind_byte arrays.TimeSpan = refl
-kind_byte arrays.Uuid = refl
-
 array_is : (a : ArrayNode) → is_valid_array a ≡ true → fits_array a ≡ true → IsArray a (array_bytes a)
 array_is a valid fits =
     let v = and_parts (are_valid_names a.prefix a.name) (list_all is_valid_part a.attrs && (nat_lt 0 (length a.values) && list_all (fits_kind a.kind) a.values)) valid in
@@ -224,7 +212,7 @@ array_is a valid fits =
       is_count = (shortest_spells (length a.values) (ltb-true (length a.values) (2 ^ 31) fs.1)).0;
       some = ltb-true 0 (length a.values) cells.0;
       are_cells = cells_are a.kind a.values cells.1;
-      joined = ap (λ b. 3 ∷ (element ++ (attributes ++ 1 ∷ b ∷ (count ++ values)))) (kind_byte a.kind) ∙ sym (append_assoc (3 ∷ element) attributes (1 ∷ array_byte a.kind ∷ (count ++ values)));
+      joined = sym (append_assoc (3 ∷ element) attributes (1 ∷ array_byte a.kind ∷ (count ++ values)));
     }
 
 pub chosen_is : (node : Node) → is_valid_node node ≡ true → fits_node node ≡ true → IsNode node (chosen_bytes node)

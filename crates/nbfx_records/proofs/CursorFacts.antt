@@ -16,7 +16,8 @@ use Rattle.nbfx_records.specs.declared.nodes.NodeFault.{NodeFault}
 use Rattle.nbfx_records.specs.declared.nodes.NodeFault.TheVariants as faults
 use Rattle.nbfx_records.specs.Shapes.{an_integer}
 use Rattle.nbfx_records.proofs.ShapeFronts.{reads_integer}
-use Rattle.nbfx_records.specs.Cursor.{read_from, IsWhole, IsWrong, Waits, Why, Stops, Told, Tells}
+use Rattle.nbfx_records.specs.Asked.{Either, here, later}
+use Rattle.nbfx_records.specs.Cursor.{read_from, IsWhole, IsWrong, Waits, Why, AsksAt, Stops, Told, Tells}
 
 -- bytes that follow, behind an offset
 drop_more : (bytes more : List ℕ) (at : ℕ) → at ≤ length bytes → drop at (bytes ++ more) ≡ drop at bytes ++ more
@@ -107,25 +108,43 @@ module _ {A B : Type 0} (reader : Reader A NodeFault) (next : A → Reader B Nod
     begins = λ more lt. ap (further at) (then_begun reader next (drop at (bytes ++ more)) (further_begun at (reader (drop at (bytes ++ more))) (first.begins more lt)));
   }
 
-  told_behind : {X : Type 0} (see : X → B) (a : A) (to : ℕ) (r : Result (X × ℕ) Stop) → IsWhole reader bytes at a to → Told see (next a) bytes to r → Told see (reader >>= next) bytes at r
-  told_behind see a to (Ok x) first then = record {
+  module _ (asked : List ℕ → ℕ → Type 0) (behind : A → List ℕ → ℕ → Type 0) where
+    asks_first : (stop : Stop) → AsksAt asked bytes at stop → AsksAt (Either reader asked behind) bytes at stop
+    asks_first (Fault fault shown_by) h = tt
+    asks_first (More wants) (m, e, h) = (m, e, here h)
+
+    asks_behind : (a : A) (to : ℕ) (stop : Stop) → IsWhole reader bytes at a to → AsksAt (behind a) bytes to stop → AsksAt (Either reader asked behind) bytes at stop
+    asks_behind a to (Fault fault shown_by) first h = tt
+    asks_behind a to (More wants) first (m, e, h) =
+        let k = further_whole at (reader (drop at (bytes ++ []))) a to (first.stands []) in
+        let rest = ap (λ n. drop n bytes) k.2 ∙ sym (drop-drop k.0 at bytes) in
+        (k.0 + m, omega (arith, e, k.2), later (a, k.0, m, ap (λ b. reader (drop at b)) (sym (append-nil bytes)) ∙ k.1, refl, subst (λ (b : List ℕ). behind a b m) rest h))
+
+  told_behind : (asked : List ℕ → ℕ → Type 0) (behind : A → List ℕ → ℕ → Type 0) {X : Type 0} (see : X → B) (a : A) (to : ℕ) (r : Result (X × ℕ) Stop) → IsWhole reader bytes at a to → Told see (next a) (behind a) bytes to r
+      → Told see (reader >>= next) (Either reader asked behind) bytes at r
+  told_behind asked behind see a to (Ok x) first then = record {
     after = let e = first.after in let f = then.after in omega arith;
     within = then.within;
     stands = λ more. from_then (bytes ++ more) a to (first.stands more) ∙ then.stands more;
   }
-  told_behind see a to (Err stop) first then = record { why = why_behind a to stop first then.why }
+  told_behind asked behind see a to (Err stop) first then = record { why = why_behind a to stop first then.why; asks = asks_behind asked behind a to stop first then.asks }
 
-module _ {A B : Type 0} {reader : Reader A NodeFault} (next : A → Reader B NodeFault) {bytes : List ℕ} {at : ℕ} where
+module _ {A B : Type 0} {reader : Reader A NodeFault} (next : A → Reader B NodeFault) {asked : List ℕ → ℕ → Type 0} {behind : A → List ℕ → ℕ → Type 0} {bytes : List ℕ} {at : ℕ} where
   -- where the first part stops
-  pub then_stops : {stop : Stop} → Stops reader bytes at stop → Stops (reader >>= next) bytes at stop
-  then_stops {stop} first = record { why = why_first reader next bytes at stop first.why }
+  pub then_stops : {stop : Stop} → Stops reader asked bytes at stop → Stops (reader >>= next) (Either reader asked behind) bytes at stop
+  then_stops {stop} first = record { why = why_first reader next bytes at stop first.why; asks = asks_first reader next bytes at asked behind stop first.asks }
 
   -- behind a first part that is whole
-  pub then_tells : {X Y : Type 0} {see' : Y → A} {see : X → B} {x : Y} {to : ℕ} {r : Result (X × ℕ) Stop} → Tells see' reader bytes at (Ok (x, to)) → Tells see (next (see' x)) bytes to r → Tells see (reader >>= next) bytes at r
-  then_tells {see' = see'} {see} {x} {to} {r} first then = record { told = told_behind reader next bytes at see (see' x) to r first.told then.told }
+  pub then_tells : {X Y : Type 0} {see' : Y → A} {see : X → B} {x : Y} {to : ℕ} {r : Result (X × ℕ) Stop} → Tells see' reader asked bytes at (Ok (x, to)) → Tells see (next (see' x)) (behind (see' x)) bytes to r
+      → Tells see (reader >>= next) (Either reader asked behind) bytes at r
+  then_tells {see' = see'} {see} {x} {to} {r} first then = record { told = told_behind reader next bytes at asked behind see (see' x) to r first.told then.told }
 
-  pub then_stops_behind : {Y : Type 0} {see' : Y → A} {x : Y} {to : ℕ} {stop : Stop} → Tells see' reader bytes at (Ok (x, to)) → Stops (next (see' x)) bytes to stop → Stops (reader >>= next) bytes at stop
-  then_stops_behind {see' = see'} {x} {to} {stop} first then = record { why = why_behind reader next bytes at (see' x) to stop first.told then.why }
+  pub then_stops_behind : {Y : Type 0} {see' : Y → A} {x : Y} {to : ℕ} {stop : Stop} → Tells see' reader asked bytes at (Ok (x, to)) → Stops (next (see' x)) (behind (see' x)) bytes to stop
+      → Stops (reader >>= next) (Either reader asked behind) bytes at stop
+  then_stops_behind {see' = see'} {x} {to} {stop} first then = record {
+    why = why_behind reader next bytes at (see' x) to stop first.told then.why;
+    asks = asks_behind reader next bytes at asked behind (see' x) to stop first.told then.asks;
+  }
 
 -- a part seen otherwise
 module _ {A B : Type 0} (see : A → B) (reader : Reader A NodeFault) (bytes : List ℕ) (at : ℕ) where
@@ -150,11 +169,11 @@ module _ {A B : Type 0} (see : A → B) (reader : Reader A NodeFault) (bytes : L
     begins = λ more lt. seen_further at (reader (drop at (bytes ++ more))) ∙ ap (seen see (λ fault. fault)) (first.begins more lt);
   }
 
-module _ {A B : Type 0} (see : A → B) {reader : Reader A NodeFault} {bytes : List ℕ} {at : ℕ} where
-  pub seen_stops : {stop : Stop} → Stops reader bytes at stop → Stops (λ b. seen see (λ fault. fault) (reader b)) bytes at stop
-  seen_stops {stop} first = record { why = seen_why see reader bytes at stop first.why }
+module _ {A B : Type 0} (see : A → B) {reader : Reader A NodeFault} {asked : List ℕ → ℕ → Type 0} {bytes : List ℕ} {at : ℕ} where
+  pub seen_stops : {stop : Stop} → Stops reader asked bytes at stop → Stops (λ b. seen see (λ fault. fault) (reader b)) asked bytes at stop
+  seen_stops {stop} first = record { why = seen_why see reader bytes at stop first.why; asks = first.asks }
 
-  pub seen_tells : {X Y : Type 0} {see' : Y → A} {view : X → B} {x : Y} {y : X} {to : ℕ} → Tells see' reader bytes at (Ok (x, to)) → see (see' x) ≡ view y → Tells view (λ b. seen see (λ fault. fault) (reader b)) bytes at (Ok (y, to))
+  pub seen_tells : {X Y : Type 0} {see' : Y → A} {view : X → B} {x : Y} {y : X} {to : ℕ} → Tells see' reader asked bytes at (Ok (x, to)) → see (see' x) ≡ view y → Tells view (λ b. seen see (λ fault. fault) (reader b)) asked bytes at (Ok (y, to))
   seen_tells {see' = see'} {view} {x} {y} {to} first same = record {
     told = subst (λ (b : B). IsWhole (λ c. seen see (λ fault. fault) (reader c)) bytes at b to) same (seen_is see reader bytes at (see' x) to first.told);
   }
@@ -166,11 +185,11 @@ given_is a bytes at within = record { after = omega arith; within = within; stan
 refuse_is : {A : Type 0} (fault : NodeFault) (bytes : List ℕ) (at : ℕ) → IsWrong (refuse {A = A} fault) bytes at fault at
 refuse_is fault bytes at = record { stands = λ more. ap (wrong fault) (omega arith) }
 
-pub given_tells : {X A : Type 0} (see : X → A) (x : X) (bytes : List ℕ) (at : ℕ) → at ≤ length bytes → Tells see (given (see x)) bytes at (Ok (x, at))
+pub given_tells : {asked : List ℕ → ℕ → Type 0} {X A : Type 0} (see : X → A) (x : X) (bytes : List ℕ) (at : ℕ) → at ≤ length bytes → Tells see (given (see x)) asked bytes at (Ok (x, at))
 given_tells see x bytes at within = record { told = given_is (see x) bytes at within }
 
-pub refuse_stops : {A : Type 0} (fault : NodeFault) (bytes : List ℕ) (at : ℕ) → Stops (refuse {A = A} fault) bytes at (Fault fault at)
-refuse_stops fault bytes at = record { why = refuse_is fault bytes at }
+pub refuse_stops : {asked : List ℕ → ℕ → Type 0} {A : Type 0} (fault : NodeFault) (bytes : List ℕ) (at : ℕ) → Stops (refuse {A = A} fault) asked bytes at (Fault fault at)
+refuse_stops fault bytes at = record { why = refuse_is fault bytes at; asks = tt }
 
 -- the bytes of an integer so far, and one more
 module _ (bytes : List ℕ) (from at : ℕ) (after : from ≤ at) (lt : at < length bytes) where
@@ -193,8 +212,8 @@ module _ (bytes : List ℕ) (from at : ℕ) (after : from ≤ at) (lt : at < len
       (ap an_integer (sym (one_more bytes from at after lt)) ∙ ap (seen (λ n. n) (λ _. faults.BadInt)) e ∙ ap (wrong faults.BadInt) five)
 
 -- what a `?` hands on
-pub exit : {X A : Type 0} {see : X → A} {reader : Reader A NodeFault} {bytes : List ℕ} {at : ℕ} {stop : Stop} {r : Result (X × ℕ) Stop} → IsErrAnd r (λ y. y ≡ stop) → Stops reader bytes at stop
-    → Tells see reader bytes at r
-exit {X} {A} {see} {reader} {bytes} {at} {stop} {r} e h =
+pub exit : {X A : Type 0} {see : X → A} {reader : Reader A NodeFault} {asked : List ℕ → ℕ → Type 0} {bytes : List ℕ} {at : ℕ} {stop : Stop} {r : Result (X × ℕ) Stop} → IsErrAnd r (λ y. y ≡ stop) → Stops reader asked bytes at stop
+    → Tells see reader asked bytes at r
+exit {X} {A} {see} {reader} {asked} {bytes} {at} {stop} {r} e h =
     let p = err_from_is_err_and r e in
-    subst (λ (q : Result (X × ℕ) Stop). Tells see reader bytes at q) (ap Err (sym p.2) ∙ sym p.1) (record { told = h })
+    subst (λ (q : Result (X × ℕ) Stop). Tells see reader asked bytes at q) (ap Err (sym p.2) ∙ sym p.1) (record { told = h })

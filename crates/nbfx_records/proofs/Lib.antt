@@ -4,6 +4,7 @@ mod WorkedTexts
 mod WorkedRecords
 mod WorkedLengths
 mod WorkedRefusals
+mod WorkedAsked
 -- What is read rests on its own bytes.
 pub mod ShapeFronts
 -- Reading and the relation are one, from type bytes up to records; records are of valid nodes.
@@ -23,6 +24,7 @@ pub mod ManyFacts
 pub mod ListFacts
 pub mod PartsFacts
 pub mod ResumeFacts
+pub mod KeptFacts
 pub mod UnitFacts
 pub mod JudgedFacts
 pub mod CellFacts

@@ -10,6 +10,7 @@ use Rattle.nbfx_records.specs.declared.kinds.RecordKind.{RecordKind}
 use Rattle.nbfx_records.specs.declared.kinds.RecordKind.TheVariants as records
 use Rattle.nbfx_records.specs.declared.nodes.NodeFault.{NodeFault}
 use Rattle.nbfx_records.specs.Kinds.{record_kind}
+use Rattle.nbfx_records.specs.Asked as asked
 use Rattle.nbfx_records.specs.Cursor.{IsWhole, Stops}
 use Rattle.nbfx_records.specs.Resuming.{AreMore, Passes}
 use Rattle.nbfx_records.specs.Shapes.{ScalarShape, turn_of, list_turn, list_at}
@@ -104,7 +105,7 @@ module _ (may_close : Bool) (bytes : List ℕ) (from at : ℕ) (p : Passes (list
       ap (λ v. on_whole v (λ list n. list.items) []) (listed_is may_close bytes from (record { items = p.items; last = ends }) to it) in
       subst (λ (items : List ScalarShape). IsWhole (list_at may_close) bytes from (record { items = items; last = ends }) to) (sym items) it
 
-  pub list_stops : (s : Stop) → Stops (list_turn may_close) bytes at s → Stops (list_at may_close) bytes from s
+  pub list_stops : (s : Stop) → Stops (list_turn may_close) (asked.list_turn may_close) bytes at s → Stops (list_at may_close) (asked.list_at may_close) bytes from s
   list_stops s h = many_stops (list_turn may_close) (reads_list_turn may_close) (nothing_turned may_close) bytes p.items from at s own h
 
   pub list_goes_on : (a : ScalarShape) (to : ℕ) → IsWhole (list_turn may_close) bytes at (more a) to → Passes (list_turn true) bytes from to
@@ -132,7 +133,7 @@ module _ (b : List ℕ) (it : IsList b) where
       let none = all_stop (list_turn true) (reads_list_turn true) nothing_true b it.list it.is last to h in
       listed_all b it.list it.is ∙ ap (λ (list : Many ScalarShape Bool). list.items) none
 
-  pub list_unstopped : (s : Stop) → Stops (list_turn true) b 0 s → ⊥
+  pub list_unstopped : (s : Stop) → Stops (list_turn true) (asked.list_turn true) b 0 s → ⊥
   list_unstopped s h = never_stops (list_turn true) (reads_list_turn true) nothing_true b it.list it.is s h
 
   module _ (a : ScalarShape) (to : ℕ) (h : IsWhole (list_turn true) b 0 (more a) to) where

@@ -1,5 +1,5 @@
 -- Things one behind the other that are read from an offset on, and what they are together.
-use Rattle.std.proofs.Common.{◌≡◌, ℕ, ◌+◌, ◌<◌, List, [], ◌∷◌, ◌++◌, length, drop, refl, sym, ap, ◌∙◌, arith, append_assoc, length-append, length-drop}
+use Rattle.std.proofs.Common.{◌≡◌, ℕ, ◌+◌, ◌<◌, List, [], ◌∷◌, ◌++◌, length, drop, refl, sym, ap, ◌∙◌, subst, arith, append_assoc, length-append, length-drop}
 use Rattle.std.proofs.lemmas.List.{append-nil, drop-drop}
 use Rattle.unit_streams.specs.Front.{Front, begun, whole, wrong, ReadsFront}
 use Rattle.unit_streams.specs.Parts.{Reader, further, seen, Turn, more, stop, Many, with_first, turned, repeated, many}
@@ -9,7 +9,8 @@ use Rattle.unit_streams.proofs.Repeated.{many_is}
 use Rattle.nbfx_records.specs.declared.cursor.Stop.{Stop}
 use Rattle.nbfx_records.specs.declared.cursor.Stop.TheVariants.{More, Fault}
 use Rattle.nbfx_records.specs.declared.nodes.NodeFault.{NodeFault}
-use Rattle.nbfx_records.specs.Cursor.{read_from, IsWhole, Why, Stops}
+use Rattle.nbfx_records.specs.Causes.{BehindMany, BehindThese}
+use Rattle.nbfx_records.specs.Cursor.{read_from, IsWhole, Why, AsksAt, Stops}
 use Rattle.nbfx_records.specs.Resuming.{AreMore, Passes}
 use Rattle.nbfx_records.proofs.CursorFacts.{further_whole, further_begun, further_wrong, further_more}
 
@@ -89,8 +90,25 @@ module _ {A B : Type 0} (turn : Reader (Turn A B) NodeFault) (reads : ReadsFront
         let rest = many_why items mid at (More wants) others h in
         record { above = rest.above; begins = λ c few. behind_one from mid a c first ∙ ap (seen (with_first a) (λ r. r)) (rest.begins c few) }
 
-    pub many_stops : (items : List A) (from at : ℕ) (s : Stop) → AreMore turn bytes from items at → Stops turn bytes at s → Stops (many turn) bytes from s
-    many_stops items from at s are h = record { why = many_why items from at s are h.why }
+    -- behind things what the next asks for
+    module _ (asked : List ℕ → ℕ → Type 0) where
+      many_ask : (items : List A) (from at wants m : ℕ) → AreMore turn bytes from items at → wants ≡ at + m → asked (drop at bytes) m
+          → (n : ℕ) × (wants ≡ from + n) × BehindMany turn asked (drop from bytes) n
+      many_ask [] from at wants m are e h = rw are (m, e, ([], h))
+      many_ask (a ∷ items) from at wants m (mid, lt, first, others) e h =
+          let rest = many_ask items mid at wants m others e h in
+          let w = further_whole from (turn (drop from (bytes ++ []))) (more a) mid (first.stands []) in
+          let here : turn (drop from bytes) ≡ whole (more a) w.0 = ap (λ b. turn (drop from b)) (sym (append-nil bytes)) ∙ w.1 in
+          let behind : drop mid bytes ≡ drop w.0 (drop from bytes) = ap (λ n. drop n bytes) w.2 ∙ sym (drop-drop w.0 from bytes) in
+          let sum : wants ≡ from + (w.0 + rest.0) = omega (arith, rest.1, w.2) in
+          (w.0 + rest.0, sum, (a ∷ rest.2.0, (w.0, rest.0, here, refl, subst (λ (b : List ℕ). BehindThese turn asked rest.2.0 b rest.0) behind rest.2.1)))
+
+      many_asks : (items : List A) (from at : ℕ) (s : Stop) → AreMore turn bytes from items at → AsksAt asked bytes at s → AsksAt (BehindMany turn asked) bytes from s
+      many_asks items from at (Fault fault shown_by) are h = tt
+      many_asks items from at (More wants) are (m, e, h) = many_ask items from at wants m are e h
+
+    pub many_stops : {asked : List ℕ → ℕ → Type 0} (items : List A) (from at : ℕ) (s : Stop) → AreMore turn bytes from items at → Stops turn asked bytes at s → Stops (many turn) (BehindMany turn asked) bytes from s
+    many_stops {asked} items from at s are h = record { why = many_why items from at s are h.why; asks = many_asks asked items from at s are h.asks }
 
     -- one more thing
     pub more_are : (items : List A) (from at to : ℕ) (a : A) → AreMore turn bytes from items at → IsWhole turn bytes at (more a) to → AreMore turn bytes from (items ++ a ∷ []) to
@@ -123,11 +141,11 @@ module _ {A B : Type 0} (turn : Reader (Turn A B) NodeFault) (reads : ReadsFront
         let size : f.0 ≡ length (drop to b) = omega (arith, f.2, length-drop to b) in
         (rest.0, rest.1 ∙ ap (whole rest.0) size, sym rest.2)
 
-    pub never_stops : (s : Stop) → Stops turn b 0 s → ⊥
-    never_stops (Fault fault shown_by) h =
+    pub never_stops : {asked : List ℕ → ℕ → Type 0} (s : Stop) → Stops turn asked b 0 s → ⊥
+    never_stops {asked} (Fault fault shown_by) h =
         let w = further_wrong 0 (turn (b ++ [])) fault shown_by (h.why.stands []) in
         let one = many_wrong b fault w.0 (ap turn (sym (append-nil b)) ∙ w.1) in cc
-    never_stops (More wants) h =
+    never_stops {asked} (More wants) h =
         let above = h.why.above in
         let none = further_begun 0 (turn (b ++ [])) (h.why.begins [] (omega (arith, length-append b [], above))) in
         let one = many_begun b (ap turn (sym (append-nil b)) ∙ none) in cc

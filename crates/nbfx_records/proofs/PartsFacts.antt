@@ -5,6 +5,7 @@ use Rattle.unit_streams.specs.Front.{begun, whole, on_whole}
 use Rattle.unit_streams.specs.Parts.{a_byte, more, stop, Many}
 use Rattle.unit_streams.proofs.Parts.{then_begun}
 use Rattle.nbfx_records.specs.declared.cursor.Stop.{Stop}
+use Rattle.nbfx_records.specs.Asked as asked
 use Rattle.nbfx_records.specs.Cursor.{IsWhole, Stops}
 use Rattle.nbfx_records.specs.Resuming.{Passes}
 use Rattle.nbfx_records.specs.Shapes.{AttributeShape, array_turn, array_parts}
@@ -31,7 +32,7 @@ module _ (bytes : List ℕ) (from at : ℕ) (p : Passes array_turn bytes from at
       let items : parts_of (take (to - from) (drop from bytes)) ≡ p.items = ap (λ v. on_whole v (λ parts n. parts.items) []) (parts_are bytes from (record { items = p.items; last = last }) to it) in
       subst (λ (items : List AttributeShape). IsWhole array_parts bytes from (record { items = items; last = last }) to) (sym items) it
 
-  pub parts_stop : (s : Stop) → Stops array_turn bytes at s → Stops array_parts bytes from s
+  pub parts_stop : (s : Stop) → Stops array_turn asked.array_turn bytes at s → Stops array_parts asked.array_parts bytes from s
   parts_stop s h = many_stops array_turn reads_array_turn nothing_parted bytes p.items from at s p.are h
 
   pub parts_go_on : (a : AttributeShape) (to : ℕ) → IsWhole array_turn bytes at (more a) to → Passes array_turn bytes from to
@@ -56,7 +57,7 @@ module _ (b : List ℕ) (it : AreParts b) where
       let none = all_stop array_turn reads_array_turn nothing_parted b it.parts it.are last to h in
       parts_all b it.parts it.are ∙ ap (λ (parts : Many AttributeShape (Unit {0})). parts.items) none
 
-  pub parts_unstopped : (s : Stop) → Stops array_turn b 0 s → ⊥
+  pub parts_unstopped : (s : Stop) → Stops array_turn asked.array_turn b 0 s → ⊥
   parts_unstopped s h = never_stops array_turn reads_array_turn nothing_parted b it.parts it.are s h
 
   module _ (a : AttributeShape) (to : ℕ) (h : IsWhole array_turn b 0 (more a) to) where

@@ -70,6 +70,34 @@ truth_2 : Refused within BadValue (0xb4 ∷ 2 ∷ []) 2
 unfolding records_on_literals
 truth_2 = refl
 
+ending_units_of_odd_length : Refused within BadValue (0xb7 ∷ 3 ∷ 0x61 ∷ 0 ∷ 0x62 ∷ []) 5
+unfolding records_on_literals
+ending_units_of_odd_length = refl
+
+ending_lone_surrogate : Refused within BadValue (0xb7 ∷ 2 ∷ 0 ∷ 0xd8 ∷ []) 4
+unfolding records_on_literals
+ending_lone_surrogate = refl
+
+ending_scale_29 : Refused within BadValue (0x95 ∷ 0 ∷ 0 ∷ 0x1d ∷ 0 ∷ 0 ∷ 0 ∷ 0 ∷ 0 ∷ 0 ∷ 0 ∷ 0 ∷ 0 ∷ 0 ∷ 0 ∷ 0 ∷ 0 ∷ []) 17
+unfolding records_on_literals
+ending_scale_29 = refl
+
+ending_sign_01 : Refused within BadValue (0x95 ∷ 0 ∷ 0 ∷ 0 ∷ 1 ∷ 0 ∷ 0 ∷ 0 ∷ 0 ∷ 0 ∷ 0 ∷ 0 ∷ 0 ∷ 0 ∷ 0 ∷ 0 ∷ 0 ∷ []) 17
+unfolding records_on_literals
+ending_sign_01 = refl
+
+ending_letter_1a : Refused within BadValue (0xbd ∷ 0x1a ∷ 2 ∷ []) 3
+unfolding records_on_literals
+ending_letter_1a = refl
+
+ending_truth_2 : Refused within BadValue (0xb5 ∷ 2 ∷ []) 2
+unfolding records_on_literals
+ending_truth_2 = refl
+
+ending_text_no_utf8 : Refused within BadUtf8 (0x99 ∷ 1 ∷ 0xff ∷ []) 3
+unfolding records_on_literals
+ending_text_no_utf8 = refl
+
 text_no_utf8 : Refused within BadUtf8 (0x98 ∷ 1 ∷ 0xff ∷ []) 3
 unfolding records_on_literals
 text_no_utf8 = refl

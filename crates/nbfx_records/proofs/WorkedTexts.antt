@@ -207,6 +207,46 @@ qname_that_ends : Written (Text (One (QName 0 2)) true) (0xbd ∷ 0 ∷ 2 ∷ []
 unfolding records_on_literals
 qname_that_ends = (refl, refl)
 
+false_that_ends : Written (Text (One (Known (Truth false))) true) (0x85 ∷ [])
+unfolding records_on_literals
+false_that_ends = (refl, refl)
+
+int32_that_ends : Written (Text (One (Known (Number (negsuc 32768)))) true) (0x8d ∷ 0xff ∷ 0x7f ∷ 0xff ∷ 0xff ∷ [])
+unfolding records_on_literals
+int32_that_ends = (refl, refl)
+
+int64_that_ends : Written (Text (One (Known (Number (negsuc 9223372036854775807)))) true) (0x8f ∷ 0 ∷ 0 ∷ 0 ∷ 0 ∷ 0 ∷ 0 ∷ 0 ∷ 0x80 ∷ [])
+unfolding records_on_literals
+int64_that_ends = (refl, refl)
+
+float_that_ends : Written (Text (One (Known (Float 1065353216))) true) (0x91 ∷ 0 ∷ 0 ∷ 0x80 ∷ 0x3f ∷ [])
+unfolding records_on_literals
+float_that_ends = (refl, refl)
+
+double_that_ends : Written (Text (One (Known (Double 4607182418800017408))) true) (0x93 ∷ 0 ∷ 0 ∷ 0 ∷ 0 ∷ 0 ∷ 0 ∷ 0xf0 ∷ 0x3f ∷ [])
+unfolding records_on_literals
+double_that_ends = (refl, refl)
+
+decimal_that_ends : Written (Text (One (Known (Decimal (record { scale = 28; negative = true; magnitude = 55340232221128654853 })))) true) (0x95 ∷ 0 ∷ 0 ∷ 0x1c ∷ 0x80 ∷ 3 ∷ 0 ∷ 0 ∷ 0 ∷ 5 ∷ 0 ∷ 0 ∷ 0 ∷ 0 ∷ 0 ∷ 0 ∷ 0 ∷ [])
+unfolding records_on_literals
+decimal_that_ends = (refl, refl)
+
+date_time_that_ends : Written (Text (One (Known (DateTime 637259347272925185))) true) (0x97 ∷ 1 ∷ 0 ∷ 0 ∷ 0 ∷ 0 ∷ 0 ∷ 0xd8 ∷ 8 ∷ [])
+unfolding records_on_literals
+date_time_that_ends = (refl, refl)
+
+unique_id_that_ends : Written (Text (One (Known (UniqueId (0x33 ∷ 0x22 ∷ 0x11 ∷ 0 ∷ 0x55 ∷ 0x44 ∷ 0x77 ∷ 0x66 ∷ 0x88 ∷ 0x99 ∷ 0xaa ∷ 0xbb ∷ 0xcc ∷ 0xdd ∷ 0xee ∷ 0xff ∷ [])))) true) (0xad ∷ 0x33 ∷ 0x22 ∷ 0x11 ∷ 0 ∷ 0x55 ∷ 0x44 ∷ 0x77 ∷ 0x66 ∷ 0x88 ∷ 0x99 ∷ 0xaa ∷ 0xbb ∷ 0xcc ∷ 0xdd ∷ 0xee ∷ 0xff ∷ [])
+unfolding records_on_literals
+unique_id_that_ends = (refl, refl)
+
+time_span_that_ends : Written (Text (One (Known (TimeSpan (negsuc 0)))) true) (0xaf ∷ 0xff ∷ 0xff ∷ 0xff ∷ 0xff ∷ 0xff ∷ 0xff ∷ 0xff ∷ 0xff ∷ [])
+unfolding records_on_literals
+time_span_that_ends = (refl, refl)
+
+uint64_18446744073709551615_that_ends : Written (Text (One (Known (Number (pos 18446744073709551615)))) true) (0xb3 ∷ 0xff ∷ 0xff ∷ 0xff ∷ 0xff ∷ 0xff ∷ 0xff ∷ 0xff ∷ 0xff ∷ [])
+unfolding records_on_literals
+uint64_18446744073709551615_that_ends = (refl, refl)
+
 zero_in_8 : Read (Text (One (Known (Number (pos 0)))) false) (0x88 ∷ 0 ∷ [])
 unfolding records_on_literals
 zero_in_8 = refl
@@ -282,3 +322,39 @@ long_identifier = refl
 reserved_bytes : Read (Text (One (Known (Decimal (record { scale = 0; negative = false; magnitude = 1 })))) false) (0x94 ∷ 0xab ∷ 0xcd ∷ 0 ∷ 0 ∷ 0 ∷ 0 ∷ 0 ∷ 0 ∷ 1 ∷ 0 ∷ 0 ∷ 0 ∷ 0 ∷ 0 ∷ 0 ∷ 0 ∷ [])
 unfolding records_on_literals
 reserved_bytes = refl
+
+five_in_32_that_ends : Read (Text (One (Known (Number (pos 5)))) true) (0x8d ∷ 5 ∷ 0 ∷ 0 ∷ 0 ∷ [])
+unfolding records_on_literals
+five_in_32_that_ends = refl
+
+chars16_that_end : Read (Text (One (Known (TextOf (0x68 ∷ 0x69 ∷ [])))) true) (0x9b ∷ 2 ∷ 0 ∷ 0x68 ∷ 0x69 ∷ [])
+unfolding records_on_literals
+chars16_that_end = refl
+
+chars32_that_end : Read (Text (One (Known (TextOf (0x68 ∷ 0x69 ∷ [])))) true) (0x9d ∷ 2 ∷ 0 ∷ 0 ∷ 0 ∷ 0x68 ∷ 0x69 ∷ [])
+unfolding records_on_literals
+chars32_that_end = refl
+
+bytes16_that_end : Read (Text (One (Known (Bytes (7 ∷ [])))) true) (0xa1 ∷ 1 ∷ 0 ∷ 7 ∷ [])
+unfolding records_on_literals
+bytes16_that_end = refl
+
+bytes32_that_end : Read (Text (One (Known (Bytes (7 ∷ [])))) true) (0xa3 ∷ 1 ∷ 0 ∷ 0 ∷ 0 ∷ 7 ∷ [])
+unfolding records_on_literals
+bytes32_that_end = refl
+
+true_byte_that_ends : Read (Text (One (Known (Truth true))) true) (0xb5 ∷ 1 ∷ [])
+unfolding records_on_literals
+true_byte_that_ends = refl
+
+unicode8_that_ends : Read (Text (One (Known (TextOf (0x68 ∷ 0x69 ∷ [])))) true) (0xb7 ∷ 4 ∷ 0x68 ∷ 0 ∷ 0x69 ∷ 0 ∷ [])
+unfolding records_on_literals
+unicode8_that_ends = refl
+
+unicode16_that_ends : Read (Text (One (Known (TextOf (0x68 ∷ 0x69 ∷ [])))) true) (0xb9 ∷ 4 ∷ 0 ∷ 0x68 ∷ 0 ∷ 0x69 ∷ 0 ∷ [])
+unfolding records_on_literals
+unicode16_that_ends = refl
+
+unicode32_that_ends : Read (Text (One (Known (TextOf (0x68 ∷ 0x69 ∷ [])))) true) (0xbb ∷ 4 ∷ 0 ∷ 0 ∷ 0 ∷ 0x68 ∷ 0 ∷ 0x69 ∷ 0 ∷ [])
+unfolding records_on_literals
+unicode32_that_ends = refl

@@ -10,6 +10,7 @@ use Rattle.nbfx_records.specs.declared.read.NodeRead.{NodeRead}
 use Rattle.nbfx_records.specs.declared.read.NodeRead.TheVariants.{More, Done}
 use Rattle.nbfx_records.specs.declared.read.ReadFault.{ReadFault}
 use Rattle.nbfx_records.specs.declared.read.ReadFault.TheVariants.{Fault, Memory}
+use Rattle.nbfx_records.specs.Asked as asked
 use Rattle.nbfx_records.specs.Reading.{node_at}
 use Rattle.nbfx_records.specs.Valid.{is_valid_node}
 
@@ -20,10 +21,14 @@ Answers place bytes (Ok (More wants)) = node_at place bytes ≡ begun
 Answers place bytes (Err (Fault fault shown_by)) = node_at place bytes ≡ wrong fault shown_by
 Answers place bytes (Err Memory) = ¬ (node_at place bytes ≡ begun)
 
--- fewer than so many bytes in all decide nothing, however they go on
+-- Fewer than so many bytes in all decide nothing, however they go on: so many are asked for where
+-- the bytes end, which is up to the end of a text, of bytes or of an array's values where their
+-- number is known.
 pub record WaitsFor (place : NodePlace) (bytes : List ℕ) (wants : ℕ) : Type 0 where
   pub more : length bytes < wants
-  pub begins : (next : List ℕ) → length (bytes ++ next) < wants → node_at place (bytes ++ next) ≡ begun
+  pub begins : (next : List ℕ) → length (bytes ++ next) < wants
+      → node_at place (bytes ++ next) ≡ begun
+  pub asks : asked.shape_at place bytes wants
 
 abbrev pub Wants : NodePlace → List ℕ → Result NodeRead ReadFault → Type 0
 Wants place bytes (Ok (More wants)) = WaitsFor place bytes wants

@@ -1,5 +1,5 @@
 -- What is told of a part of a record that is read from an offset on: what stands there, whatever follows the bytes, or how many are wanted.
-use Rattle.std.specs.Prelude.{◌≡◌, ℕ, ◌<◌, ◌≤◌, List, ◌++◌, length, drop, Result, Ok, Err}
+use Rattle.std.specs.Prelude.{◌≡◌, ⊤, ℕ, ◌+◌, ◌<◌, ◌≤◌, List, ◌++◌, length, drop, Result, Ok, Err}
 use Rattle.unit_streams.specs.Front.{Front, begun, whole, wrong}
 use Rattle.unit_streams.specs.Parts.{Reader, further}
 use Rattle.nbfx_records.specs.declared.cursor.Stop.{Stop}
@@ -30,14 +30,25 @@ abbrev pub Why : {A : Type 0} → Reader A NodeFault → List ℕ → ℕ → St
 Why reader bytes at (Fault fault shown_by) = IsWrong reader bytes at fault shown_by
 Why reader bytes at (More wants) = Waits reader bytes at wants
 
-pub record Stops {A : Type 0} (reader : Reader A NodeFault) (bytes : List ℕ) (at : ℕ) (stop : Stop) : Type 0 where
+-- and how many bytes it asks for then
+abbrev pub AsksAt : (List ℕ → ℕ → Type 0) → List ℕ → ℕ → Stop → Type 0
+AsksAt asked bytes at (Fault fault shown_by) = ⊤
+AsksAt asked bytes at (More wants) = (m : ℕ) × (wants ≡ at + m) × asked (drop at bytes) m
+
+pub record Stops {A : Type 0} (reader : Reader A NodeFault) (asked : List ℕ → ℕ → Type 0) (bytes : List ℕ) (at : ℕ) (stop : Stop) : Type 0 where
   pub why : Why reader bytes at stop
+  pub asks : AsksAt asked bytes at stop
 
 -- what it is, of which see is what the reader has, or why it isn't whole
-abbrev pub Told : {X A : Type 0} → (X → A) → Reader A NodeFault → List ℕ → ℕ → Result (X × ℕ) Stop → Type 0
-Told see reader bytes at (Ok read) = IsWhole reader bytes at (see read.0) read.1
-Told see reader bytes at (Err stop) = Stops reader bytes at stop
+abbrev pub Told : {X A : Type 0} → (X → A) → Reader A NodeFault → (List ℕ → ℕ → Type 0) → List ℕ → ℕ → Result (X × ℕ) Stop → Type 0
+Told see reader asked bytes at (Ok read) = IsWhole reader bytes at (see read.0) read.1
+Told see reader asked bytes at (Err stop) = Stops reader asked bytes at stop
+
+-- where it wants more bytes
+abbrev pub OnMore : {T : Type 0} → Result T Stop → Type 0 → Type 0
+OnMore (Err (More wants)) P = P
+OnMore _ P = ⊤
 
 -- what a part's function returns
-pub record Tells {X A : Type 0} (see : X → A) (reader : Reader A NodeFault) (bytes : List ℕ) (at : ℕ) (result : Result (X × ℕ) Stop) : Type 0 where
-  pub told : Told see reader bytes at result
+pub record Tells {X A : Type 0} (see : X → A) (reader : Reader A NodeFault) (asked : List ℕ → ℕ → Type 0) (bytes : List ℕ) (at : ℕ) (result : Result (X × ℕ) Stop) : Type 0 where
+  pub told : Told see reader asked bytes at result

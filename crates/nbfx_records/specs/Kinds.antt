@@ -121,15 +121,11 @@ text_kind_in arrays.DateTime = texts.DateTime
 text_kind_in arrays.TimeSpan = texts.TimeSpan
 text_kind_in arrays.Uuid = texts.Uuid
 
+-- how many bytes such a record has behind its type byte, where all of its kind have as many
+abbrev pub size_of : Body → ℕ
+size_of (Fixed n) = n
+size_of _ = 0
+
 -- how many bytes a value of an array has
 abbrev pub width_of : ArrayKind → ℕ
-width_of arrays.Bool = 1
-width_of arrays.Int16 = 2
-width_of arrays.Int32 = 4
-width_of arrays.Int64 = 8
-width_of arrays.Float = 4
-width_of arrays.Double = 8
-width_of arrays.Decimal = 16
-width_of arrays.DateTime = 8
-width_of arrays.TimeSpan = 8
-width_of arrays.Uuid = 16
+width_of kind = size_of (body_of (text_kind_in kind))

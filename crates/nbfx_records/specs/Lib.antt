@@ -13,6 +13,7 @@ pub mod Chosen
 -- what they mean, and what is wrong with bytes that are none;
 pub mod Meaning
 pub mod Causes
+pub mod Asked
 -- what calls answer, and laws.
 pub mod Answers
 pub mod Resuming

@@ -4,7 +4,6 @@ use Rattle.std.specs.Int.{Width, w8, w16, w32, w64, byte_len, from_le_bytes, cas
 use Rattle.multibyte_ints.specs.Integer.{Spells}
 use Rattle.multibyte_ints.specs.Text.{IsString}
 use Rattle.nbfx_values.specs.declared.content.ArrayKind.{ArrayKind}
-use Rattle.nbfx_values.specs.declared.content.ArrayKind.TheVariants as arrays
 use Rattle.nbfx_values.specs.declared.scalars.Scalar.{Scalar}
 use Rattle.nbfx_values.specs.declared.scalars.Scalar.TheVariants.{Number, Truth, Float, Double, Decimal, DateTime, TimeSpan, Text as TextOf, Bytes, UniqueId, Uuid}
 use Rattle.nbfx_records.specs.declared.kinds.TextKind.{TextKind}
@@ -20,7 +19,9 @@ use Rattle.nbfx_records.specs.declared.nodes.AttrNode.TheVariants as attribute_n
 use Rattle.nbfx_records.specs.declared.nodes.ArrayNode.{ArrayNode}
 use Rattle.nbfx_records.specs.declared.nodes.Node.{Node}
 use Rattle.nbfx_records.specs.declared.nodes.Node.TheVariants.{EndElement, Comment, Array, Attribute, Xmlns, Element, Text}
+use Rattle.nbfx_records.specs.declared.kinds.RecordKind.TheVariants as records
 use Rattle.nbfx_records.specs.Kinds.{text_kind_in}
+use Rattle.nbfx_records.specs.TypeBytes.{byte_of}
 use Rattle.nbfx_records.specs.Contents.{utf16_text}
 
 -- so many bytes are a number, the lowest first
@@ -188,18 +189,9 @@ abbrev pub AreAttrNodes : List AttrNode → List ℕ → Type 0
 AreAttrNodes [] bytes = bytes ≡ []
 AreAttrNodes (attribute ∷ attributes) bytes = (front : List ℕ) × (rest : List ℕ) × (bytes ≡ front ++ rest) × IsAttrNode attribute front × AreAttrNodes attributes rest
 
--- the type byte of an array's values
+-- the type byte of an array's values: that of the text record of one of them, where it ends its element
 abbrev pub array_byte : ArrayKind → ℕ
-array_byte arrays.Bool = 0xb5
-array_byte arrays.Int16 = 0x8b
-array_byte arrays.Int32 = 0x8d
-array_byte arrays.Int64 = 0x8f
-array_byte arrays.Float = 0x91
-array_byte arrays.Double = 0x93
-array_byte arrays.Decimal = 0x95
-array_byte arrays.DateTime = 0x97
-array_byte arrays.TimeSpan = 0xaf
-array_byte arrays.Uuid = 0xb1
+array_byte kind = byte_of (records.Text (text_kind_in kind) true)
 
 -- the values of an array, each as its text record has it behind the type byte
 abbrev pub AreCells : ArrayKind → List Scalar → List ℕ → Type 0

@@ -1,8 +1,9 @@
 //! Arrays, as slices of a record's bytes: an element, its attributes, and values of one kind.
 
 ghost use Rattle.std.specs.Prelude.{◌≡◌, ◌*◌, ◌<◌, ◌≤◌, ◌^◌, IfOk, length};
-ghost use Rattle.nbfx_records.specs.Cursor.{Tells};
-ghost use Rattle.nbfx_records.specs.Resuming.{Fits};
+ghost use Rattle.nbfx_records.specs.Asked as asked;
+ghost use Rattle.nbfx_records.specs.Cursor.{OnMore, Tells};
+ghost use Rattle.nbfx_records.specs.Resuming.{Fits, KeepsArray, KeepsParts};
 ghost use Rattle.nbfx_records.specs.Kinds.{width_of};
 ghost use Rattle.nbfx_records.specs.Shapes as spec;
 ghost use Rattle.nbfx_records.specs.Views.{AreParts, AreSized, IsSoundTurn, array_seen, array_turn_seen, cells_seen, named_seen, parts_seen};
@@ -49,7 +50,8 @@ fn array_part<'a>(
 ) -> Result<(ArrayTurn<'a>, usize), Stop>
     requires within { at ≤ length bytes.now }
     requires fits { Fits resume.old bytes.now }
-    ensures tells { Tells array_turn_seen (spec.array_part kind) bytes.now at result }
+    ensures tells { Tells array_turn_seen (spec.array_part kind)
+        (asked.array_part kind) bytes.now at result }
     ensures sound { IfOk result (λ read. IsSoundTurn read.0) }
     ensures fits { Fits resume.new bytes.now }
 {
@@ -76,7 +78,8 @@ pub fn array_turn_at<'a>(
 ) -> Result<(ArrayTurn<'a>, usize), Stop>
     requires within { at ≤ length bytes.now }
     requires fits { Fits resume.old bytes.now }
-    ensures tells { Tells array_turn_seen spec.array_turn bytes.now at result }
+    ensures tells { Tells array_turn_seen spec.array_turn
+        asked.array_turn bytes.now at result }
     ensures sound { IfOk result (λ read. IsSoundTurn read.0) }
     ensures fits { Fits resume.new bytes.now }
 {
@@ -93,8 +96,10 @@ fn parts_at<'a>(
 ) -> Result<(&'a [u8], usize), Stop>
     requires within { from ≤ length bytes.now }
     requires fits { Fits resume.old bytes.now }
-    ensures tells { Tells parts_seen spec.array_parts bytes.now from result }
+    ensures tells { Tells parts_seen spec.array_parts
+        asked.array_parts bytes.now from result }
     ensures parts { IfOk result (λ read. AreParts read.0.now) }
+    ensures kept { OnMore result (KeepsParts from resume.new bytes.now) }
     ensures fits { Fits resume.new bytes.now }
 {
     let mut at = resume.parts_go_on(from);
@@ -117,7 +122,7 @@ fn element_of(
     at: usize,
 ) -> Result<(NamedPart<'_>, usize), Stop>
     requires { at ≤ length bytes.now }
-    ensures { Tells named_seen (spec.element_of kind) bytes.now at result }
+    ensures { Tells named_seen (spec.element_of kind) (asked.element_of kind) bytes.now at result }
 {
     match kind {
         None => fault(NodeFault::UnknownNode, at),
@@ -129,7 +134,7 @@ fn element_of(
 // The same with its type byte.
 fn array_element_at(bytes: &[u8], at: usize) -> Result<(NamedPart<'_>, usize), Stop>
     requires { at ≤ length bytes.now }
-    ensures { Tells named_seen spec.array_element bytes.now at result }
+    ensures { Tells named_seen spec.array_element asked.array_element bytes.now at result }
 {
     let (byte, at) = byte_at(bytes, at)?;
     element_of(record_kind(byte), bytes, at)
@@ -139,7 +144,8 @@ fn array_element_at(bytes: &[u8], at: usize) -> Result<(NamedPart<'_>, usize), S
 fn values_at(kind: ArrayKind, count: usize, bytes: &[u8], at: usize) -> Result<(&[u8], usize), Stop>
     requires within { at ≤ length bytes.now }
     requires few { count < 2 ^ 31 }
-    ensures tells { Tells (λ values. values.now) (spec.array_values kind count) bytes.now at result }
+    ensures tells { Tells (λ values. values.now) (spec.array_values kind count)
+        (asked.array_values kind count) bytes.now at result }
     ensures size { IfOk result (λ read. length read.0.now ≡ count * width_of kind) }
 {
     if count == 0 {
@@ -151,7 +157,8 @@ fn values_at(kind: ArrayKind, count: usize, bytes: &[u8], at: usize) -> Result<(
 // How many values of this kind there are, and then these.
 fn counted_cells(kind: ArrayKind, bytes: &[u8], at: usize) -> Result<(CellsPart<'_>, usize), Stop>
     requires { at ≤ length bytes.now }
-    ensures tells { Tells cells_seen (spec.counted_cells kind) bytes.now at result }
+    ensures tells { Tells cells_seen (spec.counted_cells kind)
+        (asked.counted_cells kind) bytes.now at result }
     ensures sized { IfOk result (λ read. AreSized read.0) }
 {
     let (count, at) = integer_at(bytes, at)?;
@@ -172,7 +179,8 @@ fn cells_of(
     at: usize,
 ) -> Result<(CellsPart<'_>, usize), Stop>
     requires { at ≤ length bytes.now }
-    ensures tells { Tells cells_seen (spec.cells_of kind) bytes.now at result }
+    ensures tells { Tells cells_seen (spec.cells_of kind)
+        (asked.cells_of kind) bytes.now at result }
     ensures sized { IfOk result (λ read. AreSized read.0) }
 {
     match kind {
@@ -184,7 +192,8 @@ fn cells_of(
 // The same with that byte.
 fn cells_at(bytes: &[u8], at: usize) -> Result<(CellsPart<'_>, usize), Stop>
     requires { at ≤ length bytes.now }
-    ensures tells { Tells cells_seen spec.array_cells bytes.now at result }
+    ensures tells { Tells cells_seen spec.array_cells
+        asked.array_cells bytes.now at result }
     ensures sized { IfOk result (λ read. AreSized read.0) }
 {
     let (byte, at) = byte_at(bytes, at)?;
@@ -199,9 +208,11 @@ pub fn array_at<'a>(
 ) -> Result<(ArrayPart<'a>, usize), Stop>
     requires within { at ≤ length bytes.now }
     requires fits { Fits resume.old bytes.now }
-    ensures tells { Tells array_seen spec.array_at bytes.now at result }
+    ensures tells { Tells array_seen spec.array_at
+        asked.array_at bytes.now at result }
     ensures parts { IfOk result (λ read. AreParts read.0.attributes.now) }
     ensures sized { IfOk result (λ read. AreSized read.0.cells) }
+    ensures kept { OnMore result (KeepsArray at resume.new bytes.now) }
     ensures fits { Fits resume.new bytes.now }
 {
     let (element, at) = array_element_at(bytes, at)?;

@@ -1,8 +1,9 @@
 //! Attributes and declarations, as slices of a record's bytes.
 
 ghost use Rattle.std.specs.Prelude.{◌≤◌, IfOk, length};
-ghost use Rattle.nbfx_records.specs.Cursor.{Tells};
-ghost use Rattle.nbfx_records.specs.Resuming.{Fits};
+ghost use Rattle.nbfx_records.specs.Asked as asked;
+ghost use Rattle.nbfx_records.specs.Cursor.{OnMore, Tells};
+ghost use Rattle.nbfx_records.specs.Resuming.{Fits, KeepsAttribute, KeepsText, KeepsTextOf, KeepsValue};
 ghost use Rattle.nbfx_records.specs.Shapes as spec;
 ghost use Rattle.nbfx_records.specs.Views.{HoldsLists, IsSoundAttribute, attribute_seen, value_seen};
 
@@ -46,8 +47,10 @@ fn text_value<'a>(
 ) -> Result<(ValuePart<'a>, usize), Stop>
     requires within { at ≤ length bytes.now }
     requires fits { Fits resume.old bytes.now }
-    ensures tells { Tells value_seen (spec.text_value kind ends) bytes.now at result }
+    ensures tells { Tells value_seen (spec.text_value kind ends)
+        (asked.text_value kind ends) bytes.now at result }
     ensures list { IfOk result (λ read. HoldsLists read.0) }
+    ensures kept { OnMore result (KeepsText kind at resume.new bytes.now) }
     ensures fits { Fits resume.new bytes.now }
 {
     if ends {
@@ -74,8 +77,10 @@ fn value_of_kind<'a>(
 ) -> Result<(ValuePart<'a>, usize), Stop>
     requires within { at ≤ length bytes.now }
     requires fits { Fits resume.old bytes.now }
-    ensures tells { Tells value_seen (spec.value_of_kind kind) bytes.now at result }
+    ensures tells { Tells value_seen (spec.value_of_kind kind)
+        (asked.value_of_kind kind) bytes.now at result }
     ensures list { IfOk result (λ read. HoldsLists read.0) }
+    ensures kept { OnMore result (KeepsTextOf kind at resume.new bytes.now) }
     ensures fits { Fits resume.new bytes.now }
 {
     match kind {
@@ -93,8 +98,10 @@ fn value_at<'a>(
 ) -> Result<(ValuePart<'a>, usize), Stop>
     requires within { at ≤ length bytes.now }
     requires fits { Fits resume.old bytes.now }
-    ensures tells { Tells value_seen spec.value_at bytes.now at result }
+    ensures tells { Tells value_seen spec.value_at
+        asked.value_at bytes.now at result }
     ensures list { IfOk result (λ read. HoldsLists read.0) }
+    ensures kept { OnMore result (KeepsValue at resume.new bytes.now) }
     ensures fits { Fits resume.new bytes.now }
 {
     let (byte, at) = byte_at(bytes, at)?;
@@ -111,8 +118,10 @@ pub fn attribute_at<'a>(
 ) -> Result<(AttributePart<'a>, usize), Stop>
     requires within { at ≤ length bytes.now }
     requires fits { Fits resume.old bytes.now }
-    ensures tells { Tells attribute_seen (spec.attribute_at prefix name) bytes.now at result }
+    ensures tells { Tells attribute_seen (spec.attribute_at prefix name)
+        (asked.attribute_at prefix name) bytes.now at result }
     ensures sound { IfOk result (λ read. IsSoundAttribute read.0) }
+    ensures kept { OnMore result (KeepsAttribute prefix name at resume.new bytes.now) }
     ensures fits { Fits resume.new bytes.now }
 {
     let (prefix, at) = prefix_at(prefix, bytes, at)?;
@@ -136,7 +145,8 @@ pub fn declaration_at(
     at: usize,
 ) -> Result<(AttributePart<'_>, usize), Stop>
     requires { at ≤ length bytes.now }
-    ensures tells { Tells attribute_seen (spec.declaration_at prefix uri) bytes.now at result }
+    ensures tells { Tells attribute_seen (spec.declaration_at prefix uri)
+        (asked.declaration_at prefix uri) bytes.now at result }
     ensures sound { IfOk result (λ read. IsSoundAttribute read.0) }
 {
     let (prefix, at) = prefix_at(prefix, bytes, at)?;

@@ -71,7 +71,8 @@ fn scalar(alloc: Global, part: &ScalarPart) -> Result<RawScalar, Unfit>
 fn next_value(list: &[u8]) -> Option<(ScalarPart<'_>, &[u8])>
     requires { IsList list.now }
     ensures none { IfNone result (listed list.now ≡ []) }
-    ensures value { IfSome result (λ next. listed list.now ≡ scalar_seen next.0 ∷ listed next.1.now) }
+    ensures value { IfSome result
+        (λ next. listed list.now ≡ scalar_seen next.0 ∷ listed next.1.now) }
     ensures rest { IfSome result (λ next. IsList next.1.now) }
     ensures shorter { IfSome result (λ next. length next.1.now < length list.now) }
 {
@@ -101,7 +102,8 @@ fn are_texts(list: &[u8]) -> bool
 // value.
 fn scalar_before(alloc: Global, part: &ScalarPart, rest: &[u8]) -> Result<RawScalar, Unfit>
     requires { IsList rest.now }
-    ensures { Makes result (spec.behind_texts (list_all spec.scalar_is_text (listed rest.now)) (spec.scalar_judged (scalar_seen part.now))) }
+    ensures { Makes result (spec.behind_texts (list_all spec.scalar_is_text (listed rest.now))
+        (spec.scalar_judged (scalar_seen part.now))) }
 {
     match scalar(alloc, part) {
         Err(Unfit::Fault(NodeFault::BadValue)) => {
@@ -215,7 +217,8 @@ fn attribute_has_text(part: &AttributePart) -> bool
 fn next_part(parts: &[u8]) -> Option<(AttributePart<'_>, &[u8])>
     requires { AreParts parts.now }
     ensures none { IfNone result (parts_of parts.now ≡ []) }
-    ensures part { IfSome result (λ next. parts_of parts.now ≡ attribute_seen next.0 ∷ parts_of next.1.now) }
+    ensures part { IfSome result
+        (λ next. parts_of parts.now ≡ attribute_seen next.0 ∷ parts_of next.1.now) }
     ensures sound { IfSome result (λ next. IsSoundAttribute next.0) }
     ensures rest { IfSome result (λ next. AreParts next.1.now) }
     ensures shorter { IfSome result (λ next. length next.1.now < length parts.now) }
@@ -247,7 +250,8 @@ fn parts_have_text(parts: &[u8]) -> bool
 fn attribute_before(alloc: Global, part: &AttributePart, rest: &[u8]) -> Result<AttrNode, Unfit>
     requires sound { IsSoundAttribute part.now }
     requires rest { AreParts rest.now }
-    ensures { Makes result (spec.behind_texts (list_all spec.attribute_is_text (parts_of rest.now)) (spec.attribute_judged (attribute_seen part.now))) }
+    ensures { Makes result (spec.behind_texts (list_all spec.attribute_is_text (parts_of rest.now))
+        (spec.attribute_judged (attribute_seen part.now))) }
 {
     match attribute(alloc, part) {
         Err(Unfit::Fault(NodeFault::BadValue)) => {

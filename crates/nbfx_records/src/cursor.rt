@@ -3,6 +3,7 @@
 
 ghost use Rattle.std.specs.Prelude.{◌≡◌, ◌^◌, ◌<◌, ◌≤◌, IfOk, length};
 ghost use Rattle.unit_streams.specs.Parts.{a_byte, some_bytes};
+ghost use Rattle.nbfx_records.specs.Asked as asked;
 ghost use Rattle.nbfx_records.specs.Cursor.{Tells};
 ghost use Rattle.nbfx_records.specs.Shapes.{a_string, an_integer};
 
@@ -28,7 +29,7 @@ pub fn fault<T>(fault: NodeFault, shown_by: usize) -> Result<T, Stop>
 /// A byte.
 pub fn byte_at(bytes: &[u8], at: usize) -> Result<(u8, usize), Stop>
     requires { at ≤ length bytes.now }
-    ensures { Tells (λ byte. byte) a_byte bytes.now at result }
+    ensures { Tells (λ byte. byte) a_byte asked.a_byte bytes.now at result }
 {
     if at == bytes.len() {
         return Err(Stop::More { wants: at + 1 });
@@ -40,7 +41,8 @@ pub fn byte_at(bytes: &[u8], at: usize) -> Result<(u8, usize), Stop>
 pub fn bytes_at(bytes: &[u8], at: usize, count: usize) -> Result<(&[u8], usize), Stop>
     requires within { at ≤ length bytes.now }
     requires few { count < 2 ^ 62 }
-    ensures tells { Tells (λ part. part.now) (some_bytes count) bytes.now at result }
+    ensures tells { Tells (λ part. part.now) (some_bytes count)
+        (asked.some_bytes count) bytes.now at result }
     ensures size { IfOk result (λ read. length read.0.now ≡ count) }
 {
     let to = at + count;
@@ -53,7 +55,8 @@ pub fn bytes_at(bytes: &[u8], at: usize, count: usize) -> Result<(&[u8], usize),
 /// An integer.
 pub fn integer_at(bytes: &[u8], from: usize) -> Result<(u32, usize), Stop>
     requires { from ≤ length bytes.now }
-    ensures tells { Tells (λ n. n) an_integer bytes.now from result }
+    ensures tells { Tells (λ n. n) an_integer
+        asked.an_integer bytes.now from result }
     ensures small { IfOk result (λ read. read.0 < 2 ^ 31) }
 {
     let mut reader = IntReader::new();
@@ -77,7 +80,7 @@ pub fn integer_at(bytes: &[u8], from: usize) -> Result<(u32, usize), Stop>
 /// A string, whose text isn't judged.
 pub fn string_at(bytes: &[u8], from: usize) -> Result<(&[u8], usize), Stop>
     requires { from ≤ length bytes.now }
-    ensures { Tells (λ part. part.now) a_string bytes.now from result }
+    ensures { Tells (λ part. part.now) a_string asked.a_string bytes.now from result }
 {
     let (count, at) = integer_at(bytes, from)?;
     bytes_at(bytes, at, count as usize)

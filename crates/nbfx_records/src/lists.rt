@@ -1,10 +1,11 @@
 //! Lists: values one behind the other, and an end.
 
-ghost use Rattle.std.specs.Prelude.{◌≤◌, IfOk, length};
-ghost use Rattle.nbfx_records.specs.Cursor.{Tells};
+ghost use Rattle.std.specs.Prelude.{◌≡◌, ◌≤◌, IfOk, length};
+ghost use Rattle.nbfx_records.specs.Asked as asked;
+ghost use Rattle.nbfx_records.specs.Cursor.{OnMore, Tells};
 ghost use Rattle.nbfx_records.specs.Shapes as spec;
 ghost use Rattle.nbfx_records.specs.Views.{IsList, list_seen, may_close, turn_seen};
-ghost use Rattle.nbfx_records.specs.Resuming.{Fits};
+ghost use Rattle.nbfx_records.specs.Resuming.{Fits, KeepsList};
 
 use crate::cursor::{Stop, byte_at, fault};
 use crate::kinds::{RecordKind, TextKind};
@@ -37,7 +38,8 @@ fn end_of_list(
     at: usize,
 ) -> Result<(ListTurn<'_>, usize), Stop>
     requires { at ≤ length bytes.now }
-    ensures { Tells turn_seen (spec.end_turn (may_close holder) ends) bytes.now at result }
+    ensures { Tells turn_seen (spec.end_turn (may_close holder) ends)
+        (asked.end_turn (may_close holder) ends) bytes.now at result }
 {
     if ends && holder == ListHolder::Attribute {
         return fault(NodeFault::OutOfPlace, at);
@@ -54,7 +56,8 @@ fn text_in_list(
     at: usize,
 ) -> Result<(ListTurn<'_>, usize), Stop>
     requires { at ≤ length bytes.now }
-    ensures { Tells turn_seen (spec.text_turn (may_close holder) kind ends) bytes.now at result }
+    ensures { Tells turn_seen (spec.text_turn (may_close holder) kind ends)
+        (asked.text_turn (may_close holder) kind ends) bytes.now at result }
 {
     match kind {
         TextKind::EndList => end_of_list(holder, ends, bytes, at),
@@ -76,7 +79,8 @@ fn turn_of(
     at: usize,
 ) -> Result<(ListTurn<'_>, usize), Stop>
     requires { at ≤ length bytes.now }
-    ensures { Tells turn_seen (spec.turn_of (may_close holder) kind) bytes.now at result }
+    ensures { Tells turn_seen (spec.turn_of (may_close holder) kind)
+        (asked.turn_of (may_close holder) kind) bytes.now at result }
 {
     match kind {
         None => fault(NodeFault::UnknownNode, at),
@@ -92,7 +96,8 @@ pub fn list_turn_at(
     at: usize,
 ) -> Result<(ListTurn<'_>, usize), Stop>
     requires { at ≤ length bytes.now }
-    ensures { Tells turn_seen (spec.list_turn (may_close holder)) bytes.now at result }
+    ensures { Tells turn_seen (spec.list_turn (may_close holder))
+        (asked.list_turn (may_close holder)) bytes.now at result }
 {
     let (byte, at) = byte_at(bytes, at)?;
     turn_of(holder, record_kind(byte), bytes, at)
@@ -115,8 +120,10 @@ pub fn list_at<'a>(
 ) -> Result<(ListPart<'a>, usize), Stop>
     requires within { from ≤ length bytes.now }
     requires fits { Fits resume.old bytes.now }
-    ensures tells { Tells list_seen (spec.list_at (may_close holder)) bytes.now from result }
+    ensures tells { Tells list_seen (spec.list_at (may_close holder))
+        (asked.list_at (may_close holder)) bytes.now from result }
     ensures list { IfOk result (λ read. IsList read.0.bytes.now) }
+    ensures kept { OnMore result (KeepsList (may_close holder) from resume.new bytes.now) }
     ensures fits { Fits resume.new bytes.now }
 {
     let mut at = resume.list_goes_on(from);

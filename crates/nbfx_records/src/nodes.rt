@@ -29,57 +29,76 @@ pub type RawValues = Sequence<RawScalar>;
 /// The value of a text record.
 #[derive(Debug, Drop)]
 pub enum RawValue {
+    /// One value: a record of any text type but the two of lists.
     One(RawScalar),
+    /// StartList, values, EndList.
     List(RawValues),
 }
 
 /// A declaration or an attribute of an array's element.
 #[derive(Debug, Drop)]
 pub enum AttrNode {
+    /// As [`Node::Attribute`].
     Attribute {
         prefix: Txt,
         name: NameRef,
         value: RawValue,
     },
+    /// As [`Node::Xmlns`].
     Xmlns {
         prefix: Txt,
         uri: NameRef,
     },
 }
 
-/// Those of one array.
+/// The declarations and attributes of one array's element, in their order.
 pub type AttrNodes = Sequence<AttrNode>;
 
 /// An element that stands once for each value.
 #[derive(Debug, Drop)]
 pub struct ArrayNode {
+    /// The element's prefix.
     pub prefix: Txt,
+    /// The element's name.
     pub name: NameRef,
+    /// Its declarations and attributes, in their order.
     pub attrs: AttrNodes,
+    /// Which values there are.
     pub kind: ArrayKind,
+    /// One or more of that kind.
     pub values: Values,
 }
 
-/// A record. The empty prefix means none.
+/// A record, by what it says and not by how it is spelled: each variant names the types of MC-NBFX
+/// that say it. The empty prefix means none.
 #[derive(Debug, Drop)]
 pub enum Node {
+    /// EndElement.
     EndElement,
+    /// Comment.
     Comment(Txt),
+    /// Array.
     Array(ArrayNode),
+    /// ShortAttribute, Attribute, ShortDictionaryAttribute, DictionaryAttribute, and
+    /// PrefixAttribute and PrefixDictionaryAttribute with a letter from A to Z.
     Attribute {
         prefix: Txt,
         name: NameRef,
         value: RawValue,
     },
+    /// ShortXmlnsAttribute, XmlnsAttribute, ShortDictionaryXmlnsAttribute and
+    /// DictionaryXmlnsAttribute.
     Xmlns {
         prefix: Txt,
         uri: NameRef,
     },
+    /// ShortElement, Element, ShortDictionaryElement, DictionaryElement, and PrefixElement and
+    /// PrefixDictionaryElement with a letter from A to Z.
     Element {
         prefix: Txt,
         name: NameRef,
     },
-    /// A text, and whether the element that holds it ends with it.
+    /// A text record of any type, and whether the element that holds it ends with it.
     Text {
         value: RawValue,
         ends: bool,
@@ -89,10 +108,12 @@ pub enum Node {
 /// Where in a document a record stands.
 #[derive(Clone, Copy, Debug, PartialEq, Eq)]
 pub enum NodePlace {
+    /// No element has been opened yet.
     BeforeRoot,
     /// Within the root: whether an attribute may stand here, and whether one more element may be
     /// opened.
     Within { attributes: bool, deeper: bool },
+    /// The root has ended.
     AfterRoot,
 }
 

@@ -2,6 +2,7 @@
 
 ghost use Rattle.std.specs.Prelude.{◌≡◌, ◌^◌, ◌<◌, ◌≤◌, IfOk, IfSome, length};
 ghost use Rattle.std.specs.Int.{byte_len};
+ghost use Rattle.nbfx_records.specs.Asked as asked;
 ghost use Rattle.nbfx_records.specs.Cursor.{Tells};
 ghost use Rattle.nbfx_records.specs.Shapes as spec;
 ghost use Rattle.nbfx_records.specs.Views.{name_seen, named_seen, prefix_seen, scalar_seen};
@@ -46,7 +47,7 @@ pub enum ScalarPart<'a> {
 /// A prefix in this form.
 pub fn prefix_at(form: PrefixForm, bytes: &[u8], at: usize) -> Result<(PrefixPart<'_>, usize), Stop>
     requires { at ≤ length bytes.now }
-    ensures { Tells prefix_seen (spec.prefix_at form) bytes.now at result }
+    ensures { Tells prefix_seen (spec.prefix_at form) (asked.prefix_at form) bytes.now at result }
 {
     match form {
         PrefixForm::Unprefixed => Ok((PrefixPart::Text(&[]), at)),
@@ -61,7 +62,7 @@ pub fn prefix_at(form: PrefixForm, bytes: &[u8], at: usize) -> Result<(PrefixPar
 /// A name in this form.
 pub fn name_at(form: NameForm, bytes: &[u8], at: usize) -> Result<(NamePart<'_>, usize), Stop>
     requires { at ≤ length bytes.now }
-    ensures { Tells name_seen (spec.name_at form) bytes.now at result }
+    ensures { Tells name_seen (spec.name_at form) (asked.name_at form) bytes.now at result }
 {
     match form {
         NameForm::Inlined => {
@@ -83,7 +84,8 @@ pub fn element_at(
     at: usize,
 ) -> Result<(NamedPart<'_>, usize), Stop>
     requires { at ≤ length bytes.now }
-    ensures { Tells named_seen (spec.element_at prefix name) bytes.now at result }
+    ensures { Tells named_seen (spec.element_at prefix name)
+        (asked.element_at prefix name) bytes.now at result }
 {
     let (prefix, at) = prefix_at(prefix, bytes, at)?;
     let (name, at) = name_at(name, bytes, at)?;
@@ -124,7 +126,8 @@ fn length_said(form: LengthForm, said: &[u8]) -> Option<usize>
 /// A length in this form.
 pub fn length_at(form: LengthForm, bytes: &[u8], at: usize) -> Result<(usize, usize), Stop>
     requires { at ≤ length bytes.now }
-    ensures tells { Tells (λ n. n) (spec.a_length form) bytes.now at result }
+    ensures tells { Tells (λ n. n) (spec.a_length form)
+        (asked.a_length form) bytes.now at result }
     ensures small { IfOk result (λ read. read.0 < 2 ^ 31) }
 {
     let (said, to) = bytes_at(bytes, at, length_width(form))?;
@@ -140,7 +143,8 @@ pub fn length_at(form: LengthForm, bytes: &[u8], at: usize) -> Result<(usize, us
 // A length, and as many bytes as it says.
 fn counted_at(form: LengthForm, bytes: &[u8], at: usize) -> Result<(&[u8], usize), Stop>
     requires { at ≤ length bytes.now }
-    ensures { Tells (λ part. part.now) (spec.counted_bytes form) bytes.now at result }
+    ensures { Tells (λ part. part.now) (spec.counted_bytes form)
+        (asked.counted_bytes form) bytes.now at result }
 {
     let (count, at) = length_at(form, bytes, at)?;
     bytes_at(bytes, at, count)
@@ -149,7 +153,7 @@ fn counted_at(form: LengthForm, bytes: &[u8], at: usize) -> Result<(&[u8], usize
 // The letter and the identifier of a QName.
 fn qualified_at(bytes: &[u8], at: usize) -> Result<(ScalarPart<'_>, usize), Stop>
     requires { at ≤ length bytes.now }
-    ensures { Tells scalar_seen spec.a_qualified bytes.now at result }
+    ensures { Tells scalar_seen spec.a_qualified asked.a_qualified bytes.now at result }
 {
     let (letter, at) = byte_at(bytes, at)?;
     let (id, at) = integer_at(bytes, at)?;
@@ -159,7 +163,7 @@ fn qualified_at(bytes: &[u8], at: usize) -> Result<(ScalarPart<'_>, usize), Stop
 /// What follows the type byte of one value of this kind.
 pub fn scalar_at(kind: TextKind, bytes: &[u8], at: usize) -> Result<(ScalarPart<'_>, usize), Stop>
     requires { at ≤ length bytes.now }
-    ensures { Tells scalar_seen (spec.scalar_at kind) bytes.now at result }
+    ensures { Tells scalar_seen (spec.scalar_at kind) (asked.scalar_at kind) bytes.now at result }
 {
     match body(kind) {
         Body::Fixed(count) => {

@@ -102,7 +102,8 @@ fn put_attribute(
     requires names { IsTrue (fit_names prefix.now name.now) }
     requires valid { IsTrue (is_valid_text value.now) }
     requires fits { IsTrue (fits_text value.now) }
-    ensures { Puts result out.old.items out.new.items (spec.attribute_bytes prefix.now name.now value.now) }
+    ensures { Puts result out.old.items out.new.items
+        (spec.attribute_bytes prefix.now name.now value.now) }
 {
     let form = prefix_form(prefix.as_str());
     put_kind(RecordKind::Attribute(form, name_form(name)), out)?;

@@ -19,7 +19,8 @@ use unit_streams::Memory;
 // Appends a text record.
 fn put_text(kind: TextKind, ends: bool, body: &[u8], out: &mut Vec<u8>) -> Result<(), Memory>
     requires { IsTrue (is_kind (RecordKind.Text kind ends)) }
-    ensures { Puts result out.old.items out.new.items (byte_of (RecordKind.Text kind ends) ∷ body.now) }
+    ensures { Puts result out.old.items out.new.items
+        (byte_of (RecordKind.Text kind ends) ∷ body.now) }
 {
     put_kind(RecordKind::Text(kind, ends), out)?;
     put_bytes(body, out)
@@ -28,7 +29,8 @@ fn put_text(kind: TextKind, ends: bool, body: &[u8], out: &mut Vec<u8>) -> Resul
 // Appends a number.
 fn put_number(number: i128, ends: bool, out: &mut Vec<u8>) -> Result<(), Memory>
     requires { IsTrue (is_number number) }
-    ensures { Puts result out.old.items out.new.items (spec.record_bytes ends (spec.chosen_number number)) }
+    ensures { Puts result out.old.items out.new.items
+        (spec.record_bytes ends (spec.chosen_number number)) }
 {
     if number == 0 {
         return put_text(TextKind::Zero, ends, &[], out);
@@ -107,7 +109,8 @@ fn binary(form: LengthForm) -> TextKind
 // Appends a text that stands there.
 fn put_characters(text: &str, ends: bool, out: &mut Vec<u8>) -> Result<(), Memory>
     requires { length text.now < 2 ^ 31 }
-    ensures { Puts result out.old.items out.new.items (spec.record_bytes ends (spec.chosen_text text.now)) }
+    ensures { Puts result out.old.items out.new.items
+        (spec.record_bytes ends (spec.chosen_text text.now)) }
 {
     if text.is_empty() {
         return put_text(TextKind::Empty, ends, &[], out);
@@ -120,7 +123,8 @@ fn put_characters(text: &str, ends: bool, out: &mut Vec<u8>) -> Result<(), Memor
 // Appends bytes as a value.
 fn put_binary(content: &[u8], ends: bool, out: &mut Vec<u8>) -> Result<(), Memory>
     requires { length content.now < 2 ^ 31 }
-    ensures { Puts result out.old.items out.new.items (spec.record_bytes ends (spec.counted spec.binary content.now)) }
+    ensures { Puts result out.old.items out.new.items
+        (spec.record_bytes ends (spec.counted spec.binary content.now)) }
 {
     let form = least_form(content.len());
     put_kind(RecordKind::Text(binary(form), ends), out)?;
@@ -148,7 +152,8 @@ pub fn put_decimal(decimal: &Dec, out: &mut Vec<u8>) -> Result<(), Memory>
 fn put_known(value: &Scalar, ends: bool, out: &mut Vec<u8>) -> Result<(), Memory>
     requires valid { IsTrue (is_valid_known value.now) }
     requires fits { IsTrue (fits_known value.now) }
-    ensures { Puts result out.old.items out.new.items (spec.record_bytes ends (spec.chosen_known value.now)) }
+    ensures { Puts result out.old.items out.new.items
+        (spec.record_bytes ends (spec.chosen_known value.now)) }
 {
     match value {
         Scalar::Number(number) => put_number(*number, ends, out),
@@ -198,7 +203,8 @@ fn put_scalar(value: &RawScalar, ends: bool, out: &mut Vec<u8>) -> Result<(), Me
 fn put_scalars(values: &[RawScalar], out: &mut Vec<u8>) -> Result<(), Memory>
     requires valid { IsTrue (list_all is_valid_raw values.now) }
     requires fits { IsTrue (list_all fits_raw values.now) }
-    ensures { Puts result out.old.items out.new.items (flat_map (spec.scalar_bytes false) values.now) }
+    ensures { Puts result out.old.items out.new.items
+        (flat_map (spec.scalar_bytes false) values.now) }
 {
     for value in values {
         put_scalar(value, false, out)?;

@@ -2,7 +2,7 @@
 
 ghost use Rattle.std.specs.Prelude.{◌≡◌};
 ghost use Rattle.nbfx_records.specs.Answers.{Answers, Gives, ReadsValid, Wants, stopped_by};
-ghost use Rattle.nbfx_records.specs.Resuming.{Fits};
+ghost use Rattle.nbfx_records.specs.Resuming.{Fits, Keeps};
 ghost use Rattle.nbfx_records.specs.Contents.{contents};
 ghost use Rattle.nbfx_records.specs.Views.{IsSoundRecord, record_seen};
 
@@ -72,6 +72,7 @@ pub fn read_node_on(
     ensures wants { Wants place bytes.now result }
     ensures valid { ReadsValid result }
     ensures fits { Fits resume.new bytes.now }
+    ensures kept { Keeps resume.new bytes.now result }
 {
     match shape_at(place, bytes, resume) {
         Ok((part, used)) => done(alloc, &part, used),

@@ -1,8 +1,9 @@
 //! The structure of a whole record, as slices of its bytes: nothing of a text or a value is judged.
 
 ghost use Rattle.std.specs.Prelude.{◌≡◌, ◌≤◌, IfOk, length};
-ghost use Rattle.nbfx_records.specs.Cursor.{Tells};
-ghost use Rattle.nbfx_records.specs.Resuming.{Fits};
+ghost use Rattle.nbfx_records.specs.Asked as asked;
+ghost use Rattle.nbfx_records.specs.Cursor.{OnMore, Tells};
+ghost use Rattle.nbfx_records.specs.Resuming.{Fits, KeepsAny, KeepsOf, KeepsWhole};
 ghost use Rattle.nbfx_records.specs.Shapes as spec;
 ghost use Rattle.nbfx_records.specs.Views.{IsSoundRecord, record_seen};
 
@@ -38,8 +39,10 @@ fn text_at<'a>(
 ) -> Result<(RecordPart<'a>, usize), Stop>
     requires within { at ≤ length bytes.now }
     requires fits { Fits resume.old bytes.now }
-    ensures tells { Tells record_seen (spec.text_at kind ends) bytes.now at result }
+    ensures tells { Tells record_seen (spec.text_at kind ends)
+        (asked.text_at kind ends) bytes.now at result }
     ensures sound { IfOk result (λ read. IsSoundRecord read.0) }
+    ensures kept { OnMore result (KeepsOf (RecordKind.Text kind ends) at resume.new bytes.now) }
     ensures fits { Fits resume.new bytes.now }
 {
     match kind {
@@ -67,8 +70,10 @@ fn record_at<'a>(
 ) -> Result<(RecordPart<'a>, usize), Stop>
     requires within { at ≤ length bytes.now }
     requires fits { Fits resume.old bytes.now }
-    ensures tells { Tells record_seen (spec.record_at kind) bytes.now at result }
+    ensures tells { Tells record_seen (spec.record_at kind)
+        (asked.record_at kind) bytes.now at result }
     ensures sound { IfOk result (λ read. IsSoundRecord read.0) }
+    ensures kept { OnMore result (KeepsOf kind at resume.new bytes.now) }
     ensures fits { Fits resume.new bytes.now }
 {
     match kind {
@@ -136,8 +141,10 @@ fn placed<'a>(
 ) -> Result<(RecordPart<'a>, usize), Stop>
     requires within { at ≤ length bytes.now }
     requires fits { Fits resume.old bytes.now }
-    ensures tells { Tells record_seen (spec.placed place kind) bytes.now at result }
+    ensures tells { Tells record_seen (spec.placed place kind)
+        (asked.placed place kind) bytes.now at result }
     ensures sound { IfOk result (λ read. IsSoundRecord read.0) }
+    ensures kept { OnMore result (KeepsAny kind at resume.new bytes.now) }
     ensures fits { Fits resume.new bytes.now }
 {
     if place == NodePlace::AfterRoot {
@@ -160,8 +167,10 @@ pub fn shape_at<'a>(
     resume: &mut Resume,
 ) -> Result<(RecordPart<'a>, usize), Stop>
     requires { Fits resume.old bytes.now }
-    ensures tells { Tells record_seen (spec.shape_at place) bytes.now 0 result }
+    ensures tells { Tells record_seen (spec.shape_at place)
+        (asked.shape_at place) bytes.now 0 result }
     ensures sound { IfOk result (λ read. IsSoundRecord read.0) }
+    ensures kept { OnMore result (KeepsWhole resume.new bytes.now) }
     ensures fits { Fits resume.new bytes.now }
 {
     let (byte, at) = byte_at(bytes, 0)?;

@@ -12,7 +12,7 @@ pub struct Resume {
 }
 
 impl Resume {
-    ghost use Rattle.std.specs.Prelude.{ℕ, ◌≤◌, List, length, true};
+    ghost use Rattle.std.specs.Prelude.{◌≡◌, ℕ, ◌≤◌, List, length, true};
     ghost use Rattle.nbfx_records.specs.Resuming.{Fits, Passes};
     ghost use Rattle.nbfx_records.specs.Shapes.{array_turn, list_turn};
 
@@ -30,7 +30,8 @@ impl Resume {
 
     // Where a list that begins here goes on.
     pub(crate) fn list_goes_on(&self, from: usize) -> usize
-        ensures { (bytes : List ℕ) → Fits self.now bytes → from ≤ length bytes → Passes (list_turn true) bytes from result }
+        ensures { (bytes : List ℕ) → Fits self.now bytes → from ≤ length bytes
+            → Passes (list_turn true) bytes from result }
     {
         if self.list_from == from {
             self.list_at
@@ -41,7 +42,10 @@ impl Resume {
 
     // A list that begins here is whole up to there.
     pub(crate) fn keep_list(&mut self, from: usize, at: usize)
-        ensures { (bytes : List ℕ) → Fits self.old bytes → Passes (list_turn true) bytes from at → Fits self.new bytes }
+        ensures begins { self.new.list_from ≡ from }
+        ensures goes_on { self.new.list_at ≡ at }
+        ensures fits { (bytes : List ℕ) → Fits self.old bytes → Passes (list_turn true) bytes from
+            at → Fits self.new bytes }
     {
         self.list_from = from;
         self.list_at = at;
@@ -49,7 +53,8 @@ impl Resume {
 
     // Where the attributes of an array go on that begin here.
     pub(crate) fn parts_go_on(&self, from: usize) -> usize
-        ensures { (bytes : List ℕ) → Fits self.now bytes → from ≤ length bytes → Passes array_turn bytes from result }
+        ensures { (bytes : List ℕ) → Fits self.now bytes → from ≤ length bytes
+            → Passes array_turn bytes from result }
     {
         if self.parts_from == from {
             self.parts_at
@@ -60,7 +65,10 @@ impl Resume {
 
     // Those that begin here are whole up to there.
     pub(crate) fn keep_parts(&mut self, from: usize, at: usize)
-        ensures { (bytes : List ℕ) → Fits self.old bytes → Passes array_turn bytes from at → Fits self.new bytes }
+        ensures begins { self.new.parts_from ≡ from }
+        ensures goes_on { self.new.parts_at ≡ at }
+        ensures fits { (bytes : List ℕ) → Fits self.old bytes → Passes array_turn bytes from at
+            → Fits self.new bytes }
     {
         self.parts_from = from;
         self.parts_at = at;

@@ -1,5 +1,6 @@
 use Rattle.std.proofs.Common.{Option, subst}
 use Rattle.nbfx_values.specs.declared.content.ArrayKind.{ArrayKind}
+use Rattle.nbfx_records.specs.Asked as asked
 use Rattle.nbfx_records.specs.Cursor.{Tells}
 use Rattle.nbfx_records.specs.Shapes.{cells_of}
 use Rattle.nbfx_records.specs.Views.{cells_seen}
@@ -11,4 +12,4 @@ returns-in_err-byte-clause-tells c = exit c.from_residual.ensures.1 (then_stops 
 
 pub returns-clause-tells : goal.returns-clause-tells
 returns-clause-tells c =
-    then_tells _ c.in_ok-byte.ensures (subst (λ (k : Option ArrayKind). Tells cells_seen (cells_of k) c.args.bytes.now c.in_ok-byte.at c.cells_of.result) c.array_kind.ensures c.cells_of.ensures.tells)
+    then_tells _ c.in_ok-byte.ensures (subst (λ (k : Option ArrayKind). Tells cells_seen (cells_of k) (asked.cells_of k) c.args.bytes.now c.in_ok-byte.at c.cells_of.result) c.array_kind.ensures c.cells_of.ensures.tells)

@@ -1,4 +1,5 @@
 use Rattle.std.proofs.Common.{refl}
+use Rattle.nbfx_records.proofs.KeptFacts.{kept_value}
 use Rattle.nbfx_records.proofs.CursorFacts.{then_tells, then_stops, then_stops_behind, seen_tells, seen_stops, exit}
 use Rattle.nbfx_records.proofs.attributes.attribute_at.Goals as goal
 
@@ -14,3 +15,7 @@ returns-in_err-value-clause-tells c =
 
 pub returns-clause-tells : goal.returns-clause-tells
 returns-clause-tells c = then_tells _ c.in_ok-prefix.ensures (then_tells _ c.in_ok-name.ensures (seen_tells _ c.in_ok-value.ensures.tells refl))
+
+pub returns-in_err-value-clause-kept : goal.returns-in_err-value-clause-kept
+returns-in_err-value-clause-kept c =
+    kept_value c.args.prefix c.args.name c.value_at.new.resume c.in_ok-prefix.ensures.told c.in_ok-name.ensures.told c.from_residual-in_err-value.result _ c.from_residual-in_err-value.ensures.1 c.in_err-value.ensures.tells c.in_err-value.ensures.kept

@@ -23,6 +23,7 @@ returns-in-Bad-clause-tells c = record {
   told = record {
     why =
         integer_wrong c.args.bytes.now c.args.from c.loop-at.at c.loop-at.auto.at c.loop-at-test.true c.loop-at.invariant.begins (c.in-Bad.ensures.answers _ c.loop-at.invariant.stands);
+    asks = tt;
   };
 }
 

@@ -1,6 +1,6 @@
 use Rattle.nbfx_records.specs.Resuming.{Fits}
 use Rattle.nbfx_records.proofs.resume.Resume.keep_list.Goals as goal
 
-pub returns : goal.returns
+pub returns-clause-fits : goal.returns-clause-fits
 unfolding Fits
-returns c bytes fits passes = (passes, fits.1)
+returns-clause-fits c bytes fits passes = (passes, fits.1)
