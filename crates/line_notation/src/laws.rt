@@ -21,8 +21,9 @@ pub fn documents()
     ensures { AreOfWhatTheyBring }
 {}
 
-/// A line is refused for having no form, or else for a text that isn't UTF-8, or else for a value out
-/// of its range, or else for its place. Each refusal comes exactly where that holds, and no other.
+/// A line is refused for having no form, or else for a text that isn't UTF-8, or else for a value
+/// out of its range, or else for its place. Each refusal comes exactly where that holds, and no
+/// other.
 pub fn refusals()
     ensures no_form { RefusedForNoForm }
     ensures text { RefusedForText }
@@ -31,8 +32,8 @@ pub fn refusals()
     ensures nothing_else { RefusedForNothingElse }
 {}
 
-/// No line has a line feed in it, so the text that is put for items is cut at its line feeds into their
-/// lines.
+/// No line has a line feed in it, so the text that is put for items is cut at its line feeds into
+/// their lines.
 pub fn texts()
     ensures no_feed { HoldNoFeed }
     ensures cut { AreCutAgain }

@@ -74,7 +74,8 @@ fn place_item(builder: &mut DocBuilder, item: Item) -> Result<LineStep, Refusal>
 
 // An array, where it may begin: within the root.
 fn opened(builder: &DocBuilder, begun: ArrayItem) -> Result<ArrayItem, Refusal>
-    ensures ok { IfOk result (λ a. placed_array (position_of builder.now) builder.now begun ≡ Ok (on builder.now (Some a))) }
+    ensures ok { IfOk result (λ a.
+        placed_array (position_of builder.now) builder.now begun ≡ Ok (on builder.now (Some a))) }
     ensures err { IfErr result (λ refusal. refusal ≡ Refusal.Kind LineKind.OutOfPlace
         × (placed_array (position_of builder.now) builder.now begun ≡ Err LineKind.OutOfPlace)) }
     ensures same { IfOk result (λ a. a ≡ begun) }

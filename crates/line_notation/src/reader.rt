@@ -24,8 +24,8 @@ pub enum LineKind {
     NotALine,
     /// A text in it isn't UTF-8.
     BadText,
-    /// A number is out of the range of its value, a list stands in a list, or a value of an array isn't
-    /// of its kind.
+    /// A number is out of the range of its value, a list stands in a list, or a value of an array
+    /// isn't of its kind.
     OutOfRange,
     /// It may not stand there.
     OutOfPlace,
@@ -68,8 +68,8 @@ impl Refusal {
 }
 
 /// Reads documents out of lines, of which each is given without its line feed. Contracts see where
-/// it stands: behind how many lines, with which items and which array of the unfinished document, or
-/// refused.
+/// it stands: behind how many lines, with which items and which array of the unfinished document,
+/// or refused.
 #[derive(Debug, Drop)]
 pub struct LineReader {
     alloc: Global,
@@ -109,7 +109,8 @@ impl LineReader {
         requires room { HasRoom self.old }
         ensures answer { UnlessMemory result (result ≡ answer self.old line.now) }
         ensures stands { UnlessMemory result (self.new ≡ after self.old line.now) }
-        ensures out_of_memory { IsErrOf result LineFault.Memory → HasFailed self.new LineFault.Memory }
+        ensures out_of_memory { IsErrOf result LineFault.Memory
+            → HasFailed self.new LineFault.Memory }
         ensures again { (fault : LineFault) → HasFailed self.old fault → IsErrOf result fault }
     {
         if let Some(fault) = self.fault {
