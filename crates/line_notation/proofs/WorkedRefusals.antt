@@ -118,6 +118,14 @@ too_many_in_a_list : IsRefused root None (codes "text list 1 number 1 number 2")
 unfolding lines_on_literals root
 too_many_in_a_list = refl
 
+a_zero_in_front_of_a_count : IsRefused root None (codes "text list 01 number 1") NotALine
+unfolding lines_on_literals root
+a_zero_in_front_of_a_count = refl
+
+a_list_in_a_list_that_is_cut : IsRefused root None (codes "text list 1 list 1") NotALine
+unfolding lines_on_literals root
+a_list_in_a_list_that_is_cut = refl
+
 an_unknown_kind_of_array : IsRefused root None (codes "array int8 \"\" \"a\"") NotALine
 unfolding lines_on_literals root
 an_unknown_kind_of_array = refl
@@ -153,6 +161,10 @@ a_bad_text_before_a_range = refl
 a_bad_text_behind_a_range : IsRefused root None (codes "text list 2 number 18446744073709551616 string \"\\ff\"") BadText
 unfolding lines_on_literals root
 a_bad_text_behind_a_range = refl
+
+a_bad_text_before_another_kind : IsRefused root (Some numbers) (codes "values string \"\\ff\"") BadText
+unfolding lines_on_literals root numbers
+a_bad_text_before_another_kind = refl
 
 a_greater_number : IsRefused root None (codes "text number 18446744073709551616") OutOfRange
 unfolding lines_on_literals root
