@@ -1,11 +1,9 @@
 -- What a check that reads a stream piece by piece knows between two pieces, and where it ends.
-use Rattle.std.proofs.Common.{◌≡◌, ℕ, ◌-◌, ◌≤◌, ◌<◌, ◌⊎◌, inl, inr, List, [], ◌++◌, length, take, drop, Bool, true, false, Option, Some, None, Result, Ok, Err, IfOk, IfErr, OnOk, OnErr, ◌↔◌, lit<, refl, sym, ap, ◌∙◌, subst, arith, append_assoc, length-append}
-use Rattle.std.specs.Prelude.{nat_le, ◌&&◌, if◌then◌else◌}
+use Rattle.std.proofs.Common.{◌≡◌, ℕ, ◌-◌, ◌≤◌, ◌<◌, ◌⊎◌, inl, inr, List, [], ◌++◌, length, take, drop, Option, Some, None, Result, Ok, Err, IfOk, IfErr, OnOk, OnErr, ◌↔◌, lit<, refl, sym, ap, ◌∙◌, subst, arith, append_assoc, length-append}
 use Rattle.std.specs.Option.{option_or}
 use Rattle.std.proofs.Math.Seq.{take-nil}
-use Rattle.std.proofs.lemmas.Bool.{leb-false}
 use Rattle.std.proofs.lemmas.List.{append-nil, length-take-le, take-append-le, take-append-drop, take_all}
-use Rattle.io_edges.specs.Faults.{Rose}
+use Rattle.io_edges.specs.Faults.{CountsFaults}
 use Rattle.io_edges.specs.Flow.{Told, Moves, GrowsByPrefix}
 use Rattle.io_edges.specs.declared.SinkFault.{SinkFault}
 use Rattle.io_edges.specs.declared.SinkFault.TheVariants as faults
@@ -16,21 +14,21 @@ use Rattle.unit_streams.specs.Going.{IsGoing, IsPending, IsOpenAt}
 use Rattle.unit_streams.proofs.Standing.{standing_nothing}
 use Rattle.unit_streams.proofs.Passing.{refusal_from, going_refusal}
 use Rattle.unit_streams.proofs.Pending.{pending_open, pending_unrefused, open_going_on, open_first}
-use Rattle.nbfx_values.specs.Limits.{Limits, usual_limits}
+use Rattle.nbfx_values.specs.Limits.{usual_limits}
 use Rattle.nbfx_values.specs.QuotasOf.{limits_of}
 use Rattle.nbfx_values.specs.declared.limits.Quotas.{Quotas}
 use Rattle.nbfx_values.specs.declared.refusals.Offence.{Offence}
-use Rattle.nbfx_values.specs.declared.refusals.Reason.TheVariants.{SessionTooLong}
-use Rattle.dump_replay.specs.declared.stage.Stage.{Stage}
+use Rattle.dump_replay.specs.declared.check.TheConstants.{ROOM}
 use Rattle.dump_replay.specs.declared.check.Progress.{Progress}
 use Rattle.dump_replay.specs.declared.check.Ending.{Ending}
 use Rattle.dump_replay.specs.declared.check.Ending.TheVariants as endings
-use Rattle.dump_replay.specs.Stream.{Settings, usual, beginning, ends, offence_at, is_over_in, open_from, too_long, stream}
+use Rattle.dump_replay.specs.Stream.{Settings, initiators, IsInitiators, usual, beginning, ends, too_long, stream}
 use Rattle.dump_replay.specs.Judging.{offence}
 use Rattle.dump_replay.specs.Report.{history_lines, report, event_lines}
 use Rattle.dump_replay.specs.Checking.{Judges, Reports, Decides, Breaks, Grows, Reaches}
 use Rattle.dump_replay.specs.Reading.{HasRead, SaysOf, WritesOf, stopped_by}
-use Rattle.dump_replay.proofs.Grammar.{readable, short_enough}
+use Rattle.dump_replay.proofs.Initiators.{set_so}
+use Rattle.dump_replay.proofs.Grammar.{within_quota, readable, short_enough}
 use Rattle.dump_replay.proofs.Ending.{tells}
 use Rattle.dump_replay.proofs.Lines.{nothing_lines, open_report}
 use Rattle.dump_replay.proofs.Writing.{told_some, grown_within}
@@ -46,9 +44,18 @@ told_as P Q None new told weaker = tt
 told_as P Q (Some l) None told weaker = absurd told
 told_as P Q (Some l) (Some l') told weaker = weaker l l' told
 
--- a count that stood still and then rose
-pub rose_later : (a b c : ℕ) → b ≡ a → Rose b c → Rose a c
-rose_later a b c still rose = rw still at rose
+-- a count that stood still, and what a call left of it then
+pub counted_later : (a b c : ℕ) (failed : Type 0) → b ≡ a → CountsFaults b c failed → CountsFaults a c failed
+counted_later a b c failed still h = subst (λ (n : ℕ). CountsFaults n c failed) still h
+
+-- the same of a call that fails where another does
+pub counted_with : (a b c : ℕ) (failed other : Type 0) → b ≡ a → CountsFaults b c other → (failed → other) → (other → failed) → CountsFaults a c failed
+counted_with a b c failed other still h to back =
+    counted_later a b c failed still (record { rose = λ f. h.rose (to f); same = λ none. h.same (λ o. none (back o)); grows = h.grows })
+
+-- a count that stood still where nothing failed
+pub counted_none : (a b : ℕ) (failed : Type 0) → b ≡ a → (failed → ⊥) → CountsFaults a b failed
+counted_none a b failed still never = record { rose = λ f. absurd (never f); same = λ none. still; grows = omega (arith, still) }
 
 -- what a full room holds after new bytes of its length were put in it
 pub room_is : (items new : List ℕ) (len : ℕ) → len ≡ length items → length new ≡ length items → take len (new ++ drop (length new) items) ≡ new
@@ -59,13 +66,6 @@ option_last : {A : Type 0} (a b v : Option A) → option_or a (option_or b v) �
 option_last None None v e = e
 option_last None (Some s) v e = cc
 option_last (Some s) b v e = cc
-
-within_quota : (x : Settings) (stage : Stage) (from n : ℕ) → is_over_in stage ≡ false → too_long x stage from n ≡ None → n < x.limits.session
-unfolding too_long
-within_quota x stage from n going none = by_test (nat_le x.limits.session n) refl (rw going at none) where
-  by_test : (b : Bool) → nat_le x.limits.session n ≡ b → (if b && true then Some (offence_at (open_from stage from) SessionTooLong) else None) ≡ None → n < x.limits.session
-  by_test true e h = cc
-  by_test false e h = leb-false x.limits.session n e
 
 pub pending_within : (x : Settings) (p : List ℕ) → IsPending (stream x) p → length p < x.limits.session
 unfolding refusal_at is_over_at
@@ -106,7 +106,7 @@ module _ (left before after : Option (List ℕ)) (p : List ℕ)
 
 module _ (x : Settings) (left left' taken taken' written mid written' : Option (List ℕ)) where
   -- what was read, a piece behind it, and what was written then
-  pub piece_reaches : (p y : List ℕ) → IsPending (stream x) p → length y ≤ 65536
+  pub piece_reaches : (p y : List ℕ) → IsPending (stream x) p → length y ≤ ROOM
       → ((bytes : List ℕ) → left ≡ Some bytes → (rest : List ℕ) × (left' ≡ Some rest) × (bytes ≡ p ++ y ++ rest))
       → ((t : List ℕ) → taken ≡ Some t → taken' ≡ Some (t ++ (p ++ y)))
       → ((w : List ℕ) → written ≡ Some w → mid ≡ Some (w ++ event_lines x p))
@@ -134,13 +134,14 @@ module _ (x : Settings) (left left' taken taken' written written' : Option (List
       record {
         bytes = p ++ y;
         offence_is = ap (offence x) (sym all) ∙ says [];
+        settled = inr says;
         stream = known_told (λ all rest. (all ≡ p ++ y ++ rest) × ((rest ≡ []) ⊎ ((more : List ℕ) → offence x (p ++ y ++ more) ≡ o))) left left' (λ bytes e. let k = moved bytes e in (k.0, k.1, (k.2, inr says)));
         took = known_told (λ t t'. t' ≡ t ++ (p ++ y)) taken taken' (λ t e. (t ++ (p ++ y), took t e, refl));
         wrote = known_told (λ w w'. w' ≡ w ++ report x (p ++ y)) written written' (λ w e. let k = wrote w e in (k.0, k.1, k.2 [] ∙ ap (λ l. w ++ report x l) all));
       }
 
   -- the input is over
-  pub end_decides : (mid mid' : Option (List ℕ)) (p room : List ℕ) (n : ℕ) (o : Option Offence) → n ≡ 0
+  pub end_decides : (mid mid' : Option (List ℕ)) (p room : List ℕ) (n : ℕ) (o : Option Offence) → n ≡ 0 → IsPending (stream x) p
       → ((bytes : List ℕ) → left ≡ Some bytes → (rest : List ℕ) × (mid ≡ Some rest) × (bytes ≡ p ++ rest))
       → Told mid left' (λ l l'. Moves l l' room n)
       → Told mid left' (λ l l'. (n ≡ 0) ↔ (l ≡ []))
@@ -149,9 +150,10 @@ module _ (x : Settings) (left left' taken taken' written written' : Option (List
       → offence x p ≡ o
       → ((w : List ℕ) → written ≡ Some w → (w' : List ℕ) × (written' ≡ Some w') × (w' ≡ w ++ report x p))
       → Decides x o left left' taken taken' written written'
-  end_decides mid mid' p room n o zero known moved ended took handed says wrote = record {
+  end_decides mid mid' p room n o zero pending known moved ended took handed says wrote = record {
     bytes = p;
     offence_is = says;
+    settled = inl pending;
     stream = known_told (λ all rest. (all ≡ p ++ rest) × ((rest ≡ []) ⊎ ((more : List ℕ) → offence x (p ++ more) ≡ o))) left left' (λ all e.
         let h = known all e in
         let k = told_some (λ l l'. Moves l l' room n) mid left' h.0 h.1 moved in
@@ -195,15 +197,15 @@ module _ (x : Settings) (left left' taken taken' written written' : Option (List
     wrote = told_as (λ w w'. w' ≡ w ++ event_lines x b.bytes) (λ w w'. Grows (w ++ event_lines x b.bytes) w') written written' b.wrote (λ w w' e. record { more = []; grown = e ∙ sym (append-nil (w ++ event_lines x b.bytes)) });
   }
 
-module _ (x : Settings) (room : 0 < x.limits.session) where
+module _ (x : Settings) (set : IsInitiators x) (room : 0 < x.limits.session) where
   -- a stream of which nothing is read may still go on
   pub first_pending : IsPending (stream x) []
   first_pending = record { unrefused = λ n. ap (refusal_at (stream x)) (take-nil n) ∙ first_unrefused; going_on = first_open.going_on } where
     first_open : IsOpenAt (stream x) []
-    first_open = open_first (stream x) (readable x) ends (tells x)
+    first_open = open_first (stream x) (readable x) ends (tells x set)
 
     first_going : IsGoing (stream x) (standing (stream x) [])
-    first_going = rw (standing_nothing (stream x) (readable x)) (record { next = (readable x).nothing beginning 0; last = refl })
+    first_going = rw (standing_nothing (stream x) (readable x)) (record { next = (readable x).nothing (beginning x) 0; last = refl })
 
     first_unrefused : refusal_at (stream x) [] ≡ None
     first_unrefused =
@@ -244,12 +246,12 @@ taken_grows taken before after p room y n so_far told piece t e =
 pub record Came (left left' taken taken' : Option (List ℕ)) (items new p y : List ℕ) (n : ℕ) : Type 0 where
   pub full : length new ≡ length items
   pub size : length y ≡ n
-  pub short : length y ≤ 65536
+  pub short : length y ≤ ROOM
   pub rest : (bytes : List ℕ) → left ≡ Some bytes → (rest : List ℕ) × (left' ≡ Some rest) × (bytes ≡ p ++ y ++ rest)
   pub handed : (t : List ℕ) → taken ≡ Some t → taken' ≡ Some (t ++ (p ++ y))
 
 pub piece_came : (left before left' taken handed taken' : Option (List ℕ)) (items new room : List ℕ) (len n : ℕ)
-    → length items ≡ 65536 → len ≡ length items → length new ≡ length items → room ≡ take len (new ++ drop (length new) items) → n ≤ length new
+    → length items ≡ ROOM → len ≡ length items → length new ≡ length items → room ≡ take len (new ++ drop (length new) items) → n ≤ length new
     → (p : List ℕ)
     → ((bytes : List ℕ) → left ≡ Some bytes → (rest : List ℕ) × (before ≡ Some rest) × (bytes ≡ p ++ rest))
     → ((t : List ℕ) → taken ≡ Some t → handed ≡ Some (t ++ p))
@@ -306,9 +308,8 @@ stopped_write faults.Failed e = refl
 stopped_write faults.Memory e = cc
 
 -- what holds where a fault of the output isn't one of writing
-pub stopped_still : (fault : SinkFault) (P : Type 0) → (fault ≡ faults.Memory → P) → (stopped_by fault ≡ endings.WriteFault → ⊥) → P
-stopped_still faults.Failed P memory well = absurd (well refl)
-stopped_still faults.Memory P memory well = memory refl
+pub write_stopped : (fault : SinkFault) → fault ≡ faults.Failed → stopped_by fault ≡ endings.WriteFault
+write_stopped fault e = ap stopped_by e
 
 -- a judgement there is of what was read
 pub ended_judged : (r : Ending) (v : Result (Option Offence) SinkFault) (o : Option Offence) → IfOk v (λ o. r ≡ endings.Judged o) → IfErr v (λ f. r ≡ stopped_by f) → r ≡ endings.Judged o → v ≡ Ok o
@@ -326,17 +327,17 @@ ended_write r (Ok o) judged stopped e = cc
 ended_write r (Err fault) judged stopped e = ap Err (stopped_write fault (sym stopped ∙ e))
 
 -- what holds there where none is one of writing
-pub ended_still : (r : Ending) (v : Result (Option Offence) SinkFault) (P : Type 0) → IfErr v (λ f. r ≡ stopped_by f) → OnOk v P → (v ≡ Err faults.Memory → P) → (r ≡ endings.WriteFault → ⊥) → P
-ended_still r (Ok o) P stopped good memory well = good
-ended_still r (Err fault) P stopped good memory well = stopped_still fault P (λ e. memory (ap Err e)) (λ e. well (stopped ∙ e))
+pub write_ended : (r : Ending) (v : Result (Option Offence) SinkFault) → IfErr v (λ f. r ≡ stopped_by f) → v ≡ Err faults.Failed → r ≡ endings.WriteFault
+write_ended r (Ok o) stopped e = cc
+write_ended r (Err fault) stopped e = let same : fault ≡ faults.Failed = cc in stopped ∙ write_stopped fault same
 
 -- what has come so far, and isn't refused, is read
 pub read_at : (x : Settings) (stands : List ℕ → Type 0) (p : List ℕ) → stands p → IsPending (stream x) p → HasRead stands x p
 read_at x stands p here pending = record { stands_for = here; on = pending_open (stream x) p pending }
 
 -- an end that is new has read nothing
-pub first_read : (x : Settings) (stands : List ℕ → Type 0) → 0 < x.limits.session → stands [] → HasRead stands x []
-first_read x stands room here = read_at x stands [] here (first_pending x room)
+pub first_read : (x : Settings) → IsInitiators x → (stands : List ℕ → Type 0) → 0 < x.limits.session → stands [] → HasRead stands x []
+first_read x set stands room here = read_at x stands [] here (first_pending x set room)
 
 -- what is answered by the settings that an end has now, said by those that it had at first
 module _ (now x : Settings) (same : now ≡ x) (stands : List ℕ → Type 0) (p : List ℕ) (read : HasRead stands x p) where
@@ -371,10 +372,14 @@ module _ (now x : Settings) (same : now ≡ x) (stands : List ℕ → Type 0) (p
             (k.0, k.1, subst (λ s. OnOk v (k.0 ≡ w ++ report s p)) same k.2, subst (λ s. OnErr v (GrowsByPrefix w k.0 (report s p))) same k.3),
       )
 
--- the limits where none is said are the usual ones
-pub usual_is : (q : Quotas) → limits_of q ≡ usual_limits → ◌≡◌ {A = Settings} (record { limits = limits_of q }) usual
+-- an end for an initiator's stream within the usual limits is set as where nothing is said
+pub usual_is : (x : Settings) (q : Quotas) → IsInitiators x → x.limits ≡ limits_of q → limits_of q ≡ usual_limits → x ≡ usual
 unfolding usual
-usual_is q h = ap (λ (l : Limits). record { limits = l }) h
+usual_is x q set is h = set_so x set ∙ ap initiators (is ∙ h)
+
+pub usual_set : IsInitiators usual
+unfolding usual
+usual_set = record { direction = refl; mode = refl }
 
 pub usual_room : 0 < usual.limits.session
 unfolding usual

@@ -26,7 +26,7 @@ head_unrefused number true refusal = λ e. cc
 head_unrefused number false refusal = tt
 
 module _ (x : Settings) where
-  record_unrefused : (z : Situation) (from : ℕ) (read : Frame) → Unrefused (completed_record z from read) (option_map (λ reason. offence_at from (built reason)) (reason_in x read))
+  record_unrefused : (z : Situation) (from : ℕ) (read : Frame) → Unrefused (completed_record x z from read) (option_map (λ reason. offence_at from (built reason)) (reason_in x read))
   record_unrefused z from (frames.Version major minor) = tt
   record_unrefused z from (frames.Mode mode) = tt
   record_unrefused z from frames.Via = tt
@@ -46,7 +46,7 @@ module _ (x : Settings) where
     go true = tt
     go false = λ e. refl
 
-  unit_unrefused : (z : Situation) (from : ℕ) (u : StreamUnit) → Unrefused (completed z from u) (refused x from u)
+  unit_unrefused : (z : Situation) (from : ℕ) (u : StreamUnit) → Unrefused (completed x z from u) (refused x from u)
   unfolding completed refused
   unit_unrefused z from (frame read) = record_unrefused z from read.frame
   unit_unrefused z from (payload_byte byte) = byte_unrefused z.messages z.stage

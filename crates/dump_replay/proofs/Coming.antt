@@ -4,7 +4,7 @@ use Rattle.unit_streams.specs.Front.{Front, begun, whole, wrong}
 use Rattle.unit_streams.specs.Parts.{seen}
 use Rattle.nmf_records.specs.declared.frame.Frame.TheVariants as frames
 use Rattle.nmf_records.specs.declared.frame.FrameFault.{FrameFault}
-use Rattle.nmf_records.specs.declared.script.Direction.TheVariants.{Initiator}
+use Rattle.nmf_records.specs.declared.script.Direction.TheVariants.{FromInitiator}
 use Rattle.nmf_records.specs.declared.script.Due.{Due}
 use Rattle.nmf_records.specs.declared.script.Due.TheVariants as dues
 use Rattle.nmf_records.specs.Records.{Read, IsRecord}
@@ -18,9 +18,9 @@ use Rattle.dump_replay.specs.Stream.{Settings, StreamUnit, frame, payload_byte, 
 
 -- the record that a unit is
 pub record Comes (x : Settings) (due : Due) (bytes : List ℕ) (read : Read) (n : ℕ) : Type 0 where
-  pub front : frame_at x.limits.via (may_come Initiator due) bytes ≡ whole read n
+  pub front : frame_at x.limits.via (may_come x.direction due) bytes ≡ whole read n
   pub bytes_are : IsRecord read (take n bytes)
-  pub may : MayCome (may_come Initiator due) read.frame
+  pub may : MayCome (may_come x.direction due) read.frame
   pub within : n ≤ length bytes
   pub low : length read.text ≤ x.limits.via
 
@@ -30,18 +30,18 @@ module _ (x : Settings) (from : ℕ) (bytes : List ℕ) (u : StreamUnit) (n : �
   seen_whole due (whole read k) e = let size : k ≡ n = cc in let same : frame read ≡ u = cc in (read, ap (whole read) size, sym same)
   seen_whole due (wrong fault k) e = cc
 
-  due_comes : (due : Due) → seen frame (λ fault. offence_at from (built (reason_of due fault))) (frame_at x.limits.via (may_come Initiator due) bytes) ≡ whole u n
+  due_comes : (due : Due) → seen frame (λ fault. offence_at from (built (reason_of due fault))) (frame_at x.limits.via (may_come x.direction due) bytes) ≡ whole u n
       → (read : Read) × (u ≡ frame read) × Comes x due bytes read n
   due_comes due e =
-      let w = seen_whole due (frame_at x.limits.via (may_come Initiator due) bytes) e in
-      let r = read_record x.limits.via (may_come Initiator due) bytes w.0 n w.1 in (
+      let w = seen_whole due (frame_at x.limits.via (may_come x.direction due) bytes) e in
+      let r = read_record x.limits.via (may_come x.direction due) bytes w.0 n w.1 in (
         w.0,
         w.2,
         record {
           front = w.1;
           bytes_are = r.0;
           may = r.1;
-          within = (frames_front x.limits.via (may_come Initiator due)).whole_within bytes w.0 n w.1;
+          within = (frames_front x.limits.via (may_come x.direction due)).whole_within bytes w.0 n w.1;
           low = r.2;
         },
       )
@@ -49,17 +49,7 @@ module _ (x : Settings) (from : ℕ) (bytes : List ℕ) (u : StreamUnit) (n : �
   -- where a record is due a record comes
   pub record_comes : (due : Due) → record_at x due from bytes ≡ whole u n → (read : Read) × (u ≡ frame read) × Comes x due bytes read n
   record_comes dues.Over e = cc
-  record_comes dues.Version e = due_comes dues.Version e
-  record_comes dues.Mode e = due_comes dues.Mode e
-  record_comes dues.Via e = due_comes dues.Via e
-  record_comes dues.Encoding e = due_comes dues.Encoding e
-  record_comes dues.PreambleEnd e = due_comes dues.PreambleEnd e
-  record_comes dues.Ack e = due_comes dues.Ack e
-  record_comes dues.Messages e = due_comes dues.Messages e
-  record_comes dues.Envelope e = due_comes dues.Envelope e
-  record_comes dues.Reply e = due_comes dues.Reply e
-  record_comes dues.Chunk e = due_comes dues.Chunk e
-  record_comes dues.End e = due_comes dues.End e
+  record_comes due e = due_comes due e
 
   pub unit_of_record : (due : Due) → unit_in x (stages.Record due) from bytes ≡ whole u n → (read : Read) × (u ≡ frame read) × Comes x due bytes read n
   unfolding unit_in
@@ -76,16 +66,6 @@ unfolding unit_in
 unit_of_payload x from bytes u n p e = byte_comes bytes u n e
 
 -- an initiator sends no Fault
-pub no_fault : (due : Due) → MayCome (may_come Initiator due) frames.Fault → ⊥
-no_fault dues.Version e = cc
-no_fault dues.Mode e = cc
-no_fault dues.Via e = cc
-no_fault dues.Encoding e = cc
-no_fault dues.PreambleEnd e = cc
-no_fault dues.Ack e = cc
-no_fault dues.Messages e = cc
-no_fault dues.Envelope e = cc
-no_fault dues.Reply e = cc
-no_fault dues.Chunk e = cc
-no_fault dues.End e = cc
+pub no_fault : (due : Due) → MayCome (may_come FromInitiator due) frames.Fault → ⊥
 no_fault dues.Over e = cc
+no_fault _ e = cc

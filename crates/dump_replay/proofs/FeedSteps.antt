@@ -16,7 +16,7 @@ use Rattle.dump_replay.specs.declared.receiver.Receiver.{Receiver}
 use Rattle.dump_replay.specs.declared.receiver.Step.{Step}
 use Rattle.dump_replay.specs.declared.receiver.Step.TheVariants as steps
 use Rattle.dump_replay.specs.declared.stage.Stage.{Stage}
-use Rattle.dump_replay.specs.Stream.{Settings, StreamEvent, ends, open_from, offence_at, is_over_in, too_long, stream}
+use Rattle.dump_replay.specs.Stream.{Settings, IsInitiators, StreamEvent, ends, open_from, offence_at, is_over_in, too_long, stream}
 use Rattle.dump_replay.specs.Saying.{step_for, said}
 use Rattle.dump_replay.specs.Receiving.{Reached, Failed}
 use Rattle.dump_replay.specs.Stepping.{UnitAnswers}
@@ -41,7 +41,7 @@ Fed new x p y k step = (said (length y) (answer (stream x) p y) ≡ Ok (k, step)
 abbrev pub FedRefused : Receiver → Settings → List ℕ → List ℕ → Offence → Type 0
 FedRefused new x p y o = (said (length y) (answer (stream x) p y) ≡ Err o) × Failed new x o (p ++ take (used (length y) (answer (stream x) p y)) y)
 
-module _ (x : Settings) (p y : List ℕ) where
+module _ (x : Settings) (set : IsInitiators x) (p y : List ℕ) where
   pub along_none : (r : Receiver) → Reached r x p → is_over_at (stream x) p ≡ false → Along r x p y 0
   along_none r h on = record {
     reached = subst (Reached r x) (sym (append-nil p)) h;
@@ -99,7 +99,7 @@ module _ (x : Settings) (p y : List ℕ) where
         on_still n q =
             let len = length-take-le n c q.within in
             ap (λ d. is_over_at (stream x) ((p ++ take k y) ++ d)) (sym (take-length (take n c)))
-            ∙ not_over_along (stream x) (readable x) ends (tells x) (take n c) (p ++ take k y) a.on
+            ∙ not_over_along (stream x) (readable x) ends (tells x set) (take n c) (p ++ take k y) a.on
             (λ i some le. ap (λ d. event_at (stream x) ((p ++ take k y) ++ d)) (take-take i n c (omega (arith, len, le))) ∙ q.eventless i some (omega (arith, len, le))) (length (take n c)) (omega arith)
 
       pub along_refused : (o : Offence) → UnitAnswers x (p ++ take k y) c new (Err o) → FedRefused new x p y o

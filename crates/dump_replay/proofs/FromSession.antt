@@ -10,6 +10,7 @@ use Rattle.unit_streams.specs.Judging.{History, is_over_at, only, led_by, histor
 use Rattle.unit_streams.proofs.Ends.{over_closed}
 use Rattle.unit_streams.proofs.Units.{between_going}
 use Rattle.unit_streams.proofs.Along.{Passes, passes_none, passes_then, passes_unit, passes_between, passes_history}
+use Rattle.nbfx_values.specs.Limits.{Limits}
 use Rattle.nbfx_values.specs.declared.session.Mode.TheVariants.{Duplex}
 use Rattle.nbfx_values.specs.declared.session.Kind.{Kind}
 use Rattle.nbfx_values.specs.declared.session.Kind.TheVariants.{Plain, Session}
@@ -22,10 +23,10 @@ use Rattle.nmf_records.specs.Reading.{bare, with_text}
 use Rattle.dump_replay.specs.declared.stage.Payload.{Payload}
 use Rattle.dump_replay.specs.declared.stage.Stage.{Stage}
 use Rattle.dump_replay.specs.declared.stage.Stage.TheVariants as stages
-use Rattle.dump_replay.specs.Stream.{Settings, Situation, beginning, frame, payload_byte, StreamEvent, opened, message, ended, after, completed, refused, unit_in, is_over_in, stream}
+use Rattle.dump_replay.specs.Stream.{Settings, initiators, Situation, beginning, frame, payload_byte, StreamEvent, opened, message, ended, after, completed, refused, unit_in, is_over_in, stream}
 use Rattle.dump_replay.specs.Judging.{offence}
 use Rattle.dump_replay.specs.Report.{event_line, open_line, message_line, ended_line, history_lines, report, message_lines, session_report}
-use Rattle.dump_replay.specs.Sessions.{IsBare, IsPreamble, AreEnvelopes, IsSession, IsClosed}
+use Rattle.dump_replay.specs.Sessions.{IsBare, IsPreamble, CarriesPayloads, IsSession, IsClosed}
 use Rattle.dump_replay.proofs.Grammar.{readable, quiet_over, short_enough}
 use Rattle.dump_replay.proofs.DueRecords.{record_unit}
 
@@ -45,11 +46,14 @@ messages_of number (payload ∷ payloads) = message number (length payload) ∷ 
 abbrev session_events : List ℕ → Kind → List (List ℕ) → ℕ → List StreamEvent
 session_events via kind payloads n = (opened Duplex kind via ∷ messages_of 0 payloads) ++ ended n ∷ []
 
-module _ (x : Settings) where
-  version_passes : (from : ℕ) (b : List ℕ) → IsBare (frames.Version 1 0) b → Passes (stream x) beginning from b (at (stages.Record dues.Mode) Session [] 0) []
+module _ (l : Limits) where
+  abbrev x : Settings
+  x = initiators l
+
+  version_passes : (from : ℕ) (b : List ℕ) → IsBare (frames.Version 1 0) b → Passes (stream x) (beginning x) from b (at (stages.Record dues.Mode) Session [] 0) []
   unfolding after completed refused
   version_passes from b is =
-      passes_unit (stream x) (readable x) beginning from b (frame (bare (frames.Version 1 0))) (record_unit x dues.Version b from (bare (frames.Version 1 0)) refl is refl (omega arith)) refl
+      passes_unit (stream x) (readable x) (beginning x) from b (frame (bare (frames.Version 1 0))) (record_unit x dues.Version b from (bare (frames.Version 1 0)) refl is refl (omega arith)) refl
 
   mode_passes : (from : ℕ) (b : List ℕ) → IsBare (frames.Mode 2) b → Passes (stream x) (at (stages.Record dues.Mode) Session [] 0) from b (at (stages.Record dues.Via) Session [] 0) []
   unfolding after completed refused
@@ -83,17 +87,17 @@ module _ (x : Settings) where
       passes_unit (stream x) (readable x) (at (stages.Record dues.Messages) kind via messages) from b (frame (bare frames.End)) (record_unit x dues.Messages b from (bare frames.End) refl is refl (omega arith)) refl
 
   -- a preamble
-  preamble_passes : (via : List ℕ) (kind : Kind) (b : List ℕ) → IsPreamble x via kind b → Passes (stream x) beginning 0 b (at (stages.Record dues.Messages) kind via 0) (opened Duplex kind via ∷ [])
+  preamble_passes : (via : List ℕ) (kind : Kind) (b : List ℕ) → IsPreamble x via kind b → Passes (stream x) (beginning x) 0 b (at (stages.Record dues.Messages) kind via 0) (opened Duplex kind via ∷ [])
   preamble_passes via kind b h =
       let c1 = h.version in
       let c2 = c1 ++ h.mode in
       let c3 = c2 ++ h.via_record in
       let c4 = c3 ++ h.encoding in
       let p1 = version_passes 0 c1 h.is_version in
-      let p2 = passes_then (stream x) beginning 0 c1 h.mode _ _ [] [] p1 (mode_passes (0 + length c1) h.mode h.is_mode) in
-      let p3 = passes_then (stream x) beginning 0 c2 h.via_record _ _ [] [] p2 (via_passes (0 + length c2) via h.via_record h.is_via h.via_within) in
-      let p4 = passes_then (stream x) beginning 0 c3 h.encoding _ _ [] [] p3 (encoding_passes (0 + length c3) via kind h.encoding h.is_encoding) in
-      let p5 = passes_then (stream x) beginning 0 c4 h.end _ _ [] (opened Duplex kind via ∷ []) p4 (preamble_end_passes (0 + length c4) via kind h.end h.is_end) in
+      let p2 = passes_then (stream x) (beginning x) 0 c1 h.mode _ _ [] [] p1 (mode_passes (0 + length c1) h.mode h.is_mode) in
+      let p3 = passes_then (stream x) (beginning x) 0 c2 h.via_record _ _ [] [] p2 (via_passes (0 + length c2) via h.via_record h.is_via h.via_within) in
+      let p4 = passes_then (stream x) (beginning x) 0 c3 h.encoding _ _ [] [] p3 (encoding_passes (0 + length c3) via kind h.encoding h.is_encoding) in
+      let p5 = passes_then (stream x) (beginning x) 0 c4 h.end _ _ [] (opened Duplex kind via ∷ []) p4 (preamble_end_passes (0 + length c4) via kind h.end h.is_end) in
       rw h.joined p5
 
   module _ (kind : Kind) (via : List ℕ) where
@@ -111,11 +115,11 @@ module _ (x : Settings) where
     payload_passes [] start size left messages from e some = absurd (omega arith)
     payload_passes (y ∷ []) start size left messages from e some =
         let last : nat_lt 1 left ≡ false = rw e refl in
-        byte_passes beginning from y (record { from = start; size = size; left = left }) messages false last
+        byte_passes (beginning x) from y (record { from = start; size = size; left = left }) messages false last
     payload_passes (y ∷ d ∷ c) start size left messages from e some =
         let more : nat_lt 1 left ≡ true = grind (arith, nat_tests) in
         passes_then (stream x) (at (within start size left) kind via messages) from (y ∷ []) (d ∷ c) (at (within start size (left - 1)) kind via messages) _ [] (message messages size ∷ [])
-        (byte_passes beginning from y (record { from = start; size = size; left = left }) messages true more)
+        (byte_passes (beginning x) from y (record { from = start; size = size; left = left }) messages true more)
         (payload_passes (d ∷ c) start size (left - 1) messages (from + 1) (omega arith) (omega arith))
 
     -- the head of an envelope
@@ -138,7 +142,7 @@ module _ (x : Settings) where
         passes_then (stream x) (at (stages.Record dues.Messages) kind via messages) from head (y ∷ payload) (at (within from size size) kind via messages) _ [] (message messages size ∷ [])
         (head_passes size messages from head false some is low) (payload_passes (y ∷ payload) from size size messages (from + length head) refl (omega arith))
 
-    envelopes_pass : (payloads : List (List ℕ)) (b : List ℕ) (number messages from : ℕ) → number + length payloads ≡ messages → AreEnvelopes x payloads b
+    envelopes_pass : (payloads : List (List ℕ)) (b : List ℕ) (number messages from : ℕ) → number + length payloads ≡ messages → CarriesPayloads x payloads b
         → Passes (stream x) (at (stages.Record dues.Messages) kind via number) from b (at (stages.Record dues.Messages) kind via messages) (messages_of number payloads)
     envelopes_pass [] b number messages from count none =
         let same : number ≡ messages = omega arith in
@@ -149,18 +153,18 @@ module _ (x : Settings) where
         (envelope_passes payload head number from is low) (envelopes_pass payloads rest (number + 1) messages (from + length (head ++ payload)) (omega arith) more))
 
   session_passes : (via : List ℕ) (kind : Kind) (payloads : List (List ℕ)) (b : List ℕ) → IsSession x via kind payloads b
-      → Passes (stream x) beginning 0 b (at (stages.Record dues.Over) kind via (length payloads)) (session_events via kind payloads (length b))
+      → Passes (stream x) (beginning x) 0 b (at (stages.Record dues.Over) kind via (length payloads)) (session_events via kind payloads (length b))
   session_passes via kind payloads b h =
       let c2 = h.preamble ++ h.envelopes in
       let all : length b ≡ length c2 + length h.end = ap length h.joined ∙ length-append c2 h.end in
       let one : length h.end ≡ 1 = ap length h.is_end.1 in
       let place : 0 + length c2 + 1 ≡ length b = omega arith in
-      let p1 = passes_then (stream x) beginning 0 h.preamble h.envelopes _ _ (opened Duplex kind via ∷ []) (messages_of 0 payloads) (preamble_passes via kind h.preamble h.is_preamble)
-      (envelopes_pass kind via payloads h.envelopes 0 (length payloads) (0 + length h.preamble) (omega arith) h.are_envelopes) in
-      let p2 = passes_then (stream x) beginning 0 c2 h.end _ _ (opened Duplex kind via ∷ messages_of 0 payloads) (ended (0 + length c2 + 1) ∷ []) p1
+      let p1 = passes_then (stream x) (beginning x) 0 h.preamble h.envelopes _ _ (opened Duplex kind via ∷ []) (messages_of 0 payloads) (preamble_passes via kind h.preamble h.is_preamble)
+      (envelopes_pass kind via payloads h.envelopes 0 (length payloads) (0 + length h.preamble) (omega arith) h.carries_payloads) in
+      let p2 = passes_then (stream x) (beginning x) 0 c2 h.end _ _ (opened Duplex kind via ∷ messages_of 0 payloads) (ended (0 + length c2 + 1) ∷ []) p1
       (end_passes (0 + length c2) via kind (length payloads) h.end h.is_end) in
-      let p3 : Passes (stream x) beginning 0 b (at (stages.Record dues.Over) kind via (length payloads)) ((opened Duplex kind via ∷ messages_of 0 payloads) ++ ended (0 + length c2 + 1) ∷ []) = rw h.joined p2 in
-      subst (λ (n : ℕ). Passes (stream x) beginning 0 b (at (stages.Record dues.Over) kind via (length payloads)) (session_events via kind payloads n)) place p3
+      let p3 : Passes (stream x) (beginning x) 0 b (at (stages.Record dues.Over) kind via (length payloads)) ((opened Duplex kind via ∷ messages_of 0 payloads) ++ ended (0 + length c2 + 1) ∷ []) = rw h.joined p2 in
+      subst (λ (n : ℕ). Passes (stream x) (beginning x) 0 b (at (stages.Record dues.Over) kind via (length payloads)) (session_events via kind payloads n)) place p3
 
   module _ (via : List ℕ) (kind : Kind) (payloads : List (List ℕ)) (session rest : List ℕ) (h : IsSession x via kind payloads session) where
     -- whatever follows a session, its events are the history
@@ -187,11 +191,11 @@ lines_of : (number : ℕ) (payloads : List (List ℕ)) → flat_map event_line (
 lines_of number [] = refl
 lines_of number (payload ∷ payloads) = ap (λ l. message_line number (length payload) ++ l) (lines_of (number + 1) payloads)
 
-pub session_lines : (x : Settings) (via : List ℕ) (kind : Kind) (payloads : List (List ℕ)) (session rest : List ℕ) → IsSession x via kind payloads session
-    → report x (session ++ rest) ≡ session_report via kind payloads (length session)
+pub session_lines : (l : Limits) (via : List ℕ) (kind : Kind) (payloads : List (List ℕ)) (session rest : List ℕ) → IsSession (initiators l) via kind payloads session
+    → report (initiators l) (session ++ rest) ≡ session_report via kind payloads (length session)
 unfolding report session_report
-session_lines x via kind payloads session rest h =
-    ap history_lines (session_history x via kind payloads session rest h)
+session_lines l via kind payloads session rest h =
+    ap history_lines (session_history l via kind payloads session rest h)
     ∙ append-nil (flat_map event_line (session_events via kind payloads (length session) ++ []))
     ∙ ap (flat_map event_line) (append-nil (session_events via kind payloads (length session)))
     ∙ lines_append (opened Duplex kind via ∷ messages_of 0 payloads) (ended (length session) ∷ [])

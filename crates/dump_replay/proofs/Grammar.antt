@@ -1,16 +1,14 @@
 -- The grammar of an initiator's stream is one: its units are known by their own bytes, and it ends with the events that end it.
-use Rattle.std.proofs.Common.{◌≡◌, ℕ, ◌<◌, ◌⊎◌, inl, inr, List, [], ◌∷◌, Bool, true, false, Some, None, refl, ap, arith}
+use Rattle.std.proofs.Common.{◌≡◌, ℕ, ◌<◌, inl, List, [], Bool, true, false, Some, None, refl, ap}
 use Rattle.std.specs.Prelude.{nat_le, ◌&&◌, not, if◌then◌else◌}
-use Rattle.std.proofs.lemmas.Bool.{lt-leb}
+use Rattle.std.proofs.lemmas.Bool.{lt-leb, leb-false}
 use Rattle.unit_streams.specs.Front.{begun, ReadsFront}
-use Rattle.unit_streams.specs.Parts.{seen}
+use Rattle.unit_streams.specs.Parts.{a_byte, seen}
 use Rattle.unit_streams.specs.Grammar.{IsReadable, IsQuietWhenOver}
-use Rattle.unit_streams.proofs.Peeling.{extent}
-use Rattle.unit_streams.proofs.Fronts.{IsDecided, reads_by}
-use Rattle.unit_streams.proofs.Parts.{reads_seen}
+use Rattle.unit_streams.proofs.Fronts.{reads_by}
+use Rattle.unit_streams.proofs.Parts.{reads_byte, reads_seen}
 use Rattle.nbfx_values.specs.declared.refusals.Offence.{Offence}
 use Rattle.nbfx_values.specs.declared.refusals.Reason.TheVariants.{SessionTooLong}
-use Rattle.nmf_records.specs.declared.script.Direction.TheVariants.{Initiator}
 use Rattle.nmf_records.specs.declared.script.Due.{Due}
 use Rattle.nmf_records.specs.declared.script.Due.TheVariants as dues
 use Rattle.nmf_records.specs.Reading.{frame_at}
@@ -18,7 +16,7 @@ use Rattle.nmf_records.specs.Script.{may_come}
 use Rattle.nmf_records.proofs.Frames.{frame_peels, frames_front}
 use Rattle.dump_replay.specs.declared.stage.Stage.{Stage}
 use Rattle.dump_replay.specs.declared.stage.Stage.TheVariants as stages
-use Rattle.dump_replay.specs.Stream.{Settings, StreamUnit, frame, reason_of, built, offence_at, record_at, payload_at, unit_in, is_over_in, open_from, too_long, cut_off, stream}
+use Rattle.dump_replay.specs.Stream.{Settings, StreamUnit, frame, payload_byte, reason_of, built, offence_at, record_at, payload_at, unit_in, is_over_in, open_from, too_long, cut_off, stream}
 
 -- where nothing is read
 reads_nothing : ReadsFront {A = StreamUnit} {R = Offence} (λ bytes. begun)
@@ -26,52 +24,23 @@ reads_nothing = reads_by (λ bytes. begun) (λ b. inl refl)
 
 -- a payload's byte
 reads_payload : ReadsFront payload_at
-reads_payload = reads_by payload_at cases where
-  cases : (b : List ℕ) → (payload_at b ≡ begun) ⊎ IsDecided payload_at b (extent (payload_at b))
-  cases [] = inl refl
-  cases (x ∷ b) = inr (record {
-    said = λ h. cc;
-    within = omega arith;
-    alone = refl;
-    first = λ j lt. let none : j ≡ 0 = omega arith in rw none refl;
-    stays = λ more. refl;
-  })
+reads_payload = reads_seen payload_byte (λ o. o) a_byte reads_byte
 
 module _ (x : Settings) where
   -- a record that is due
-  reads_due : (due : Due) (from : ℕ) → ReadsFront (λ bytes. seen frame (λ fault. offence_at from (built (reason_of due fault))) (frame_at x.limits.via (may_come Initiator due) bytes))
-  reads_due due from = reads_seen frame (λ fault. offence_at from (built (reason_of due fault))) (frame_at x.limits.via (may_come Initiator due)) (frames_front x.limits.via (may_come Initiator due))
+  reads_due : (due : Due) (from : ℕ) → ReadsFront (λ bytes. seen frame (λ fault. offence_at from (built (reason_of due fault))) (frame_at x.limits.via (may_come x.direction due) bytes))
+  reads_due due from = reads_seen frame (λ fault. offence_at from (built (reason_of due fault))) (frame_at x.limits.via (may_come x.direction due)) (frames_front x.limits.via (may_come x.direction due))
 
-  nothing_due : (due : Due) (from : ℕ) → seen frame (λ fault. offence_at from (built (reason_of due fault))) (frame_at x.limits.via (may_come Initiator due) []) ≡ begun
-  nothing_due due from = ap (seen frame (λ fault. offence_at from (built (reason_of due fault)))) (frame_peels x.limits.via (may_come Initiator due)).nothing
+  nothing_due : (due : Due) (from : ℕ) → seen frame (λ fault. offence_at from (built (reason_of due fault))) (frame_at x.limits.via (may_come x.direction due) []) ≡ begun
+  nothing_due due from = ap (seen frame (λ fault. offence_at from (built (reason_of due fault)))) (frame_peels x.limits.via (may_come x.direction due)).nothing
 
   reads_record : (due : Due) (from : ℕ) → ReadsFront (record_at x due from)
   reads_record dues.Over from = reads_nothing
-  reads_record dues.Version from = reads_due dues.Version from
-  reads_record dues.Mode from = reads_due dues.Mode from
-  reads_record dues.Via from = reads_due dues.Via from
-  reads_record dues.Encoding from = reads_due dues.Encoding from
-  reads_record dues.PreambleEnd from = reads_due dues.PreambleEnd from
-  reads_record dues.Ack from = reads_due dues.Ack from
-  reads_record dues.Messages from = reads_due dues.Messages from
-  reads_record dues.Envelope from = reads_due dues.Envelope from
-  reads_record dues.Reply from = reads_due dues.Reply from
-  reads_record dues.Chunk from = reads_due dues.Chunk from
-  reads_record dues.End from = reads_due dues.End from
+  reads_record due from = reads_due due from
 
   nothing_recorded : (due : Due) (from : ℕ) → record_at x due from [] ≡ begun
   nothing_recorded dues.Over from = refl
-  nothing_recorded dues.Version from = nothing_due dues.Version from
-  nothing_recorded dues.Mode from = nothing_due dues.Mode from
-  nothing_recorded dues.Via from = nothing_due dues.Via from
-  nothing_recorded dues.Encoding from = nothing_due dues.Encoding from
-  nothing_recorded dues.PreambleEnd from = nothing_due dues.PreambleEnd from
-  nothing_recorded dues.Ack from = nothing_due dues.Ack from
-  nothing_recorded dues.Messages from = nothing_due dues.Messages from
-  nothing_recorded dues.Envelope from = nothing_due dues.Envelope from
-  nothing_recorded dues.Reply from = nothing_due dues.Reply from
-  nothing_recorded dues.Chunk from = nothing_due dues.Chunk from
-  nothing_recorded dues.End from = nothing_due dues.End from
+  nothing_recorded due from = nothing_due due from
 
   reads_unit : (stage : Stage) (from : ℕ) → ReadsFront (unit_in x stage from)
   unfolding unit_in
@@ -100,7 +69,7 @@ module _ (x : Settings) where
     no true = refl
     no false = refl
 
-  any_end_over : (stage : Stage) (from : ℕ) → is_over_in stage ≡ true → cut_off stage from ≡ None
+  any_end_over : (stage : Stage) (from : ℕ) → is_over_in stage ≡ true → cut_off x stage from ≡ None
   unfolding cut_off
   any_end_over (stages.Record dues.Over) from e = refl
   any_end_over (stages.Record _) from e = cc
@@ -117,3 +86,11 @@ module _ (x : Settings) where
   pub short_enough : (stage : Stage) (from n : ℕ) → n < x.limits.session → too_long x stage from n ≡ None
   unfolding too_long
   short_enough stage from n lt = rw (lt-leb x.limits.session n lt) refl
+
+  -- where one isn't, of a session that isn't over, it is below the quota
+  pub within_quota : (stage : Stage) (from n : ℕ) → is_over_in stage ≡ false → too_long x stage from n ≡ None → n < x.limits.session
+  unfolding too_long
+  within_quota stage from n going none = by_test (nat_le x.limits.session n) refl (rw going at none) where
+    by_test : (b : Bool) → nat_le x.limits.session n ≡ b → (if b && true then Some (offence_at (open_from stage from) SessionTooLong) else None) ≡ None → n < x.limits.session
+    by_test true e h = cc
+    by_test false e h = leb-false x.limits.session n e

@@ -1,3 +1,4 @@
+pub mod Initiators
 pub mod Grammar
 pub mod Coming
 pub mod DueRecords

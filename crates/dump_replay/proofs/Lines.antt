@@ -11,7 +11,7 @@ use Rattle.unit_streams.proofs.Cuts.{cuts_change_nothing}
 use Rattle.unit_streams.proofs.Histories.{events_in_none, completed_events, history_is_answers}
 use Rattle.unit_streams.proofs.Pending.{open_history, pending_history, events_of_append, open_goes_on, open_completes, over_behind}
 use Rattle.nbfx_values.specs.declared.refusals.Offence.{Offence}
-use Rattle.dump_replay.specs.Stream.{Settings, StreamEvent, ends, stream}
+use Rattle.dump_replay.specs.Stream.{Settings, IsInitiators, StreamEvent, ends, stream}
 use Rattle.dump_replay.specs.Judging.{offence}
 use Rattle.dump_replay.specs.Report.{offence_line, offence_line_of, event_line, history_lines, report, event_lines}
 use Rattle.dump_replay.proofs.Grammar.{readable}
@@ -56,13 +56,13 @@ module _ (x : Settings) where
     unfolding offence_by
     open_offence z = ap (λ (h : History StreamEvent Offence). h.offence) (open_history (stream x) p z on)
 
-    module _ (y : List ℕ) where
+    module _ (set : IsInitiators x) (y : List ℕ) where
       -- a piece that decides nothing
       pub goes_on_lines : answer (stream x) p y ≡ goes_on → IsPending (stream x) (p ++ y) × (event_lines x (p ++ y) ≡ event_lines x p)
       goes_on_lines e =
           let m = (answers_are_first (stream x) p y goes_on).0 e in
           let none : events_in (stream x) p y ≡ [] = events_in_none (stream x) y p m.0.eventless in (
-            open_goes_on (stream x) (readable x) ends (tells x) p y on m.0 m.1,
+            open_goes_on (stream x) (readable x) ends (tells x set) p y on m.0 m.1,
             lines_more p y ∙ ap (λ es. event_lines x p ++ flat_map event_line es) none ∙ append-nil (event_lines x p),
           )
 
@@ -84,14 +84,14 @@ module _ (x : Settings) where
             ∙ ap (λ l. event_lines x p ++ l) (one_line event)
 
         pub completes_open : ends event ≡ false → IsOpenAt (stream x) (p ++ take k y)
-        completes_open going = open_completes (stream x) (readable x) ends (tells x) p y on k event completes_means.0 completes_means.1 completes_means.2 going
+        completes_open going = open_completes (stream x) (readable x) ends (tells x set) p y on k event completes_means.0 completes_means.1 completes_means.2 going
 
         -- the last event of all
         closing : ends event ≡ true → history_from (stream x) p y ≡ led_by (event ∷ []) (only None)
         closing is_end =
             history_is_answers (stream x) p y
             ∙ ap (history_by (stream x) p y) e
-            ∙ ap (led_by (event ∷ [])) (closed_behind x (p ++ take k y) event completes_means.2 is_end (over_behind (stream x) (readable x) ends (tells x) p y on k event completes_means.0 completes_means.1 completes_means.2 ∙ is_end) (drop k y))
+            ∙ ap (led_by (event ∷ [])) (closed_behind x (p ++ take k y) event completes_means.2 is_end (over_behind (stream x) (readable x) ends (tells x set) p y on k event completes_means.0 completes_means.1 completes_means.2 ∙ is_end) (drop k y))
 
         closes : ends event ≡ true → (report x (p ++ y) ≡ event_lines x p ++ event_line event) × (offence x (p ++ y) ≡ None)
         closes is_end = (
@@ -108,10 +108,10 @@ module _ (x : Settings) where
           )
 
     -- whatever follows the piece
-    module _ (y more : List ℕ) where
+    module _ (set : IsInitiators x) (y more : List ℕ) where
       pub closes_for_good : (k : ℕ) (event : StreamEvent) → answer (stream x) p y ≡ completes k event → ends event ≡ true
           → (report x (p ++ (y ++ more)) ≡ event_lines x p ++ event_line event) × (offence x (p ++ (y ++ more)) ≡ None)
-      closes_for_good k event e is_end = closes (y ++ more) k event (cuts_change_nothing (stream x) p y more ∙ ap (λ a. unless_decided a (raised (length y) (answer (stream x) (p ++ y) more))) e) is_end
+      closes_for_good k event e is_end = closes set (y ++ more) k event (cuts_change_nothing (stream x) p y more ∙ ap (λ a. unless_decided a (raised (length y) (answer (stream x) (p ++ y) more))) e) is_end
 
       pub refuses_for_good : (k : ℕ) (o : Offence) → answer (stream x) p y ≡ offends k o → (report x (p ++ (y ++ more)) ≡ event_lines x p ++ offence_line o) × (offence x (p ++ (y ++ more)) ≡ Some o)
-      refuses_for_good k o e = refuses (y ++ more) k o (cuts_change_nothing (stream x) p y more ∙ ap (λ a. unless_decided a (raised (length y) (answer (stream x) (p ++ y) more))) e)
+      refuses_for_good k o e = refuses set (y ++ more) k o (cuts_change_nothing (stream x) p y more ∙ ap (λ a. unless_decided a (raised (length y) (answer (stream x) (p ++ y) more))) e)

@@ -65,20 +65,20 @@ module _ (x : Settings) (p c : List ℕ) (z : Situation) (from : ℕ) (payload :
     on = let sum : j + 1 ≡ suc j = omega arith in append_assoc p (take j c) (take 1 (drop j c)) ∙ ap (λ d. p ++ d) (sym (take-add j 1 c) ∙ ap (λ n. take n c) sum)
 
     -- what it leads to
-    byte_between : IsBetween (stream x) (readable x) (p ++ take (suc j) c) (after (less j) (from + j) (payload_byte next.0)) (from + suc j)
+    byte_between : IsBetween (stream x) (readable x) (p ++ take (suc j) c) (after x (less j) (from + j) (payload_byte next.0)) (from + suc j)
     byte_between =
         let sum : from + j + 1 ≡ from + suc j = omega arith in
-        subst (λ (q : List ℕ). IsBetween (stream x) (readable x) q (after (less j) (from + j) (payload_byte next.0)) (from + suc j)) on
-        (subst (λ (n : ℕ). IsBetween (stream x) (readable x) ((p ++ take j c) ++ take 1 (drop j c)) (after (less j) (from + j) (payload_byte next.0)) n) sum
+        subst (λ (q : List ℕ). IsBetween (stream x) (readable x) q (after x (less j) (from + j) (payload_byte next.0)) (from + suc j)) on
+        (subst (λ (n : ℕ). IsBetween (stream x) (readable x) ((p ++ take j c) ++ take 1 (drop j c)) (after x (less j) (from + j) (payload_byte next.0)) n) sum
         (unit_between (stream x) (readable x) (p ++ take j c) (less j) (from + j) between (drop j c) (payload_byte next.0) 1 next.1 close unrefused))
 
     -- one that isn't the last
     module _ (more : suc j < payload.left) where
-      going : completed (less j) (from + j) (payload_byte next.0) ≡ None
+      going : completed x (less j) (from + j) (payload_byte next.0) ≡ None
       unfolding completed
       going = rw (lt-ltb 1 (payload.left - j) (omega arith)) refl
 
-      led : after (less j) (from + j) (payload_byte next.0) ≡ less (suc j)
+      led : after x (less j) (from + j) (payload_byte next.0) ≡ less (suc j)
       unfolding after
       led = let same : payload.left - j - 1 ≡ payload.left - suc j = omega arith in rw (lt-ltb 1 (payload.left - j) (omega arith)) (ap (λ n. record z { stage = stages.Payload (record payload { left = n }) }) same)
 
@@ -93,11 +93,11 @@ module _ (x : Settings) (p c : List ℕ) (z : Situation) (from : ℕ) (payload :
 
     -- the last
     module _ (last : suc j ≡ payload.left) where
-      done : completed (less j) (from + j) (payload_byte next.0) ≡ Some (message z.messages payload.size)
+      done : completed x (less j) (from + j) (payload_byte next.0) ≡ Some (message z.messages payload.size)
       unfolding completed
       done = rw (le-ltb 1 (payload.left - j) (omega arith)) refl
 
-      ended : after (less j) (from + j) (payload_byte next.0) ≡ message_whole z
+      ended : after x (less j) (from + j) (payload_byte next.0) ≡ message_whole z
       unfolding after
       ended = rw (le-ltb 1 (payload.left - j) (omega arith)) refl
 

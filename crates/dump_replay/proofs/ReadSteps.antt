@@ -10,7 +10,7 @@ use Rattle.unit_streams.proofs.Pending.{open_going_on}
 use Rattle.nbfx_values.specs.declared.refusals.Offence.{Offence}
 use Rattle.dump_replay.specs.declared.receiver.Step.{Step}
 use Rattle.dump_replay.specs.declared.receiver.Step.TheVariants.{More, Ended}
-use Rattle.dump_replay.specs.Stream.{Settings, StreamEvent, opened, message, ended, ends, stream}
+use Rattle.dump_replay.specs.Stream.{Settings, IsInitiators, StreamEvent, opened, message, ended, ends, stream}
 use Rattle.dump_replay.specs.Judging.{offence}
 use Rattle.dump_replay.specs.Report.{offence_line, offence_line_of, event_line, history_lines, report, event_lines}
 use Rattle.dump_replay.specs.Reading.{HasRead}
@@ -95,13 +95,13 @@ module _ (x : Settings) (p piece : List ℕ) (used : ℕ) where
   pub further : (n : ℕ) → n ≤ length y → q ++ take n y ≡ p ++ take (used + n) piece
   further n le = append_assoc p (take used piece) (take n y) ∙ ap (λ l. p ++ l) (ap (λ l. take used piece ++ take n l) (take_rest piece used) ∙ sym (take-add used n piece))
 
-  module _ (on : IsOpenAt (stream x) q) where
+  module _ (set : IsInitiators x) (on : IsOpenAt (stream x) q) where
     -- nothing more
     pub read_more : (n : ℕ) → Ok (n, More) ≡ said (length y) (answer (stream x) q y)
         → (q ++ take n y ≡ p ++ piece) × IsPending (stream x) (p ++ piece) × (event_lines x (p ++ piece) ≡ event_lines x q)
     read_more n e =
         let s = said_more (length y) n (answer (stream x) q y) e in
-        let on' = goes_on_lines x q on y s.1 in
+        let on' = goes_on_lines x q on set y s.1 in
         let whole : take n y ≡ y = take_all n y (omega (arith, s.0)) in (
           ap (λ l. q ++ l) whole ∙ all_of,
           subst (IsPending (stream x)) all_of on'.0,
@@ -112,7 +112,7 @@ module _ (x : Settings) (p piece : List ℕ) (used : ℕ) where
     module _ (n : ℕ) (step : Step) (event : StreamEvent) (told : answer (stream x) q y ≡ completes n event) (is : step ≡ step_for event) where
       -- where it isn't the end the stream is open
       event_open : (step ≡ Ended → ⊥) → IsOpenAt (stream x) (q ++ take n y)
-      event_open not_end = completes_open x q on y n event told (event_going event (λ is_end. not_end (is ∙ is_end)))
+      event_open not_end = completes_open x q on set y n event told (event_going event (λ is_end. not_end (is ∙ is_end)))
 
       event_cut : (step ≡ Ended → ⊥) → (w w' more : List ℕ) → GrowsByPrefix (w ++ event_lines x q) w' (event_line event) → GrowsByPrefix w w' (report x (p ++ piece ++ more))
       event_cut not_end w w' more h =
@@ -123,11 +123,11 @@ module _ (x : Settings) (p piece : List ℕ) (used : ℕ) where
           let lines : event_lines x q' ++ history_lines (history_from (stream x) q' z) ≡ report x (p ++ piece ++ more) = sym (open_report x q' (event_open not_end) z) ∙ ap (report x) same in
           subst (GrowsByPrefix w w') lines
           (grown_within w w' (event_lines x q') (history_lines (history_from (stream x) q' z))
-          (subst (GrowsByPrefix w w') (sym (completes_lines x q on y n event told)) (grown_behind w w' (event_lines x q) (event_line event) h)))
+          (subst (GrowsByPrefix w w') (sym (completes_lines x q on set y n event told)) (grown_behind w w' (event_lines x q) (event_line event) h)))
 
       event_last : step ≡ Ended → (more : List ℕ) → (report x (p ++ piece ++ more) ≡ event_lines x q ++ event_line event) × (offence x (p ++ piece ++ more) ≡ None)
       event_last is_end more =
-          let c = closes_for_good x q on y more n event told (event_ends event (sym is ∙ is_end)) in
+          let c = closes_for_good x q on set y more n event told (event_ends event (sym is ∙ is_end)) in
           (ap (report x) (sym (stream_of more)) ∙ c.0, ap (offence x) (sym (stream_of more)) ∙ c.1)
 
     event_read : (n : ℕ) (step : Step) → (step ≡ More → ⊥) → Ok (n, step) ≡ said (length y) (answer (stream x) q y) → ReadsEvent x p piece used n step
@@ -136,10 +136,10 @@ module _ (x : Settings) (p piece : List ℕ) (used : ℕ) where
         record {
           event = s.0;
           is = s.2;
-          some = (completes_within x q on y n s.0 s.1).0;
-          within = (completes_within x q on y n s.0 s.1).1;
-          here = completes_event x q on y n s.0 s.1;
-          lines = completes_lines x q on y n s.0 s.1;
+          some = (completes_within x q on set y n s.0 s.1).0;
+          within = (completes_within x q on set y n s.0 s.1).1;
+          here = completes_event x q on set y n s.0 s.1;
+          lines = completes_lines x q on set y n s.0 s.1;
           stays_open = event_open n step s.0 s.1 s.2;
           cut = event_cut n step s.0 s.1 s.2;
           last = event_last n step s.0 s.1 s.2;
@@ -150,7 +150,7 @@ module _ (x : Settings) (p piece : List ℕ) (used : ℕ) where
         → (report x (p ++ piece ++ more) ≡ event_lines x q ++ offence_line o) × (offence x (p ++ piece ++ more) ≡ Some o)
     offence_read o e more =
         let s = said_offence (length y) o (answer (stream x) q y) e in
-        let c = refuses_for_good x q on y more s.0 o s.1 in
+        let c = refuses_for_good x q on set y more s.0 o s.1 in
         (ap (report x) (sym (stream_of more)) ∙ c.0, ap (offence x) (sym (stream_of more)) ∙ c.1)
 
 -- an answer, said by the settings that the end had at first
@@ -160,11 +160,11 @@ told_at now x same q y r on told =
     subst (λ s. r ≡ said (length y) (answer (stream s) q y)) same (told (subst (λ s. is_over_at (stream s) q ≡ false) (sym same) (open_going_on (stream x) q on)))
 
 -- an event that is answered to an end which has read so far
-pub event_answered : (now x : Settings) → now ≡ x → (stands : List ℕ → Type 0) (p piece : List ℕ) (used : ℕ) → HasRead stands x (p ++ take used piece) → (n : ℕ) (step : Step) → (step ≡ More → ⊥)
+pub event_answered : (now x : Settings) → now ≡ x → IsInitiators x → (stands : List ℕ → Type 0) (p piece : List ℕ) (used : ℕ) → HasRead stands x (p ++ take used piece) → (n : ℕ) (step : Step) → (step ≡ More → ⊥)
     → ((q : List ℕ) → stands q → is_over_at (stream now) q ≡ false → Ok (n, step) ≡ said (length (rest_of piece used)) (answer (stream now) q (rest_of piece used))) → ReadsEvent x p piece used n step
-event_answered now x same stands p piece used h n step not_more answers =
+event_answered now x same set stands p piece used h n step not_more answers =
     let q : List ℕ = p ++ take used piece in
-    event_read x p piece used h.on n step not_more (told_at now x same q (rest_of piece used) (Ok (n, step)) h.on (answers q h.stands_for))
+    event_read x p piece used set h.on n step not_more (told_at now x same q (rest_of piece used) (Ok (n, step)) h.on (answers q h.stands_for))
 
 -- what the end of the input is answered with is the stream's offence, and the last line of its report
 module _ (x : Settings) (p : List ℕ) (pending : IsPending (stream x) p) where

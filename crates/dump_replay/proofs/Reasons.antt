@@ -17,12 +17,12 @@ use Rattle.nbfx_values.specs.declared.refusals.Offence.{Offence}
 use Rattle.nbfx_values.specs.declared.refusals.Reason.{Reason}
 use Rattle.nbfx_values.specs.declared.refusals.Reason.TheVariants as reasons
 use Rattle.nbfx_values.specs.declared.refusals.Place.TheVariants.{Frame as InFrame}
+use Rattle.nbfx_values.specs.Session.{mode_number}
 use Rattle.nbfx_values.specs.Refusals.{reason_number}
 use Rattle.nmf_records.specs.declared.frame.Frame.{Frame}
 use Rattle.nmf_records.specs.declared.frame.Frame.TheVariants as frames
 use Rattle.nmf_records.specs.declared.frame.FrameFault.{FrameFault}
 use Rattle.nmf_records.specs.declared.frame.FrameFault.TheVariants as faults
-use Rattle.nmf_records.specs.declared.script.Direction.TheVariants.{Initiator}
 use Rattle.nmf_records.specs.declared.script.Due.{Due}
 use Rattle.nmf_records.specs.declared.script.Due.TheVariants as dues
 use Rattle.nmf_records.specs.declared.record_types.TheConstants.{EXTENSIBLE_ENCODING, UPGRADE_REQUEST}
@@ -38,17 +38,17 @@ use Rattle.dump_replay.specs.Stream.{Settings, StreamUnit, frame, unexpected, re
 use Rattle.dump_replay.specs.Reasons.{IsOtherVersion, IsOtherMode, IsOtherEncoding, IsLargeHead, Shows, ShowsFrom, ShowsUnbuilt, IsTooLong}
 use Rattle.dump_replay.proofs.Grammar.{readable, quiet_over}
 use Rattle.dump_replay.proofs.Coming.{unit_of_record, unit_of_payload}
-use Rattle.dump_replay.proofs.DueRecords.{version_due, mode_due, encoding_due, envelope_due, refusing, reads_due, record_unit}
+use Rattle.dump_replay.proofs.DueRecords.{version_comes, mode_comes, encoding_comes, envelope_comes, version_due, mode_due, encoding_due, envelope_due, refusing, reads_due, record_unit}
 
 -- bytes that are wrong by a fault which is answered so
 abbrev IsFaulty : Settings → Due → List ℕ → Reason → Type 0
-IsFaulty x due bytes reason = (fault : FrameFault) × (n : ℕ) × HasCause x.limits.via (may_come Initiator due) bytes fault n × (reason_of due fault ≡ reason)
+IsFaulty x due bytes reason = (fault : FrameFault) × (n : ℕ) × HasCause x.limits.via (may_come x.direction due) bytes fault n × (reason_of due fault ≡ reason)
 
 -- a whole record that is refused so by what it says
 record IsSaid (x : Settings) (due : Due) (bytes : List ℕ) (reason : Reason) : Type 0 where
   read : Read
   bytes_are : IsRecord read bytes
-  may : MayCome (may_come Initiator due) read.frame
+  may : MayCome (may_come x.direction due) read.frame
   low : length read.text ≤ x.limits.via
   refused : reason_in x read.frame ≡ Some reason
 
@@ -63,12 +63,12 @@ unexpected_is _ t = inl refl
 
 module _ (x : Settings) (due : Due) (bytes : List ℕ) where
   -- what shows each fault
-  shows_otherwise : (t : ℕ) → BeginsUnexpected (may_come Initiator due) bytes t → IsOfThree (unexpected due t) → Shows x due bytes (unexpected due t)
+  shows_otherwise : (t : ℕ) → BeginsUnexpected (may_come x.direction due) bytes t → IsOfThree (unexpected due t) → Shows x due bytes (unexpected due t)
   shows_otherwise t h (inl e) = subst (λ (r : Reason). Shows x due bytes r) (sym e) (t, h, e)
   shows_otherwise t h (inr (inl e)) = subst (λ (r : Reason). Shows x due bytes r) (sym e) (inr (t, h, e))
   shows_otherwise t h (inr (inr e)) = subst (λ (r : Reason). Shows x due bytes r) (sym e) (t, h, e)
 
-  shows_fault : (fault : FrameFault) (n : ℕ) → HasCause x.limits.via (may_come Initiator due) bytes fault n → Shows x due bytes (reason_of due fault)
+  shows_fault : (fault : FrameFault) (n : ℕ) → HasCause x.limits.via (may_come x.direction due) bytes fault n → Shows x due bytes (reason_of due fault)
   shows_fault faults.UnknownRecord n h = h.1
   shows_fault (faults.Unexpected t) n h = shows_otherwise t h.1 (unexpected_is due t)
   shows_fault faults.BadInt n h = (h.0, h.1, h.3)
@@ -84,9 +84,9 @@ module _ (x : Settings) (due : Due) (bytes : List ℕ) where
     parts true one = inr (eqb-false minor 0 (sym (ap (λ c. c && (minor == 0)) one) ∙ e))
     parts false none = inl (eqb-false major 1 none)
 
-  other_mode : (mode : ℕ) (reason : Reason) (b : Bool) → (mode == 2) ≡ b → (if b then None else Some reasons.BadMode) ≡ Some reason → (reasons.BadMode ≡ reason) × (mode ≢ 2)
+  other_mode : (mode : ℕ) (reason : Reason) (b : Bool) → (mode == mode_number x.mode) ≡ b → (if b then None else Some reasons.BadMode) ≡ Some reason → (reasons.BadMode ≡ reason) × (mode ≢ mode_number x.mode)
   other_mode mode reason true e some = cc
-  other_mode mode reason false e some = (cc, eqb-false mode 2 e)
+  other_mode mode reason false e some = (cc, eqb-false mode (mode_number x.mode) e)
 
   other_encoding : (encoding : ℕ) (reason : Reason) (b : Bool) → ((encoding == 7) || (encoding == 8)) ≡ b → (if b then None else Some reasons.BadEncoding) ≡ Some reason
       → (reasons.BadEncoding ≡ reason) × (encoding ≢ 7) × (encoding ≢ 8)
@@ -99,18 +99,18 @@ module _ (x : Settings) (due : Due) (bytes : List ℕ) where
   large size reason true e some = (cc, ltb-true x.limits.payload size e)
   large size reason false e some = cc
 
-  said : (read : Frame) (text : List ℕ) (reason : Reason) → IsRecordOf read text bytes → MayCome (may_come Initiator due) read → reason_in x read ≡ Some reason → Shows x due bytes reason
+  said : (read : Frame) (text : List ℕ) (reason : Reason) → IsRecordOf read text bytes → MayCome (may_come x.direction due) read → reason_in x read ≡ Some reason → Shows x due bytes reason
   said (frames.Version major minor) text reason is may some =
       let h = other_version major minor reason _ refl some in
-      subst (λ (r : Reason). Shows x due bytes r) h.0 (major, minor, version_due due major minor may, is.1, h.1)
+      subst (λ (r : Reason). Shows x due bytes r) h.0 (major, minor, version_due x.direction due major minor may, is.1, h.1)
   said (frames.Mode mode) text reason is may some =
-      let h = other_mode mode reason _ refl some in subst (λ (r : Reason). Shows x due bytes r) h.0 (mode, mode_due due mode may, is.1, h.1)
+      let h = other_mode mode reason _ refl some in subst (λ (r : Reason). Shows x due bytes r) h.0 (mode, mode_due x.direction due mode may, is.1, h.1)
   said (frames.KnownEncoding encoding) text reason is may some =
       let h = other_encoding encoding reason _ refl some in
-      subst (λ (r : Reason). Shows x due bytes r) h.0 (inl (encoding, encoding_due due encoding may, is.1, h.1, h.2))
+      subst (λ (r : Reason). Shows x due bytes r) h.0 (inl (encoding, encoding_due x.direction due encoding may, is.1, h.1, h.2))
   said (frames.SizedEnvelope size) text reason is may some =
       let h = large size reason _ refl some in
-      subst (λ (r : Reason). Shows x due bytes r) h.0 (size, is.1, envelope_due due size may, is.3, is.2, h.1)
+      subst (λ (r : Reason). Shows x due bytes r) h.0 (size, is.1, envelope_due x.direction due size may, is.3, is.2, h.1)
   said _ text reason is may some = cc
 
   -- and the other way
@@ -118,7 +118,7 @@ module _ (x : Settings) (due : Due) (bytes : List ℕ) where
   is_version (major, minor, is_due, bytes_are, other) = record {
     read = bare (frames.Version major minor);
     bytes_are = (refl, bytes_are);
-    may = rw is_due refl;
+    may = rw is_due (version_comes x.direction major minor);
     low = omega arith;
     refused = ap (λ (b : Bool). if b then None else Some reasons.BadVersion) (test other);
   } where
@@ -126,18 +126,18 @@ module _ (x : Settings) (due : Due) (bytes : List ℕ) where
     test (inl ne) = rw (ne_eqb major 1 ne) refl
     test (inr ne) = ap (λ c. (major == 1) && c) (ne_eqb minor 0 ne) ∙ and-false (major == 1)
 
-  is_mode : IsOtherMode due bytes → IsSaid x due bytes reasons.BadMode
+  is_mode : IsOtherMode x due bytes → IsSaid x due bytes reasons.BadMode
   is_mode (mode, is_due, bytes_are, ne) =
-      record { read = bare (frames.Mode mode); bytes_are = (refl, bytes_are); may = rw is_due refl; low = omega arith; refused = rw (ne_eqb mode 2 ne) refl }
+      record { read = bare (frames.Mode mode); bytes_are = (refl, bytes_are); may = rw is_due (mode_comes x.direction mode); low = omega arith; refused = rw (ne_eqb mode (mode_number x.mode) ne) refl }
 
   is_encoding : IsOtherEncoding due bytes → IsSaid x due bytes reasons.BadEncoding
   is_encoding (encoding, is_due, bytes_are, seven, eight) =
-      record { read = bare (frames.KnownEncoding encoding); bytes_are = (refl, bytes_are); may = rw is_due refl; low = omega arith; refused = rw (ne_eqb encoding 7 seven, ne_eqb encoding 8 eight) refl }
+      record { read = bare (frames.KnownEncoding encoding); bytes_are = (refl, bytes_are); may = rw is_due (encoding_comes x.direction encoding); low = omega arith; refused = rw (ne_eqb encoding 7 seven, ne_eqb encoding 8 eight) refl }
 
   is_large : IsLargeHead x due bytes → IsSaid x due bytes reasons.MessageTooLarge
   is_large (size, spelling, is_due, bytes_are, spelled, above) =
       let test : nat_lt x.limits.payload size ≡ true = grind (arith, nat_tests) in
-      record { read = bare (frames.SizedEnvelope size); bytes_are = (refl, spelling, spelled, bytes_are); may = rw is_due refl; low = omega arith; refused = rw test refl }
+      record { read = bare (frames.SizedEnvelope size); bytes_are = (refl, spelling, spelled, bytes_are); may = rw is_due (envelope_comes x.direction size); low = omega arith; refused = rw test refl }
 
   shown : (reason : Reason) → Shows x due bytes reason → IsFaulty x due bytes reason ⊎ IsSaid x due bytes reason
   shown reasons.BadInt (k, comes, fifth) = inl (faults.BadInt, k + 5, (k, comes, refl, fifth), refl)
@@ -213,8 +213,8 @@ module _ (x : Settings) (p before bytes : List ℕ) (joined : p ≡ before ++ by
   of_bytes (stages.Record due) o n at e =
       let on : is_over_at (stream x) before ≡ false = not_over (wrong o n) (ap (λ s. unit_in x s (standing (stream x) before).from bytes) at ∙ e) (λ h. cc) in
       let reads : is_over_in (stages.Record due) ≡ false = sym (ap is_over_in at) ∙ over_stage on in
-      let w = seen_wrong due (standing (stream x) before).from (frame_at x.limits.via (may_come Initiator due) bytes) o n (sym (reads_due x due bytes (standing (stream x) before).from reads) ∙ e) in
-      by_record o due (reason_of due w.0) at on (shows_fault x due bytes w.0 n (fault_cause x.limits.via (may_come Initiator due) bytes w.0 n w.1)) w.2
+      let w = seen_wrong due (standing (stream x) before).from (frame_at x.limits.via (may_come x.direction due) bytes) o n (sym (reads_due x due bytes (standing (stream x) before).from reads) ∙ e) in
+      by_record o due (reason_of due w.0) at on (shows_fault x due bytes w.0 n (fault_cause x.limits.via (may_come x.direction due) bytes w.0 n w.1)) w.2
   of_bytes (stages.Payload payload) o n at e = absurd (never bytes e) where
     never : (b : List ℕ) → payload_at b ≡ wrong o n → ⊥
     never [] e = cc
@@ -231,7 +231,7 @@ module _ (x : Settings) (p before bytes : List ℕ) (joined : p ≡ before ++ by
     units = units;
     reads = ap (λ s. unit_in x s (standing (stream x) before).from bytes) at
         ∙ reads_due x due bytes (standing (stream x) before).from (sym (ap is_over_in at) ∙ over_stage on)
-        ∙ ap (seen frame (refusing (standing (stream x) before).from due)) (fault_comes x.limits.via (may_come Initiator due) bytes fault n cause)
+        ∙ ap (seen frame (refusing (standing (stream x) before).from due)) (fault_comes x.limits.via (may_come x.direction due) bytes fault n cause)
         ∙ ap (λ r. wrong (offence_at (standing (stream x) before).from (built r)) n) is;
   }
 

@@ -1,5 +1,6 @@
 -- Which streams are too long, and which are cut off.
-use Rattle.std.proofs.Common.{◌≡◌, ℕ, ◌+◌, ◌-◌, ◌<◌, ◌≤◌, ◌⊎◌, inl, inr, List, ◌++◌, length, take, drop, true, false, Some, None, refl, sym, ap, ◌∙◌, arith, ◌↔◌}
+use Rattle.std.proofs.Common.{◌≡◌, ℕ, ◌+◌, ◌-◌, ◌<◌, ◌≤◌, inl, inr, List, ◌++◌, length, take, drop, Bool, true, false, Some, None, refl, sym, ap, ◌∙◌, arith, ◌↔◌}
+use Rattle.std.specs.Prelude.{if◌then◌else◌}
 use Rattle.std.proofs.Math.Seq.{take-add}
 use Rattle.std.proofs.lemmas.Bool.{cases_lt, cases_Bool}
 use Rattle.std.proofs.lemmas.List.{length-take-le}
@@ -9,84 +10,79 @@ use Rattle.unit_streams.proofs.Answers.{answers_are_first}
 use Rattle.unit_streams.proofs.Offences.{offences_are_first}
 use Rattle.unit_streams.proofs.Ends.{after_end}
 use Rattle.unit_streams.proofs.Passing.{going_at}
+use Rattle.nbfx_values.specs.Limits.{Limits}
 use Rattle.nbfx_values.specs.declared.refusals.Offence.{Offence}
 use Rattle.nbfx_values.specs.declared.refusals.Reason.{Reason}
 use Rattle.nbfx_values.specs.declared.refusals.Reason.TheVariants as reasons
 use Rattle.nmf_records.specs.declared.script.Due.TheVariants as dues
+use Rattle.nmf_records.specs.Script.{may_end}
 use Rattle.dump_replay.specs.declared.stage.Stage.{Stage}
 use Rattle.dump_replay.specs.declared.stage.Stage.TheVariants as stages
-use Rattle.dump_replay.specs.Stream.{Settings, Situation, StreamEvent, offence_at, is_over_in, open_from, cut_off, stream}
+use Rattle.dump_replay.specs.Stream.{Settings, initiators, IsInitiators, Situation, StreamEvent, offence_at, is_over_in, open_from, cut_off, stream}
 use Rattle.dump_replay.specs.Judging.{offence}
 use Rattle.dump_replay.specs.Reasons.{ShowsFrom, ShowsUnbuilt, IsTooLong, IsCutOff}
 use Rattle.dump_replay.specs.Laws.{Begins}
+use Rattle.dump_replay.proofs.Initiators.{by_set}
 use Rattle.dump_replay.proofs.Grammar.{readable, quiet_over}
 use Rattle.dump_replay.proofs.Reasons.{unbuilt_is, too_large_is, too_long_is, never_cut_off, same_place}
 
--- the end of a stream that isn't over
-cut_is : (stage : Stage) (from : ℕ) → is_over_in stage ≡ false → cut_off stage from ≡ Some (offence_at (open_from stage from) reasons.Truncated)
+-- the end refuses a stream that isn't over, at what is open
+end_is : (x : Settings) (stage : Stage) (from : ℕ) (o : Offence) → cut_off x stage from ≡ Some o → (is_over_in stage ≡ false) × (o ≡ offence_at (open_from stage from) reasons.Truncated)
 unfolding cut_off
-cut_is (stages.Record dues.Over) from o = cc
-cut_is (stages.Record _) from o = refl
-cut_is (stages.Payload payload) from o = refl
+end_is x (stages.Record dues.Over) from o e = cc
+end_is x (stages.Record due) from o e = (refl, told (may_end x.direction x.mode due) e) where
+  told : (b : Bool) → (if b then None else Some (offence_at from reasons.Truncated)) ≡ Some o → o ≡ offence_at from reasons.Truncated
+  told true e = cc
+  told false e = cc
+end_is x (stages.Payload payload) from o e = (refl, cc)
+
+-- and each that isn't over, of an initiator
+cut_within : (l : Limits) (stage : Stage) (from : ℕ) → is_over_in stage ≡ false → cut_off (initiators l) stage from ≡ Some (offence_at (open_from stage from) reasons.Truncated)
+unfolding cut_off
+cut_within l (stages.Record dues.Over) from o = cc
+cut_within l (stages.Record _) from o = refl
+cut_within l (stages.Payload payload) from o = refl
+
+pub cut_is : (x : Settings) → IsInitiators x → (stage : Stage) (from : ℕ) → is_over_in stage ≡ false → cut_off x stage from ≡ Some (offence_at (open_from stage from) reasons.Truncated)
+cut_is x set stage from on = by_set (λ (s : Settings). cut_off s stage from ≡ Some (offence_at (open_from stage from) reasons.Truncated)) (λ l. cut_within l stage from on) x set
 
 module _ (x : Settings) (p : List ℕ) where
-  over_or_cut : (is_over_at (stream x) p ≡ true) ⊎ ((is_over_at (stream x) p ≡ false) × (ending_at (stream x) p ≡ Some (offence_at (open_from (standing (stream x) p).situation.stage (standing (stream x) p).from) reasons.Truncated)))
+  ended_so : (o : Offence) → ending_at (stream x) p ≡ Some o → (is_over_at (stream x) p ≡ false) × (o ≡ offence_at (open_from (standing (stream x) p).situation.stage (standing (stream x) p).from) reasons.Truncated)
   unfolding is_over_at ending_at
-  over_or_cut =
-      elim (cases_Bool (is_over_in (standing (stream x) p).situation.stage)) [
-        | inl over ↦ inl over
-        | inr on ↦ inr (on, cut_is (standing (stream x) p).situation.stage (standing (stream x) p).from on)
-      ]
-
-  over_ends : is_over_at (stream x) p ≡ true → ending_at (stream x) p ≡ None
-  unfolding is_over_at ending_at
-  over_ends over = (quiet_over x).any_end (standing (stream x) p).situation (standing (stream x) p).from (length p) over
-
-  -- a stream that the end doesn't refuse is over
-  pub unrefused_over : ending_at (stream x) p ≡ None → is_over_at (stream x) p ≡ true
-  unrefused_over e = elim over_or_cut [ inl over ↦ over | inr (on, cut) ↦ cc ]
+  ended_so o e = end_is x (standing (stream x) p).situation.stage (standing (stream x) p).from o e
 
   cut_at : (from : ℕ) → ending_at (stream x) p ≡ Some (offence_at from reasons.Truncated) → IsCutOff x p from
   cut_at from e =
-      elim over_or_cut [
-        | inl over ↦ absurd (let none = over_ends over in cc)
-        | inr (on, cut) ↦
-            let both : Some (offence_at from reasons.Truncated) ≡ Some (offence_at (open_from (standing (stream x) p).situation.stage (standing (stream x) p).from) reasons.Truncated) = sym e ∙ cut in
-            record { going_on = on; place = same_place from (open_from (standing (stream x) p).situation.stage (standing (stream x) p).from) reasons.Truncated reasons.Truncated cc }
-      ]
+      let told = ended_so (offence_at from reasons.Truncated) e in
+      record { going_on = told.0; place = same_place from (open_from (standing (stream x) p).situation.stage (standing (stream x) p).from) reasons.Truncated reasons.Truncated told.1 }
 
-  at_cut : (from : ℕ) → IsCutOff x p from → ending_at (stream x) p ≡ Some (offence_at from reasons.Truncated)
-  at_cut from h =
-      elim over_or_cut [
-        | inl over ↦ absurd (let on = h.going_on in cc)
-        | inr (on, cut) ↦ cut ∙ ap (λ n. Some (offence_at n reasons.Truncated)) (sym h.place)
-      ]
+  module _ (set : IsInitiators x) where
+    at_cut : (from : ℕ) → IsCutOff x p from → ending_at (stream x) p ≡ Some (offence_at from reasons.Truncated)
+    unfolding is_over_at ending_at
+    at_cut from h = cut_is x set (standing (stream x) p).situation.stage (standing (stream x) p).from h.going_on ∙ ap (λ n. Some (offence_at n reasons.Truncated)) (sym h.place)
 
-  pub cut_off_is : (from : ℕ) → (ending_at (stream x) p ≡ Some (offence_at from reasons.Truncated)) ↔ IsCutOff x p from
-  cut_off_is from = (cut_at from, at_cut from)
+    pub cut_off_is : (from : ℕ) → (ending_at (stream x) p ≡ Some (offence_at from reasons.Truncated)) ↔ IsCutOff x p from
+    cut_off_is from = (cut_at from, at_cut from)
 
   pub end_cuts_off : (o : Offence) → ending_at (stream x) p ≡ Some o → (o.reason ≡ reasons.Truncated) × (is_over_at (stream x) p ≡ false)
-  end_cuts_off o e =
-      elim over_or_cut [
-        | inl over ↦ let none = over_ends over in cc
-        | inr (on, cut) ↦ let same : o ≡ offence_at (open_from (standing (stream x) p).situation.stage (standing (stream x) p).from) reasons.Truncated = cc in (ap (λ (o : Offence). o.reason) same, on)
-      ]
+  end_cuts_off o e = let told = ended_so o e in (ap (λ (o : Offence). o.reason) told.1, told.0)
 
   pub no_piece_cuts_off : (y : List ℕ) (n : ℕ) (o : Offence) → answer (stream x) p y ≡ offends n o → o.reason ≡ reasons.Truncated → ⊥
   no_piece_cuts_off y n o e cut = never_cut_off x (p ++ take n y) o ((answers_are_first (stream x) p y (offends n o)).0 e).1 cut
 
 module _ (x : Settings) (bytes : List ℕ) where
   -- a stream that isn't refused by its bytes
-  cut_for : (from : ℕ) → offence x bytes ≡ Some (offence_at from reasons.Truncated) → ((i : ℕ) → i ≤ length bytes → refusal_at (stream x) (take i bytes) ≡ None) × IsCutOff x bytes from
-  cut_for from e =
-      elim ((offences_are_first (stream x) bytes (offence_at from reasons.Truncated)).0 e) [
-        | inl h ↦ absurd (never_cut_off x (take h.place bytes) (offence_at from reasons.Truncated) h.refused refl)
-        | inr h ↦ (h.unrefused, (cut_off_is x bytes from).0 h.ended)
-      ]
+  module _ (set : IsInitiators x) where
+    cut_for : (from : ℕ) → offence x bytes ≡ Some (offence_at from reasons.Truncated) → ((i : ℕ) → i ≤ length bytes → refusal_at (stream x) (take i bytes) ≡ None) × IsCutOff x bytes from
+    cut_for from e =
+        elim ((offences_are_first (stream x) bytes (offence_at from reasons.Truncated)).0 e) [
+          | inl h ↦ absurd (never_cut_off x (take h.place bytes) (offence_at from reasons.Truncated) h.refused refl)
+          | inr h ↦ (h.unrefused, (cut_off_is x bytes set from).0 h.ended)
+        ]
 
-  pub cut_off_unrefused : (from : ℕ) → (offence x bytes ≡ Some (offence_at from reasons.Truncated)) ↔ (((i : ℕ) → i ≤ length bytes → refusal_at (stream x) (take i bytes) ≡ None) × IsCutOff x bytes from)
-  cut_off_unrefused from =
-      (cut_for from, λ h. (offences_are_first (stream x) bytes (offence_at from reasons.Truncated)).1 (inr (record { unrefused = h.0; ended = (cut_off_is x bytes from).1 h.1 })))
+    pub cut_off_unrefused : (from : ℕ) → (offence x bytes ≡ Some (offence_at from reasons.Truncated)) ↔ (((i : ℕ) → i ≤ length bytes → refusal_at (stream x) (take i bytes) ≡ None) × IsCutOff x bytes from)
+    cut_off_unrefused from =
+        (cut_for from, λ h. (offences_are_first (stream x) bytes (offence_at from reasons.Truncated)).1 (inr (record { unrefused = h.0; ended = (cut_off_is x bytes set from).1 h.1 })))
 
   -- a reason other than the end's is that of the first prefix that is refused
   module _ (from : ℕ) (reason : Reason) (isnt : reason ≡ reasons.Truncated → ⊥) (Holds : List ℕ → Type 0) (law : (p : List ℕ) → (refusal_at (stream x) p ≡ Some (offence_at from reason)) ↔ Holds p) where
@@ -116,7 +112,7 @@ module _ (x : Settings) (bytes : List ℕ) where
   over_longer p c o = ap (λ (s : Standing Situation StreamEvent Offence). is_over_in s.situation.stage) (after_end (stream x) (readable x) (quiet_over x) p c o) ∙ o
 
   -- a part that isn't refused and has the session quota is over
-  pub full_over : (p : List ℕ) → refusal_at (stream x) p ≡ None → x.limits.session ≤ length p → is_over_at (stream x) p ≡ true
+  full_over : (p : List ℕ) → refusal_at (stream x) p ≡ None → x.limits.session ≤ length p → is_over_at (stream x) p ≡ true
   full_over p none le =
       elim (cases_Bool (is_over_at (stream x) p)) [
         | inl over ↦ over

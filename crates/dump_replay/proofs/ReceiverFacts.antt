@@ -8,15 +8,15 @@ use Rattle.unit_streams.proofs.Units.{IsBetween}
 use Rattle.nbfx_values.specs.declared.refusals.Offence.{Offence}
 use Rattle.nbfx_values.specs.declared.refusals.Reason.TheVariants.{Truncated}
 use Rattle.nmf_records.specs.declared.frame.Expect.{Expect}
-use Rattle.nmf_records.specs.declared.script.Due.TheVariants as dues
 use Rattle.nmf_records.specs.Reader.{StandsFor as FrameStandsFor}
 use Rattle.dump_replay.specs.declared.receiver.Receiver.{Receiver}
 use Rattle.dump_replay.specs.declared.stage.Payload.{Payload}
 use Rattle.dump_replay.specs.declared.stage.Stage.{Stage}
 use Rattle.dump_replay.specs.declared.stage.Stage.TheVariants as stages
-use Rattle.dump_replay.specs.Stream.{Settings, offence_at, is_over_in, open_from, cut_off, unit_in, stream}
+use Rattle.dump_replay.specs.Stream.{Settings, IsInitiators, offence_at, is_over_in, open_from, unit_in, stream}
 use Rattle.dump_replay.specs.Receiving.{Reached, HasBegun}
-use Rattle.dump_replay.proofs.Grammar.{readable}
+use Rattle.dump_replay.proofs.Grammar.{readable, quiet_over}
+use Rattle.dump_replay.proofs.ReasonsOfStreams.{cut_is}
 use Rattle.dump_replay.proofs.Situations.{HasLeft, sound}
 
 -- a refused one stands for nothing
@@ -28,39 +28,16 @@ pub over_as_stage : (r : Receiver) (x : Settings) (p : List ℕ) → Reached r x
 unfolding is_over_at
 over_as_stage r x p h = ap is_over_in (sym h.stage)
 
--- where the session isn't over the end of the input cuts it off
-cut_off_open : (stage : Stage) (from : ℕ) → is_over_in stage ≡ false → cut_off stage from ≡ Some (offence_at (open_from stage from) Truncated)
-unfolding cut_off
-cut_off_open (stages.Record dues.Over) from e = cc
-cut_off_open (stages.Record dues.Version) from e = refl
-cut_off_open (stages.Record dues.Mode) from e = refl
-cut_off_open (stages.Record dues.Via) from e = refl
-cut_off_open (stages.Record dues.Encoding) from e = refl
-cut_off_open (stages.Record dues.PreambleEnd) from e = refl
-cut_off_open (stages.Record dues.Ack) from e = refl
-cut_off_open (stages.Record dues.Messages) from e = refl
-cut_off_open (stages.Record dues.Envelope) from e = refl
-cut_off_open (stages.Record dues.Reply) from e = refl
-cut_off_open (stages.Record dues.Chunk) from e = refl
-cut_off_open (stages.Record dues.End) from e = refl
-cut_off_open (stages.Payload p) from e = refl
-
-cut_off_over : (stage : Stage) (from : ℕ) → is_over_in stage ≡ true → cut_off stage from ≡ None
-unfolding cut_off
-cut_off_over (stages.Record dues.Over) from e = refl
-cut_off_over (stages.Record _) from e = cc
-cut_off_over (stages.Payload p) from e = cc
-
 -- what the end of the input says of the bytes used
-pub ending_open : (r : Receiver) (x : Settings) (p : List ℕ) → Reached r x p → is_over_in r.stage ≡ false → ending_at (stream x) p ≡ Some (offence_at (open_from r.stage r.unit_from) Truncated)
+pub ending_open : (r : Receiver) (x : Settings) → IsInitiators x → (p : List ℕ) → Reached r x p → is_over_in r.stage ≡ false → ending_at (stream x) p ≡ Some (offence_at (open_from r.stage r.unit_from) Truncated)
 unfolding ending_at
-ending_open r x p h e =
-    cut_off_open (standing (stream x) p).situation.stage (standing (stream x) p).from (ap is_over_in (sym h.stage) ∙ e)
+ending_open r x set p h e =
+    cut_is x set (standing (stream x) p).situation.stage (standing (stream x) p).from (ap is_over_in (sym h.stage) ∙ e)
     ∙ ap (λ s. Some (offence_at (open_from s (standing (stream x) p).from) Truncated)) (sym h.stage) ∙ ap (λ n. Some (offence_at (open_from r.stage n) Truncated)) (sym h.unit_from)
 
 pub ending_over : (r : Receiver) (x : Settings) (p : List ℕ) → Reached r x p → is_over_in r.stage ≡ true → ending_at (stream x) p ≡ None
 unfolding ending_at
-ending_over r x p h e = cut_off_over (standing (stream x) p).situation.stage (standing (stream x) p).from (ap is_over_in (sym h.stage) ∙ e)
+ending_over r x p h e = (quiet_over x).any_end (standing (stream x) p).situation (standing (stream x) p).from (length p) (ap is_over_in (sym h.stage) ∙ e)
 
 -- before the first byte
 pub stands_first : (x : Settings) → standing (stream x) [] ≡ at_start (stream x) []

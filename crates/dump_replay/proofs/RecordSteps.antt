@@ -1,9 +1,8 @@
 -- A receiver takes bytes of a record.
-use Rattle.std.proofs.Common.{◌≡◌, ℕ, ◌+◌, ◌-◌, ◌<◌, ◌≤◌, inl, inr, List, [], ◌++◌, length, take, Bool, true, false, Option, Some, None, Result, Ok, Err, refl, sym, ap, ◌∙◌, subst, arith, length-append}
-use Rattle.std.specs.Prelude.{nat_lt, ◌==◌, if◌then◌else◌}
+use Rattle.std.proofs.Common.{◌≡◌, ℕ, ◌+◌, ◌-◌, ◌<◌, ◌≤◌, List, [], ◌++◌, length, take, Bool, true, false, Option, Some, None, Result, Ok, Err, refl, sym, ap, ◌∙◌, subst, arith, length-append}
+use Rattle.std.specs.Prelude.{◌==◌, if◌then◌else◌}
 use Rattle.std.specs.Option.{option_map, option_or}
 use Rattle.std.proofs.Math.Seq.{take-length}
-use Rattle.std.proofs.lemmas.Bool.{ltb-true, eqb-true, cases_Bool}
 use Rattle.std.proofs.lemmas.List.{length-take-le}
 use Rattle.unit_streams.specs.Front.{Front, begun, whole, wrong}
 use Rattle.unit_streams.specs.Parts.{seen}
@@ -15,12 +14,12 @@ use Rattle.unit_streams.proofs.Fronts.{left_begun, decides_at, wrong_later}
 use Rattle.unit_streams.proofs.Passing.{given_none, leaves_quiet, leaves_standing, decides_quiet, whole_standing, whole_event, whole_refusal, whole_quiet, wrong_standing, wrong_quiet, wrong_refusal}
 use Rattle.unit_streams.proofs.Standing.{standing_length}
 use Rattle.unit_streams.proofs.Units.{IsBetween}
+use Rattle.nbfx_values.specs.Limits.{Limits}
 use Rattle.nbfx_values.specs.declared.refusals.Offence.{Offence}
 use Rattle.nbfx_values.specs.declared.refusals.Reason.{Reason}
 use Rattle.nbfx_values.specs.declared.refusals.Reason.TheVariants as reasons
 use Rattle.nmf_records.specs.declared.record_types.TheConstants.{EXTENSIBLE_ENCODING, UPGRADE_REQUEST}
 use Rattle.nmf_records.specs.declared.frame.Frame.{Frame}
-use Rattle.nmf_records.specs.declared.frame.Frame.TheVariants as frames
 use Rattle.nmf_records.specs.declared.frame.FrameFault.{FrameFault}
 use Rattle.nmf_records.specs.declared.frame.FrameFault.TheVariants as faults
 use Rattle.nmf_records.specs.declared.frame.FrameRefusal.{FrameRefusal}
@@ -28,7 +27,7 @@ use Rattle.nmf_records.specs.declared.frame.FrameStep.{FrameStep}
 use Rattle.nmf_records.specs.declared.frame.FrameStep.TheVariants.{More, Done}
 use Rattle.nmf_records.specs.declared.reader.FrameReader.{FrameReader}
 use Rattle.nmf_records.specs.declared.frame.Expect.{Expect}
-use Rattle.nmf_records.specs.declared.script.Direction.TheVariants.{Initiator}
+use Rattle.nmf_records.specs.declared.script.Direction.TheVariants.{FromInitiator}
 use Rattle.nmf_records.specs.declared.script.Due.{Due}
 use Rattle.nmf_records.specs.declared.script.Due.TheVariants as dues
 use Rattle.nmf_records.specs.Reading.{with_text, frame_at}
@@ -39,29 +38,15 @@ use Rattle.dump_replay.specs.declared.receiver.Step.{Step}
 use Rattle.dump_replay.specs.declared.receiver.Step.TheVariants as steps
 use Rattle.dump_replay.specs.declared.stage.Stage.{Stage}
 use Rattle.dump_replay.specs.declared.stage.Stage.TheVariants as stages
-use Rattle.dump_replay.specs.Stream.{Settings, Situation, StreamUnit, StreamEvent, opened, message, ended, frame, unexpected, built, reason_of, reason_in, offence_at, record_at, unit_in, after_record, completed_record, is_over_in, after, completed, refused, stream}
-use Rattle.dump_replay.specs.Receiving.{Reached, HasBegun, Failed, ShowsVia, taken_of, failure_of}
+use Rattle.dump_replay.specs.Stream.{Settings, initiators, Situation, StreamUnit, StreamEvent, opened, message, ended, frame, unexpected, built, reason_of, reason_in, offence_at, unit_in, after_record, completed_record, is_over_in, after, completed, refused, stream}
+use Rattle.dump_replay.specs.Receiving.{Reached, HasBegun, Failed, ShowsVia, taken_of, messages_of, failure_of}
 use Rattle.dump_replay.specs.Stepping.{UnitAnswers, BehindAnswers, step_of}
 use Rattle.dump_replay.proofs.Grammar.{readable, short_enough}
+use Rattle.dump_replay.proofs.Behind.{refused_none}
 use Rattle.dump_replay.proofs.ReceiverFacts.{over_as_stage}
+use Rattle.dump_replay.proofs.DueRecords.{read_due}
 use Rattle.dump_replay.proofs.PayloadSteps.{reached_between}
 use Rattle.dump_replay.proofs.Vias.{no_via, begun_text, wrong_text, whole_text}
-
--- where the session isn't over, what is read at a record is the framing's
-read_due : (x : Settings) (due : Due) (from : ℕ) (bytes : List ℕ) → is_over_in (stages.Record due) ≡ false
-    → record_at x due from bytes ≡ seen frame (λ fault. offence_at from (built (reason_of due fault))) (frame_at x.limits.via (may_come Initiator due) bytes)
-read_due x dues.Over from bytes on = cc
-read_due x dues.Version from bytes on = refl
-read_due x dues.Mode from bytes on = refl
-read_due x dues.Via from bytes on = refl
-read_due x dues.Encoding from bytes on = refl
-read_due x dues.PreambleEnd from bytes on = refl
-read_due x dues.Ack from bytes on = refl
-read_due x dues.Messages from bytes on = refl
-read_due x dues.Envelope from bytes on = refl
-read_due x dues.Reply from bytes on = refl
-read_due x dues.Chunk from bytes on = refl
-read_due x dues.End from bytes on = refl
 
 -- the faults of records are answered as one
 built_unexpected : (due : Due) (kind : ℕ) → built (unexpected due kind) ≡ reasons.Unbuilt
@@ -79,52 +64,34 @@ built_fault : (due : Due) (fault : FrameFault) → built (reason_of due fault) �
 built_fault due (faults.Unexpected kind) = built_unexpected due kind
 built_fault due _ = refl
 
--- a record that is refused completes nothing
-refused_none : (x : Settings) (z : Situation) (from : ℕ) (f : Frame) (reason : Reason) → reason_in x f ≡ Some reason → completed_record z from f ≡ None
-refused_none x z from (frames.Version major minor) reason e = refl
-refused_none x z from (frames.Mode mode) reason e = refl
-refused_none x z from frames.Via reason e = refl
-refused_none x z from (frames.KnownEncoding encoding) reason e = refl
-refused_none x z from frames.UnsizedEnvelope reason e = refl
-refused_none x z from (frames.Chunk size) reason e = refl
-refused_none x z from (frames.SizedEnvelope size) reason e = large (nat_lt x.limits.payload size) refl e where
-  large : (b : Bool) → nat_lt x.limits.payload size ≡ b → (if b then Some reasons.MessageTooLarge else None) ≡ Some reason → completed_record z from (frames.SizedEnvelope size) ≡ None
-  large true lt e =
-      elim (cases_Bool (size == 0)) [
-        | inl same ↦ let l = ltb-true x.limits.payload size lt in let none = eqb-true size 0 same in absurd (omega (arith, l, none))
-        | inr other ↦ rw other refl
-      ]
-  large false lt e = cc
-refused_none x z from frames.End reason e = cc
-refused_none x z from frames.Fault reason e = refl
-refused_none x z from frames.PreambleAck reason e = refl
-refused_none x z from frames.PreambleEnd reason e = cc
-
 -- what a reader of records answers and shows, by the limit and what may come
-module _ (limit via : ℕ) (expect : Expect) (due : Due) (l : limit ≡ via) (m : expect ≡ may_come Initiator due) (new : FrameReader) (b y : List ℕ) where
-  by_same : (P : ℕ → Expect → Type 0) → P limit expect → P via (may_come Initiator due)
-  by_same P h = subst (λ (n : ℕ). P n (may_come Initiator due)) l (subst (P limit) m h)
+module _ (limit via : ℕ) (expect : Expect) (due : Due) (l : limit ≡ via) (m : expect ≡ may_come FromInitiator due) (new : FrameReader) (b y : List ℕ) where
+  by_same : (P : ℕ → Expect → Type 0) → P limit expect → P via (may_come FromInitiator due)
+  by_same P h = subst (λ (n : ℕ). P n (may_come FromInitiator due)) l (subst (P limit) m h)
 
-  pub shown_so : (s : List ℕ) → ShowsText new (shown_behind limit expect (b ++ y) s) → ShowsText new (shown_behind via (may_come Initiator due) (b ++ y) s)
+  pub shown_so : (s : List ℕ) → ShowsText new (shown_behind limit expect (b ++ y) s) → ShowsText new (shown_behind via (may_come FromInitiator due) (b ++ y) s)
   shown_so s = by_same (λ n e. ShowsText new (shown_behind n e (b ++ y) s))
 
   pub more_so : (n : ℕ) (step : FrameStep) → step ≡ More → FrameAnswers limit expect b y (Ok (n, step)) → AfterPiece new expect (b ++ y) (Ok (n, step))
-      → (n ≡ length y) × (frame_at via (may_come Initiator due) (b ++ y) ≡ begun) × FrameStandsFor new (may_come Initiator due) (b ++ y)
+      → (n ≡ length y) × (frame_at via (may_come FromInitiator due) (b ++ y) ≡ begun) × FrameStandsFor new (may_come FromInitiator due) (b ++ y)
   more_so n step is said after =
       let a : FrameAnswers limit expect b y (Ok (n, More)) = subst (λ (t : FrameStep). FrameAnswers limit expect b y (Ok (n, t))) is said in
       let f : FrameStandsFor new expect (b ++ y) = subst (λ (t : FrameStep). AfterPiece new expect (b ++ y) (Ok (n, t))) is after in
       (a.0, by_same (λ k e. frame_at k e (b ++ y) ≡ begun) a.1, subst (λ (e : Expect). FrameStandsFor new e (b ++ y)) m f)
 
   pub done_so : (n : ℕ) (step : FrameStep) (f : Frame) → step ≡ Done f → FrameAnswers limit expect b y (Ok (n, step)) → AfterPiece new expect (b ++ y) (Ok (n, step))
-      → (text : List ℕ) × (frame_at via (may_come Initiator due) (b ++ y) ≡ whole (with_text f text) (length b + n)) × ((next : Expect) → FrameStandsFor new next [])
+      → (text : List ℕ) × (frame_at via (may_come FromInitiator due) (b ++ y) ≡ whole (with_text f text) (length b + n)) × ((next : Expect) → FrameStandsFor new next [])
   done_so n step f is said after =
       let a : FrameAnswers limit expect b y (Ok (n, Done f)) = subst (λ (t : FrameStep). FrameAnswers limit expect b y (Ok (n, t))) is said in
       (a.0, by_same (λ k e. frame_at k e (b ++ y) ≡ whole (with_text f a.0) (length b + n)) a.1, subst (λ (t : FrameStep). AfterPiece new expect (b ++ y) (Ok (n, t))) is after)
 
-  pub wrong_so : (refusal : FrameRefusal) → FrameAnswers limit expect b y (Err refusal) → frame_at via (may_come Initiator due) (b ++ y) ≡ wrong refusal.fault refusal.shown_by
+  pub wrong_so : (refusal : FrameRefusal) → FrameAnswers limit expect b y (Err refusal) → frame_at via (may_come FromInitiator due) (b ++ y) ≡ wrong refusal.fault refusal.shown_by
   wrong_so refusal = by_same (λ k e. frame_at k e (b ++ y) ≡ wrong refusal.fault refusal.shown_by)
 
-module _ (r : Receiver) (x : Settings) (p c : List ℕ) (due : Due) (is : r.stage ≡ stages.Record due) (h : Reached r x p) (on : is_over_at (stream x) p ≡ false) (fits : length p + length c ≤ x.limits.session) where
+module _ (r : Receiver) (l : Limits) (p c : List ℕ) (due : Due) (is : r.stage ≡ stages.Record due) (h : Reached r (initiators l) p) (on : is_over_at (stream (initiators l)) p ≡ false) (fits : length p + length c ≤ l.session) where
+  abbrev x : Settings
+  x = initiators l
+
   abbrev pub situation_here : Situation
   situation_here = (standing (stream x) p).situation
 
@@ -135,7 +102,7 @@ module _ (r : Receiver) (x : Settings) (p c : List ℕ) (due : Due) (is : r.stag
   begun_here = (standing (stream x) p).begun
 
   abbrev pub expected : Expect
-  expected = may_come Initiator due
+  expected = may_come FromInitiator due
 
   pub stage_here : situation_here.stage ≡ stages.Record due
   stage_here = sym h.stage ∙ is
@@ -178,7 +145,7 @@ module _ (r : Receiver) (x : Settings) (p c : List ℕ) (due : Due) (is : r.stag
           kind = rw there (kind ∙ h.kind);
           messages = rw there (messages ∙ h.messages);
           frames = rw there (subst (λ (s : Stage). HasBegun s new.frames (begun_here ++ c)) (sym (stage ∙ is)) frames_stand);
-          text = rw there (subst (ShowsText new.frames) (ap (text_after situation_here.via expected (begun_here ++ c)) read ∙ begun_text situation_here due stage_here (no_via x p) (begun_here ++ c)) shown);
+          text = rw there (subst (ShowsText new.frames) (ap (text_after situation_here.via expected (begun_here ++ c)) read ∙ begun_text situation_here due stage_here (no_via l p) (begun_here ++ c)) shown);
           unit_from = rw there (unit_from ∙ h.unit_from);
           taken = omega (arith, taken, h.taken, len);
           within = omega (arith, len, all, fits);
@@ -208,24 +175,24 @@ module _ (r : Receiver) (x : Settings) (p c : List ℕ) (due : Due) (is : r.stag
     there : standing (stream x) (p ++ take n c) ≡ record (behind_unit (stream x) (standing (stream x) p) unit (length begun_here + n)) { begun = [] }
     there = whole_standing (stream x) (readable x) p c h.going n by_last close_before unit (length begun_here + n) front_whole
 
-    via_there : ShowsText new.frames (after_record situation_here from_here f text).via
-    via_there = rw same (subst (ShowsText mid) (ap (text_after situation_here.via expected (begun_here ++ c)) read ∙ whole_text situation_here due stage_here (no_via x p) x.limits.via from_here (begun_here ++ c) (with_text f text) (length begun_here + n) read) shown)
+    via_there : ShowsText new.frames (after_record x situation_here from_here f text).via
+    via_there = rw same (subst (ShowsText mid) (ap (text_after situation_here.via expected (begun_here ++ c)) read ∙ whole_text situation_here due stage_here (no_via l p) x x.limits.via from_here (begun_here ++ c) (with_text f text) (length begun_here + n) read) shown)
 
     quiet : (stream x).completed situation_here from_here unit ≡ None → IsQuiet (stream x) p c n
     quiet = whole_quiet (stream x) (readable x) p c h.going n by_last close_before unit (length begun_here + n) front_whole
 
-    completes : completed_record situation_here from_here f ≡ (stream x).completed situation_here from_here unit
+    completes : completed_record x situation_here from_here f ≡ (stream x).completed situation_here from_here unit
     unfolding completed
     completes = refl
 
     -- and isn't refused
-    module _ (good : reason_in x f ≡ None) (stage : new.stage ≡ (after_record situation_here from_here f text).stage) (kind : new.kind ≡ (after_record situation_here from_here f text).kind)
-        (messages : new.messages ≡ (after_record situation_here from_here f text).messages) (unit_from : new.unit_from ≡ r.taken + n) (fresh : (next : Expect) → FrameStandsFor mid next []) (failure : new.failure ≡ r.failure) where
+    module _ (good : reason_in x f ≡ None) (stage : new.stage ≡ (after_record x situation_here from_here f text).stage) (kind : new.kind ≡ (after_record x situation_here from_here f text).kind)
+        (messages : new.messages ≡ (after_record x situation_here from_here f text).messages) (unit_from : new.unit_from ≡ r.taken + n) (fresh : (next : Expect) → FrameStandsFor mid next []) (failure : new.failure ≡ r.failure) where
       not_refused : (stream x).refused situation_here from_here unit ≡ None
       unfolding refused
       not_refused = ap (option_map (λ reason. offence_at from_here (built reason))) good
 
-      between : IsBetween (stream x) (readable x) (p ++ take n c) (after_record situation_here from_here f text) (from_here + (length begun_here + n))
+      between : IsBetween (stream x) (readable x) (p ++ take n c) (after_record x situation_here from_here f text) (from_here + (length begun_here + n))
       unfolding after
       between = record {
         situation = ap (λ s. s.situation) there;
@@ -236,33 +203,33 @@ module _ (r : Receiver) (x : Settings) (p c : List ℕ) (due : Due) (is : r.stag
 
       no_record : (stage : Stage) → HasBegun stage new.frames []
       no_record (stages.Payload payload) = rw same fresh
-      no_record (stages.Record next) = rw same (fresh (may_come Initiator next))
+      no_record (stages.Record next) = rw same (fresh (may_come FromInitiator next))
 
       reached : Reached new x (p ++ take n c)
       reached =
           let place = standing_length (stream x) (readable x) p in
-          reached_between new x (p ++ take n c) (after_record situation_here from_here f text) (from_here + (length begun_here + n)) between stage kind messages (no_record new.stage) via_there
+          reached_between new x (p ++ take n c) (after_record x situation_here from_here f text) (from_here + (length begun_here + n)) between stage kind messages (no_record new.stage) via_there
           (omega (arith, unit_from, h.taken, place)) (omega (arith, taken, h.taken, len)) (omega (arith, len, fits, by_last.within)) (failure ∙ h.unfailed)
 
-      event : event_at (stream x) (p ++ take n c) ≡ completed_record situation_here from_here f
+      event : event_at (stream x) (p ++ take n c) ≡ completed_record x situation_here from_here f
       event = whole_event (stream x) (readable x) p c h.going n by_last close_before unit (length begun_here + n) front_whole ∙ sym completes
 
       before : IsQuietBefore (stream x) p c n
       before = decides_quiet (stream x) (readable x) p c h.going n by_last close_before
 
-      by_event : (v : Option StreamEvent) → completed_record situation_here from_here f ≡ v → UnitAnswers x p c new (Ok (n, step_of v))
+      by_event : (v : Option StreamEvent) → completed_record x situation_here from_here f ≡ v → UnitAnswers x p c new (Ok (n, step_of v))
       by_event None e = (by_last.some, quiet (sym completes ∙ e), reached)
       by_event (Some (opened mode kind via)) e = (opened mode kind via, by_last.some, before, event ∙ e, refl, reached)
       by_event (Some (message number size)) e = (message number size, by_last.some, before, event ∙ e, refl, reached)
       by_event (Some (ended at)) e = (ended at, by_last.some, before, event ∙ e, refl, reached)
 
     -- or is
-    module _ (reason : Reason) (bad : reason_in x f ≡ Some reason) (o : Offence) (told : o ≡ offence_at from_here (built reason)) (failure : new.failure ≡ Some o) where
+    module _ (reason : Reason) (bad : reason_in x f ≡ Some reason) (o : Offence) (told : o ≡ offence_at from_here (built reason)) (failure : new.failure ≡ Some o) (messages : new.messages ≡ (after_record x situation_here from_here f text).messages) where
       refusal : refusal_at (stream x) (p ++ take n c) ≡ Some o
       unfolding refused
       refusal =
           whole_refusal (stream x) (readable x) p c h.going n by_last close_before unit (length begun_here + n) front_whole
-          ∙ ap (λ v. option_or (option_map (λ why. offence_at from_here (built why)) v) ((stream x).at_length (after situation_here from_here unit) (from_here + (length begun_here + n)) (length p + n))) bad
+          ∙ ap (λ v. option_or (option_map (λ why. offence_at from_here (built why)) v) ((stream x).at_length (after x situation_here from_here unit) (from_here + (length begun_here + n)) (length p + n))) bad
           ∙ ap Some (sym told)
 
       refused_quiet : IsQuiet (stream x) p c n
@@ -273,32 +240,32 @@ module _ (r : Receiver) (x : Settings) (p c : List ℕ) (due : Due) (is : r.stag
       via_shown = rw there via_there
 
       failed : Failed new x o (p ++ take n c)
-      unfolding failure_of taken_of
-      failed = record { failure = failure; taken = omega (arith, taken, h.taken, len); via = via_shown }
+      unfolding failure_of taken_of messages_of after
+      failed = record { failure = failure; taken = omega (arith, taken, h.taken, len); via = via_shown; messages = rw there messages }
 
       answers : UnitAnswers x p c new (Err o)
       answers = (n, refused_quiet, refusal, failed)
 
-    by_place : (v : Option Reason) (from : ℕ) → from ≡ from_here → (result : Result Step Offence) → BehindAnswers v (after_record situation_here from f text) (completed_record situation_here from f) new from result
-        → BehindAnswers v (after_record situation_here from_here f text) (completed_record situation_here from_here f) new from_here result
-    by_place v from place result h = subst (λ (n : ℕ). BehindAnswers v (after_record situation_here n f text) (completed_record situation_here n f) new n result) place h
+    by_place : (v : Option Reason) (from : ℕ) → from ≡ from_here → (result : Result Step Offence) → BehindAnswers v (after_record x situation_here from f text) (completed_record x situation_here from f) new from result
+        → BehindAnswers v (after_record x situation_here from_here f text) (completed_record x situation_here from_here f) new from_here result
+    by_place v from place result h = subst (λ (n : ℕ). BehindAnswers v (after_record x situation_here n f text) (completed_record x situation_here n f) new n result) place h
 
-    pub record_done : (v : Option Reason) → reason_in x f ≡ v → (from : ℕ) → from ≡ from_here → (step : Step) → BehindAnswers v (after_record situation_here from f text) (completed_record situation_here from f) new from (Ok step)
+    pub record_done : (v : Option Reason) → reason_in x f ≡ v → (from : ℕ) → from ≡ from_here → (step : Step) → BehindAnswers v (after_record x situation_here from f text) (completed_record x situation_here from f) new from (Ok step)
         → new.unit_from ≡ r.taken + n → ((next : Expect) → FrameStandsFor mid next []) → new.failure ≡ r.failure → UnitAnswers x p c new (Ok (n, step))
     record_done None good from place step h unit_from fresh failure =
         let b = by_place None from place (Ok step) h in
-        rw b.3 (by_event good b.0 b.1 b.2 unit_from fresh failure (completed_record situation_here from_here f) refl)
+        rw b.3 (by_event good b.0 b.1 b.2 unit_from fresh failure (completed_record x situation_here from_here f) refl)
     record_done (Some reason) bad from place step h unit_from fresh failure = absurd h
 
-    pub record_refused : (v : Option Reason) → reason_in x f ≡ v → (from : ℕ) → from ≡ from_here → (o : Offence) → BehindAnswers v (after_record situation_here from f text) (completed_record situation_here from f) new from (Err o) → UnitAnswers x p c new (Err o)
+    pub record_refused : (v : Option Reason) → reason_in x f ≡ v → (from : ℕ) → from ≡ from_here → (o : Offence) → BehindAnswers v (after_record x situation_here from f text) (completed_record x situation_here from f) new from (Err o) → UnitAnswers x p c new (Err o)
     record_refused None good from place o h = absurd h
-    record_refused (Some reason) bad from place o h = let b = by_place (Some reason) from place (Err o) h in answers reason bad o b.0 b.1
+    record_refused (Some reason) bad from place o h = let b = by_place (Some reason) from place (Err o) h in answers reason bad o b.0 b.1 b.2
 
   -- a record that is wrong
   pub record_wrong : (new : Receiver) (fault : FrameFault) (k : ℕ) (o : Offence) → frame_at x.limits.via expected (begun_here ++ c) ≡ wrong fault k → o ≡ offence_at from_here reasons.Unbuilt
-      → ShowsText new.frames (shown_behind x.limits.via expected (begun_here ++ c) situation_here.via) → new.taken ≡ from_here + k → new.failure ≡ Some o → UnitAnswers x p c new (Err o)
-  unfolding failure_of taken_of ShowsVia
-  record_wrong new fault k o read told shown taken failure =
+      → ShowsText new.frames (shown_behind x.limits.via expected (begun_here ++ c) situation_here.via) → new.taken ≡ from_here + k → new.failure ≡ Some o → new.messages ≡ r.messages → UnitAnswers x p c new (Err o)
+  unfolding failure_of taken_of messages_of ShowsVia
+  record_wrong new fault k o read told shown taken failure messages =
       let n : ℕ = k - length begun_here in
       let reads = (readable x).reads situation_here from_here in
       let is_wrong : front (begun_here ++ c) ≡ wrong (offence_at from_here (built (reason_of due fault))) k = front_is (begun_here ++ c) ∙ ap (seen frame (λ why. offence_at from_here (built (reason_of due why)))) read in
@@ -314,6 +281,7 @@ module _ (r : Receiver) (x : Settings) (p c : List ℕ) (due : Due) (is : r.stag
         record {
           failure = failure;
           taken = omega (arith, taken, len, place, later);
-          via = rw there (subst (ShowsText new.frames) (ap (text_after situation_here.via expected (begun_here ++ c)) read ∙ wrong_text situation_here due stage_here (no_via x p) (begun_here ++ c) fault k) shown);
+          via = rw there (subst (ShowsText new.frames) (ap (text_after situation_here.via expected (begun_here ++ c)) read ∙ wrong_text situation_here due stage_here (no_via l p) (begun_here ++ c) fault k) shown);
+          messages = rw there (messages ∙ h.messages);
         },
       )

@@ -13,18 +13,18 @@ use Rattle.nbfx_values.specs.Limits.{limits}
 use Rattle.nbfx_values.specs.declared.refusals.Reason.{Reason}
 use Rattle.nbfx_values.specs.declared.refusals.Reason.TheVariants as reasons
 use Rattle.nmf_records.specs.declared.frame.FrameFault.{FrameFault}
-use Rattle.nmf_records.specs.declared.script.Direction.TheVariants.{Initiator}
+use Rattle.nmf_records.specs.declared.script.Direction.TheVariants.{FromInitiator}
 use Rattle.nmf_records.specs.declared.script.Due.{Due}
 use Rattle.nmf_records.specs.declared.script.Due.TheVariants as dues
 use Rattle.nmf_records.specs.Records.{Read}
 use Rattle.nmf_records.specs.Reading.{frame_at}
 use Rattle.nmf_records.specs.Script.{may_come}
-use Rattle.dump_replay.specs.Stream.{Settings, usual, reason_of, reason_in, unit_in, after, completed, refused, too_long, cut_off}
+use Rattle.dump_replay.specs.Stream.{Settings, initiators, usual, reason_of, reason_in, unit_in, after, completed, refused, too_long, cut_off}
 use Rattle.dump_replay.specs.Report.{quoted, offence_line, report}
 
 -- with these quotas
 abbrev set_to : ℕ → ℕ → ℕ → Settings
-set_to payload via session = record { limits = limits payload 32 2048 262144 via session }
+set_to payload via session = initiators (limits payload 32 2048 262144 via session)
 
 -- with this session quota
 abbrev pub of_session : ℕ → Settings
@@ -208,7 +208,7 @@ reason_at x due (whole read n) = reason_in x read.frame
 reason_at x due (wrong fault n) = Some (reason_of due fault)
 
 abbrev named : Settings → Due → List ℕ → Option Reason
-named x due bytes = reason_at x due (frame_at x.limits.via (may_come Initiator due) bytes)
+named x due bytes = reason_at x due (frame_at x.limits.via (may_come FromInitiator due) bytes)
 
 -- each record of a preamble, an envelope and the end, and one that is only begun
 nothing_named :

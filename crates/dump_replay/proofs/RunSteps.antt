@@ -7,7 +7,7 @@ use Rattle.io_edges.specs.Flow.{GrowsByPrefix}
 use Rattle.nbfx_values.specs.declared.refusals.Offence.{Offence}
 use Rattle.dump_replay.specs.declared.check.Ending.{Ending}
 use Rattle.dump_replay.specs.declared.check.Ending.TheVariants as endings
-use Rattle.dump_replay.specs.Stream.{Settings}
+use Rattle.dump_replay.specs.Stream.{Settings, IsInitiators}
 use Rattle.dump_replay.specs.Judging.{offence}
 use Rattle.dump_replay.specs.Laws.{ClosedOrRefused}
 use Rattle.dump_replay.specs.Sessions.{IsClosed}
@@ -45,16 +45,16 @@ no_judgement n zero one ten (inr (inr h)) = ten h
 
 module _ (x : Settings) (bytes : List ℕ) where
   -- status 0
-  pub status_ended : ClosedOrRefused → (e : Ending) → status_at e ≡ 0 → Judges x bytes e → IsClosed x bytes
-  status_ended law (endings.Judged None) s h = (law x bytes).0 h
-  status_ended law (endings.Judged (Some o)) s h =
+  pub status_ended : ClosedOrRefused → IsInitiators x → (e : Ending) → status_at e ≡ 0 → Judges x bytes e → IsClosed x bytes
+  status_ended law set (endings.Judged None) s h = (law x set bytes).0 h
+  status_ended law set (endings.Judged (Some o)) s h =
       elim (refused_status o 0 s) [
         | inl t ↦ absurd (omega (arith, t))
         | inr t ↦ absurd (omega (arith, t))
       ]
-  status_ended law endings.ReadFault s h = cc
-  status_ended law endings.WriteFault s h = cc
-  status_ended law endings.Memory s h = cc
+  status_ended law set endings.ReadFault s h = cc
+  status_ended law set endings.WriteFault s h = cc
+  status_ended law set endings.Memory s h = cc
 
   -- status 1
   pub status_offended : (e : Ending) → status_at e ≡ 1 → Judges x bytes e → (o : Offence) × (offence x bytes ≡ Some o) × (is_session_too_long o.reason ≡ false)
@@ -107,8 +107,8 @@ check_words (a ∷ b ∷ []) other two e = e
 check_words (a ∷ b ∷ d ∷ rest) other two e = cc
 
 -- a session's status, where no read and no write failed
-pub status_closed : ClosedOrRefused → (x : Settings) (bytes : List ℕ) (e : Ending) → IsClosed x bytes → Judges x bytes e → (e ≡ endings.ReadFault → ⊥) → (e ≡ endings.WriteFault → ⊥) → (status_at e ≡ 0) ⊎ (status_at e ≡ 5)
-status_closed law x bytes (endings.Judged o) closed h read written = inl (ap status_of (sym h ∙ (law x bytes).1 closed))
-status_closed law x bytes endings.ReadFault closed h read written = absurd (read refl)
-status_closed law x bytes endings.WriteFault closed h read written = absurd (written refl)
-status_closed law x bytes endings.Memory closed h read written = inr refl
+pub status_closed : ClosedOrRefused → (x : Settings) → IsInitiators x → (bytes : List ℕ) (e : Ending) → IsClosed x bytes → Judges x bytes e → (e ≡ endings.ReadFault → ⊥) → (e ≡ endings.WriteFault → ⊥) → (status_at e ≡ 0) ⊎ (status_at e ≡ 5)
+status_closed law x set bytes (endings.Judged o) closed h read written = inl (ap status_of (sym h ∙ (law x set bytes).1 closed))
+status_closed law x set bytes endings.ReadFault closed h read written = absurd (read refl)
+status_closed law x set bytes endings.WriteFault closed h read written = absurd (written refl)
+status_closed law x set bytes endings.Memory closed h read written = inr refl

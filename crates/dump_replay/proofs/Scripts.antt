@@ -7,22 +7,23 @@ use Rattle.nbfx_values.specs.declared.session.Kind.{Kind}
 use Rattle.nbfx_values.specs.declared.session.Kind.TheVariants.{Plain, Session}
 use Rattle.nbfx_values.specs.declared.session.Mode.TheVariants.{Duplex}
 use Rattle.nbfx_values.specs.declared.refusals.Reason.TheVariants as reasons
-use Rattle.nbfx_values.specs.Session.{kind_number}
+use Rattle.nbfx_values.specs.Limits.{Limits}
+use Rattle.nbfx_values.specs.Session.{mode_number, kind_number}
 use Rattle.nmf_records.specs.declared.frame.Frame.{Frame}
 use Rattle.nmf_records.specs.declared.frame.Frame.TheVariants as frames
-use Rattle.nmf_records.specs.declared.script.Direction.TheVariants.{Initiator}
+use Rattle.nmf_records.specs.declared.script.Direction.TheVariants.{FromInitiator}
 use Rattle.nmf_records.specs.Records.{IsRecordOf}
 use Rattle.nmf_records.specs.Script.{IsScript}
-use Rattle.dump_replay.specs.Stream.{Settings, reason_in}
-use Rattle.dump_replay.specs.Sessions.{IsBare, AreEnvelopes, IsSession, payload_size, BeginsWith, HasScript}
+use Rattle.dump_replay.specs.Stream.{Settings, initiators, reason_in}
+use Rattle.dump_replay.specs.Sessions.{IsBare, CarriesPayloads, IsSession, payload_size, BeginsWith, HasScript}
 
 -- a record that isn't refused
 right_version : (major minor : ℕ) (b : Bool) → ((major == 1) && (minor == 0)) ≡ b → (if b then None else Some reasons.BadVersion) ≡ None → (major ≡ 1) × (minor ≡ 0)
 right_version major minor true e none = let h = and_parts (major == 1) (minor == 0) e in (eqb-true major 1 h.0, eqb-true minor 0 h.1)
 right_version major minor false e none = cc
 
-pub right_mode : (mode : ℕ) (b : Bool) → (mode == 2) ≡ b → (if b then None else Some reasons.BadMode) ≡ None → mode ≡ 2
-right_mode mode true e none = eqb-true mode 2 e
+pub right_mode : (mode : ℕ) (b : Bool) → (mode == mode_number Duplex) ≡ b → (if b then None else Some reasons.BadMode) ≡ None → mode ≡ mode_number Duplex
+right_mode mode true e none = eqb-true mode (mode_number Duplex) e
 right_mode mode false e none = cc
 
 right_encoding : (encoding : ℕ) (b : Bool) → ((encoding == 7) || (encoding == 8)) ≡ b → (if b then None else Some reasons.BadEncoding) ≡ None → (kind : Kind) × (encoding ≡ kind_number kind)
@@ -42,7 +43,10 @@ known : (x : Settings) (kind : Kind) → reason_in x (frames.KnownEncoding (kind
 known x Plain = refl
 known x Session = refl
 
-module _ (x : Settings) where
+module _ (l : Limits) where
+  abbrev x : Settings
+  x = initiators l
+
   -- from a script
 
   -- a record without a payload
@@ -57,7 +61,7 @@ module _ (x : Settings) where
     envelopes : List ℕ
     end : List ℕ
     joined : bytes ≡ envelopes ++ end
-    are_envelopes : AreEnvelopes x payloads envelopes
+    carries_payloads : CarriesPayloads x payloads envelopes
     is_end : IsBare frames.End end
 
   script_messages : (sizes : List ℕ) (bytes : List ℕ) → HasScript x (map frames.SizedEnvelope sizes ++ frames.End ∷ []) bytes → Messages bytes
@@ -66,7 +70,7 @@ module _ (x : Settings) where
     envelopes = [];
     end = bytes;
     joined = refl;
-    are_envelopes = refl;
+    carries_payloads = refl;
     is_end = (refl, without_payload frames.End _ bytes h refl ∙ ap (λ c. h.head ++ c) h.next ∙ append-nil h.head ∙ h.is_record.1);
   }
   script_messages (size ∷ sizes) bytes h =
@@ -78,11 +82,11 @@ module _ (x : Settings) where
         envelopes = (h.head ++ h.payload) ++ w.envelopes;
         end = w.end;
         joined = h.joined ∙ ap (λ c. (h.head ++ h.payload) ++ c) w.joined ∙ sym (append_assoc (h.head ++ h.payload) w.envelopes w.end);
-        are_envelopes = (h.head, w.envelopes, (refl, is.1, is.2, is.3), low, refl, w.are_envelopes);
+        carries_payloads = (h.head, w.envelopes, (refl, is.1, is.2, is.3), low, refl, w.carries_payloads);
         is_end = w.is_end;
       }
 
-  pub script_is : (script : List Frame) (bytes : List ℕ) → IsScript Initiator Duplex script → HasScript x script bytes → length bytes ≤ x.limits.session
+  pub script_is : (script : List Frame) (bytes : List ℕ) → IsScript FromInitiator Duplex script → HasScript x script bytes → length bytes ≤ x.limits.session
       → (via : List ℕ) × (kind : Kind) × (payloads : List (List ℕ)) × IsSession x via kind payloads bytes
   script_is script bytes r has within =
       let all : HasScript x (frames.Version r.major r.minor ∷ frames.Mode 2 ∷ frames.Via ∷ frames.KnownEncoding r.encoding ∷ frames.PreambleEnd ∷ map frames.SizedEnvelope r.sent.0 ++ frames.End ∷ []) bytes
@@ -126,7 +130,7 @@ module _ (x : Settings) where
                 is_encoding = (refl, known.is_record.1 ∙ ap (λ n. 3 ∷ n ∷ []) kind.1);
                 is_end = (refl, end.is_record.1);
               };
-              are_envelopes = m.are_envelopes;
+              carries_payloads = m.carries_payloads;
               is_end = m.is_end;
               within = within;
             },
@@ -150,7 +154,7 @@ module _ (x : Settings) where
     next = next;
   }
 
-  messages_script : (payloads : List (List ℕ)) (bytes end : List ℕ) → AreEnvelopes x payloads bytes → IsBare frames.End end → HasScript x (map frames.SizedEnvelope (map length payloads) ++ frames.End ∷ []) (bytes ++ end)
+  messages_script : (payloads : List (List ℕ)) (bytes end : List ℕ) → CarriesPayloads x payloads bytes → IsBare frames.End end → HasScript x (map frames.SizedEnvelope (map length payloads) ++ frames.End ∷ []) (bytes ++ end)
   messages_script [] bytes end none is =
       let all : end ++ [] ≡ bytes ++ end = append-nil end ∙ ap (λ c. c ++ end) (sym none) in
       subst (λ c. HasScript x (frames.End ∷ []) c) all (in_front frames.End [] end [] _ is refl (omega arith) refl refl)
@@ -170,10 +174,10 @@ module _ (x : Settings) where
       }
 
   session_script : (via : List ℕ) (kind : Kind) (payloads : List (List ℕ)) (bytes : List ℕ) → IsSession x via kind payloads bytes
-      → (script : List Frame) × IsScript Initiator Duplex script × HasScript x script bytes × (length bytes ≤ x.limits.session)
+      → (script : List Frame) × IsScript FromInitiator Duplex script × HasScript x script bytes × (length bytes ≤ x.limits.session)
   session_script via kind payloads bytes s =
       let p = s.is_preamble in
-      let messages = messages_script payloads s.envelopes s.end s.are_envelopes s.is_end in
+      let messages = messages_script payloads s.envelopes s.end s.carries_payloads s.is_end in
       let parts : p.version ++ (p.mode ++ (p.via_record ++ (p.encoding ++ (p.end ++ (s.envelopes ++ s.end))))) ≡ bytes
       = sym (s.joined ∙ ap (λ c. c ++ s.envelopes ++ s.end) p.joined ∙ simp append_assoc) in (
         frames.Version 1 0 ∷ frames.Mode 2 ∷ frames.Via ∷ frames.KnownEncoding (kind_number kind) ∷ frames.PreambleEnd ∷ map frames.SizedEnvelope (map length payloads) ++ frames.End ∷ [],
@@ -191,5 +195,5 @@ module _ (x : Settings) where
 
   pub sessions_are_scripts : (bytes : List ℕ)
       → ((via : List ℕ) × (kind : Kind) × (payloads : List (List ℕ)) × IsSession x via kind payloads bytes)
-      ↔ ((script : List Frame) × IsScript Initiator Duplex script × HasScript x script bytes × (length bytes ≤ x.limits.session))
+      ↔ ((script : List Frame) × IsScript FromInitiator Duplex script × HasScript x script bytes × (length bytes ≤ x.limits.session))
   sessions_are_scripts bytes = ((λ s. session_script s.0 s.1 s.2 bytes s.3), (λ h. script_is h.0 bytes h.1 h.2 h.3))

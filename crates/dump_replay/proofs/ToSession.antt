@@ -1,24 +1,19 @@
--- A stream that nothing refuses begins with a session.
-use Rattle.std.proofs.Common.{◌≡◌, ℕ, ◌+◌, ◌-◌, ◌<◌, ◌≤◌, inl, inr, List, [], ◌∷◌, ◌++◌, length, take, drop, Bool, true, false, Option, Some, None, refl, sym, ap, ◌∙◌, subst, arith, append_assoc, length-append}
+-- A stream whose units lead to where the input may end begins with a session.
+use Rattle.std.proofs.Common.{◌≡◌, ℕ, ◌+◌, ◌-◌, ◌<◌, ◌≤◌, List, [], ◌∷◌, ◌++◌, length, take, drop, Bool, true, false, Option, Some, None, refl, sym, ap, ◌∙◌, subst, arith, append_assoc, length-append}
 use Rattle.std.specs.Prelude.{nat_lt, ◌==◌, if◌then◌else◌}
 use Rattle.std.specs.Option.{option_map}
-use Rattle.std.proofs.lemmas.Bool.{cases_lt, eqb-true, ltb-true, ltb-false}
-use Rattle.std.proofs.lemmas.List.{take-append-drop, length-take-le}
+use Rattle.std.proofs.lemmas.Bool.{eqb-true, ltb-true, ltb-false}
+use Rattle.std.proofs.lemmas.List.{take-append-drop}
 use Rattle.unit_streams.specs.Front.{whole}
-use Rattle.unit_streams.specs.Grammar.{Standing, standing}
-use Rattle.unit_streams.specs.Judging.{refusal_at, is_over_at}
-use Rattle.unit_streams.specs.Units.{Counted, Leads}
+use Rattle.unit_streams.specs.Units.{Counted, UnitsLead, AreShort, size_of, IsAccepted}
 use Rattle.unit_streams.proofs.Fronts.{whole_some}
-use Rattle.unit_streams.proofs.Standing.{standing_length}
-use Rattle.unit_streams.proofs.Ends.{after_end}
-use Rattle.unit_streams.proofs.Offences.{no_offence}
-use Rattle.unit_streams.proofs.Units.{units_of}
+use Rattle.unit_streams.proofs.Accepted.{leads_length}
+use Rattle.nbfx_values.specs.Limits.{Limits}
 use Rattle.nbfx_values.specs.declared.session.Mode.TheVariants.{Duplex}
-use Rattle.nbfx_values.specs.declared.refusals.Offence.{Offence}
 use Rattle.nbfx_values.specs.declared.refusals.Reason.{Reason}
 use Rattle.nmf_records.specs.declared.frame.Frame.{Frame}
 use Rattle.nmf_records.specs.declared.frame.Frame.TheVariants as frames
-use Rattle.nmf_records.specs.declared.script.Direction.TheVariants.{Initiator}
+use Rattle.nmf_records.specs.declared.script.Direction.TheVariants.{FromInitiator}
 use Rattle.nmf_records.specs.declared.script.Due.{Due}
 use Rattle.nmf_records.specs.declared.script.Due.TheVariants as dues
 use Rattle.nmf_records.specs.Records.{IsRecordOf}
@@ -29,20 +24,18 @@ use Rattle.nmf_records.proofs.WaysAreScripts.{script_is as way_is_script}
 use Rattle.dump_replay.specs.declared.stage.Payload.{Payload}
 use Rattle.dump_replay.specs.declared.stage.Stage.{Stage}
 use Rattle.dump_replay.specs.declared.stage.Stage.TheVariants as stages
-use Rattle.dump_replay.specs.Stream.{Settings, Situation, beginning, due_in, led, StreamUnit, StreamEvent, offence_at, built, reason_in, message_whole, after_record, after, refused, unit_in, is_over_in, stream}
-use Rattle.dump_replay.specs.Judging.{offence}
+use Rattle.dump_replay.specs.Stream.{Settings, initiators, Situation, beginning, due_in, led, StreamUnit, offence_at, built, reason_in, message_whole, after_record, after, refused, unit_in, is_over_in, cut_off, stream}
 use Rattle.dump_replay.specs.Sessions.{IsClosed, payload_size, HasScript}
-use Rattle.dump_replay.proofs.Grammar.{readable, quiet_over}
+use Rattle.dump_replay.proofs.Grammar.{readable, within_quota}
 use Rattle.dump_replay.proofs.Coming.{unit_of_record, unit_of_payload}
 use Rattle.dump_replay.proofs.Situations.{HasLeft, IsSound, sound_unit}
 use Rattle.dump_replay.proofs.DueRecords.{envelope_due}
 use Rattle.dump_replay.proofs.Scripts.{right_mode, script_is}
-use Rattle.dump_replay.proofs.ReasonsOfStreams.{unrefused_over, full_over}
 
 -- what is left of a script where this is due
 record IsLeft (x : Settings) (due : Due) (bytes : List ℕ) : Type 0 where
   script : List Frame
-  follows : Follows Initiator Duplex due script
+  follows : Follows FromInitiator Duplex due script
   has : HasScript x script bytes
 
 -- what is left of one at a stage
@@ -58,17 +51,17 @@ IsFrom x (stages.Record due) bytes = IsLeft x due bytes
 IsFrom x (stages.Payload payload) bytes = IsWithin x payload.left bytes
 
 -- a Mode record that isn't refused names the mode
-names_duplex : (x : Settings) (read : Frame) → reason_in x read ≡ None → NamesMode Duplex read
-names_duplex x (frames.Mode mode) none = right_mode mode _ refl none
-names_duplex x _ none = tt
+names_duplex : (l : Limits) (read : Frame) → reason_in (initiators l) read ≡ None → NamesMode Duplex read
+names_duplex l (frames.Mode mode) none = right_mode mode _ refl none
+names_duplex l _ none = tt
 
 -- a record in front of what is left
-module _ (x : Settings) (z : Situation) (from : ℕ) (due : Due) (at : z.stage ≡ stages.Record due) (t c : List ℕ) where
-  one_more : (read : Frame) (text payload rest : List ℕ) → MayCome (may_come Initiator due) read → IsRecordOf read text t → length text ≤ x.limits.via → reason_in x read ≡ None
-      → c ≡ payload ++ rest → length payload ≡ payload_size read → IsLeft x (leads Initiator Duplex due read) rest → IsLeft x due (t ++ c)
+module _ (l : Limits) (z : Situation) (from : ℕ) (due : Due) (at : z.stage ≡ stages.Record due) (t c : List ℕ) where
+  one_more : (read : Frame) (text payload rest : List ℕ) → MayCome (may_come FromInitiator due) read → IsRecordOf read text t → length text ≤ l.via → reason_in (initiators l) read ≡ None
+      → c ≡ payload ++ rest → length payload ≡ payload_size read → IsLeft (initiators l) (leads FromInitiator Duplex due read) rest → IsLeft (initiators l) due (t ++ c)
   one_more read text payload rest may is low none joined sized next = record {
     script = read ∷ next.script;
-    follows = (may, names_duplex x read none, next.follows);
+    follows = (may, names_duplex l read none, next.follows);
     has = record {
       text = text;
       head = t;
@@ -84,21 +77,21 @@ module _ (x : Settings) (z : Situation) (from : ℕ) (due : Due) (at : z.stage �
   }
 
   -- one without a payload
-  plain_first : (read : Frame) (text : List ℕ) → MayCome (may_come Initiator due) read → IsRecordOf read text t → length text ≤ x.limits.via → reason_in x read ≡ None → payload_size read ≡ 0
-      → IsFrom x (led z.stage read) c → IsLeft x due (t ++ c)
+  plain_first : (read : Frame) (text : List ℕ) → MayCome (may_come FromInitiator due) read → IsRecordOf read text t → length text ≤ l.via → reason_in (initiators l) read ≡ None → payload_size read ≡ 0
+      → IsFrom (initiators l) (led (initiators l) z.stage read) c → IsLeft (initiators l) due (t ++ c)
   plain_first read text may is low none empty h =
-      one_more read text [] c may is low none refl (sym empty) (subst (λ (d : Due). IsLeft x (leads Initiator Duplex d read) c) (ap due_in at) h)
+      one_more read text [] c may is low none refl (sym empty) (subst (λ (d : Due). IsLeft (initiators l) (leads FromInitiator Duplex d read) c) (ap due_in at) h)
 
-  head_first : (size : ℕ) (text : List ℕ) (b : Bool) → (size == 0) ≡ b → MayCome (may_come Initiator due) (frames.SizedEnvelope size) → IsRecordOf (frames.SizedEnvelope size) text t → length text ≤ x.limits.via
-      → reason_in x (frames.SizedEnvelope size) ≡ None → IsFrom x (if b then message_whole z else record z { stage = stages.Payload (record { from = from; size = size; left = size }) }).stage c
-      → IsLeft x due (t ++ c)
+  head_first : (size : ℕ) (text : List ℕ) (b : Bool) → (size == 0) ≡ b → MayCome (may_come FromInitiator due) (frames.SizedEnvelope size) → IsRecordOf (frames.SizedEnvelope size) text t → length text ≤ l.via
+      → reason_in (initiators l) (frames.SizedEnvelope size) ≡ None → IsFrom (initiators l) (if b then message_whole z else record z { stage = stages.Payload (record { from = from; size = size; left = size }) }).stage c
+      → IsLeft (initiators l) due (t ++ c)
   head_first size text true e may is low none h =
-      one_more (frames.SizedEnvelope size) text [] c may is low none refl (sym (eqb-true size 0 e)) (subst (λ (d : Due). IsLeft x d c) (sym (envelope_due due size may)) h)
+      one_more (frames.SizedEnvelope size) text [] c may is low none refl (sym (eqb-true size 0 e)) (subst (λ (d : Due). IsLeft (initiators l) d c) (sym (envelope_due FromInitiator due size may)) h)
   head_first size text false e may is low none h =
-      one_more (frames.SizedEnvelope size) text h.part h.more may is low none h.joined h.size (subst (λ (d : Due). IsLeft x d h.more) (sym (envelope_due due size may)) h.next)
+      one_more (frames.SizedEnvelope size) text h.part h.more may is low none h.joined h.size (subst (λ (d : Due). IsLeft (initiators l) d h.more) (sym (envelope_due FromInitiator due size may)) h.next)
 
-  record_first : (read : Frame) (text : List ℕ) → MayCome (may_come Initiator due) read → IsRecordOf read text t → length text ≤ x.limits.via → reason_in x read ≡ None
-      → IsFrom x (after_record z from read text).stage c → IsLeft x due (t ++ c)
+  record_first : (read : Frame) (text : List ℕ) → MayCome (may_come FromInitiator due) read → IsRecordOf read text t → length text ≤ l.via → reason_in (initiators l) read ≡ None
+      → IsFrom (initiators l) (after_record (initiators l) z from read text).stage c → IsLeft (initiators l) due (t ++ c)
   record_first (frames.SizedEnvelope size) text may is low none h = head_first size text _ refl may is low none h
   record_first frames.Via text may is low none h = plain_first frames.Via text may is low none refl h
   record_first (frames.KnownEncoding encoding) text may is low none h = plain_first (frames.KnownEncoding encoding) text may is low none refl h
@@ -119,14 +112,17 @@ none_mapped : {A B : Type 0} (f : A → B) (v : Option A) → option_map f v ≡
 none_mapped f None e = refl
 none_mapped f (Some a) e = cc
 
-module _ (x : Settings) where
+module _ (l : Limits) where
+  abbrev x : Settings
+  x = initiators l
+
   unit_first : (stage : Stage) (z : Situation) (from : ℕ) (bytes : List ℕ) (u : StreamUnit) (n : ℕ) (c : List ℕ) → z.stage ≡ stage → HasLeft stage → unit_in x stage from bytes ≡ whole u n → refused x from u ≡ None
-      → IsFrom x (after z from u).stage c → IsFrom x stage (take n bytes ++ c)
+      → IsFrom x (after x z from u).stage c → IsFrom x stage (take n bytes ++ c)
   unfolding after refused
   unit_first (stages.Record due) z from bytes u n c at left e ok h =
       let r = unit_of_record x from bytes u n due e in
       let none : option_map (λ reason. offence_at from (built reason)) (reason_in x r.0.frame) ≡ None = ap (refused x from) (sym r.1) ∙ ok in
-      record_first x z from due at (take n bytes) c r.0.frame r.0.text r.2.may r.2.bytes_are r.2.low (none_mapped (λ (reason : Reason). offence_at from (built reason)) (reason_in x r.0.frame) none) (rw r.1 at h)
+      record_first l z from due at (take n bytes) c r.0.frame r.0.text r.2.may r.2.bytes_are r.2.low (none_mapped (λ (reason : Reason). offence_at from (built reason)) (reason_in x r.0.frame) none) (rw r.1 at h)
   unit_first (stages.Payload payload) z from bytes u n c at left e ok h =
       let r = unit_of_payload x from bytes u n payload e in
       let front : take n bytes ≡ r.0 ∷ [] = ap (λ k. take k bytes) r.4 ∙ ap (take 1) r.2 in
@@ -139,49 +135,54 @@ module _ (x : Settings) where
   over_is (stages.Payload payload) e = cc
 
   -- each situation is sound, so of a payload something is left
-  has_left : (z : Situation) (from : ℕ) (bytes : List ℕ) (u : StreamUnit) (n : ℕ) → unit_in x z.stage from bytes ≡ whole u n → IsSound z from → IsSound (after z from u) (from + n)
+  has_left : (z : Situation) (from : ℕ) (bytes : List ℕ) (u : StreamUnit) (n : ℕ) → unit_in x z.stage from bytes ≡ whole u n → IsSound z from → IsSound (after x z from u) (from + n)
   has_left z from bytes u n e h = sound_unit x z from u n (whole_some (unit_in x z.stage from) ((readable x).reads z from) ((readable x).nothing z from) bytes u n e).0 h
 
   -- whole units up to an end are what is left of a session
-  units_first : (units : List (Counted StreamUnit)) (z : Situation) (from : ℕ) (bytes : List ℕ) (z' : Situation) (rest : List ℕ) → IsSound z from → Leads (stream x) z from units bytes z' rest
+  units_first : (units : List (Counted StreamUnit)) (z : Situation) (from : ℕ) (bytes : List ℕ) (z' : Situation) (rest : List ℕ) → IsSound z from → UnitsLead (stream x) z from units bytes z' rest
       → is_over_in z'.stage ≡ true → (c : List ℕ) × (bytes ≡ c ++ rest) × IsFrom x z.stage c
-  unfolding Leads
+  unfolding UnitsLead
   units_first [] z from bytes z' rest sound l over = ([], l.1, over_is z.stage (ap (λ (z : Situation). is_over_in z.stage) l.0 ∙ over))
   units_first (one ∷ units) z from bytes z' rest sound l over =
-      let behind = units_first units (after z from one.unit) (from + one.size) (drop one.size bytes) z' rest (has_left z from bytes one.unit one.size l.0 sound) l.2 over in (
+      let behind = units_first units (after x z from one.unit) (from + one.size) (drop one.size bytes) z' rest (has_left z from bytes one.unit one.size l.0 sound) l.2 over in (
         take one.size bytes ++ behind.0,
         sym (take-append-drop one.size bytes) ∙ ap (λ b. take one.size bytes ++ b) behind.1 ∙ sym (append_assoc (take one.size bytes) behind.0 rest),
         unit_first z.stage z from bytes one.unit one.size behind.0 refl sound.left l.0 l.1 behind.2,
       )
 
-  -- where nothing is refused the whole units end within the session quota
-  ends_within : (bytes : List ℕ) → ((i : ℕ) → i ≤ length bytes → refusal_at (stream x) (take i bytes) ≡ None) → (standing (stream x) bytes).from ≤ x.limits.session
-  ends_within bytes unrefused =
-      let size = standing_length (stream x) (readable x) bytes in
-      elim (cases_lt x.limits.session (length bytes)) [
-        | inr le ↦ omega (arith, size, le)
-        | inl lt ↦
-            let n : length (take x.limits.session bytes) ≡ x.limits.session = length-take-le x.limits.session bytes (omega arith) in
-            let m = standing_length (stream x) (readable x) (take x.limits.session bytes) in
-            let over = full_over x bytes (take x.limits.session bytes) (unrefused x.limits.session (omega arith)) (omega (arith, n)) in
-            let same : (standing (stream x) bytes).from ≡ (standing (stream x) (take x.limits.session bytes)).from
-            = ap (λ b. (standing (stream x) b).from) (sym (take-append-drop x.limits.session bytes))
-            ∙ ap (λ (s : Standing Situation StreamEvent Offence). s.from) (after_end (stream x) (readable x) (quiet_over x) (take x.limits.session bytes) (drop x.limits.session bytes) over) in
-            omega (arith, m, n, same)
-      ]
+  -- where a unit is read the session isn't over
+  unit_going : (stage : Stage) (from : ℕ) (bytes : List ℕ) (u : StreamUnit) (n : ℕ) → unit_in x stage from bytes ≡ whole u n → is_over_in stage ≡ false
+  unfolding unit_in
+  unit_going (stages.Record dues.Over) from bytes u n e = cc
+  unit_going (stages.Record _) from bytes u n e = refl
+  unit_going (stages.Payload payload) from bytes u n e = refl
 
-  over_stage : (bytes : List ℕ) → is_over_at (stream x) bytes ≡ true → is_over_in (standing (stream x) bytes).situation.stage ≡ true
-  unfolding is_over_at
-  over_stage bytes o = o
+  -- so units at no length too great end within the session quota
+  units_within : (units : List (Counted StreamUnit)) (z : Situation) (from : ℕ) (bytes : List ℕ) (z' : Situation) (rest : List ℕ) → from ≤ x.limits.session → UnitsLead (stream x) z from units bytes z' rest
+      → AreShort (stream x) z from units → from + size_of units ≤ x.limits.session
+  unfolding UnitsLead AreShort size_of
+  units_within [] z from bytes z' rest low l short = omega arith
+  units_within (one ∷ units) z from bytes z' rest low l short =
+      let some = (whole_some (unit_in x z.stage from) ((readable x).reads z from) ((readable x).nothing z from) bytes one.unit one.size l.0).0 in
+      let last : ℕ = from + one.size - 1 in
+      let below = within_quota x z.stage from last (unit_going z.stage from bytes one.unit one.size l.0) (short.0 last (omega (arith, some)) (omega (arith, some))) in
+      let more = units_within units (after x z from one.unit) (from + one.size) (drop one.size bytes) z' rest (omega (arith, some, below)) l.2 short.1 in
+      omega (arith, more)
 
-  pub offenceless_closed : (bytes : List ℕ) → offence x bytes ≡ None → IsClosed x bytes
-  offenceless_closed bytes none =
-      let nothing = no_offence (stream x) bytes none in
-      let over = over_stage bytes (unrefused_over x bytes nothing.1) in
-      let has = units_of (stream x) (readable x) bytes nothing.0 in
-      let h = units_first has.units beginning 0 bytes (standing (stream x) bytes).situation (standing (stream x) bytes).begun (record { messages_within = omega arith; left = tt }) has.lead over in
-      let all : length bytes ≡ length h.0 + length (standing (stream x) bytes).begun = ap length h.1 ∙ length-append h.0 (standing (stream x) bytes).begun in
-      let size = standing_length (stream x) (readable x) bytes in
-      let fits = ends_within bytes nothing.0 in
-      let s = script_is x h.2.script h.0 (way_is_script Initiator Duplex h.2.script h.2.follows) h.2.has (omega (arith, all, size, fits)) in
-      record { via = s.0; kind = s.1; payloads = s.2; session = h.0; rest = (standing (stream x) bytes).begun; joined = h.1; is_session = s.3 }
+  -- the input may end where the session is over
+  end_over : (stage : Stage) (from : ℕ) → cut_off x stage from ≡ None → is_over_in stage ≡ true
+  unfolding cut_off
+  end_over (stages.Record dues.Over) from e = refl
+  end_over (stages.Record _) from e = cc
+  end_over (stages.Payload payload) from e = cc
+
+  -- a session stands at the front where unrefused units lead to where the input may end
+  pub accepted_closed : (bytes : List ℕ) → IsAccepted (stream x) bytes → IsClosed x bytes
+  accepted_closed bytes a =
+      let over = end_over a.situation.stage (size_of a.units) a.may_end in
+      let h = units_first a.units (beginning x) 0 bytes a.situation a.rest (record { messages_within = omega arith; left = tt }) a.lead over in
+      let all : length bytes ≡ length h.0 + length a.rest = ap length h.1 ∙ length-append h.0 a.rest in
+      let size = leads_length (stream x) (readable x) a.units (beginning x) 0 bytes a.situation a.rest a.lead in
+      let fits = units_within a.units (beginning x) 0 bytes a.situation a.rest (omega arith) a.lead a.units_short in
+      let s = script_is l h.2.script h.0 (way_is_script FromInitiator Duplex h.2.script h.2.follows) h.2.has (omega (arith, all, size, fits)) in
+      record { via = s.0; kind = s.1; payloads = s.2; session = h.0; rest = a.rest; joined = h.1; is_session = s.3 }

@@ -11,10 +11,14 @@ use Rattle.multibyte_ints.specs.Text.{string_at, text_behind, text_at, text_endi
 use Rattle.nbfx_values.specs.declared.session.Mode.TheVariants.{Duplex}
 use Rattle.nbfx_values.specs.declared.session.Kind.TheVariants.{Session}
 use Rattle.nbfx_values.specs.declared.refusals.Reason.TheVariants as reasons
+use Rattle.dump_replay.specs.declared.check.TheConstants.{ROOM}
 use Rattle.dump_replay.specs.Stream.{usual, opened, message, ended, offence_at, unit_in, after, completed, refused, too_long, cut_off, stream}
 use Rattle.dump_replay.specs.Judging.{offence}
 use Rattle.dump_replay.specs.Report.{quoted, offence_line, report}
 use Rattle.dump_replay.proofs.Refusals.{of_session, with_via, preamble}
+
+the_room : ROOM ≡ 65536
+the_room = refl
 
 preamble_and_end : report usual (preamble ++ 7 ∷ []) ≡ codes "open duplex 8 \"net.tcp://h/e\"\nended 24\n"
 unfolding is_utf8 chars encode digits int_at int_ending_at value_of string_at text_behind text_at text_ending_at usual unit_in after completed refused too_long cut_off peeled peel standing event_at refusal_at ending_at history_from history quoted offence_line report

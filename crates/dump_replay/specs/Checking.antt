@@ -3,6 +3,7 @@ use Rattle.std.specs.Prelude.{◌≡◌, ℕ, ◌≤◌, ◌⊎◌, List, [], �
 use Rattle.io_edges.specs.Flow.{Told, GrowsByPrefix}
 use Rattle.unit_streams.specs.Going.{IsPending}
 use Rattle.nbfx_values.specs.declared.refusals.Offence.{Offence}
+use Rattle.dump_replay.specs.declared.check.TheConstants.{ROOM}
 use Rattle.dump_replay.specs.declared.check.Ending.{Ending}
 use Rattle.dump_replay.specs.declared.check.Ending.TheVariants as endings
 use Rattle.dump_replay.specs.Stream.{Settings, stream}
@@ -40,16 +41,17 @@ pub record Reaches (x : Settings) (left left' taken taken' written written' : Op
   pub before : List ℕ
   pub piece : List ℕ
   pub pending : IsPending (stream x) before
-  pub short : length piece ≤ 65536
+  pub short : length piece ≤ ROOM
   pub stream : Told left left' (λ all rest. all ≡ before ++ piece ++ rest)
   pub took : Told taken taken' (λ t t'. t' ≡ t ++ before ++ piece)
   pub wrote : Told written written' (λ w w'. Grows (w ++ event_lines x before) w')
 
--- What was read and written of a stream that is judged: bytes that have this offence themselves, and decide it however they go on unless they
--- are all; and their report.
+-- What was read and written of a stream that is judged: bytes that have this offence themselves, and decide it however they go on, unless they
+-- are all and only their end does; and their report.
 pub record Decides (x : Settings) (judged : Option Offence) (left left' taken taken' written written' : Option (List ℕ)) : Type 0 where
   pub bytes : List ℕ
   pub offence_is : offence x bytes ≡ judged
+  pub settled : IsPending (stream x) bytes ⊎ ((more : List ℕ) → offence x (bytes ++ more) ≡ judged)
   pub stream : Told left left' (λ all rest. (all ≡ bytes ++ rest) × ((rest ≡ []) ⊎ ((more : List ℕ) → offence x (bytes ++ more) ≡ judged)))
   pub took : Told taken taken' (λ t t'. t' ≡ t ++ bytes)
   pub wrote : Told written written' (λ w w'. w' ≡ w ++ report x bytes)

@@ -7,9 +7,9 @@ use Rattle.nbfx_values.specs.declared.session.Mode.TheVariants.{Duplex}
 use Rattle.nbfx_values.specs.declared.refusals.Offence.{Offence}
 use Rattle.nbfx_values.specs.declared.refusals.Reason.TheVariants.{Unbuilt, MessageTooLarge, Truncated, SessionTooLong}
 use Rattle.nmf_records.specs.declared.frame.Frame.{Frame}
-use Rattle.nmf_records.specs.declared.script.Direction.TheVariants.{Initiator}
+use Rattle.nmf_records.specs.declared.script.Direction.TheVariants.{FromInitiator}
 use Rattle.nmf_records.specs.Script.{IsScript}
-use Rattle.dump_replay.specs.Stream.{Settings, offence_at, stream}
+use Rattle.dump_replay.specs.Stream.{Settings, IsInitiators, offence_at, stream}
 use Rattle.dump_replay.specs.Judging.{offence}
 use Rattle.dump_replay.specs.Report.{event_line, offence_line_of, report, session_report}
 use Rattle.dump_replay.specs.Sessions.{IsSession, IsClosed, HasScript}
@@ -17,14 +17,15 @@ use Rattle.dump_replay.specs.Reasons.{ShowsFrom, ShowsUnbuilt, IsTooLong, IsCutO
 
 -- a stream has no offence exactly where a session stands at its front
 abbrev pub ClosedOrRefused : Type 0
-ClosedOrRefused = (x : Settings) (bytes : List ℕ) → (offence x bytes ≡ None) ↔ IsClosed x bytes
+ClosedOrRefused = (x : Settings) → IsInitiators x
+    → (bytes : List ℕ) → (offence x bytes ≡ None) ↔ IsClosed x bytes
 
 -- a session is the records of a script, none of which is refused, within the session quota
 abbrev pub SessionsAreScripts : Type 0
-SessionsAreScripts = (x : Settings) (bytes : List ℕ)
+SessionsAreScripts = (x : Settings) → IsInitiators x → (bytes : List ℕ)
     → ((via : List ℕ) × (kind : Kind) × (payloads : List (List ℕ))
     × IsSession x via kind payloads bytes)
-    ↔ ((script : List Frame) × IsScript Initiator Duplex script × HasScript x script bytes
+    ↔ ((script : List Frame) × IsScript FromInitiator Duplex script × HasScript x script bytes
     × (length bytes ≤ x.limits.session))
 
 -- a report is a line for each event, in their order, and then the offence's
@@ -36,7 +37,7 @@ ReportsEvents = (x : Settings) (bytes : List ℕ)
 -- Where a session stands at the front of a stream, its parts are the report, whatever follows.
 abbrev pub ReportsSessions : Type 0
 ReportsSessions =
-    (x : Settings) (via : List ℕ) (kind : Kind) (payloads : List (List ℕ)) (session rest : List ℕ)
+    (x : Settings) → IsInitiators x → (via : List ℕ) (kind : Kind) (payloads : List (List ℕ)) (session rest : List ℕ)
     → IsSession x via kind payloads session
     → report x (session ++ rest) ≡ session_report via kind payloads (length session)
 
@@ -71,7 +72,7 @@ NoPieceCutsOff = (x : Settings) (p y : List ℕ) (n : ℕ) (o : Offence)
 
 -- the end of the input does where the session isn't over, and shows nothing else
 abbrev pub CutOffByEnd : Type 0
-CutOffByEnd = (x : Settings) (p : List ℕ) (from : ℕ)
+CutOffByEnd = (x : Settings) → IsInitiators x → (p : List ℕ) (from : ℕ)
     → (ending_at (stream x) p ≡ Some (offence_at from Truncated)) ↔ IsCutOff x p from
 
 abbrev pub EndCutsOff : Type 0
@@ -105,7 +106,7 @@ TooLongAtQuota = (x : Settings) (bytes : List ℕ) (from : ℕ)
 
 -- a stream is cut off exactly where nothing of it is refused and it isn't over
 abbrev pub CutOffUnrefused : Type 0
-CutOffUnrefused = (x : Settings) (bytes : List ℕ) (from : ℕ)
+CutOffUnrefused = (x : Settings) → IsInitiators x → (bytes : List ℕ) (from : ℕ)
     → (offence x bytes ≡ Some (offence_at from Truncated))
     ↔ (((i : ℕ) → i ≤ length bytes → refusal_at (stream x) (take i bytes) ≡ None)
     × IsCutOff x bytes from)

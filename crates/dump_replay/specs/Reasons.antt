@@ -1,4 +1,4 @@
--- Which bytes of an initiator's stream give each reason for refusing it.
+-- Which bytes of a stream give each reason for refusing it.
 use Rattle.std.specs.Prelude.{◌≡◌, ◌≢◌, ℕ, ◌<◌, ◌≤◌, ◌⊎◌, List, [], ◌∷◌, ◌++◌, length, drop, false}
 use Rattle.unit_streams.specs.Grammar.{standing}
 use Rattle.unit_streams.specs.Judging.{is_over_at}
@@ -6,10 +6,11 @@ use Rattle.unit_streams.specs.Going.{IsGoing}
 use Rattle.unit_streams.specs.Refusals.{AreUnits}
 use Rattle.multibyte_ints.specs.Integer.{Spells}
 use Rattle.multibyte_ints.specs.Laws.{FifthIsAbove}
+use Rattle.nbfx_values.specs.declared.session.Kind.TheVariants.{Plain, Session}
+use Rattle.nbfx_values.specs.Session.{mode_number, kind_number}
 use Rattle.nbfx_values.specs.declared.refusals.Reason.{Reason}
 use Rattle.nbfx_values.specs.declared.refusals.Reason.TheVariants as reasons
 use Rattle.nbfx_values.specs.Refusals.{reason_number}
-use Rattle.nmf_records.specs.declared.script.Direction.TheVariants.{Initiator}
 use Rattle.nmf_records.specs.declared.script.Due.{Due}
 use Rattle.nmf_records.specs.declared.script.Due.TheVariants as dues
 use Rattle.nmf_records.specs.declared.record_types.TheConstants.{VERSION, MODE, KNOWN_ENCODING, SIZED_ENVELOPE}
@@ -19,9 +20,9 @@ use Rattle.dump_replay.specs.declared.stage.Stage.TheVariants as stages
 use Rattle.dump_replay.specs.Stream.{Settings, unexpected, open_from, stream}
 
 -- a known type that may not come, which is answered so
-abbrev pub BeginsOtherwise : Due → List ℕ → Reason → Type 0
-BeginsOtherwise due bytes reason =
-    (t : ℕ) × BeginsUnexpected (may_come Initiator due) bytes t × (unexpected due t ≡ reason)
+abbrev pub BeginsOtherwise : Settings → Due → List ℕ → Reason → Type 0
+BeginsOtherwise x due bytes reason =
+    (t : ℕ) × BeginsUnexpected (may_come x.direction due) bytes t × (unexpected due t ≡ reason)
 
 -- a version other than 1.0
 abbrev pub IsOtherVersion : Due → List ℕ → Type 0
@@ -29,15 +30,16 @@ IsOtherVersion due bytes =
     (major : ℕ) × (minor : ℕ) × (due ≡ dues.Version) × (bytes ≡ VERSION ∷ major ∷ minor ∷ [])
     × ((major ≢ 1) ⊎ (minor ≢ 0))
 
--- a mode other than duplex
-abbrev pub IsOtherMode : Due → List ℕ → Type 0
-IsOtherMode due bytes = (mode : ℕ) × (due ≡ dues.Mode) × (bytes ≡ MODE ∷ mode ∷ []) × (mode ≢ 2)
+-- a mode other than the settings'
+abbrev pub IsOtherMode : Settings → Due → List ℕ → Type 0
+IsOtherMode x due bytes = (mode : ℕ) × (due ≡ dues.Mode) × (bytes ≡ MODE ∷ mode ∷ [])
+    × (mode ≢ mode_number x.mode)
 
 -- a known encoding other than binary, with a session's strings or without
 abbrev pub IsOtherEncoding : Due → List ℕ → Type 0
 IsOtherEncoding due bytes =
     (encoding : ℕ) × (due ≡ dues.Encoding) × (bytes ≡ KNOWN_ENCODING ∷ encoding ∷ [])
-    × (encoding ≢ 7) × (encoding ≢ 8)
+    × (encoding ≢ kind_number Plain) × (encoding ≢ kind_number Session)
 
 -- the head of an envelope with a payload above the quota
 abbrev pub IsLargeHead : Settings → Due → List ℕ → Type 0
@@ -48,18 +50,18 @@ IsLargeHead x due bytes =
 -- bytes that show the reason where this is due
 abbrev pub Shows : Settings → Due → List ℕ → Reason → Type 0
 Shows x due bytes reasons.BadInt =
-    (k : ℕ) × IntegerComes (may_come Initiator due) bytes k × FifthIsAbove (drop k bytes)
-Shows x due bytes reasons.UnknownRecord = BeginsUnknown (may_come Initiator due) bytes
-Shows x due bytes reasons.OutOfOrder = BeginsOtherwise due bytes reasons.OutOfOrder
+    (k : ℕ) × IntegerComes (may_come x.direction due) bytes k × FifthIsAbove (drop k bytes)
+Shows x due bytes reasons.UnknownRecord = BeginsUnknown (may_come x.direction due) bytes
+Shows x due bytes reasons.OutOfOrder = BeginsOtherwise x due bytes reasons.OutOfOrder
 Shows x due bytes reasons.BadVersion = IsOtherVersion due bytes
-Shows x due bytes reasons.BadMode = IsOtherMode due bytes
+Shows x due bytes reasons.BadMode = IsOtherMode x due bytes
 Shows x due bytes reasons.TextTooLong =
-    (n : ℕ) × HasLongText x.limits.via (may_come Initiator due) bytes n
+    (n : ℕ) × HasLongText x.limits.via (may_come x.direction due) bytes n
 Shows x due bytes reasons.TextNotUtf8 =
-    (n : ℕ) × HasBadText x.limits.via (may_come Initiator due) bytes n
+    (n : ℕ) × HasBadText x.limits.via (may_come x.direction due) bytes n
 Shows x due bytes reasons.BadEncoding =
-    IsOtherEncoding due bytes ⊎ BeginsOtherwise due bytes reasons.BadEncoding
-Shows x due bytes reasons.UpgradeRefused = BeginsOtherwise due bytes reasons.UpgradeRefused
+    IsOtherEncoding due bytes ⊎ BeginsOtherwise x due bytes reasons.BadEncoding
+Shows x due bytes reasons.UpgradeRefused = BeginsOtherwise x due bytes reasons.UpgradeRefused
 Shows x due bytes reasons.MessageTooLarge = IsLargeHead x due bytes
 Shows x due bytes _ = ⊥
 

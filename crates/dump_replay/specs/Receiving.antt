@@ -1,26 +1,35 @@
 -- What a receiver stands for, and what it shows. It keeps of the bytes that it used no more than the framing's text.
-use Rattle.std.specs.Prelude.{◌≡◌, ℕ, ◌≤◌, List, [], length, Option, Some, None}
+use Rattle.std.specs.Prelude.{◌≡◌, ℕ, ◌≤◌, List, [], length, Option, Some, None, refl}
 use Rattle.unit_streams.specs.Grammar.{standing}
 use Rattle.unit_streams.specs.Going.{IsGoing}
 use Rattle.nbfx_values.specs.QuotasOf.{limits_of}
 use Rattle.nbfx_values.specs.declared.refusals.Offence.{Offence}
 use Rattle.nmf_records.specs.declared.frame.Expect.{Expect}
 use Rattle.nmf_records.specs.declared.reader.FrameReader.{FrameReader}
-use Rattle.nmf_records.specs.declared.script.Direction.TheVariants.{Initiator}
+use Rattle.nmf_records.specs.declared.script.Direction.TheVariants.{FromInitiator}
 use Rattle.nmf_records.specs.Reader.{StandsFor as FrameStandsFor, ShowsText, held_of as text_held_of}
 use Rattle.nmf_records.specs.Script.{may_come}
 use Rattle.dump_replay.specs.declared.receiver.Receiver.{Receiver}
 use Rattle.dump_replay.specs.declared.stage.Stage.{Stage}
 use Rattle.dump_replay.specs.declared.stage.Stage.TheVariants as stages
-use Rattle.dump_replay.specs.Stream.{Settings, stream}
+use Rattle.dump_replay.specs.Stream.{Settings, initiators, IsInitiators, stream}
 
 -- what the receiver is set to
 unfoldable pub settings_of : Receiver → Settings
-settings_of r = record { limits = limits_of r.quotas }
+settings_of r = initiators (limits_of r.quotas)
+
+-- it reads an initiator's stream
+pub reads_initiators : (r : Receiver) → IsInitiators (settings_of r)
+unfolding settings_of
+reads_initiators r = record { direction = refl; mode = refl }
 
 -- how many bytes it has used, or that show its offence
 unfoldable pub taken_of : Receiver → ℕ
 taken_of r = r.taken
+
+-- how many envelopes were whole
+unfoldable pub messages_of : Receiver → ℕ
+messages_of r = r.messages
 
 -- the offence that it answers from now on
 unfoldable pub failure_of : Receiver → Option Offence
@@ -37,7 +46,7 @@ ShowsVia r via = ShowsText r.frames via
 -- the reader of records has these bytes of one, or, where a payload is passed over, of none
 abbrev pub HasBegun : Stage → FrameReader → List ℕ → Type 0
 HasBegun (stages.Payload p) frames begun = (next : Expect) → FrameStandsFor frames next []
-HasBegun (stages.Record due) frames begun = FrameStandsFor frames (may_come Initiator due) begun
+HasBegun (stages.Record due) frames begun = FrameStandsFor frames (may_come FromInitiator due) begun
 
 -- it has come as far as p, and isn't refused
 pub record Reached (r : Receiver) (x : Settings) (p : List ℕ) : Type 0 where
@@ -61,11 +70,12 @@ pub counts_taken : (r : Receiver) (p : List ℕ) → StandsFor r p → taken_of 
 unfolding StandsFor taken_of
 counts_taken r p stands = stands.taken
 
--- what a refused receiver shows: the offence, and of the bytes p that show it how many they are and their Via
+-- what a refused receiver shows: the offence, and of the bytes p that show it how many they are, their Via and their envelopes
 pub record Failed (r : Receiver) (x : Settings) (o : Offence) (p : List ℕ) : Type 0 where
   pub failure : failure_of r ≡ Some o
   pub taken : taken_of r ≡ length p
   pub via : ShowsVia r (standing (stream x) p).situation.via
+  pub messages : messages_of r ≡ (standing (stream x) p).situation.messages
 
 unfoldable pub FailedBehind : Receiver → Offence → List ℕ → Type 0
 FailedBehind r o p = Failed r (settings_of r) o p

@@ -2,7 +2,8 @@
 -- of a script.
 use Rattle.std.specs.Prelude.{◌≡◌, ℕ, ◌≤◌, List, [], ◌∷◌, ◌++◌, length, None}
 use Rattle.nbfx_values.specs.declared.session.Kind.{Kind}
-use Rattle.nbfx_values.specs.Session.{kind_number}
+use Rattle.nbfx_values.specs.declared.session.Mode.TheVariants.{Duplex}
+use Rattle.nbfx_values.specs.Session.{mode_number, kind_number}
 use Rattle.nmf_records.specs.declared.frame.Frame.{Frame}
 use Rattle.nmf_records.specs.declared.frame.Frame.TheVariants.{Version, Mode, Via, KnownEncoding, SizedEnvelope, End, PreambleEnd}
 use Rattle.nmf_records.specs.Records.{IsRecordOf}
@@ -21,18 +22,18 @@ pub record IsPreamble (x : Settings) (via : List ℕ) (kind : Kind) (bytes : Lis
   pub end : List ℕ
   pub joined : bytes ≡ version ++ mode ++ via_record ++ encoding ++ end
   pub is_version : IsBare (Version 1 0) version
-  pub is_mode : IsBare (Mode 2) mode
+  pub is_mode : IsBare (Mode (mode_number Duplex)) mode
   pub is_via : IsRecordOf Via via via_record
   pub via_within : length via ≤ x.limits.via
   pub is_encoding : IsBare (KnownEncoding (kind_number kind)) encoding
   pub is_end : IsBare PreambleEnd end
 
 -- one sized envelope for each payload
-abbrev pub AreEnvelopes : Settings → List (List ℕ) → List ℕ → Type 0
-AreEnvelopes x [] bytes = bytes ≡ []
-AreEnvelopes x (payload ∷ payloads) bytes =
+abbrev pub CarriesPayloads : Settings → List (List ℕ) → List ℕ → Type 0
+CarriesPayloads x [] bytes = bytes ≡ []
+CarriesPayloads x (payload ∷ payloads) bytes =
     (head : List ℕ) × (rest : List ℕ) × IsBare (SizedEnvelope (length payload)) head × (length payload ≤ x.limits.payload)
-    × (bytes ≡ head ++ payload ++ rest) × AreEnvelopes x payloads rest
+    × (bytes ≡ head ++ payload ++ rest) × CarriesPayloads x payloads rest
 
 -- a preamble, envelopes and End, within the session quota
 pub record IsSession (x : Settings) (via : List ℕ) (kind : Kind) (payloads : List (List ℕ)) (bytes : List ℕ) : Type 0 where
@@ -41,7 +42,7 @@ pub record IsSession (x : Settings) (via : List ℕ) (kind : Kind) (payloads : L
   pub end : List ℕ
   pub joined : bytes ≡ preamble ++ envelopes ++ end
   pub is_preamble : IsPreamble x via kind preamble
-  pub are_envelopes : AreEnvelopes x payloads envelopes
+  pub carries_payloads : CarriesPayloads x payloads envelopes
   pub is_end : IsBare End end
   pub within : length bytes ≤ x.limits.session
 

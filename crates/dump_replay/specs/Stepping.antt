@@ -9,8 +9,6 @@ use Rattle.dump_replay.specs.declared.receiver.Step.{Step}
 use Rattle.dump_replay.specs.declared.receiver.Step.TheVariants as steps
 use Rattle.dump_replay.specs.declared.receiver.Receiver.{Receiver}
 use Rattle.dump_replay.specs.declared.stage.Next.{Next}
-use Rattle.dump_replay.specs.declared.stage.Stage.{Stage}
-use Rattle.dump_replay.specs.declared.stage.Stage.TheVariants as stages
 use Rattle.dump_replay.specs.Stream.{Settings, Situation, StreamEvent, built, reason_in, offence_at, after_record, completed_record, stream}
 use Rattle.dump_replay.specs.Saying.{step_for}
 use Rattle.dump_replay.specs.Receiving.{Reached, Failed}
@@ -25,21 +23,21 @@ RefusedAs None told = told ≡ None
 RefusedAs (Some reason) told = told ≡ Some (built reason)
 
 -- where a record leads
-pub record LeadsTo (next : Next) (z : Situation) (event : Option StreamEvent) : Type 0 where
+pub record IsNext (next : Next) (z : Situation) (event : Option StreamEvent) : Type 0 where
   pub stage : next.stage ≡ z.stage
   pub kind : next.kind ≡ z.kind
   pub step : next.step ≡ step_of event
 
 -- what a whole record is answered with, of which that is refused
-abbrev pub Leads : Option Reason → Situation → Option StreamEvent → Result Next Reason → Type 0
-Leads None z event (Ok next) = LeadsTo next z event
-Leads None z event (Err reason) = ⊥
-Leads (Some reason) z event (Ok next) = ⊥
-Leads (Some reason) z event (Err told) = told ≡ built reason
+abbrev pub AnsweredBy : Option Reason → Situation → Option StreamEvent → Result Next Reason → Type 0
+AnsweredBy None z event (Ok next) = IsNext next z event
+AnsweredBy None z event (Err reason) = ⊥
+AnsweredBy (Some reason) z event (Ok next) = ⊥
+AnsweredBy (Some reason) z event (Err told) = told ≡ built reason
 
 -- what a whole record is answered with that begins at this offset in this situation
 abbrev pub RecordAnswers : Settings → Situation → ℕ → Frame → List ℕ → Result Next Reason → Type 0
-RecordAnswers x z from frame text result = Leads (reason_in x frame) (after_record z from frame text) (completed_record z from frame) result
+RecordAnswers x z from frame text result = AnsweredBy (reason_in x frame) (after_record x z from frame text) (completed_record x z from frame) result
 
 -- what bytes of one unit behind p are answered with
 abbrev pub UnitAnswers : Settings → List ℕ → List ℕ → Receiver → Result (ℕ × Step) Offence → Type 0
@@ -53,9 +51,4 @@ abbrev pub BehindAnswers : Option Reason → Situation → Option StreamEvent �
 BehindAnswers None z event new from (Ok step) = (new.stage ≡ z.stage) × (new.kind ≡ z.kind) × (new.messages ≡ z.messages) × (step ≡ step_of event)
 BehindAnswers None z event new from (Err o) = ⊥
 BehindAnswers (Some reason) z event new from (Ok step) = ⊥
-BehindAnswers (Some reason) z event new from (Err o) = (o ≡ offence_at from (built reason)) × (new.failure ≡ Some o)
-
--- it is at a payload
-abbrev pub AtPayload : Stage → Type 0
-AtPayload (stages.Payload payload) = Unit {0}
-AtPayload (stages.Record due) = ⊥
+BehindAnswers (Some reason) z event new from (Err o) = (o ≡ offence_at from (built reason)) × (new.failure ≡ Some o) × (new.messages ≡ z.messages)

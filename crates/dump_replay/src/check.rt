@@ -1,7 +1,7 @@
 //! The command that reads a stream and prints its framing.
 
 ghost use Rattle.std.specs.Prelude.{◌≡◌, ℕ, ◌≤◌, ◌<◌, List, [], ◌++◌, Option, Some, None, Err, IfOk, IfErr, OnOk, OnErr, IsErrOf};
-ghost use Rattle.io_edges.specs.Faults.{Rose};
+ghost use Rattle.io_edges.specs.Faults.{CountsFaults};
 ghost use Rattle.io_edges.specs.Flow.{Told, GrowsByPrefix};
 ghost use Rattle.unit_streams.specs.Judging.{event_at};
 ghost use Rattle.unit_streams.specs.Going.{IsPending};
@@ -49,15 +49,17 @@ fn put_event<E: ReadingEnd, O: Sink>(
     step: Step,
     output: &mut O,
 ) -> Result<(), SinkFault>
-    ensures written { (p : List ℕ) (event : StreamEvent) → E.stands end.now p → event_at (stream (E.settings end.now)) p ≡ Some event → step ≡ step_for event
-        → OnOk result (Told (O.written output.old) (O.written output.new) (λ w w'. w' ≡ w ++ event_line event)) }
-    ensures refused { (p : List ℕ) (event : StreamEvent) → E.stands end.now p → event_at (stream (E.settings end.now)) p ≡ Some event → step ≡ step_for event
-        → OnErr result (Told (O.written output.old) (O.written output.new) (λ w w'. GrowsByPrefix w w' (event_line event))) }
+    ensures written { (p : List ℕ) (event : StreamEvent) → E.stands end.now p
+        → event_at (stream (E.settings end.now)) p ≡ Some event → step ≡ step_for event
+        → OnOk result (Told (O.written output.old) (O.written output.new)
+        (λ w w'. w' ≡ w ++ event_line event)) }
+    ensures refused { (p : List ℕ) (event : StreamEvent) → E.stands end.now p
+        → event_at (stream (E.settings end.now)) p ≡ Some event → step ≡ step_for event
+        → OnErr result (Told (O.written output.old) (O.written output.new)
+        (λ w w'. GrowsByPrefix w w' (event_line event))) }
     ensures grows { Told (O.written output.old) (O.written output.new) Grows }
-    ensures good { OnOk result (O.faults output.new ≡ O.faults output.old) }
-    ensures failed { IsErrOf result SinkFault.Failed → Rose (O.faults output.old) (O.faults output.new) }
-    ensures memory { IsErrOf result SinkFault.Memory → O.faults output.new ≡ O.faults output.old }
-    ensures faults { O.faults output.old ≤ O.faults output.new }
+    ensures counted { CountsFaults (O.faults output.old) (O.faults output.new)
+        (IsErrOf result SinkFault.Failed) }
 {
     put_line(output, end.line(alloc, step))
 }
@@ -70,15 +72,16 @@ fn read<E: ReadingEnd, O: Sink>(
     output: &mut O,
 ) -> Result<Progress, SinkFault>
     requires going { (p : List ℕ) × HasRead (E.stands end.old) (E.settings end.old) p }
-    ensures says { (p : List ℕ) → HasRead (E.stands end.old) (E.settings end.old) p → SaysOf (E.stands end.new) (E.settings end.old) p piece.now result }
-    ensures writes { (p w : List ℕ) → HasRead (E.stands end.old) (E.settings end.old) p → O.written output.old ≡ Some (w ++ event_lines (E.settings end.old) p)
-        → (w' : List ℕ) × (O.written output.new ≡ Some w') × WritesOf (E.settings end.old) p piece.now w w' result }
+    ensures says { (p : List ℕ) → HasRead (E.stands end.old) (E.settings end.old) p
+        → SaysOf (E.stands end.new) (E.settings end.old) p piece.now result }
+    ensures writes { (p w : List ℕ) → HasRead (E.stands end.old) (E.settings end.old) p
+        → O.written output.old ≡ Some (w ++ event_lines (E.settings end.old) p)
+        → (w' : List ℕ) × (O.written output.new ≡ Some w')
+        × WritesOf (E.settings end.old) p piece.now w w' result }
     ensures settings { E.settings end.new ≡ E.settings end.old }
     ensures grows { Told (O.written output.old) (O.written output.new) Grows }
-    ensures good { OnOk result (O.faults output.new ≡ O.faults output.old) }
-    ensures failed { IsErrOf result SinkFault.Failed → Rose (O.faults output.old) (O.faults output.new) }
-    ensures memory { IsErrOf result SinkFault.Memory → O.faults output.new ≡ O.faults output.old }
-    ensures faults { O.faults output.old ≤ O.faults output.new }
+    ensures counted { CountsFaults (O.faults output.old) (O.faults output.new)
+        (IsErrOf result SinkFault.Failed) }
 {
     let mut used = 0;
     loop {
@@ -109,16 +112,18 @@ fn finish<E: ReadingEnd, O: Sink>(
     end: &mut E,
     output: &mut O,
 ) -> Result<Option<Offence>, SinkFault>
-    ensures says { (p : List ℕ) → HasRead (E.stands end.old) (E.settings end.old) p → IsPending (stream (E.settings end.old)) p → IfOk result (λ o. offence (E.settings end.old) p ≡ o) }
-    ensures writes { (p w : List ℕ) → HasRead (E.stands end.old) (E.settings end.old) p → IsPending (stream (E.settings end.old)) p
+    ensures says { (p : List ℕ) → HasRead (E.stands end.old) (E.settings end.old) p
+        → IsPending (stream (E.settings end.old)) p
+        → IfOk result (λ o. offence (E.settings end.old) p ≡ o) }
+    ensures writes { (p w : List ℕ) → HasRead (E.stands end.old) (E.settings end.old) p
+        → IsPending (stream (E.settings end.old)) p
         → O.written output.old ≡ Some (w ++ event_lines (E.settings end.old) p)
-        → (w' : List ℕ) × (O.written output.new ≡ Some w') × OnOk result (w' ≡ w ++ report (E.settings end.old) p)
+        → (w' : List ℕ) × (O.written output.new ≡ Some w')
+        × OnOk result (w' ≡ w ++ report (E.settings end.old) p)
         × OnErr result (GrowsByPrefix w w' (report (E.settings end.old) p)) }
     ensures grows { Told (O.written output.old) (O.written output.new) Grows }
-    ensures good { OnOk result (O.faults output.new ≡ O.faults output.old) }
-    ensures failed { IsErrOf result SinkFault.Failed → Rose (O.faults output.old) (O.faults output.new) }
-    ensures memory { IsErrOf result SinkFault.Memory → O.faults output.new ≡ O.faults output.old }
-    ensures faults { O.faults output.old ≤ O.faults output.new }
+    ensures counted { CountsFaults (O.faults output.old) (O.faults output.new)
+        (IsErrOf result SinkFault.Failed) }
 {
     match end.end_of_input() {
         Ok(()) => Ok(None),
@@ -138,21 +143,27 @@ fn report_stream<I: Source, O: Sink, E: ReadingEnd + Drop>(
 ) -> Ending
     requires fresh { E.stands end [] }
     requires room { 0 < (E.settings end).limits.session }
-    ensures judges { (bytes : List ℕ) → I.left input.old ≡ Some bytes → Judges (E.settings end) bytes result }
-    ensures reports { (bytes w : List ℕ) → I.left input.old ≡ Some bytes → O.written output.old ≡ Some w
-        → (w' : List ℕ) × (O.written output.new ≡ Some w') × Reports (E.settings end) bytes w w' result }
-    ensures decides { (o : Option Refusal) → result ≡ Ending.Judged o → Decides (E.settings end) o (I.left input.old) (I.left input.new) (I.taken input.old) (I.taken input.new)
+    ensures judges { (bytes : List ℕ) → I.left input.old ≡ Some bytes
+        → Judges (E.settings end) bytes result }
+    ensures reports { (bytes w : List ℕ) → I.left input.old ≡ Some bytes
+        → O.written output.old ≡ Some w
+        → (w' : List ℕ) × (O.written output.new ≡ Some w')
+        × Reports (E.settings end) bytes w w' result }
+    ensures decides { (o : Option Refusal) → result ≡ Ending.Judged o
+        → Decides (E.settings end) o (I.left input.old) (I.left input.new) (I.taken input.old)
+        (I.taken input.new)
         (O.written output.old) (O.written output.new) }
-    ensures breaks { result ≡ Ending.ReadFault → Breaks (E.settings end) (I.left input.old) (I.left input.new) (I.taken input.old) (I.taken input.new)
+    ensures breaks { result ≡ Ending.ReadFault
+        → Breaks (E.settings end) (I.left input.old) (I.left input.new) (I.taken input.old)
+        (I.taken input.new)
         (O.written output.old) (O.written output.new) }
-    ensures reaches { Reaches (E.settings end) (I.left input.old) (I.left input.new) (I.taken input.old) (I.taken input.new)
+    ensures reaches { Reaches (E.settings end) (I.left input.old) (I.left input.new)
+        (I.taken input.old) (I.taken input.new)
         (O.written output.old) (O.written output.new) }
-    ensures read_failed { result ≡ Ending.ReadFault → Rose (I.faults input.old) (I.faults input.new) }
-    ensures read_well { (result ≡ Ending.ReadFault → ⊥) → I.faults input.new ≡ I.faults input.old }
-    ensures write_failed { result ≡ Ending.WriteFault → Rose (O.faults output.old) (O.faults output.new) }
-    ensures written_well { (result ≡ Ending.WriteFault → ⊥) → O.faults output.new ≡ O.faults output.old }
-    ensures input_faults { I.faults input.old ≤ I.faults input.new }
-    ensures output_faults { O.faults output.old ≤ O.faults output.new }
+    ensures reads_counted { CountsFaults (I.faults input.old) (I.faults input.new)
+        (result ≡ Ending.ReadFault) }
+    ensures writes_counted { CountsFaults (O.faults output.old) (O.faults output.new)
+        (result ≡ Ending.WriteFault) }
 {
     let Ok(mut room) = vec![in alloc; 0u8; ROOM] else {
         return Ending::Memory;
@@ -176,22 +187,23 @@ fn report_stream<I: Source, O: Sink, E: ReadingEnd + Drop>(
 /// Reads the initiator's stream that the input gives, and puts its report.
 pub fn check<I: Source, O: Sink>(alloc: Global, input: &mut I, output: &mut O) -> Ending
     ensures judges { (bytes : List ℕ) → I.left input.old ≡ Some bytes → Judges usual bytes result }
-    ensures reports { (bytes w : List ℕ) → I.left input.old ≡ Some bytes → O.written output.old ≡ Some w
+    ensures reports { (bytes w : List ℕ) → I.left input.old ≡ Some bytes
+        → O.written output.old ≡ Some w
         → (w' : List ℕ) × (O.written output.new ≡ Some w') × Reports usual bytes w w' result }
-    ensures decides { (o : Option Refusal) → result ≡ Ending.Judged o → Decides usual o (I.left input.old) (I.left input.new) (I.taken input.old) (I.taken input.new)
+    ensures decides { (o : Option Refusal) → result ≡ Ending.Judged o
+        → Decides usual o (I.left input.old) (I.left input.new) (I.taken input.old)
+        (I.taken input.new)
         (O.written output.old) (O.written output.new) }
-    ensures breaks { result ≡ Ending.ReadFault → Breaks usual (I.left input.old) (I.left input.new) (I.taken input.old) (I.taken input.new)
+    ensures breaks { result ≡ Ending.ReadFault
+        → Breaks usual (I.left input.old) (I.left input.new) (I.taken input.old) (I.taken input.new)
         (O.written output.old) (O.written output.new) }
-    ensures reaches { Reaches usual (I.left input.old) (I.left input.new) (I.taken input.old) (I.taken input.new)
+    ensures reaches { Reaches usual (I.left input.old) (I.left input.new) (I.taken input.old)
+        (I.taken input.new)
         (O.written output.old) (O.written output.new) }
-
-    // The counts of outside faults.
-    ensures read_failed { result ≡ Ending.ReadFault → Rose (I.faults input.old) (I.faults input.new) }
-    ensures read_well { (result ≡ Ending.ReadFault → ⊥) → I.faults input.new ≡ I.faults input.old }
-    ensures write_failed { result ≡ Ending.WriteFault → Rose (O.faults output.old) (O.faults output.new) }
-    ensures written_well { (result ≡ Ending.WriteFault → ⊥) → O.faults output.new ≡ O.faults output.old }
-    ensures input_faults { I.faults input.old ≤ I.faults input.new }
-    ensures output_faults { O.faults output.old ≤ O.faults output.new }
+    ensures reads_counted { CountsFaults (I.faults input.old) (I.faults input.new)
+        (result ≡ Ending.ReadFault) }
+    ensures writes_counted { CountsFaults (O.faults output.old) (O.faults output.new)
+        (result ≡ Ending.WriteFault) }
 {
     let Ok(receiver) = Receiver::new(alloc, Quotas::usual()) else {
         return Ending::Memory;

@@ -1,15 +1,18 @@
-//! What holds of an initiator's streams by their definitions alone. Each function does nothing: its
-//! contract is a law, which a caller has where it calls the function.
+//! What holds of streams by their definitions alone. Each function does nothing: its contract is a
+//! law, which a caller has where it calls the function. What a law says of sessions, or of a stream
+//! that is cut off, it says of settings for an initiator's stream in duplex mode.
 
-ghost use Rattle.unit_streams.specs.Laws.{StandingsGoOn, AnswersAreFirst, CutsChangeNothing, HistoryIsAnswers, NoUnitGoesOn, EndsAreClosed, OffencesAreFirst};
+ghost use Rattle.unit_streams.specs.Laws.{StandingsGoOn, AnswersAreFirst, CutsChangeNothing, HistoryIsAnswers, NoUnitGoesOn, EndsAreClosed, OffencesAreFirst, AcceptedOrOffended};
 ghost use Rattle.unit_streams.specs.Refusals.{RefusalsAreThree};
 ghost use Rattle.dump_replay.specs.Stream.{Settings, stream};
 ghost use Rattle.dump_replay.specs.Laws.{ClosedOrRefused, SessionsAreScripts, ReportsEvents, ReportsSessions, ThreeReasons, UnbuiltByRecord, UnbuiltFirst, TooLargeByHead, TooLargeFirst, TooLongByLength, TooLongAtQuota, NoPieceCutsOff, CutOffByEnd, EndCutsOff, CutOffUnrefused};
 
-/// A stream either is closed, which is that a session stands at its front, or has an offence, which
-/// is one: what refuses it is a function of its bytes.
+/// A stream either is closed or has an offence, which is one: what refuses it is a function of its
+/// bytes. It is closed where its units, of which none is refused, lead to where the input may end,
+/// which is that a session stands at its front.
 pub fn closed_or_refused()
-    ensures { ClosedOrRefused }
+    ensures accepted { (x : Settings) → AcceptedOrOffended (stream x) }
+    ensures closed { ClosedOrRefused }
 {}
 
 /// A session is the records of a script of the standard, each with the payload behind it, none of

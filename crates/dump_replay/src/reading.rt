@@ -3,7 +3,7 @@
 ghost use Rattle.std.specs.Prelude.{◌≡◌, ℕ, ◌≤◌, List, ◌++◌, length, take, IfOk, Some, false};
 ghost use Rattle.std.specs.String.{string_bytes};
 ghost use Rattle.unit_streams.specs.Judging.{answer, event_at, is_over_at, ending_at};
-ghost use Rattle.dump_replay.specs.Stream.{Settings, StreamEvent, stream};
+ghost use Rattle.dump_replay.specs.Stream.{Settings, IsInitiators, StreamEvent, stream};
 ghost use Rattle.dump_replay.specs.Report.{event_line};
 ghost use Rattle.dump_replay.specs.Saying.{said, said_at_end, step_for};
 
@@ -26,21 +26,28 @@ pub trait ReadingEnd {
     /// how many they are.
     fn feed(&mut self, piece: &[u8]) -> Result<(usize, Step), Offence>
         ensures within { IfOk result (λ answer. answer.0 ≤ length piece.now) }
-        ensures answers { (p : List ℕ) → stands self.old p → is_over_at (stream (settings self.old)) p ≡ false
+        ensures answers { (p : List ℕ) → stands self.old p
+            → is_over_at (stream (settings self.old)) p ≡ false
             → result ≡ said (length piece.now) (answer (stream (settings self.old)) p piece.now) }
-        ensures stands { (p : List ℕ) → stands self.old p → IfOk result (λ step. stands self.new (p ++ take step.0 piece.now)) }
+        ensures stands { (p : List ℕ) → stands self.old p
+            → IfOk result (λ step. stands self.new (p ++ take step.0 piece.now)) }
         ensures settings { settings self.new ≡ settings self.old };
 
     /// Says that the input is over.
     fn end_of_input(&mut self) -> Result<(), Offence>
-        ensures answers { (p : List ℕ) → stands self.old p → result ≡ said_at_end (ending_at (stream (settings self.old)) p) }
+        ensures answers { (p : List ℕ) → stands self.old p
+            → result ≡ said_at_end (ending_at (stream (settings self.old)) p) }
         ensures settings { settings self.new ≡ settings self.old };
 
     /// The line of an event that the bytes used have just completed.
     fn line(&self, alloc: Global, step: Step) -> Result<String, AllocError>
-        ensures { (p : List ℕ) (event : StreamEvent) → stands self.now p → event_at (stream (settings self.now)) p ≡ Some event → step ≡ step_for event
+        ensures { (p : List ℕ) (event : StreamEvent) → stands self.now p
+            → event_at (stream (settings self.now)) p ≡ Some event → step ≡ step_for event
             → IfOk result (λ line. string_bytes line ≡ event_line event) };
 
     /// It has used the bytes that it stands for.
     ghost counts: { (end : Self) (p : List ℕ) → stands end p → taken end ≡ length p };
+
+    /// It reads an initiator's stream in duplex mode.
+    ghost initiators: { (end : Self) → IsInitiators (settings end) };
 }

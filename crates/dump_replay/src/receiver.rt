@@ -4,10 +4,11 @@ ghost use Rattle.std.specs.Prelude.{◌≡◌, ℕ, ◌+◌, ◌^◌, ◌≤◌,
 ghost use Rattle.unit_streams.specs.Grammar.{standing};
 ghost use Rattle.unit_streams.specs.Judging.{answer, used, is_over_at, ending_at};
 ghost use Rattle.unit_streams.specs.Going.{IsGoing};
+ghost use Rattle.nbfx_values.specs.Limits.{Limits};
 ghost use Rattle.nbfx_values.specs.QuotasOf.{limits_of};
 ghost use Rattle.nbfx_values.specs.declared.refusals.Offence.{Offence as Refusal};
 ghost use Rattle.nmf_records.specs.Reader.{limit_of};
-ghost use Rattle.dump_replay.specs.Stream.{Settings, Situation, stream, reason_in, after_record, completed_record, open_from, offence_at, is_over_in};
+ghost use Rattle.dump_replay.specs.Stream.{Situation, initiators, IsInitiators, stream, reason_in, after_record, completed_record, open_from, offence_at, is_over_in};
 
 use crate::reading::ReadingEnd;
 use crate::report;
@@ -48,7 +49,7 @@ pub struct Receiver {
 }
 
 impl Receiver {
-    ghost use Rattle.dump_replay.specs.Receiving.{settings_of, taken_of, failure_of, held_of, StandsFor, FailedBehind, ShowsVia, Reached};
+    ghost use Rattle.dump_replay.specs.Receiving.{settings_of, taken_of, messages_of, failure_of, held_of, StandsFor, FailedBehind, ShowsVia, Reached};
     ghost use Rattle.dump_replay.specs.Saying.{said, said_at_end};
     ghost use Rattle.dump_replay.specs.Stepping.{UnitAnswers, BehindAnswers};
 
@@ -56,12 +57,14 @@ impl Receiver {
     pub fn new(alloc: Global, quotas: Quotas) -> Result<Receiver, Memory>
         ensures stands { IfOk result (λ receiver. StandsFor receiver []) }
         ensures via { IfOk result (λ receiver. ShowsVia receiver []) }
-        ensures settings { IfOk result (λ receiver. settings_of receiver ≡ record { limits = limits_of quotas }) }
+        ensures settings { IfOk result (λ receiver. IsInitiators (settings_of receiver)) }
+        ensures limits { IfOk result
+            (λ receiver. (settings_of receiver).limits ≡ limits_of quotas) }
     {
         Ok(Receiver {
             quotas,
             frames: FrameReader::new(alloc, quotas.via)?,
-            stage: Stage::Record(Due::first(Direction::Initiator)),
+            stage: Stage::Record(Due::first(Direction::FromInitiator)),
             kind: Kind::Session,
             messages: 0,
             taken: 0,
@@ -76,17 +79,23 @@ impl Receiver {
     pub fn feed(&mut self, piece: &[u8]) -> Result<(usize, Step), Offence>
         ensures within { IfOk result (λ answer. answer.0 ≤ length piece.now) }
         // The answer is decided at the first byte that completes an event or shows a refusal.
-        ensures answers { (p : List ℕ) → StandsFor self.old p → is_over_at (stream (settings_of self.old)) p ≡ false
-            → result ≡ said (length piece.now) (answer (stream (settings_of self.old)) p piece.now) }
-        ensures ended { (p : List ℕ) → StandsFor self.old p → is_over_at (stream (settings_of self.old)) p ≡ true
+        ensures answers { (p : List ℕ) → StandsFor self.old p
+            → is_over_at (stream (settings_of self.old)) p ≡ false
+            → result ≡ said (length piece.now)
+            (answer (stream (settings_of self.old)) p piece.now) }
+        ensures ended { (p : List ℕ) → StandsFor self.old p
+            → is_over_at (stream (settings_of self.old)) p ≡ true
             → result ≡ Ok (0, Step.Ended) }
         ensures repeated { (o : Refusal) → failure_of self.old ≡ Some o → result ≡ Err o }
         ensures unchanged { (o : Refusal) → failure_of self.old ≡ Some o → self.new ≡ self.old }
 
         // What it stands for then, or shows of what is refused.
-        ensures stands { (p : List ℕ) → StandsFor self.old p → IfOk result (λ step. StandsFor self.new (p ++ take step.0 piece.now)) }
-        ensures failed { (p : List ℕ) → StandsFor self.old p → IfErr result (λ o. FailedBehind self.new o
-            (p ++ take (used (length piece.now) (answer (stream (settings_of self.old)) p piece.now)) piece.now)) }
+        ensures stands { (p : List ℕ) → StandsFor self.old p
+            → IfOk result (λ step. StandsFor self.new (p ++ take step.0 piece.now)) }
+        ensures failed { (p : List ℕ) → StandsFor self.old p
+            → IfErr result (λ o. FailedBehind self.new o
+            (p ++ take (used (length piece.now)
+            (answer (stream (settings_of self.old)) p piece.now)) piece.now)) }
         ensures refused { IfErr result (λ o. failure_of self.new ≡ Some o) }
         ensures settings { settings_of self.new ≡ settings_of self.old }
     {
@@ -118,10 +127,12 @@ impl Receiver {
 
     /// Says that the input is over, which is no offence exactly after the session's end.
     pub fn end_of_input(&mut self) -> Result<(), Offence>
-        ensures answers { (p : List ℕ) → StandsFor self.old p → result ≡ said_at_end (ending_at (stream (settings_of self.old)) p) }
+        ensures answers { (p : List ℕ) → StandsFor self.old p
+            → result ≡ said_at_end (ending_at (stream (settings_of self.old)) p) }
         ensures repeated { (o : Refusal) → failure_of self.old ≡ Some o → result ≡ Err o }
         ensures unchanged { (o : Refusal) → failure_of self.old ≡ Some o → self.new ≡ self.old }
-        ensures failed { (p : List ℕ) → StandsFor self.old p → IfErr result (λ o. FailedBehind self.new o p) }
+        ensures failed { (p : List ℕ) → StandsFor self.old p
+            → IfErr result (λ o. FailedBehind self.new o p) }
         ensures via { (via : List ℕ) → ShowsVia self.old via → ShowsVia self.new via }
         ensures held { held_of self.new ≡ held_of self.old }
         ensures refused { IfErr result (λ o. failure_of self.new ≡ Some o) }
@@ -142,8 +153,10 @@ impl Receiver {
     /// The Via, once its record is whole, and else the empty text.
     pub fn via(&self) -> &str
         ensures shown { (via : List ℕ) → ShowsVia self.now via → result.now ≡ via }
-        ensures stands { (p : List ℕ) → StandsFor self.now p → result.now ≡ (standing (stream (settings_of self.now)) p).situation.via }
-        ensures failed { (o : Refusal) (p : List ℕ) → FailedBehind self.now o p → result.now ≡ (standing (stream (settings_of self.now)) p).situation.via }
+        ensures stands { (p : List ℕ) → StandsFor self.now p
+            → result.now ≡ (standing (stream (settings_of self.now)) p).situation.via }
+        ensures failed { (o : Refusal) (p : List ℕ) → FailedBehind self.now o p
+            → result.now ≡ (standing (stream (settings_of self.now)) p).situation.via }
     {
         self.frames.text()
     }
@@ -152,15 +165,21 @@ impl Receiver {
     pub fn taken(&self) -> u64
         ensures counted { result ≡ taken_of self.now }
         ensures stands { (p : List ℕ) → StandsFor self.now p → result ≡ length p }
-        ensures failed { (o : Refusal) (p : List ℕ) → FailedBehind self.now o p → result ≡ length p }
-        ensures within { (p : List ℕ) → StandsFor self.now p → length p ≤ (settings_of self.now).limits.session }
+        ensures failed { (o : Refusal) (p : List ℕ) → FailedBehind self.now o p
+            → result ≡ length p }
+        ensures within { (p : List ℕ) → StandsFor self.now p
+            → length p ≤ (settings_of self.now).limits.session }
     {
         self.taken
     }
 
-    /// How many envelopes are whole.
+    /// How many envelopes are whole; after an offence of `feed`, of the bytes that show it.
     pub fn messages(&self) -> u64
-        ensures { (p : List ℕ) → StandsFor self.now p → result ≡ (standing (stream (settings_of self.now)) p).situation.messages }
+        ensures counted { result ≡ messages_of self.now }
+        ensures stands { (p : List ℕ) → StandsFor self.now p
+            → result ≡ (standing (stream (settings_of self.now)) p).situation.messages }
+        ensures failed { (o : Refusal) (p : List ℕ) → FailedBehind self.now o p
+            → result ≡ (standing (stream (settings_of self.now)) p).situation.messages }
     {
         self.messages
     }
@@ -187,7 +206,8 @@ impl Receiver {
     // How many of so many bytes may be read within the session quota.
     fn room(&self, len: usize) -> usize
         ensures within { result ≤ len }
-        ensures quota { self.now.taken ≤ self.now.quotas.session → self.now.taken + result ≤ self.now.quotas.session }
+        ensures quota { self.now.taken ≤ self.now.quotas.session
+            → self.now.taken + result ≤ self.now.quotas.session }
         ensures full { result < len → self.now.quotas.session ≤ self.now.taken + result }
         ensures none { self.now.quotas.session < self.now.taken → result ≡ 0 }
     {
@@ -221,8 +241,9 @@ impl Receiver {
     fn unit(&mut self, bytes: &[u8]) -> Result<(usize, Step), Offence>
         requires some { 0 < length bytes.now }
         requires fits { self.old.taken + length bytes.now ≤ self.old.quotas.session }
-        ensures answers { (x : Settings) (p : List ℕ) → limits_of self.old.quotas ≡ x.limits → Reached self.old x p → is_over_at (stream x) p ≡ false
-            → UnitAnswers x p bytes.now self.new result }
+        ensures answers { (l : Limits) (p : List ℕ) → limits_of self.old.quotas ≡ l
+            → Reached self.old (initiators l) p → is_over_at (stream (initiators l)) p ≡ false
+            → UnitAnswers (initiators l) p bytes.now self.new result }
         ensures refused { IfErr result (λ o. failure_of self.new ≡ Some o) }
         ensures quotas { self.new.quotas ≡ self.old.quotas }
         ensures within { IfOk result (λ answer. answer.0 ≤ length bytes.now) }
@@ -238,8 +259,10 @@ impl Receiver {
     fn payload(&mut self, payload: Payload, len: usize) -> (usize, Step)
         requires some { 0 < len }
         requires fits { self.old.taken + len ≤ self.old.quotas.session }
-        ensures answers { (x : Settings) (p c : List ℕ) → length c ≡ len → self.old.stage ≡ Stage.Payload payload
-            → limits_of self.old.quotas ≡ x.limits → Reached self.old x p → UnitAnswers x p c self.new (Ok result) }
+        ensures answers { (l : Limits) (p c : List ℕ) → length c ≡ len
+            → self.old.stage ≡ Stage.Payload payload
+            → limits_of self.old.quotas ≡ l → Reached self.old (initiators l) p
+            → UnitAnswers (initiators l) p c self.new (Ok result) }
         ensures quotas { self.new.quotas ≡ self.old.quotas }
         ensures within { result.0 ≤ len }
         ensures taken { self.new.taken ≡ self.old.taken + result.0 }
@@ -262,14 +285,19 @@ impl Receiver {
     fn record(&mut self, due: Due, bytes: &[u8]) -> Result<(usize, Step), Offence>
         requires some { 0 < length bytes.now }
         requires fits { self.old.taken + length bytes.now ≤ self.old.quotas.session }
-        ensures answers { (x : Settings) (p : List ℕ) → self.old.stage ≡ Stage.Record due → limits_of self.old.quotas ≡ x.limits → Reached self.old x p
-            → is_over_at (stream x) p ≡ false → UnitAnswers x p bytes.now self.new result }
+        ensures answers { (l : Limits) (p : List ℕ) → self.old.stage ≡ Stage.Record due
+            → limits_of self.old.quotas ≡ l → Reached self.old (initiators l) p
+            → is_over_at (stream (initiators l)) p ≡ false
+            → UnitAnswers (initiators l) p bytes.now self.new result }
         ensures refused { IfErr result (λ o. failure_of self.new ≡ Some o) }
         ensures quotas { self.new.quotas ≡ self.old.quotas }
         ensures within { IfOk result (λ answer. answer.0 ≤ length bytes.now) }
         ensures taken { IfOk result (λ answer. self.new.taken ≡ self.old.taken + answer.0) }
     {
-        match self.frames.feed(bytes, due.expect(Direction::Initiator)) {
+        match self
+            .frames
+            .feed(bytes, due.expect(Direction::FromInitiator))
+        {
             Ok((n, FrameStep::More)) => {
                 self.taken += n as u64;
                 Ok((n, Step::More))
@@ -288,9 +316,14 @@ impl Receiver {
 
     // Goes on behind a whole record.
     fn behind(&mut self, due: Due, frame: Frame) -> Result<Step, Offence>
-        ensures answers { (x : Settings) (z : Situation) (text : List ℕ) → limits_of self.old.quotas ≡ x.limits → z.stage ≡ Stage.Record due → z.kind ≡ self.old.kind
+        ensures answers { (l : Limits) (z : Situation) (text : List ℕ)
+            → limits_of self.old.quotas ≡ l → z.stage ≡ Stage.Record due
+            → z.kind ≡ self.old.kind
             → z.messages ≡ self.old.messages → z.messages + 1 < 2 ^ 64
-            → BehindAnswers (reason_in x frame) (after_record z self.old.unit_from frame text) (completed_record z self.old.unit_from frame) self.new self.old.unit_from result }
+            → BehindAnswers (reason_in (initiators l) frame)
+            (after_record (initiators l) z self.old.unit_from frame text)
+            (completed_record (initiators l) z self.old.unit_from frame) self.new self.old.unit_from
+            result }
         ensures refused { IfErr result (λ o. failure_of self.new ≡ Some o) }
         ensures frames { self.new.frames ≡ self.old.frames }
         ensures quotas { self.new.quotas ≡ self.old.quotas }
@@ -314,7 +347,7 @@ impl Receiver {
 }
 
 impl ReadingEnd for Receiver {
-    ghost use Rattle.dump_replay.specs.Receiving.{settings_of, taken_of, StandsFor, counts_taken};
+    ghost use Rattle.dump_replay.specs.Receiving.{settings_of, taken_of, StandsFor, counts_taken, reads_initiators};
 
     ghost settings = { settings_of };
 
@@ -323,6 +356,8 @@ impl ReadingEnd for Receiver {
     ghost taken = { taken_of };
 
     ghost counts = { counts_taken };
+
+    ghost initiators = { reads_initiators };
 
     fn feed(&mut self, piece: &[u8]) -> Result<(usize, Step), Offence> {
         Receiver::feed(self, piece)

@@ -50,40 +50,60 @@ pub fn run<I: Source, O: Sink + Send, N: Sink>(
     ensures output_faults { O.faults output ≤ O.faults result.output }
 
     // The note.
-    ensures noted { Told (N.written notes.old) (N.written notes.new) (λ w w'. GrowsByPrefix w w' (note_of result.status)) }
-    ensures noted_whole { N.may_want notes.old ≡ false → (Rose (N.faults notes.old) (N.faults notes.new) → ⊥)
-        → Told (N.written notes.old) (N.written notes.new) (λ w w'. w' ≡ w ++ note_of result.status) }
+    ensures noted { Told (N.written notes.old) (N.written notes.new)
+        (λ w w'. GrowsByPrefix w w' (note_of result.status)) }
+    ensures noted_whole { N.may_want notes.old ≡ false
+        → (Rose (N.faults notes.old) (N.faults notes.new) → ⊥)
+        → Told (N.written notes.old) (N.written notes.new)
+        (λ w w'. w' ≡ w ++ note_of result.status) }
     ensures unnoted { note_of result.status ≡ [] → notes.new ≡ notes.old }
     ensures notes_faults { N.faults notes.old ≤ N.faults notes.new }
 
     // `check`: when each status comes.
-    ensures ended { IsCheck (map string_bytes words.now) → result.status ≡ 0 → (stream : List ℕ) → I.left input ≡ Some stream → IsClosed usual stream }
-    ensures offended { IsCheck (map string_bytes words.now) → result.status ≡ 1 → (stream : List ℕ) → I.left input ≡ Some stream
+    ensures ended { IsCheck (map string_bytes words.now) → result.status ≡ 0 → (stream : List ℕ)
+        → I.left input ≡ Some stream → IsClosed usual stream }
+    ensures offended { IsCheck (map string_bytes words.now) → result.status ≡ 1 → (stream : List ℕ)
+        → I.left input ≡ Some stream
         → (o : Refusal) × (offence usual stream ≡ Some o) × (is_session_too_long o.reason ≡ false) }
-    ensures too_long { IsCheck (map string_bytes words.now) → result.status ≡ 10 → (stream : List ℕ) → I.left input ≡ Some stream
+    ensures too_long { IsCheck (map string_bytes words.now) → result.status ≡ 10 → (stream : List ℕ)
+        → I.left input ≡ Some stream
         → (o : Refusal) × (offence usual stream ≡ Some o) × (is_session_too_long o.reason ≡ true) }
-    ensures read_well { IsCheck (map string_bytes words.now) → (result.status ≡ 3 → ⊥) → I.faults result.input ≡ I.faults input }
-    ensures written_well { IsCheck (map string_bytes words.now) → (result.status ≡ 4 → ⊥) → O.faults result.output ≡ O.faults output }
-    ensures complete { IsCheck (map string_bytes words.now) → (stream : List ℕ) → I.left input ≡ Some stream
-        → (result.status ≡ status_of (offence usual stream)) ⊎ (result.status ≡ 3) ⊎ (result.status ≡ 4) ⊎ (result.status ≡ 5) }
-    ensures closed { IsCheck (map string_bytes words.now) → (stream : List ℕ) → I.left input ≡ Some stream → IsClosed usual stream
-        → (Rose (I.faults input) (I.faults result.input) → ⊥) → (Rose (O.faults output) (O.faults result.output) → ⊥)
+    ensures read_well { IsCheck (map string_bytes words.now) → (result.status ≡ 3 → ⊥)
+        → I.faults result.input ≡ I.faults input }
+    ensures written_well { IsCheck (map string_bytes words.now) → (result.status ≡ 4 → ⊥)
+        → O.faults result.output ≡ O.faults output }
+    ensures complete { IsCheck (map string_bytes words.now) → (stream : List ℕ)
+        → I.left input ≡ Some stream
+        → (result.status ≡ status_of (offence usual stream)) ⊎ (result.status ≡ 3)
+        ⊎ (result.status ≡ 4) ⊎ (result.status ≡ 5) }
+    ensures closed { IsCheck (map string_bytes words.now) → (stream : List ℕ)
+        → I.left input ≡ Some stream → IsClosed usual stream
+        → (Rose (I.faults input) (I.faults result.input) → ⊥)
+        → (Rose (O.faults output) (O.faults result.output) → ⊥)
         → (result.status ≡ 0) ⊎ (result.status ≡ 5) }
 
     // `check`: what each leaves.
-    ensures reported { IsCheck (map string_bytes words.now) → (result.status ≡ 0) ⊎ (result.status ≡ 1) ⊎ (result.status ≡ 10)
+    ensures reported { IsCheck (map string_bytes words.now) → (result.status ≡ 0)
+        ⊎ (result.status ≡ 1) ⊎ (result.status ≡ 10)
         → (stream w : List ℕ) → I.left input ≡ Some stream → O.written output ≡ Some w
         → O.written result.output ≡ Some (w ++ report usual stream) }
-    ensures decided { IsCheck (map string_bytes words.now) → (result.status ≡ 0) ⊎ (result.status ≡ 1) ⊎ (result.status ≡ 10)
-        → (o : Option Refusal) × (status_of o ≡ result.status) × Decides usual o (I.left input) (I.left result.input) (I.taken input) (I.taken result.input)
+    ensures decided { IsCheck (map string_bytes words.now) → (result.status ≡ 0)
+        ⊎ (result.status ≡ 1) ⊎ (result.status ≡ 10)
+        → (o : Option Refusal) × (status_of o ≡ result.status)
+        × Decides usual o (I.left input) (I.left result.input) (I.taken input)
+        (I.taken result.input)
         (O.written output) (O.written result.output) }
     ensures broken { IsCheck (map string_bytes words.now) → result.status ≡ 3
-        → Breaks usual (I.left input) (I.left result.input) (I.taken input) (I.taken result.input) (O.written output) (O.written result.output) }
-    ensures cut { IsCheck (map string_bytes words.now) → (result.status ≡ 3) ⊎ (result.status ≡ 4) ⊎ (result.status ≡ 5)
+        → Breaks usual (I.left input) (I.left result.input) (I.taken input) (I.taken result.input)
+        (O.written output) (O.written result.output) }
+    ensures cut { IsCheck (map string_bytes words.now) → (result.status ≡ 3) ⊎ (result.status ≡ 4)
+        ⊎ (result.status ≡ 5)
         → (stream w : List ℕ) → I.left input ≡ Some stream → O.written output ≡ Some w
-        → (w' : List ℕ) × (O.written result.output ≡ Some w') × GrowsByPrefix w w' (report usual stream) }
+        → (w' : List ℕ) × (O.written result.output ≡ Some w')
+        × GrowsByPrefix w w' (report usual stream) }
     ensures reaches { IsCheck (map string_bytes words.now)
-        → Reaches usual (I.left input) (I.left result.input) (I.taken input) (I.taken result.input) (O.written output) (O.written result.output) }
+        → Reaches usual (I.left input) (I.left result.input) (I.taken input) (I.taken result.input)
+        (O.written output) (O.written result.output) }
 {
     if !is_check(words) {
         note(2, notes);
@@ -146,8 +166,10 @@ fn note_text(status: u8) -> &'static str
 }
 
 fn note<N: Sink>(status: u8, notes: &mut N)
-    ensures noted { Told (N.written notes.old) (N.written notes.new) (λ w w'. GrowsByPrefix w w' (note_of status)) }
-    ensures whole { N.may_want notes.old ≡ false → (Rose (N.faults notes.old) (N.faults notes.new) → ⊥)
+    ensures noted { Told (N.written notes.old) (N.written notes.new)
+        (λ w w'. GrowsByPrefix w w' (note_of status)) }
+    ensures whole { N.may_want notes.old ≡ false
+        → (Rose (N.faults notes.old) (N.faults notes.new) → ⊥)
         → Told (N.written notes.old) (N.written notes.new) (λ w w'. w' ≡ w ++ note_of status) }
     ensures none { note_of status ≡ [] → notes.new ≡ notes.old }
     ensures faults { N.faults notes.old ≤ N.faults notes.new }

@@ -1,8 +1,11 @@
 //! What may come next in an initiator's stream, and where a whole record leads to.
 
-ghost use Rattle.std.specs.Prelude.{◌≡◌, ℕ, List};
+ghost use Rattle.std.specs.Prelude.{◌≡◌, ℕ, List, ◌==◌, ◌||◌};
+ghost use Rattle.nbfx_values.specs.declared.session.Kind.TheVariants.{Plain, Session};
+ghost use Rattle.nbfx_values.specs.Session.{kind_number};
+ghost use Rattle.nbfx_values.specs.Limits.{Limits};
 ghost use Rattle.nbfx_values.specs.QuotasOf.{limits_of};
-ghost use Rattle.dump_replay.specs.Stream.{Settings, Situation, reason_in, after_record, completed_record};
+ghost use Rattle.dump_replay.specs.Stream.{Situation, initiators, reason_in, after_record, completed_record};
 ghost use Rattle.dump_replay.specs.Stepping.{RecordAnswers, RefusedAs, step_of};
 
 use crate::receiver::Step;
@@ -39,18 +42,23 @@ pub struct Next {
 
 /// Why what a whole record says is refused.
 fn refused(quotas: &Quotas, frame: Frame) -> Option<Reason>
-    ensures { (x : Settings) → limits_of quotas.now ≡ x.limits → RefusedAs (reason_in x frame) result }
+    ensures { (l : Limits) → limits_of quotas.now ≡ l
+        → RefusedAs (reason_in (initiators l) frame) result }
 {
     match frame {
         Frame::Version { major: 1, minor: 0 } => None,
         Frame::Version { .. } => Some(Reason::Unbuilt),
-        Frame::Mode(2) => None,
-        Frame::Mode(_) => Some(Reason::Unbuilt),
-        Frame::KnownEncoding(7 | 8) => None,
-        Frame::KnownEncoding(_) => Some(Reason::Unbuilt),
+        Frame::Mode(mode) if mode != Mode::Duplex.number() => Some(Reason::Unbuilt),
+        Frame::KnownEncoding(encoding) if !is_known(encoding) => Some(Reason::Unbuilt),
         Frame::SizedEnvelope(size) if size > quotas.payload => Some(Reason::MessageTooLarge),
         _ => None,
     }
+}
+
+fn is_known(encoding: u8) -> bool
+    ensures { result ≡ ((encoding == kind_number Plain) || (encoding == kind_number Session)) }
+{
+    encoding == Kind::Plain.number() || encoding == Kind::Session.number()
 }
 
 /// Where a whole record leads to that begins at this offset, or why it is refused.
@@ -61,8 +69,9 @@ pub fn behind_record(
     from: u64,
     frame: Frame,
 ) -> Result<Next, Reason>
-    ensures { (x : Settings) (z : Situation) (text : List ℕ) → limits_of quotas.now ≡ x.limits → z.kind ≡ kind → z.stage ≡ Stage.Record due
-        → RecordAnswers x z from frame text result }
+    ensures { (l : Limits) (z : Situation) (text : List ℕ) → limits_of quotas.now ≡ l
+        → z.kind ≡ kind → z.stage ≡ Stage.Record due
+        → RecordAnswers (initiators l) z from frame text result }
 {
     if let Some(reason) = refused(quotas, frame) {
         return Err(reason);
@@ -75,7 +84,8 @@ pub fn behind_record(
 }
 
 fn stage_behind(due: Due, from: u64, frame: Frame) -> Stage
-    ensures { (z : Situation) (text : List ℕ) → z.stage ≡ Stage.Record due → result ≡ (after_record z from frame text).stage }
+    ensures { (l : Limits) (z : Situation) (text : List ℕ) → z.stage ≡ Stage.Record due
+        → result ≡ (after_record (initiators l) z from frame text).stage }
 {
     match frame {
         Frame::SizedEnvelope(0) => Stage::Record(Due::Messages),
@@ -84,22 +94,24 @@ fn stage_behind(due: Due, from: u64, frame: Frame) -> Stage
             size,
             left: size,
         }),
-        _ => Stage::Record(due.behind(Direction::Initiator, Mode::Duplex, frame)),
+        _ => Stage::Record(due.behind(Direction::FromInitiator, Mode::Duplex, frame)),
     }
 }
 
 fn kind_behind(kind: Kind, frame: Frame) -> Kind
-    ensures { (z : Situation) (from : ℕ) (text : List ℕ) → z.kind ≡ kind → result ≡ (after_record z from frame text).kind }
+    ensures { (l : Limits) (z : Situation) (from : ℕ) (text : List ℕ) → z.kind ≡ kind
+        → result ≡ (after_record (initiators l) z from frame text).kind }
 {
     match frame {
-        Frame::KnownEncoding(7) => Kind::Plain,
+        Frame::KnownEncoding(encoding) if encoding == Kind::Plain.number() => Kind::Plain,
         Frame::KnownEncoding(_) => Kind::Session,
         _ => kind,
     }
 }
 
 fn step_behind(kind: Kind, frame: Frame) -> Step
-    ensures { (z : Situation) (from : ℕ) → z.kind ≡ kind → result ≡ step_of (completed_record z from frame) }
+    ensures { (l : Limits) (z : Situation) (from : ℕ) → z.kind ≡ kind
+        → result ≡ step_of (completed_record (initiators l) z from frame) }
 {
     match frame {
         Frame::PreambleEnd => Step::Opened {

@@ -1,7 +1,7 @@
 ghost use Rattle.std.specs.Prelude.{◌≡◌, ◌≤◌, ◌<◌, ◌^◌, ◌++◌, length, None, OnOk, OnErr, IfOk, IfSome, IsErrOf, IsOkUnless, Result};
 ghost use Rattle.std.specs.declared.io.Error.{Error};
 ghost use Rattle.std.specs.Io.KnownBytes.{Consumes, IsAtEnd};
-ghost use Rattle.io_edges.specs.Faults.{one_more};
+ghost use Rattle.io_edges.specs.Faults.{CountsOne};
 ghost use Rattle.io_edges.specs.Adapters.{shelf_faults, AnswersOpened};
 
 use crate::{Shelf, ShelfFault};
@@ -39,12 +39,8 @@ impl<R: Files + AllocGlobal> Shelf for FileShelf<R> {
     fn fetch(&mut self, name: &str) -> Result<Option<Vec<u8>>, ShelfFault>
         ensures most { IfOk result (λ found. IfSome found (λ bytes. length bytes.items ≤ 2 ^ 30)) }
         ensures answer { (opened : Result R.File Error) × AnswersOpened R.File.remaining opened result }
-        ensures faults { shelf_faults self.old ≤ shelf_faults self.new }
-        ensures good { OnOk result (shelf_faults self.new ≡ shelf_faults self.old) }
-        ensures failed { IsErrOf result ShelfFault.Failed
-            → shelf_faults self.new ≡ one_more (shelf_faults self.old) }
-        ensures memory { IsErrOf result ShelfFault.Memory
-            → shelf_faults self.new ≡ shelf_faults self.old }
+        ensures counted { CountsOne (shelf_faults self.old) (shelf_faults self.new)
+            (IsErrOf result ShelfFault.Failed) }
     {
         let found = found_file(self.rt.alloc(), fs::open(&self.rt, name));
         if let Err(ShelfFault::Failed) = found {

@@ -19,8 +19,8 @@
 //! `Adapters` what is seen of the ones over std.
 #![tactic(auto)]
 
-ghost use Rattle.std.specs.Prelude.{◌≡◌, ◌≤◌, ◌<◌, ℕ, List, [], ◌++◌, length, take, Bool, true, Option, IfSome, IfOk, OnOk, OnErr, IsErrOf, ◌↔◌};
-ghost use Rattle.io_edges.specs.Faults.{Rose};
+ghost use Rattle.std.specs.Prelude.{◌≡◌, ◌≤◌, ◌<◌, ℕ, List, [], ◌++◌, length, take, Bool, true, Option, IfSome, IfOk, OnOk, OnErr, IsErr, IsErrOf, ◌↔◌};
+ghost use Rattle.io_edges.specs.Faults.{CountsFaults};
 ghost use Rattle.io_edges.specs.Flow.{Told, Moves, GrowsByPrefix};
 ghost use Rattle.io_edges.specs.Store.{Store};
 ghost use Rattle.std.specs.Option.{option_map};
@@ -71,9 +71,7 @@ pub trait Source {
             (λ t t'. t' ≡ t ++ take n room.new)) }
         ensures ended { IfOk result (λ n. 0 < length room.old → Told (left self.old) (left self.new)
             (λ l _. (n ≡ 0) ↔ (l ≡ []))) }
-        ensures good { OnOk result (faults self.new ≡ faults self.old) }
-        ensures failed { OnErr result (Rose (faults self.old) (faults self.new)) }
-        ensures faults { faults self.old ≤ faults self.new }
+        ensures counted { CountsFaults (faults self.old) (faults self.new) (IsErr result) }
         ensures failed_left { OnErr result (Told (left self.old) (left self.new) (λ l l'. l' ≡ l)) }
         ensures failed_taken { OnErr result (Told (taken self.old) (taken self.new)
             (λ t t'. t' ≡ t)) };
@@ -105,12 +103,10 @@ pub trait Sink {
             (λ w w'. w' ≡ w ++ bytes.now)) }
         ensures refused { OnErr result (Told (written self.old) (written self.new)
             (λ w w'. GrowsByPrefix w w' bytes.now)) }
-        ensures good { OnOk result (faults self.new ≡ faults self.old) }
-        ensures failed { IsErrOf result SinkFault.Failed → Rose (faults self.old) (faults self.new) }
-        ensures memory { IsErrOf result SinkFault.Memory → faults self.new ≡ faults self.old }
+        ensures counted { CountsFaults (faults self.old) (faults self.new)
+            (IsErrOf result SinkFault.Failed) }
         ensures wanted { IsErrOf result SinkFault.Memory → may_want self.old ≡ true }
-        ensures settled { may_want self.new ≡ may_want self.old }
-        ensures faults { faults self.old ≤ faults self.new };
+        ensures settled { may_want self.new ≡ may_want self.old };
 }
 
 /// Why a shelf gave no answer.
@@ -135,10 +131,8 @@ pub trait Shelf {
         ensures found { IfOk result (λ found. IfSome (files self.old)
             (λ files. option_map (λ v. v.items) found ≡ finite.get files name.now)) }
         ensures kept { files self.new ≡ files self.old }
-        ensures good { OnOk result (faults self.new ≡ faults self.old) }
-        ensures failed { IsErrOf result ShelfFault.Failed → Rose (faults self.old) (faults self.new) }
-        ensures memory { IsErrOf result ShelfFault.Memory → faults self.new ≡ faults self.old }
-        ensures faults { faults self.old ≤ faults self.new };
+        ensures counted { CountsFaults (faults self.old) (faults self.new)
+            (IsErrOf result ShelfFault.Failed) };
 }
 
 #[cfg(test)]

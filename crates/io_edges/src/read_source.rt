@@ -1,7 +1,7 @@
-ghost use Rattle.std.specs.Prelude.{◌≡◌, ◌≤◌, None, OnOk, OnErr};
+ghost use Rattle.std.specs.Prelude.{◌≡◌, None, IsErr};
 ghost use Rattle.std.specs.Io.{ReadsAtMost};
 ghost use Rattle.std.specs.Io.KnownBytes.{ReadConsumes};
-ghost use Rattle.io_edges.specs.Faults.{one_more};
+ghost use Rattle.io_edges.specs.Faults.{CountsOne};
 ghost use Rattle.io_edges.specs.Adapters.{reader_of, read_faults};
 
 use crate::{Failed, Source};
@@ -36,9 +36,7 @@ impl<R: Read> Source for ReadSource<R> {
         ensures within { ReadsAtMost result room.new }
         ensures read { ReadConsumes
             (R.remaining (reader_of self.old)) (R.remaining (reader_of self.new)) result room.new }
-        ensures good { OnOk result (read_faults self.new ≡ read_faults self.old) }
-        ensures failed { OnErr result (read_faults self.new ≡ one_more (read_faults self.old)) }
-        ensures faults { read_faults self.old ≤ read_faults self.new }
+        ensures counted { CountsOne (read_faults self.old) (read_faults self.new) (IsErr result) }
     {
         match self.reader.read(room) {
             Ok(n) => Ok(n),

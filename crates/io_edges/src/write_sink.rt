@@ -1,6 +1,6 @@
-ghost use Rattle.std.specs.Prelude.{◌≡◌, ◌≤◌, false, None, OnOk, OnErr, IsOkUnless};
+ghost use Rattle.std.specs.Prelude.{◌≡◌, false, None, OnOk, OnErr, IsErr, IsOkUnless};
 ghost use Rattle.std.specs.Io.KnownBytes.{Appends};
-ghost use Rattle.io_edges.specs.Faults.{one_more};
+ghost use Rattle.io_edges.specs.Faults.{CountsOne};
 ghost use Rattle.io_edges.specs.Adapters.{writer_of, write_faults, AppendsPrefix};
 
 use crate::{Failed, Sink, SinkFault};
@@ -37,9 +37,7 @@ impl<W: Write> Sink for WriteSink<W> {
         ensures refused { OnErr result (AppendsPrefix
             (W.contents (writer_of self.old)) (W.contents (writer_of self.new)) bytes.now) }
         ensures no_want { IsOkUnless result SinkFault.Failed }
-        ensures good { OnOk result (write_faults self.new ≡ write_faults self.old) }
-        ensures failed { OnErr result (write_faults self.new ≡ one_more (write_faults self.old)) }
-        ensures faults { write_faults self.old ≤ write_faults self.new }
+        ensures counted { CountsOne (write_faults self.old) (write_faults self.new) (IsErr result) }
     {
         match write_whole(&mut self.writer, bytes) {
             Ok(()) => Ok(()),

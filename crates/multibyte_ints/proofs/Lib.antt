@@ -3,6 +3,7 @@ pub mod Values
 pub mod IntegerFacts
 pub mod IntegerBytes
 pub mod IntegerLaws
+pub mod FrontSteps
 pub mod ShortestLaws
 pub mod TextFacts
 pub mod TextBytes

@@ -3,5 +3,6 @@ pub mod Text
 pub mod Laws
 pub mod IntState
 pub mod Reader
+pub mod AtFront
 pub mod TextPart
 pub mod TextReader

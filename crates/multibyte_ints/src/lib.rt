@@ -11,11 +11,13 @@
 //! writers give the shortest spelling, and `laws` has what follows from the definitions alone.
 #![tactic(auto)]
 
+mod front;
 mod integer;
 pub mod laws;
 mod text;
 mod writing;
 
+pub use front::{IntRead, read_int};
 pub use integer::{IntReader, IntStep};
 pub use text::{StringReader, StringStep};
 pub use unit_streams::Memory;

@@ -1,5 +1,5 @@
 -- What a whole shape says: its node, unless one of its texts isn't UTF-8 or one of its values is none of its kind.
-use Rattle.std.specs.Prelude.{ℕ, zero, suc, ◌+◌, ◌*◌, ◌%◌, ◌^◌, pos, List, [], ◌∷◌, length, take, drop, slice_index, Bool, true, false, Option, Some, None, ok_or, Result, Err, nat_le, ◌==◌, ◌&&◌, ◌||◌, not, if◌then◌else◌, encode_utf8_all}
+use Rattle.std.specs.Prelude.{ℕ, zero, suc, ◌+◌, ◌*◌, ◌%◌, ◌^◌, pos, List, [], ◌∷◌, ◌++◌, length, take, drop, slice_index, Bool, true, false, Option, Some, None, ok_or, Result, Ok, Err, nat_le, ◌==◌, ◌&&◌, ◌||◌, not, if◌then◌else◌, encode_utf8_all}
 use Rattle.std.specs.Int.{Width, w8, w16, w32, w64, from_le_bytes, cast_signed}
 use Rattle.std.specs.Char.Utf16.{has_unpaired_surrogate, utf16_lossy_chars}
 use Rattle.std.specs.List.{list_all}
@@ -7,6 +7,7 @@ use Rattle.std.specs.Option.{option_map, option_and_then}
 use Rattle.std.specs.Str.{is_utf8}
 use Rattle.nbfx_values.specs.declared.scalars.Scalar.{Scalar}
 use Rattle.nbfx_values.specs.declared.scalars.Scalar.TheVariants as scalars
+use Rattle.nbfx_values.specs.declared.content.ArrayKind.{ArrayKind}
 use Rattle.nbfx_records.specs.declared.kinds.TextKind.{TextKind}
 use Rattle.nbfx_records.specs.declared.kinds.TextKind.TheVariants as texts
 use Rattle.nbfx_records.specs.declared.nodes.NameRef.{NameRef}
@@ -23,7 +24,7 @@ use Rattle.nbfx_records.specs.declared.nodes.Node.TheVariants as nodes
 use Rattle.nbfx_records.specs.declared.nodes.NodeFault.{NodeFault}
 use Rattle.nbfx_records.specs.declared.nodes.NodeFault.TheVariants as faults
 use Rattle.nbfx_records.specs.Kinds.{text_kind_in, width_of}
-use Rattle.nbfx_records.specs.Shapes.{ScalarShape, bytes_of, named_by, qualified_by, ValueShape, one, several, AttributeShape, attributes, declares, ArrayShape, Shape, ends_element, comments, begins_element, adds, has_text, repeats}
+use Rattle.nbfx_records.specs.Shapes.{ScalarShape, bytes_of, named_by, qualified_by, ValueShape, one, several, AttributeShape, attributes, declares, NamedShape, CellsShape, ArrayShape, Shape, ends_element, comments, begins_element, adds, has_text, repeats}
 
 -- two bytes a unit, the lower first, as far as there are two
 abbrev pub units_of : List ℕ → List ℕ
@@ -50,6 +51,10 @@ decimal_of bytes =
 abbrev pub signed_of : Width → List ℕ → Option Scalar
 signed_of w bytes = Some (scalars.Number (cast_signed w (from_le_bytes w bytes)))
 
+-- sixteen bytes are an identifier
+abbrev pub identifier_of : (List ℕ → Scalar) → List ℕ → Option Scalar
+identifier_of see bytes = if length bytes == 16 then Some (see bytes) else None
+
 -- the value of such bytes, if they are one of its kind; that a text is UTF-8 is judged before
 unfoldable pub scalar_of : TextKind → List ℕ → Option Scalar
 scalar_of texts.Zero bytes = Some (scalars.Number (pos 0))
@@ -74,9 +79,9 @@ scalar_of texts.StartList bytes = None
 scalar_of texts.EndList bytes = None
 scalar_of texts.Empty bytes = Some (scalars.Text [])
 scalar_of texts.Dictionary bytes = None
-scalar_of texts.UniqueId bytes = Some (scalars.UniqueId bytes)
+scalar_of texts.UniqueId bytes = identifier_of scalars.UniqueId bytes
 scalar_of texts.TimeSpan bytes = Some (scalars.TimeSpan (cast_signed w64 (from_le_bytes w64 bytes)))
-scalar_of texts.Uuid bytes = Some (scalars.Uuid bytes)
+scalar_of texts.Uuid bytes = identifier_of scalars.Uuid bytes
 scalar_of texts.UInt64 bytes = Some (scalars.Number (pos (from_le_bytes w64 bytes)))
 scalar_of texts.Bool bytes = truth_of (slice_index bytes 0)
 scalar_of texts.UnicodeChars8 bytes = option_map scalars.Text (utf16_text bytes)
@@ -90,6 +95,28 @@ has_characters texts.Chars8 = true
 has_characters texts.Chars16 = true
 has_characters texts.Chars32 = true
 has_characters _ = false
+
+-- the kinds of which each record has as many bytes, and whose value is no text
+abbrev pub is_sized : TextKind → Bool
+is_sized texts.Chars8 = false
+is_sized texts.Chars16 = false
+is_sized texts.Chars32 = false
+is_sized texts.Bytes8 = false
+is_sized texts.Bytes16 = false
+is_sized texts.Bytes32 = false
+is_sized texts.Empty = false
+is_sized texts.UnicodeChars8 = false
+is_sized texts.UnicodeChars16 = false
+is_sized texts.UnicodeChars32 = false
+is_sized _ = true
+
+-- texts are judged before values
+abbrev pub judge : {A : Type 0} → Bool → Option A → Result A NodeFault
+judge texts found = if texts then ok_or found faults.BadValue else Err faults.BadUtf8
+
+-- the value of a kind's bytes
+abbrev pub known_judged : TextKind → List ℕ → Result Scalar NodeFault
+known_judged kind bytes = judge (not (has_characters kind) || is_utf8 bytes) (scalar_of kind bytes)
 
 -- whether each text of a shape is UTF-8
 abbrev pub scalar_is_text : ScalarShape → Bool
@@ -140,10 +167,13 @@ abbrev pub cells : ℕ → ℕ → List ℕ → List (List ℕ)
 cells zero width bytes = []
 cells (suc count) width bytes = take width bytes ∷ cells count width (drop width bytes)
 
+abbrev pub cell_values : ArrayKind → ℕ → List ℕ → Option (List Scalar)
+cell_values kind count bytes = each (scalar_of (text_kind_in kind)) (cells count (width_of kind) bytes)
+
 abbrev pub array_of : ArrayShape → Option ArrayNode
 array_of a =
     option_and_then (λ attrs. option_map (λ values. record { prefix = a.prefix; name = a.name; attrs = attrs; kind = a.kind; values = values })
-    (each (scalar_of (text_kind_in a.kind)) (cells a.count (width_of a.kind) a.bytes))) (each attribute_value a.attributes)
+    (cell_values a.kind a.count a.bytes)) (each attribute_value a.attributes)
 
 abbrev pub attribute_node : AttrNode → Node
 attribute_node (attribute_nodes.Attribute prefix name value) = nodes.Attribute prefix name value
@@ -157,6 +187,48 @@ node_of (adds attribute) = option_map attribute_node (attribute_value attribute)
 node_of (has_text value ends) = option_map (λ v. nodes.Text v ends) (value_of value)
 node_of (repeats array) = option_map nodes.Array (array_of array)
 
--- what a whole shape says: texts are judged before values
+-- the parts of a record, judged
+abbrev pub text_judged : List ℕ → Result (List ℕ) NodeFault
+text_judged bytes = judge (is_utf8 bytes) (Some bytes)
+
+abbrev pub name_judged : NameRef → Result NameRef NodeFault
+name_judged name = judge (name_is_text name) (Some name)
+
+abbrev pub element_judged : NamedShape → Result Node NodeFault
+element_judged it = judge (is_utf8 it.prefix && name_is_text it.name) (Some (nodes.Element it.prefix it.name))
+
+abbrev pub scalar_judged : ScalarShape → Result RawScalar NodeFault
+scalar_judged scalar = judge (scalar_is_text scalar) (scalar_value scalar)
+
+abbrev pub scalars_judged : List ScalarShape → Result (List RawScalar) NodeFault
+scalars_judged scalars = judge (list_all scalar_is_text scalars) (each scalar_value scalars)
+
+abbrev pub value_judged : ValueShape → Result RawValue NodeFault
+value_judged value = judge (value_is_text value) (value_of value)
+
+abbrev pub attribute_judged : AttributeShape → Result AttrNode NodeFault
+attribute_judged attribute = judge (attribute_is_text attribute) (attribute_value attribute)
+
+abbrev pub attributes_judged : List AttributeShape → Result (List AttrNode) NodeFault
+attributes_judged parts = judge (list_all attribute_is_text parts) (each attribute_value parts)
+
+abbrev pub cells_judged : CellsShape → Result (List Scalar) NodeFault
+cells_judged shape = judge true (cell_values shape.kind shape.count shape.bytes)
+
+abbrev pub array_judged : ArrayShape → Result ArrayNode NodeFault
+array_judged array = judge (is_text (repeats array)) (array_of array)
+
+-- what is wrong with a value, where texts come behind it: with these first
+abbrev pub behind_texts : {A : Type 0} → Bool → Result A NodeFault → Result A NodeFault
+behind_texts texts (Ok a) = Ok a
+behind_texts texts (Err faults.BadValue) = judge texts None
+behind_texts texts (Err fault) = Err fault
+
+-- the same with others in front
+abbrev pub led : {A : Type 0} → List A → Result (List A) NodeFault → Result (List A) NodeFault
+led front (Ok rest) = Ok (front ++ rest)
+led front (Err fault) = Err fault
+
+-- what a whole shape says
 unfoldable pub contents : Shape → Result Node NodeFault
-contents shape = if is_text shape then ok_or (node_of shape) faults.BadValue else Err faults.BadUtf8
+contents shape = judge (is_text shape) (node_of shape)

@@ -1,51 +1,33 @@
 -- What begins with which type byte.
-use Rattle.std.specs.Prelude.{ℕ, ◌-◌, ◌/◌, ◌%◌, Bool, true, false, Option, Some, None, nat_lt, ◌==◌, if◌then◌else◌, slice_get}
+use Rattle.std.specs.Prelude.{ℕ, ◌+◌, ◌-◌, ◌/◌, ◌%◌, Bool, true, false, Option, Some, None, nat_lt, ◌==◌, if◌then◌else◌, slice_get}
 use Rattle.std.specs.Option.{option_and_then}
 use Rattle.nbfx_values.specs.declared.content.ArrayKind.{ArrayKind}
 use Rattle.nbfx_values.specs.declared.content.ArrayKind.TheVariants as arrays
 use Rattle.nbfx_records.specs.declared.kinds.TextKind.{TextKind}
 use Rattle.nbfx_records.specs.declared.kinds.TextKind.TheVariants as texts
+use Rattle.nbfx_records.specs.declared.kinds.PrefixForm.{PrefixForm}
+use Rattle.nbfx_records.specs.declared.kinds.PrefixForm.TheVariants.{Unprefixed, Lettered, Prefixed}
+use Rattle.nbfx_records.specs.declared.kinds.NameForm.{NameForm}
+use Rattle.nbfx_records.specs.declared.kinds.NameForm.TheVariants.{Inlined, Identified}
+use Rattle.nbfx_records.specs.declared.kinds.RecordKind.{RecordKind}
+use Rattle.nbfx_records.specs.declared.kinds.RecordKind.TheVariants as records
+use Rattle.nbfx_records.specs.declared.kinds.Body.{Body}
+use Rattle.nbfx_records.specs.declared.kinds.Body.TheVariants.{Fixed, Counted, Named, Qualified, Listed, Ending}
+use Rattle.nbfx_records.specs.declared.kinds.LengthForm.TheVariants.{OneByte, TwoBytes, FourBytes}
 use Rattle.nbfx_records.specs.declared.kinds.TheConstants.{TEXT_KINDS}
-
--- how a record tells a prefix
-pub data PrefixForm : Type 0 where
-  -- none
-  unprefixed : PrefixForm
-  -- one letter, of which 0 is a
-  lettered : ℕ → PrefixForm
-  -- a string
-  prefixed : PrefixForm
-
--- how it tells a name
-pub data NameForm : Type 0 where
-  -- a string
-  inline : NameForm
-  -- an identifier
-  identified : NameForm
-
--- what a record is
-pub data RecordKind : Type 0 where
-  end_element : RecordKind
-  comment : RecordKind
-  array : RecordKind
-  attribute : PrefixForm → NameForm → RecordKind
-  declaration : PrefixForm → NameForm → RecordKind
-  element : PrefixForm → NameForm → RecordKind
-  -- of this kind, and whether it ends the element that holds it
-  text : TextKind → Bool → RecordKind
 
 -- a name's form, by whether its type byte is the string's
 abbrev pub named : Bool → NameForm
-named true = inline
-named false = identified
+named true = Inlined
+named false = Identified
 
--- the lettered forms that begin at a byte
+-- the lettered forms, which begin with a at a byte
 abbrev pub letter_from : ℕ → ℕ → PrefixForm
-letter_from first byte = lettered (byte - first)
+letter_from first byte = Lettered (97 + (byte - first))
 
 -- 04 to 07 and 40 to 43, as 0 to 3: with a string without and with a prefix, and with an identifier so
 abbrev pub prefix_of : ℕ → PrefixForm
-prefix_of n = if n % 2 == 0 then unprefixed else prefixed
+prefix_of n = if n % 2 == 0 then Unprefixed else Prefixed
 
 abbrev pub name_of : ℕ → NameForm
 name_of n = named (nat_lt n 2)
@@ -56,78 +38,58 @@ text_kind byte = if nat_lt byte 128 then None else slice_get TEXT_KINDS ((byte -
 
 -- an odd start of a list is no record
 abbrev pub text_record : ℕ → TextKind → Option RecordKind
-text_record byte texts.StartList = if byte % 2 == 0 then Some (text texts.StartList false) else None
-text_record byte kind = Some (text kind (byte % 2 == 1))
+text_record byte texts.StartList = if byte % 2 == 0 then Some (records.Text texts.StartList false) else None
+text_record byte kind = Some (records.Text kind (byte % 2 == 1))
 
 -- the record that a type byte begins
 unfoldable pub record_kind : ℕ → Option RecordKind
 record_kind byte =
     if byte == 0 then None
-    else if byte == 1 then Some end_element
-    else if byte == 2 then Some comment
-    else if byte == 3 then Some array
-    else if nat_lt byte 8 then Some (attribute (prefix_of (byte - 4)) (name_of (byte - 4)))
-    else if nat_lt byte 12 then Some (declaration (prefix_of (byte - 8)) (name_of (byte - 8)))
-    else if nat_lt byte 38 then Some (attribute (letter_from 12 byte) identified)
-    else if nat_lt byte 64 then Some (attribute (letter_from 38 byte) inline)
-    else if nat_lt byte 68 then Some (element (prefix_of (byte - 64)) (name_of (byte - 64)))
-    else if nat_lt byte 94 then Some (element (letter_from 68 byte) identified)
-    else if nat_lt byte 120 then Some (element (letter_from 94 byte) inline)
+    else if byte == 1 then Some records.EndElement
+    else if byte == 2 then Some records.Comment
+    else if byte == 3 then Some records.Array
+    else if nat_lt byte 8 then Some (records.Attribute (prefix_of (byte - 4)) (name_of (byte - 4)))
+    else if nat_lt byte 12 then Some (records.Declaration (prefix_of (byte - 8)) (name_of (byte - 8)))
+    else if nat_lt byte 38 then Some (records.Attribute (letter_from 12 byte) Identified)
+    else if nat_lt byte 64 then Some (records.Attribute (letter_from 38 byte) Inlined)
+    else if nat_lt byte 68 then Some (records.Element (prefix_of (byte - 64)) (name_of (byte - 64)))
+    else if nat_lt byte 94 then Some (records.Element (letter_from 68 byte) Identified)
+    else if nat_lt byte 120 then Some (records.Element (letter_from 94 byte) Inlined)
     else option_and_then (text_record byte) (text_kind byte)
 
--- how many bytes a length has
-pub data LengthForm : Type 0 where
-  in_one : LengthForm
-  in_two : LengthForm
-  in_four : LengthForm
-
 -- what follows the type byte of a text
-pub data Body : Type 0 where
-  -- so many bytes
-  fixed : ℕ → Body
-  -- a length, and as many bytes as it says
-  counted : LengthForm → Body
-  -- an identifier
-  naming : Body
-  -- a letter and an identifier
-  qualified : Body
-  -- texts, and an end
-  listed : Body
-  -- nothing: it ends a list
-  ending : Body
-
 abbrev pub body_of : TextKind → Body
-body_of texts.Zero = fixed 0
-body_of texts.One = fixed 0
-body_of texts.False = fixed 0
-body_of texts.True = fixed 0
-body_of texts.Int8 = fixed 1
-body_of texts.Int16 = fixed 2
-body_of texts.Int32 = fixed 4
-body_of texts.Int64 = fixed 8
-body_of texts.Float = fixed 4
-body_of texts.Double = fixed 8
-body_of texts.Decimal = fixed 16
-body_of texts.DateTime = fixed 8
-body_of texts.Chars8 = counted in_one
-body_of texts.Chars16 = counted in_two
-body_of texts.Chars32 = counted in_four
-body_of texts.Bytes8 = counted in_one
-body_of texts.Bytes16 = counted in_two
-body_of texts.Bytes32 = counted in_four
-body_of texts.StartList = listed
-body_of texts.EndList = ending
-body_of texts.Empty = fixed 0
-body_of texts.Dictionary = naming
-body_of texts.UniqueId = fixed 16
-body_of texts.TimeSpan = fixed 8
-body_of texts.Uuid = fixed 16
-body_of texts.UInt64 = fixed 8
-body_of texts.Bool = fixed 1
-body_of texts.UnicodeChars8 = counted in_one
-body_of texts.UnicodeChars16 = counted in_two
-body_of texts.UnicodeChars32 = counted in_four
-body_of texts.QNameDictionary = qualified
+body_of texts.Zero = Fixed 0
+body_of texts.One = Fixed 0
+body_of texts.False = Fixed 0
+body_of texts.True = Fixed 0
+body_of texts.Int8 = Fixed 1
+body_of texts.Int16 = Fixed 2
+body_of texts.Int32 = Fixed 4
+body_of texts.Int64 = Fixed 8
+body_of texts.Float = Fixed 4
+body_of texts.Double = Fixed 8
+body_of texts.Decimal = Fixed 16
+body_of texts.DateTime = Fixed 8
+body_of texts.Chars8 = Counted OneByte
+body_of texts.Chars16 = Counted TwoBytes
+body_of texts.Chars32 = Counted FourBytes
+body_of texts.Bytes8 = Counted OneByte
+body_of texts.Bytes16 = Counted TwoBytes
+body_of texts.Bytes32 = Counted FourBytes
+body_of texts.StartList = Listed
+body_of texts.EndList = Ending
+body_of texts.Empty = Fixed 0
+body_of texts.Dictionary = Named
+body_of texts.UniqueId = Fixed 16
+body_of texts.TimeSpan = Fixed 8
+body_of texts.Uuid = Fixed 16
+body_of texts.UInt64 = Fixed 8
+body_of texts.Bool = Fixed 1
+body_of texts.UnicodeChars8 = Counted OneByte
+body_of texts.UnicodeChars16 = Counted TwoBytes
+body_of texts.UnicodeChars32 = Counted FourBytes
+body_of texts.QNameDictionary = Qualified
 
 -- the kind of an array's values, by the type byte that an array tells it with, which is the odd one
 abbrev pub array_kind_of : TextKind → Option ArrayKind

@@ -1,5 +1,5 @@
 -- What stands at the front of some bytes, as the parts of a record: type bytes and lengths are judged where they are read, and no text or value yet.
-use Rattle.std.specs.Prelude.{ℕ, ◌+◌, ◌*◌, ◌^◌, List, [], ◌∷◌, Bool, true, false, Option, Some, None, nat_le, ◌==◌, ◌&&◌, ◌||◌, not, if◌then◌else◌}
+use Rattle.std.specs.Prelude.{ℕ, ◌*◌, ◌^◌, List, [], ◌∷◌, Bool, true, false, Option, Some, None, nat_le, ◌==◌, ◌&&◌, ◌||◌, not, if◌then◌else◌}
 use Rattle.std.specs.Int.{Width, w8, w16, w32, byte_len, from_le_bytes}
 use Rattle.unit_streams.specs.Front.{wrong}
 use Rattle.unit_streams.specs.Parts.{Reader, given, refuse, a_byte, some_bytes, ◌>>=◌, seen, Turn, more, stop, Many, many}
@@ -13,7 +13,17 @@ use Rattle.nbfx_records.specs.declared.nodes.NodePlace.{NodePlace}
 use Rattle.nbfx_records.specs.declared.nodes.NodePlace.TheVariants.{BeforeRoot, Within, AfterRoot}
 use Rattle.nbfx_records.specs.declared.nodes.NodeFault.{NodeFault}
 use Rattle.nbfx_records.specs.declared.nodes.NodeFault.TheVariants as faults
-use Rattle.nbfx_records.specs.Kinds.{PrefixForm, unprefixed, lettered, prefixed, NameForm, inline, identified, RecordKind, end_element, comment, array, attribute, declaration, element, text, record_kind, Body, fixed, counted, naming, qualified, listed, ending, body_of, array_kind, width_of, LengthForm, in_one, in_two, in_four}
+use Rattle.nbfx_records.specs.declared.kinds.PrefixForm.{PrefixForm}
+use Rattle.nbfx_records.specs.declared.kinds.NameForm.{NameForm}
+use Rattle.nbfx_records.specs.declared.kinds.RecordKind.{RecordKind}
+use Rattle.nbfx_records.specs.declared.kinds.Body.{Body}
+use Rattle.nbfx_records.specs.declared.kinds.LengthForm.{LengthForm}
+use Rattle.nbfx_records.specs.declared.kinds.PrefixForm.TheVariants.{Unprefixed, Lettered, Prefixed}
+use Rattle.nbfx_records.specs.declared.kinds.NameForm.TheVariants.{Inlined, Identified}
+use Rattle.nbfx_records.specs.declared.kinds.Body.TheVariants.{Fixed, Counted, Named, Qualified, Listed, Ending}
+use Rattle.nbfx_records.specs.declared.kinds.LengthForm.TheVariants.{OneByte, TwoBytes, FourBytes}
+use Rattle.nbfx_records.specs.declared.kinds.RecordKind.TheVariants as records
+use Rattle.nbfx_records.specs.Kinds.{record_kind, body_of, array_kind, width_of}
 
 -- one value, whose bytes aren't judged
 pub data ScalarShape : Type 0 where
@@ -32,6 +42,17 @@ pub data ValueShape : Type 0 where
 pub data AttributeShape : Type 0 where
   attributes : (prefix : List ℕ) (name : NameRef) → ValueShape → AttributeShape
   declares : (prefix : List ℕ) (uri : NameRef) → AttributeShape
+
+-- a prefix and a name
+pub record NamedShape : Type 0 where
+  pub prefix : List ℕ
+  pub name : NameRef
+
+-- the values of an array, in so many bytes
+pub record CellsShape : Type 0 where
+  pub kind : ArrayKind
+  pub count : ℕ
+  pub bytes : List ℕ
 
 pub record ArrayShape : Type 0 where
   pub prefix : List ℕ
@@ -61,51 +82,77 @@ abbrev pub a_string : Reader (List ℕ) NodeFault
 a_string = an_integer >>= some_bytes
 
 abbrev pub prefix_at : PrefixForm → Reader (List ℕ) NodeFault
-prefix_at unprefixed = given []
-prefix_at (lettered n) = given ((97 + n) ∷ [])
-prefix_at prefixed = a_string
+prefix_at Unprefixed = given []
+prefix_at (Lettered letter) = given (letter ∷ [])
+prefix_at Prefixed = a_string
 
 abbrev pub name_at : NameForm → Reader NameRef NodeFault
-name_at inline bytes = seen Inline (λ fault. fault) (a_string bytes)
-name_at identified bytes = seen Id (λ fault. fault) (an_integer bytes)
+name_at Inlined bytes = seen Inline (λ fault. fault) (a_string bytes)
+name_at Identified bytes = seen Id (λ fault. fault) (an_integer bytes)
 
 -- how long a length is
 abbrev pub width_in : LengthForm → Width
-width_in in_one = w8
-width_in in_two = w16
-width_in in_four = w32
+width_in OneByte = w8
+width_in TwoBytes = w16
+width_in FourBytes = w32
 
 -- one of four bytes has a sign
 abbrev pub is_negative : LengthForm → ℕ → Bool
-is_negative in_four n = nat_le (2 ^ 31) n
+is_negative FourBytes n = nat_le (2 ^ 31) n
 is_negative _ n = false
 
--- so many bytes as a length says, which isn't negative
-abbrev pub length_said : LengthForm → List ℕ → Reader (List ℕ) NodeFault
-length_said form said = if is_negative form (from_le_bytes (width_in form) said) then refuse faults.BadInt else some_bytes (from_le_bytes (width_in form) said)
+-- the length that such bytes say, the lowest first
+abbrev pub length_of : LengthForm → List ℕ → ℕ
+length_of form said = from_le_bytes (width_in form) said
 
+-- where it isn't negative
+abbrev pub said_length : LengthForm → List ℕ → Option ℕ
+said_length form said = if is_negative form (length_of form said) then None else Some (length_of form said)
+
+-- a thing of no bytes, or what is wrong where there is none
+abbrev pub given_or : {A : Type 0} → NodeFault → Option A → Reader A NodeFault
+given_or fault None = refuse fault
+given_or fault (Some a) = given a
+
+-- a length
+abbrev pub a_length : LengthForm → Reader ℕ NodeFault
+a_length form = some_bytes (byte_len (width_in form)) >>= λ said. given_or faults.BadInt (said_length form said)
+
+-- a length, and as many bytes as it says
 abbrev pub counted_bytes : LengthForm → Reader (List ℕ) NodeFault
-counted_bytes form = some_bytes (byte_len (width_in form)) >>= length_said form
+counted_bytes form = a_length form >>= some_bytes
+
+-- a letter, and an identifier
+abbrev pub a_qualified : Reader ScalarShape NodeFault
+a_qualified = a_byte >>= λ letter bytes. seen (qualified_by letter) (λ fault. fault) (an_integer bytes)
 
 -- what follows the type byte of one value
 abbrev pub body_at : TextKind → Body → Reader ScalarShape NodeFault
-body_at kind (fixed n) bytes = seen (bytes_of kind) (λ fault. fault) (some_bytes n bytes)
-body_at kind (counted form) bytes = seen (bytes_of kind) (λ fault. fault) (counted_bytes form bytes)
-body_at kind naming bytes = seen named_by (λ fault. fault) (an_integer bytes)
-body_at kind qualified bytes = (a_byte >>= λ letter bytes. seen (qualified_by letter) (λ fault. fault) (an_integer bytes)) bytes
+body_at kind (Fixed n) bytes = seen (bytes_of kind) (λ fault. fault) (some_bytes n bytes)
+body_at kind (Counted form) bytes = seen (bytes_of kind) (λ fault. fault) (counted_bytes form bytes)
+body_at kind Named bytes = seen named_by (λ fault. fault) (an_integer bytes)
+body_at kind Qualified bytes = a_qualified bytes
 -- none of these is one value
-body_at kind listed bytes = wrong faults.OutOfPlace 0
-body_at kind ending bytes = wrong faults.OutOfPlace 0
+body_at kind Listed bytes = wrong faults.OutOfPlace 0
+body_at kind Ending bytes = wrong faults.OutOfPlace 0
 
 abbrev pub scalar_at : TextKind → Reader ScalarShape NodeFault
 scalar_at kind = body_at kind (body_of kind)
 
--- a list goes on with a text that is no list, or ends, and where it may end the element too tells that
+-- a list's end, which where it may end the element too tells that
+abbrev pub end_turn : Bool → Bool → Reader (Turn ScalarShape Bool) NodeFault
+end_turn may_close false = given (stop false)
+end_turn may_close true = if may_close then given (stop true) else refuse faults.OutOfPlace
+
+-- a list goes on with a plain text that is no list, or ends
+abbrev pub text_turn : Bool → TextKind → Bool → Reader (Turn ScalarShape Bool) NodeFault
+text_turn may_close texts.EndList ends = end_turn may_close ends
+text_turn may_close kind false = λ bytes. seen more (λ fault. fault) (scalar_at kind bytes)
+text_turn may_close kind true = refuse faults.OutOfPlace
+
 abbrev pub turn_of : Bool → Option RecordKind → Reader (Turn ScalarShape Bool) NodeFault
 turn_of may_close None = refuse faults.UnknownNode
-turn_of may_close (Some (text texts.EndList false)) = given (stop false)
-turn_of may_close (Some (text texts.EndList true)) = if may_close then given (stop true) else refuse faults.OutOfPlace
-turn_of may_close (Some (text kind false)) = λ bytes. seen more (λ fault. fault) (scalar_at kind bytes)
+turn_of may_close (Some (records.Text kind ends)) = text_turn may_close kind ends
 turn_of may_close (Some _) = refuse faults.OutOfPlace
 
 abbrev pub list_turn : Bool → Reader (Turn ScalarShape Bool) NodeFault
@@ -115,10 +162,14 @@ abbrev pub list_at : Bool → Reader (Many ScalarShape Bool) NodeFault
 list_at may_close = many (list_turn may_close)
 
 -- what follows the type byte of an attribute's value, which is a plain text
+abbrev pub text_value : TextKind → Bool → Reader ValueShape NodeFault
+text_value kind true = refuse faults.OutOfPlace
+text_value texts.StartList false = λ bytes. seen (λ list. several list.items) (λ fault. fault) (list_at false bytes)
+text_value kind false = λ bytes. seen one (λ fault. fault) (scalar_at kind bytes)
+
 abbrev pub value_of_kind : Option RecordKind → Reader ValueShape NodeFault
 value_of_kind None = refuse faults.UnknownNode
-value_of_kind (Some (text texts.StartList false)) = λ bytes. seen (λ list. several list.items) (λ fault. fault) (list_at false bytes)
-value_of_kind (Some (text kind false)) = λ bytes. seen one (λ fault. fault) (scalar_at kind bytes)
+value_of_kind (Some (records.Text kind ends)) = text_value kind ends
 value_of_kind (Some _) = refuse faults.OutOfPlace
 
 abbrev pub value_at : Reader ValueShape NodeFault
@@ -133,45 +184,56 @@ declaration_at prefix uri = prefix_at prefix >>= λ p bytes. seen (declares p) (
 -- what is between an array's element and its values: a declaration or an attribute, or the end of these
 abbrev pub array_part : Option RecordKind → Reader (Turn AttributeShape (Unit {0})) NodeFault
 array_part None = refuse faults.UnknownNode
-array_part (Some (attribute prefix name)) = λ bytes. seen more (λ fault. fault) (attribute_at prefix name bytes)
-array_part (Some (declaration prefix uri)) = λ bytes. seen more (λ fault. fault) (declaration_at prefix uri bytes)
-array_part (Some end_element) = given (stop tt)
+array_part (Some (records.Attribute prefix name)) = λ bytes. seen more (λ fault. fault) (attribute_at prefix name bytes)
+array_part (Some (records.Declaration prefix uri)) = λ bytes. seen more (λ fault. fault) (declaration_at prefix uri bytes)
+array_part (Some records.EndElement) = given (stop tt)
 array_part (Some _) = refuse faults.BadArray
 
+abbrev pub array_turn : Reader (Turn AttributeShape (Unit {0})) NodeFault
+array_turn = a_byte >>= λ byte. array_part (record_kind byte)
+
 abbrev pub array_parts : Reader (Many AttributeShape (Unit {0})) NodeFault
-array_parts = many (a_byte >>= λ byte. array_part (record_kind byte))
+array_parts = many array_turn
+
+-- an element, and the one that an array repeats
+abbrev pub named_shape : List ℕ → NameRef → NamedShape
+named_shape p n = record { prefix = p; name = n }
+
+abbrev pub element_at : PrefixForm → NameForm → Reader NamedShape NodeFault
+element_at prefix name = prefix_at prefix >>= λ p bytes. seen (named_shape p) (λ fault. fault) (name_at name bytes)
+
+abbrev pub element_of : Option RecordKind → Reader NamedShape NodeFault
+element_of None = refuse faults.UnknownNode
+element_of (Some (records.Element prefix name)) = element_at prefix name
+element_of (Some _) = refuse faults.BadArray
+
+abbrev pub array_element : Reader NamedShape NodeFault
+array_element = a_byte >>= λ byte. element_of (record_kind byte)
 
 -- the bytes of so many values, of which there is one at least
 abbrev pub array_values : ArrayKind → ℕ → Reader (List ℕ) NodeFault
 array_values kind count = if count == 0 then refuse faults.BadArray else some_bytes (count * width_of kind)
 
--- the element that an array repeats
-pub record NamedShape : Type 0 where
-  pub prefix : List ℕ
-  pub name : NameRef
+-- how many values there are, and then these
+abbrev pub cells_shape : ArrayKind → ℕ → List ℕ → CellsShape
+cells_shape kind count values = record { kind = kind; count = count; bytes = values }
 
-abbrev pub element_at : PrefixForm → NameForm → Reader NamedShape NodeFault
-element_at prefix name = prefix_at prefix >>= λ p bytes. seen (λ n. record { prefix = p; name = n }) (λ fault. fault) (name_at name bytes)
+abbrev pub counted_cells : ArrayKind → Reader CellsShape NodeFault
+counted_cells kind = an_integer >>= λ count bytes. seen (cells_shape kind count) (λ fault. fault) (array_values kind count bytes)
 
-abbrev pub array_element : Option RecordKind → Reader NamedShape NodeFault
-array_element None = refuse faults.UnknownNode
-array_element (Some (element prefix name)) = element_at prefix name
-array_element (Some _) = refuse faults.BadArray
+abbrev pub cells_of : Option ArrayKind → Reader CellsShape NodeFault
+cells_of None = refuse faults.BadArray
+cells_of (Some kind) = counted_cells kind
 
--- the values of this kind, of which the count comes first
-abbrev pub counted_values : NamedShape → List AttributeShape → Option ArrayKind → Reader ArrayShape NodeFault
-counted_values it parts None = refuse faults.BadArray
-counted_values it parts (Some kind) =
-    an_integer >>= λ count bytes.
-    seen (λ values. record { prefix = it.prefix; name = it.name; attributes = parts; kind = kind; count = count; bytes = values }) (λ fault. fault) (array_values kind count bytes)
+abbrev pub array_cells : Reader CellsShape NodeFault
+array_cells = a_byte >>= λ byte. cells_of (array_kind byte)
 
 -- what follows an array's type byte
+abbrev pub array_shape : NamedShape → List AttributeShape → CellsShape → ArrayShape
+array_shape it parts cells = record { prefix = it.prefix; name = it.name; attributes = parts; kind = cells.kind; count = cells.count; bytes = cells.bytes }
+
 unfoldable pub array_at : Reader ArrayShape NodeFault
-array_at =
-    (a_byte >>= λ byte. array_element (record_kind byte)) >>= λ it.
-    array_parts >>= λ parts.
-    a_byte >>= λ byte.
-    counted_values it parts.items (array_kind byte)
+array_at = array_element >>= λ it. array_parts >>= λ parts bytes. seen (array_shape it parts.items) (λ fault. fault) (array_cells bytes)
 
 -- what follows the type byte of a text, and whether it ends the element that holds it
 abbrev pub text_at : TextKind → Bool → Reader Shape NodeFault
@@ -180,33 +242,33 @@ text_at kind ends bytes = seen (λ scalar. has_text (one scalar) ends) (λ fault
 
 -- what follows the type byte of a record
 unfoldable pub record_at : RecordKind → Reader Shape NodeFault
-record_at end_element = given ends_element
-record_at comment = λ bytes. seen comments (λ fault. fault) (a_string bytes)
-record_at array = λ bytes. seen repeats (λ fault. fault) (array_at bytes)
-record_at (attribute prefix name) = λ bytes. seen adds (λ fault. fault) (attribute_at prefix name bytes)
-record_at (declaration prefix uri) = λ bytes. seen adds (λ fault. fault) (declaration_at prefix uri bytes)
-record_at (element prefix name) = λ bytes. seen (λ (it : NamedShape). begins_element it.prefix it.name) (λ fault. fault) (element_at prefix name bytes)
-record_at (text kind ends) = text_at kind ends
+record_at records.EndElement = given ends_element
+record_at records.Comment = λ bytes. seen comments (λ fault. fault) (a_string bytes)
+record_at records.Array = λ bytes. seen repeats (λ fault. fault) (array_at bytes)
+record_at (records.Attribute prefix name) = λ bytes. seen adds (λ fault. fault) (attribute_at prefix name bytes)
+record_at (records.Declaration prefix uri) = λ bytes. seen adds (λ fault. fault) (declaration_at prefix uri bytes)
+record_at (records.Element prefix name) = λ bytes. seen (λ (it : NamedShape). begins_element it.prefix it.name) (λ fault. fault) (element_at prefix name bytes)
+record_at (records.Text kind ends) = text_at kind ends
 
 -- a record that opens an element
 abbrev pub opens : RecordKind → Bool
-opens (element _ _) = true
-opens array = true
+opens (records.Element _ _) = true
+opens records.Array = true
 opens _ = false
 
 -- one that stands right behind the start of an element
 abbrev pub is_attribute : RecordKind → Bool
-is_attribute (attribute _ _) = true
-is_attribute (declaration _ _) = true
+is_attribute (records.Attribute _ _) = true
+is_attribute (records.Declaration _ _) = true
 is_attribute _ = false
 
 -- the end of a list, outside one
 abbrev pub ends_list : RecordKind → Bool
-ends_list (text texts.EndList ends) = true
+ends_list (records.Text texts.EndList ends) = true
 ends_list _ = false
 
 abbrev pub is_element : RecordKind → Bool
-is_element (element _ _) = true
+is_element (records.Element _ _) = true
 is_element _ = false
 
 -- why a record may not come at a place, by its type byte; in an array's element the depth isn't judged again

@@ -36,6 +36,64 @@ pub enum TextKind {
     QNameDictionary,
 }
 
+/// How a record tells a prefix.
+#[derive(Clone, Copy, Debug, PartialEq, Eq)]
+pub enum PrefixForm {
+    /// There is none.
+    Unprefixed,
+    /// This letter.
+    Lettered(u8),
+    /// A string.
+    Prefixed,
+}
+
+/// How a record tells a name.
+#[derive(Clone, Copy, Debug, PartialEq, Eq)]
+pub enum NameForm {
+    /// A string.
+    Inlined,
+    /// An identifier.
+    Identified,
+}
+
+/// What a type byte begins.
+#[derive(Clone, Copy, Debug, PartialEq, Eq)]
+pub enum RecordKind {
+    EndElement,
+    Comment,
+    Array,
+    Attribute(PrefixForm, NameForm),
+    Declaration(PrefixForm, NameForm),
+    Element(PrefixForm, NameForm),
+    /// A text of this kind, and whether it ends the element that holds it.
+    Text(TextKind, bool),
+}
+
+/// How many bytes a length has.
+#[derive(Clone, Copy, Debug, PartialEq, Eq)]
+pub enum LengthForm {
+    OneByte,
+    TwoBytes,
+    FourBytes,
+}
+
+/// What follows the type byte of a text.
+#[derive(Clone, Copy, Debug, PartialEq, Eq)]
+pub enum Body {
+    /// So many bytes.
+    Fixed(u8),
+    /// A length, and as many bytes as it says.
+    Counted(LengthForm),
+    /// An identifier.
+    Named,
+    /// A letter and an identifier.
+    Qualified,
+    /// Texts, and an end.
+    Listed,
+    /// Nothing: it ends a list.
+    Ending,
+}
+
 /// The kinds in the order of their type bytes, which are the even ones from 80 on.
 pub const TEXT_KINDS: [TextKind; 31] = [
     TextKind::Zero,

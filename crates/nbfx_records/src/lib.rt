@@ -1,18 +1,39 @@
 //! The records of MC-NBFX, the binary form of an XML infoset that WCF's net.tcp carries: elements,
 //! attributes, declarations, comments, texts of each kind, arrays, ends.
 //!
-//! The one idea: a record is made of parts, each of which tells what comes behind it. `specs/Shapes` says
-//! which shape stands at the front of some bytes, part by part, and is done with a type byte or a length
-//! where it is read; `specs/Contents` judges what a whole shape says and gives its [`Node`]. `specs/Records`
-//! says apart from that what the bytes of each node are, one row for each record, and `laws` that both are
-//! one.
+//! The one idea: a record is made of parts, each of which tells what comes behind it.
+//! `specs/Shapes` says which shape stands at the front of some bytes, part by part, and is done
+//! with a type byte or a length where it is read; `specs/Contents` judges what a whole shape says
+//! and gives its [`Node`]. `specs/Records` says apart from that what the bytes of each node are,
+//! one row for each record, and `laws` that both are one.
 #![tactic(auto)]
 
+mod arrays;
+mod attributes;
+mod building;
+mod cursor;
 mod kinds;
+pub mod laws;
+mod lists;
 mod nodes;
+mod parts;
+mod put_nodes;
+mod put_parts;
+mod put_values;
+mod read;
+mod records;
+mod resume;
+mod type_bytes;
+mod values;
 
 pub use kinds::TextKind;
 pub use nodes::{
     ArrayNode, AttrNode, AttrNodes, NameRef, Node, NodeFault, NodePlace, RawScalar, RawValue,
     RawValues,
 };
+pub use put_nodes::put_node;
+pub use read::{NodeRead, ReadFault, read_node, read_node_on};
+pub use resume::Resume;
+
+#[cfg(test)]
+mod tests;

@@ -1,6 +1,7 @@
 //! What records say, with each identifier as its number.
 
-use nbfx_values::{ArrayKind, Scalar, Sequence, Txt, Values};
+use nbfx_values::{ArrayKind, Copied, Scalar, Sequence, Txt, Values};
+use unit_streams::Memory;
 
 /// A name or a URI, as a record has it.
 #[derive(Debug, Drop)]
@@ -89,7 +90,8 @@ pub enum Node {
 #[derive(Clone, Copy, Debug, PartialEq, Eq)]
 pub enum NodePlace {
     BeforeRoot,
-    /// Within the root: whether an attribute may stand here, and whether one more element may be opened.
+    /// Within the root: whether an attribute may stand here, and whether one more element may be
+    /// opened.
     Within { attributes: bool, deeper: bool },
     AfterRoot,
 }
@@ -113,4 +115,86 @@ pub enum NodeFault {
     BadUtf8,
     /// A value's bytes are none of its kind.
     BadValue,
+}
+
+impl From<AttrNode> for Node {
+    ghost use Rattle.std.specs.Prelude.{◌≡◌};
+    ghost use Rattle.nbfx_records.specs.Contents.{attribute_node};
+
+    ghost from_gives = { λ attribute node. node ≡ attribute_node attribute };
+
+    fn from(attribute: AttrNode) -> Node {
+        match attribute {
+            AttrNode::Attribute {
+                prefix,
+                name,
+                value,
+            } => Node::Attribute {
+                prefix,
+                name,
+                value,
+            },
+            AttrNode::Xmlns { prefix, uri } => Node::Xmlns { prefix, uri },
+        }
+    }
+}
+
+impl Copied for NameRef {
+    fn copy(&self) -> Result<NameRef, Memory> {
+        Ok(match self {
+            NameRef::Inline(text) => NameRef::Inline(text.copy()?),
+            NameRef::Id(id) => NameRef::Id(*id),
+        })
+    }
+}
+
+impl Copied for RawScalar {
+    fn copy(&self) -> Result<RawScalar, Memory> {
+        Ok(match self {
+            RawScalar::Known(value) => RawScalar::Known(value.copy()?),
+            RawScalar::Dictionary(id) => RawScalar::Dictionary(*id),
+            RawScalar::QName(letter, id) => RawScalar::QName(*letter, *id),
+        })
+    }
+}
+
+impl Copied for RawValue {
+    fn copy(&self) -> Result<RawValue, Memory> {
+        Ok(match self {
+            RawValue::One(value) => RawValue::One(value.copy()?),
+            RawValue::List(values) => RawValue::List(values.copy()?),
+        })
+    }
+}
+
+impl Copied for AttrNode {
+    fn copy(&self) -> Result<AttrNode, Memory> {
+        Ok(match self {
+            AttrNode::Attribute {
+                prefix,
+                name,
+                value,
+            } => AttrNode::Attribute {
+                prefix: prefix.copy()?,
+                name: name.copy()?,
+                value: value.copy()?,
+            },
+            AttrNode::Xmlns { prefix, uri } => AttrNode::Xmlns {
+                prefix: prefix.copy()?,
+                uri: uri.copy()?,
+            },
+        })
+    }
+}
+
+impl Copied for ArrayNode {
+    fn copy(&self) -> Result<ArrayNode, Memory> {
+        Ok(ArrayNode {
+            prefix: self.prefix.copy()?,
+            name: self.name.copy()?,
+            attrs: self.attrs.copy()?,
+            kind: self.kind,
+            values: self.values.copy()?,
+        })
+    }
 }

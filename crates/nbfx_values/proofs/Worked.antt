@@ -7,9 +7,14 @@ use Rattle.nbfx_values.specs.declared.scalars.Scalar.TheVariants.{Number, Text a
 use Rattle.nbfx_values.specs.declared.scalars.Value.TheVariants.{One}
 use Rattle.nbfx_values.specs.Characters.{value_characters}
 use Rattle.nbfx_values.specs.Documents.{no_more, array, IsDocument, IsRefusedAt}
+use Rattle.nbfx_values.specs.Limits.{limits, usual_limits}
 use Rattle.nbfx_values.specs.Measures.{content_of, depth_of}
 use Rattle.nbfx_values.proofs.OnLiterals.{values_on_literals}
 use Rattle.nbfx_values.proofs.Walks.{stops-refused}
+
+-- the quotas of a stack that nobody has set otherwise
+usual_numbers : usual_limits ≡ limits 65536 32 2048 262144 2048 (2 ^ 48)
+usual_numbers = refl
 
 name : List ℕ → Item
 name local = Start [] local

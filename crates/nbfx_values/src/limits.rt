@@ -1,5 +1,18 @@
 ghost use Rattle.nbfx_values.specs.Limits.{IsGood, limits};
 
+// The quotas of a stack that nobody has set otherwise.
+const USUAL_PAYLOAD: u32 = 65_536;
+
+const USUAL_DEPTH: u32 = 32;
+
+const USUAL_DICTIONARY: u32 = 2_048;
+
+const USUAL_CONTENT: u32 = 262_144;
+
+const USUAL_VIA: u32 = 2_048;
+
+const USUAL_SESSION: u64 = 1 << 48;
+
 /// What a reader or writer of sessions admits. Sizes are in bytes.
 #[derive(Clone, Copy, Debug, PartialEq, Eq)]
 pub struct Quotas {
@@ -28,12 +41,12 @@ impl Quotas {
         ensures { limits_of result ≡ usual_limits }
     {
         Quotas {
-            payload: 65_536,
-            depth: 32,
-            dictionary: 2_048,
-            content: 262_144,
-            via: 2_048,
-            session: 1 << 48,
+            payload: USUAL_PAYLOAD,
+            depth: USUAL_DEPTH,
+            dictionary: USUAL_DICTIONARY,
+            content: USUAL_CONTENT,
+            via: USUAL_VIA,
+            session: USUAL_SESSION,
         }
     }
 

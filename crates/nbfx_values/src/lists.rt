@@ -52,6 +52,14 @@ impl<T> Sequence<T> {
         self.items.as_slice()
     }
 
+    /// The values, taken out.
+    pub fn into_vec(self) -> Vec<T>
+        ensures { result.items ≡ self }
+    {
+        let Sequence { items } = self;
+        items
+    }
+
     // The values, which leave the list without any.
     pub(crate) fn take(&mut self) -> Sequence<T>
         ensures values { result ≡ self.old }

@@ -14,7 +14,7 @@ use Rattle.nmf_records.specs.declared.reader.FrameReader.{FrameReader}
 use Rattle.nmf_records.specs.Records.{Read}
 use Rattle.nmf_records.specs.Reading.{frame_at}
 use Rattle.nmf_records.specs.Steps.{HasShape, begins_text, kind_of_text}
-use Rattle.nmf_records.specs.Reader.{StandsFor, ShowsText, HoldsText, text_after, text_read, limit_of, pending_of, failure_of, refusal_at}
+use Rattle.nmf_records.specs.Reader.{StandsFor, ShowsText, HoldsText, text_after, text_read, limit_of, pending_of, failure_of, refusal_in}
 use Rattle.unit_streams.proofs.Peeling.{goes_on, decided_some}
 use Rattle.nmf_records.proofs.Frames.{frame_peels}
 use Rattle.nmf_records.proofs.Showing.{plain_shows, field_head, size_head, text_shows}
@@ -100,14 +100,14 @@ begun_still limit r expect p e stands = ap (λ l. frame_at l expect p) (sym e) �
 pub refusal_is : (reader : FrameReader) (fault : FrameFault) → reader.stage ≡ stages.Failed fault
     → failure_of reader ≡ Some (record { fault = fault; shown_by = pending_of reader })
 unfolding failure_of pending_of
-refusal_is reader fault e = ap (λ stage. refusal_at stage reader.pending) e
+refusal_is reader fault e = ap (λ stage. refusal_in stage reader.pending) e
 
 -- and another stage none
 pub no_refusal : (reader : FrameReader) (refusal : FrameRefusal) → ((fault : FrameFault) → reader.stage ≡ stages.Failed fault → ⊥)
     → failure_of reader ≡ Some refusal → ⊥
 unfolding failure_of
 no_refusal reader refusal isnt e = by_stage reader.stage isnt e where
-  by_stage : (stage : Stage) → ((fault : FrameFault) → stage ≡ stages.Failed fault → ⊥) → refusal_at stage reader.pending ≡ Some refusal → ⊥
+  by_stage : (stage : Stage) → ((fault : FrameFault) → stage ≡ stages.Failed fault → ⊥) → refusal_in stage reader.pending ≡ Some refusal → ⊥
   by_stage stages.Type isnt e = cc
   by_stage (stages.Field field) isnt e = cc
   by_stage (stages.Text text) isnt e = cc

@@ -22,7 +22,7 @@ use Rattle.nmf_records.specs.declared.reader.FrameReader.{FrameReader}
 use Rattle.nmf_records.specs.Reading.{bare, size_at, frame_at, as_size}
 use Rattle.nmf_records.specs.Steps.{HasShape, HasNoText, Meets, GoesTo, size_bytes, sized}
 use Rattle.nmf_records.specs.Reader.{HoldsText}
-use Rattle.nmf_records.specs.Advancing.{Leads, BeginsAnew, ReadsBytes, SizeAnswers}
+use Rattle.nmf_records.specs.Advancing.{Progresses, BeginsAnew, ReadsBytes, SizeAnswers}
 use Rattle.nmf_records.proofs.Typed.{begun_reads}
 
 -- a reader of texts that begins anew has no byte of one
@@ -35,7 +35,7 @@ holds_text mid (stages.Failed fault) p none anew = tt
 
 -- a fixed byte leads where it goes
 pub fixed_leads : (limit : ℕ) (expect : Expect) (p : List ℕ) (mid : FrameReader) (progress : Progress) → Meets (frame_at limit expect p) (length p) progress
-    → GoesTo expect p progress → IntStandsFor mid.size [] → BeginsAnew mid progress → Leads limit expect p mid progress
+    → GoesTo expect p progress → IntStandsFor mid.size [] → BeginsAnew mid progress → Progresses limit expect p mid progress
 fixed_leads limit expect p mid (Going stage) meets goes int anew =
     (meets, goes.0, rw goes.1 int, holds_text mid stage p goes.2 anew)
 fixed_leads limit expect p mid (Done frame) meets goes int anew = (meets.0, meets.1, int)
@@ -61,7 +61,7 @@ module _ (limit n : ℕ) (expect : Expect) (size : SizeRecord) (q : List ℕ) (b
   -- where its bytes with one more lead
   pub size_leads : (mid : FrameReader) (progress : Progress) → frame_at limit expect p ≡ size_at n (sized size) (q ++ byte ∷ []) → length p ≡ n + length (q ++ byte ∷ [])
       → HasShape expect (stages.Size size) p → size_bytes (stages.Size size) p ≡ q ++ byte ∷ [] → int_at q ≡ begun
-      → SizeAnswers size (q ++ byte ∷ []) mid.size progress → Leads limit expect p mid progress
+      → SizeAnswers size (q ++ byte ∷ []) mid.size progress → Progresses limit expect p mid progress
   size_leads mid (Going stage) reads len shape bytes so_far answers =
       rw answers.0 (reads ∙ ap (as_size n (sized size)) answers.1, shape, rw bytes answers.2, tt)
   size_leads mid (Done frame) reads len shape bytes so_far answers =
@@ -92,7 +92,7 @@ one_more p byte = simp length-append
 -- a byte of a fixed field
 pub field_leads : (limit : ℕ) (expect : Expect) (field : Field) (p : List ℕ) (byte : ℕ) (mid : FrameReader) (progress : Progress)
     → HasShape expect (stages.Field field) p → Meets (frame_at limit expect (p ++ byte ∷ [])) (length p + 1) progress → GoesTo expect (p ++ byte ∷ []) progress → IntStandsFor mid.size []
-    → Leads limit expect (p ++ byte ∷ []) mid progress
+    → Progresses limit expect (p ++ byte ∷ []) mid progress
 field_leads limit expect field p byte mid progress shape meets goes int =
     let len = one_more p byte in
     let some = field_some expect field p shape in
@@ -101,7 +101,7 @@ field_leads limit expect field p byte mid progress shape meets goes int =
 -- a byte of a size that has begun
 pub size_byte_leads : (limit : ℕ) (expect : Expect) (size : SizeRecord) (p : List ℕ) (byte : ℕ) (mid : FrameReader) (progress : Progress)
     → frame_at limit expect p ≡ begun → HasShape expect (stages.Size size) p
-    → SizeAnswers size (size_bytes (stages.Size size) p ++ byte ∷ []) mid.size progress → Leads limit expect (p ++ byte ∷ []) mid progress
+    → SizeAnswers size (size_bytes (stages.Size size) p ++ byte ∷ []) mid.size progress → Progresses limit expect (p ++ byte ∷ []) mid progress
 size_byte_leads limit expect sizes.SizedEnvelope p byte mid progress so_far shape answers =
     let q : List ℕ = drop 1 p in
     let so_far' : frame_at limit expect (SIZED_ENVELOPE ∷ q) ≡ begun = ap (frame_at limit expect) (sym shape) ∙ so_far in

@@ -7,7 +7,7 @@ use Rattle.nmf_records.specs.declared.stage.Progress.TheVariants.{Going, Done, W
 use Rattle.nmf_records.specs.declared.reader.FrameReader.{FrameReader}
 use Rattle.nmf_records.specs.Reading.{frame_at}
 use Rattle.nmf_records.specs.Reader.{StandsFor, limit_of, pending_of, failure_of}
-use Rattle.nmf_records.specs.Advancing.{Leads, Steps, Keeps, stage_after, pending_after}
+use Rattle.nmf_records.specs.Advancing.{Progresses, Steps, Keeps, stage_after, pending_after}
 use Rattle.unit_streams.proofs.Peeling.{extent}
 use Rattle.unit_streams.proofs.Taken.{taken_len}
 use Rattle.nmf_records.proofs.Frames.{frame_peels}
@@ -27,7 +27,7 @@ settled_limit mid new n progress s = ap text_limit_of s.text
 
 -- a reader stands for the bytes that led there
 pub settled_steps : (limit : ℕ) (expect : Expect) (p bytes : List ℕ) (n : ℕ) (mid new : FrameReader) (progress : Progress)
-    → n ≤ length bytes → limit_of new ≡ limit → mid.pending ≡ length p → Leads limit expect (p ++ take n bytes) mid progress → IsSettled mid new n progress
+    → n ≤ length bytes → limit_of new ≡ limit → mid.pending ≡ length p → Progresses limit expect (p ++ take n bytes) mid progress → IsSettled mid new n progress
     → Steps limit expect (p ++ take n bytes) new progress
 unfolding StandsFor pending_of
 settled_steps limit expect p bytes n mid new (Going stage) within lim counted leads settled =

@@ -25,7 +25,7 @@ use Rattle.nmf_records.specs.Records.{Read}
 use Rattle.nmf_records.specs.Reading.{with_text, allows, fault_of, text_at, frame_at, as_text}
 use Rattle.nmf_records.specs.Steps.{HasShape, Meets, begins_text, is_text_start, kind_of_text, texted}
 use Rattle.nmf_records.specs.Reader.{ShowsText, text_after, text_read, limit_of}
-use Rattle.nmf_records.specs.Advancing.{BeginsAnew, TextAnswers, Leads}
+use Rattle.nmf_records.specs.Advancing.{BeginsAnew, TextAnswers, Progresses}
 use Rattle.unit_streams.proofs.Behind.{behind_begun}
 use Rattle.multibyte_ints.proofs.TextBytes.{string_peels}
 use Rattle.nmf_records.proofs.Typed.{begun_may_come, begun_reads}
@@ -117,14 +117,14 @@ text_shows limit new s expect text q c lim h stands = record {
 -- what the bytes of a text led to
 pub text_leads : (limit : ℕ) (expect : Expect) (text : TextRecord) (p c : List ℕ) (mid : FrameReader) (progress : Progress)
     → frame_at limit expect p ≡ begun → HasShape expect (stages.Text text) p → IntStandsFor mid.size []
-    → TextAnswers limit text (drop 1 p ++ c) mid.text progress → Leads limit expect (p ++ c) mid progress
+    → TextAnswers limit text (drop 1 p ++ c) mid.text progress → Progresses limit expect (p ++ c) mid progress
 text_leads limit expect text p c mid progress h shape int answers =
     let h' : frame_at limit expect (kind_of_text text ∷ drop 1 p) ≡ begun = ap (frame_at limit expect) (sym shape) ∙ h in
     let more : p ++ c ≡ kind_of_text text ∷ (drop 1 p ++ c) = ap (λ x. x ++ c) shape in
     rw more (by_progress (drop 1 p ++ c) progress (text_reads limit expect text (drop 1 p) (drop 1 p ++ c) h') answers)
   where
     by_progress : (q : List ℕ) (progress : Progress) → frame_at limit expect (kind_of_text text ∷ q) ≡ text_at limit (texted text) q
-        → TextAnswers limit text q mid.text progress → Leads limit expect (kind_of_text text ∷ q) mid progress
+        → TextAnswers limit text q mid.text progress → Progresses limit expect (kind_of_text text ∷ q) mid progress
     by_progress q (Going stage) reads answers =
         rw answers.0 (reads ∙ ap (as_text (texted text)) answers.1, refl, int, answers.2)
     by_progress q (Done frame) reads answers =

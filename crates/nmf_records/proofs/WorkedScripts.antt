@@ -5,7 +5,7 @@ use Rattle.nbfx_values.specs.declared.session.Mode.TheVariants.{Singleton, Duple
 use Rattle.nmf_records.specs.declared.frame.Frame.{Frame}
 use Rattle.nmf_records.specs.declared.frame.Frame.TheVariants.{Version, Mode, Via, KnownEncoding, UnsizedEnvelope, Chunk, SizedEnvelope, End, Fault, PreambleAck, PreambleEnd}
 use Rattle.nmf_records.specs.declared.frame.Expect.TheVariants as expects
-use Rattle.nmf_records.specs.declared.script.Direction.TheVariants.{Initiator, Receiver}
+use Rattle.nmf_records.specs.declared.script.Direction.TheVariants.{FromInitiator, FromReceiver}
 use Rattle.nmf_records.specs.declared.script.Due.TheVariants as dues
 use Rattle.nmf_records.specs.Reading.{comes}
 use Rattle.nmf_records.specs.Script.{first, may_come, may_end, due_behind, IsScript}
@@ -18,68 +18,68 @@ abbrev singleton_preamble : List Frame
 singleton_preamble = Version 1 0 ∷ Mode 1 ∷ Via ∷ KnownEncoding 7 ∷ PreambleEnd ∷ []
 
 -- what may come
-version_first : may_come Initiator (first Initiator) ≡ expects.Types (2 ^ 0)
+version_first : may_come FromInitiator (first FromInitiator) ≡ expects.Types (2 ^ 0)
 version_first = refl
 
-messages_or_end : may_come Initiator dues.Messages ≡ expects.Types (2 ^ 6 + 2 ^ 7)
+messages_or_end : may_come FromInitiator dues.Messages ≡ expects.Types (2 ^ 6 + 2 ^ 7)
 messages_or_end = refl
 
-ack_or_fault : may_come Receiver (first Receiver) ≡ expects.Types (2 ^ 8 + 2 ^ 11)
+ack_or_fault : may_come FromReceiver (first FromReceiver) ≡ expects.Types (2 ^ 8 + 2 ^ 11)
 ack_or_fault = refl
 
-reply_end_or_fault : may_come Receiver dues.Reply ≡ expects.Types (2 ^ 5 + 2 ^ 7 + 2 ^ 8)
+reply_end_or_fault : may_come FromReceiver dues.Reply ≡ expects.Types (2 ^ 5 + 2 ^ 7 + 2 ^ 8)
 reply_end_or_fault = refl
 
-size_alone : may_come Receiver dues.Chunk ≡ expects.Chunk
+size_alone : may_come FromReceiver dues.Chunk ≡ expects.Chunk
 size_alone = refl
 
-nothing_when_over : may_come Receiver dues.Over ≡ expects.Types 0
+nothing_when_over : may_come FromReceiver dues.Over ≡ expects.Types 0
 nothing_when_over = refl
 
 -- and what may not
-no_fault_of_an_initiator : comes (may_come Initiator dues.Messages) Fault ≡ false
+no_fault_of_an_initiator : comes (may_come FromInitiator dues.Messages) Fault ≡ false
 no_fault_of_an_initiator = refl
 
-no_fault_for_a_size : comes (may_come Receiver dues.Chunk) Fault ≡ false
+no_fault_for_a_size : comes (may_come FromReceiver dues.Chunk) Fault ≡ false
 no_fault_for_a_size = refl
 
-no_sized_envelope : comes (may_come Initiator dues.Envelope) (SizedEnvelope 3) ≡ false
+no_sized_envelope : comes (may_come FromInitiator dues.Envelope) (SizedEnvelope 3) ≡ false
 no_sized_envelope = refl
 
-no_second_envelope : comes (may_come Initiator (due_behind Initiator Singleton dues.Envelope (UnsizedEnvelope ∷ Chunk 0 ∷ []))) UnsizedEnvelope ≡ false
+no_second_envelope : comes (may_come FromInitiator (due_behind FromInitiator Singleton dues.Envelope (UnsizedEnvelope ∷ Chunk 0 ∷ []))) UnsizedEnvelope ≡ false
 no_second_envelope = refl
 
 -- where records lead
-behind_a_duplex_preamble : due_behind Initiator Duplex dues.Version duplex_preamble ≡ dues.Messages
+behind_a_duplex_preamble : due_behind FromInitiator Duplex dues.Version duplex_preamble ≡ dues.Messages
 behind_a_duplex_preamble = refl
 
-behind_a_singleton_preamble : due_behind Initiator Singleton dues.Version singleton_preamble ≡ dues.Envelope
+behind_a_singleton_preamble : due_behind FromInitiator Singleton dues.Version singleton_preamble ≡ dues.Envelope
 behind_a_singleton_preamble = refl
 
-behind_a_chunk : due_behind Receiver Singleton dues.Ack (PreambleAck ∷ UnsizedEnvelope ∷ Chunk 3 ∷ []) ≡ dues.Chunk
+behind_a_chunk : due_behind FromReceiver Singleton dues.Ack (PreambleAck ∷ UnsizedEnvelope ∷ Chunk 3 ∷ []) ≡ dues.Chunk
 behind_a_chunk = refl
 
-behind_the_last_chunk : due_behind Receiver Singleton dues.Ack (PreambleAck ∷ UnsizedEnvelope ∷ Chunk 3 ∷ Chunk 0 ∷ []) ≡ dues.End
+behind_the_last_chunk : due_behind FromReceiver Singleton dues.Ack (PreambleAck ∷ UnsizedEnvelope ∷ Chunk 3 ∷ Chunk 0 ∷ []) ≡ dues.End
 behind_the_last_chunk = refl
 
-behind_a_fault : due_behind Receiver Duplex dues.Ack (PreambleAck ∷ SizedEnvelope 3 ∷ Fault ∷ []) ≡ dues.Over
+behind_a_fault : due_behind FromReceiver Duplex dues.Ack (PreambleAck ∷ SizedEnvelope 3 ∷ Fault ∷ []) ≡ dues.Over
 behind_a_fault = refl
 
 -- where a stream may end
-ack_alone_ends : may_end Receiver Simplex (due_behind Receiver Simplex dues.Ack (PreambleAck ∷ [])) ≡ true
+ack_alone_ends : may_end FromReceiver Simplex (due_behind FromReceiver Simplex dues.Ack (PreambleAck ∷ [])) ≡ true
 ack_alone_ends = refl
 
-no_end_in_duplex : may_end Receiver Duplex (due_behind Receiver Duplex dues.Ack (PreambleAck ∷ [])) ≡ false
+no_end_in_duplex : may_end FromReceiver Duplex (due_behind FromReceiver Duplex dues.Ack (PreambleAck ∷ [])) ≡ false
 no_end_in_duplex = refl
 
-no_end_in_an_envelope : may_end Initiator Singleton dues.Chunk ≡ false
+no_end_in_an_envelope : may_end FromInitiator Singleton dues.Chunk ≡ false
 no_end_in_an_envelope = refl
 
 -- an initiator's streams
-no_message : IsScript Initiator Duplex (Version 1 0 ∷ Mode 2 ∷ Via ∷ KnownEncoding 8 ∷ PreambleEnd ∷ End ∷ [])
+no_message : IsScript FromInitiator Duplex (Version 1 0 ∷ Mode 2 ∷ Via ∷ KnownEncoding 8 ∷ PreambleEnd ∷ End ∷ [])
 no_message = record { major = 1; minor = 0; encoding = 8; envelopes = []; sent = ([], refl); joined = refl }
 
-two_one_way : IsScript Initiator Simplex (Version 1 0 ∷ Mode 3 ∷ Via ∷ KnownEncoding 8 ∷ PreambleEnd ∷ SizedEnvelope 3 ∷ SizedEnvelope 0 ∷ End ∷ [])
+two_one_way : IsScript FromInitiator Simplex (Version 1 0 ∷ Mode 3 ∷ Via ∷ KnownEncoding 8 ∷ PreambleEnd ∷ SizedEnvelope 3 ∷ SizedEnvelope 0 ∷ End ∷ [])
 two_one_way = record {
   major = 1;
   minor = 0;
@@ -89,7 +89,7 @@ two_one_way = record {
   joined = refl;
 }
 
-one_envelope : IsScript Initiator Singleton (Version 1 0 ∷ Mode 1 ∷ Via ∷ KnownEncoding 7 ∷ PreambleEnd ∷ UnsizedEnvelope ∷ Chunk 3 ∷ Chunk 0 ∷ End ∷ [])
+one_envelope : IsScript FromInitiator Singleton (Version 1 0 ∷ Mode 1 ∷ Via ∷ KnownEncoding 7 ∷ PreambleEnd ∷ UnsizedEnvelope ∷ Chunk 3 ∷ Chunk 0 ∷ End ∷ [])
 one_envelope = record {
   major = 1;
   minor = 0;
@@ -100,16 +100,16 @@ one_envelope = record {
 }
 
 -- a receiver's
-answered : IsScript Receiver Duplex (PreambleAck ∷ SizedEnvelope 3 ∷ End ∷ [])
+answered : IsScript FromReceiver Duplex (PreambleAck ∷ SizedEnvelope 3 ∷ End ∷ [])
 answered = inl (record { envelopes = SizedEnvelope 3 ∷ []; sent = (3 ∷ [], refl); joined = refl })
 
-no_reply : IsScript Receiver Singleton (PreambleAck ∷ End ∷ [])
+no_reply : IsScript FromReceiver Singleton (PreambleAck ∷ End ∷ [])
 no_reply = inl (record { envelopes = []; sent = inl refl; joined = refl })
 
-ack_alone : IsScript Receiver Simplex (PreambleAck ∷ [])
+ack_alone : IsScript FromReceiver Simplex (PreambleAck ∷ [])
 ack_alone = inr (inl (refl, refl))
 
-fault_for_the_ack : IsScript Receiver Singleton (Fault ∷ [])
+fault_for_the_ack : IsScript FromReceiver Singleton (Fault ∷ [])
 fault_for_the_ack = inr (inr (record {
   before = [];
   in_place_of = PreambleAck;
@@ -119,7 +119,7 @@ fault_for_the_ack = inr (inr (record {
   joined = refl;
 }))
 
-fault_for_an_envelope : IsScript Receiver Duplex (PreambleAck ∷ SizedEnvelope 3 ∷ Fault ∷ [])
+fault_for_an_envelope : IsScript FromReceiver Duplex (PreambleAck ∷ SizedEnvelope 3 ∷ Fault ∷ [])
 fault_for_an_envelope = inr (inr (record {
   before = PreambleAck ∷ SizedEnvelope 3 ∷ [];
   in_place_of = SizedEnvelope 5;

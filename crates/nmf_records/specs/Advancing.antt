@@ -44,11 +44,11 @@ TextAnswers limit text q reader (progress.Done frame) = (frame ≡ texted text) 
 TextAnswers limit text q reader (progress.Wrong fault) = (r : StringFault) × (fault ≡ fault_of r) × (string_at limit q ≡ wrong r (length q))
 
 -- what the bytes p of a record led to, the readers of sizes and texts having gone on
-abbrev pub Leads : ℕ → Expect → List ℕ → FrameReader → Progress → Type 0
-Leads limit expect p mid (progress.Going stage) =
+abbrev pub Progresses : ℕ → Expect → List ℕ → FrameReader → Progress → Type 0
+Progresses limit expect p mid (progress.Going stage) =
     (frame_at limit expect p ≡ begun) × HasShape expect stage p × IntStandsFor mid.size (size_bytes stage p) × HoldsText stage mid.text p
-Leads limit expect p mid (progress.Done frame) = (text : List ℕ) × (frame_at limit expect p ≡ whole (with_text frame text) (length p)) × IntStandsFor mid.size []
-Leads limit expect p mid (progress.Wrong fault) = frame_at limit expect p ≡ wrong fault (length p)
+Progresses limit expect p mid (progress.Done frame) = (text : List ℕ) × (frame_at limit expect p ≡ whole (with_text frame text) (length p)) × IntStandsFor mid.size []
+Progresses limit expect p mid (progress.Wrong fault) = frame_at limit expect p ≡ wrong fault (length p)
 
 -- what they led to
 abbrev pub Steps : ℕ → Expect → List ℕ → FrameReader → Progress → Type 0

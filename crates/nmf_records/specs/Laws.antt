@@ -14,7 +14,7 @@ use Rattle.nmf_records.specs.Steps.{begins_text}
 use Rattle.nbfx_values.specs.declared.session.Mode.{Mode}
 use Rattle.nmf_records.specs.declared.frame.Frame.{Frame}
 use Rattle.nmf_records.specs.declared.script.Direction.{Direction}
-use Rattle.nmf_records.specs.declared.script.Direction.TheVariants.{Receiver}
+use Rattle.nmf_records.specs.declared.script.Direction.TheVariants.{FromReceiver}
 use Rattle.nmf_records.specs.Script.{IsScript, IsLoneAck, LeadsToEnd}
 
 -- the record at the front is the one that bytes there are, where it may come with its text
@@ -122,4 +122,4 @@ ScriptsLeadToEnd = (direction : Direction) (mode : Mode) (script : List Frame)
 abbrev pub NoScriptGoesOn : Type 0
 NoScriptGoesOn = (direction : Direction) (mode : Mode) (script more : List Frame)
     → IsScript direction mode script → IsScript direction mode (script ++ more)
-    → (more ≡ []) ⊎ ((direction ≡ Receiver) × IsLoneAck mode script)
+    → (more ≡ []) ⊎ ((direction ≡ FromReceiver) × IsLoneAck mode script)

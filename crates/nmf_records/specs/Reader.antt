@@ -30,13 +30,13 @@ unfoldable pub pending_of : FrameReader → ℕ
 pending_of reader = reader.pending
 
 -- the refusal at a failed stage, where so many bytes show the fault
-abbrev pub refusal_at : Stage → ℕ → Option FrameRefusal
-refusal_at (stages.Failed fault) shown_by = Some (record { fault = fault; shown_by = shown_by })
-refusal_at _ shown_by = None
+abbrev pub refusal_in : Stage → ℕ → Option FrameRefusal
+refusal_in (stages.Failed fault) shown_by = Some (record { fault = fault; shown_by = shown_by })
+refusal_in _ shown_by = None
 
 -- the refusal that it answers from now on
 unfoldable pub failure_of : FrameReader → Option FrameRefusal
-failure_of reader = refusal_at reader.stage reader.pending
+failure_of reader = refusal_in reader.stage reader.pending
 
 -- the reader of texts has the bytes of one that has begun
 abbrev pub HoldsText : Stage → StringReader → List ℕ → Type 0
@@ -56,14 +56,14 @@ unfoldable pub StandsFor : FrameReader → Expect → List ℕ → Type 0
 StandsFor reader expect p = Holds reader expect p
 
 -- the text is the one that the reader shows
-pub record Shows (reader : FrameReader) (s : List ℕ) : Type 0 where
+pub record IsShown (reader : FrameReader) (s : List ℕ) : Type 0 where
   pub string : List ℕ
   pub stands : StringStandsFor reader.text string
   pub text_is : s ≡ text_of (string_at (limit_of reader) string)
 
 -- the text that the reader shows
 unfoldable pub ShowsText : FrameReader → List ℕ → Type 0
-ShowsText reader s = Shows reader s
+ShowsText reader s = IsShown reader s
 
 -- the text of a whole record
 abbrev pub text_read : Front Read FrameFault → List ℕ

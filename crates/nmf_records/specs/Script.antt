@@ -11,7 +11,7 @@ use Rattle.nmf_records.specs.declared.frame.Frame.TheVariants as frames
 use Rattle.nmf_records.specs.declared.frame.Expect.{Expect}
 use Rattle.nmf_records.specs.declared.frame.Expect.TheVariants as expects
 use Rattle.nmf_records.specs.declared.script.Direction.{Direction}
-use Rattle.nmf_records.specs.declared.script.Direction.TheVariants.{Initiator, Receiver}
+use Rattle.nmf_records.specs.declared.script.Direction.TheVariants.{FromInitiator, FromReceiver}
 use Rattle.nmf_records.specs.declared.script.Due.{Due}
 use Rattle.nmf_records.specs.declared.script.Due.TheVariants as dues
 use Rattle.nmf_records.specs.Records.{type_of}
@@ -19,13 +19,13 @@ use Rattle.nmf_records.specs.Reading.{MayCome}
 
 -- what a stream begins with
 abbrev pub first : Direction → Due
-first Initiator = dues.Version
-first Receiver = dues.Ack
+first FromInitiator = dues.Version
+first FromReceiver = dues.Ack
 
 -- these types, and Fault's in a receiver's stream: there a Fault may come in place of any record
 abbrev pub or_fault : Direction → ℕ → Expect
-or_fault Initiator types = expects.Types types
-or_fault Receiver types = expects.Types (bit_or types (2 ^ FAULT))
+or_fault FromInitiator types = expects.Types types
+or_fault FromReceiver types = expects.Types (bit_or types (2 ^ FAULT))
 
 -- what may come where this is due, a record of type t as the bit t
 abbrev pub may_come : Direction → Due → Expect
@@ -44,12 +44,12 @@ may_come direction dues.Over = expects.Types 0
 
 -- what comes behind the preamble
 abbrev pub behind_preamble : Direction → Mode → Due
-behind_preamble Initiator Singleton = dues.Envelope
-behind_preamble Initiator Duplex = dues.Messages
-behind_preamble Initiator Simplex = dues.Messages
-behind_preamble Receiver Singleton = dues.Reply
-behind_preamble Receiver Duplex = dues.Messages
-behind_preamble Receiver Simplex = dues.End
+behind_preamble FromInitiator Singleton = dues.Envelope
+behind_preamble FromInitiator Duplex = dues.Messages
+behind_preamble FromInitiator Simplex = dues.Messages
+behind_preamble FromReceiver Singleton = dues.Reply
+behind_preamble FromReceiver Duplex = dues.Messages
+behind_preamble FromReceiver Simplex = dues.End
 
 -- where a record that may come leads
 abbrev pub leads : Direction → Mode → Due → Frame → Due
@@ -68,7 +68,7 @@ leads direction mode due frames.Fault = dues.Over
 -- a stream may end where the session is over, and a receiver's of one-way messages behind its Ack
 abbrev pub may_end : Direction → Mode → Due → Bool
 may_end direction mode dues.Over = true
-may_end Receiver Simplex dues.End = true
+may_end FromReceiver Simplex dues.End = true
 may_end direction mode due = false
 
 -- where these records lead from there
@@ -103,11 +103,11 @@ IsUnsized envelope = (sizes : List ℕ) × All (λ size. 0 < size) sizes
 
 -- the envelopes of a stream
 abbrev pub AreEnvelopes : Direction → Mode → List Frame → Type 0
-AreEnvelopes Initiator Singleton envelopes = IsUnsized envelopes
-AreEnvelopes Receiver Singleton envelopes = (envelopes ≡ []) ⊎ IsUnsized envelopes
+AreEnvelopes FromInitiator Singleton envelopes = IsUnsized envelopes
+AreEnvelopes FromReceiver Singleton envelopes = (envelopes ≡ []) ⊎ IsUnsized envelopes
 AreEnvelopes direction Duplex envelopes = AreSized envelopes
-AreEnvelopes Initiator Simplex envelopes = AreSized envelopes
-AreEnvelopes Receiver Simplex envelopes = envelopes ≡ []
+AreEnvelopes FromInitiator Simplex envelopes = AreSized envelopes
+AreEnvelopes FromReceiver Simplex envelopes = envelopes ≡ []
 
 -- an initiator's preamble, its envelopes and End
 pub record IsRequest (mode : Mode) (script : List Frame) : Type 0 where
@@ -115,14 +115,14 @@ pub record IsRequest (mode : Mode) (script : List Frame) : Type 0 where
   pub minor : ℕ
   pub encoding : ℕ
   pub envelopes : List Frame
-  pub sent : AreEnvelopes Initiator mode envelopes
+  pub sent : AreEnvelopes FromInitiator mode envelopes
   pub joined : script ≡ frames.Version major minor ∷ frames.Mode (mode_number mode) ∷ frames.Via
       ∷ frames.KnownEncoding encoding ∷ frames.PreambleEnd ∷ envelopes ++ frames.End ∷ []
 
 -- a receiver's Ack, its envelopes and End
 pub record IsAnswer (mode : Mode) (script : List Frame) : Type 0 where
   pub envelopes : List Frame
-  pub sent : AreEnvelopes Receiver mode envelopes
+  pub sent : AreEnvelopes FromReceiver mode envelopes
   pub joined : script ≡ frames.PreambleAck ∷ envelopes ++ frames.End ∷ []
 
 -- the Ack alone, which is enough where messages are one-way
@@ -140,6 +140,6 @@ pub record IsCutShort (mode : Mode) (script : List Frame) : Type 0 where
 
 -- the records of a whole stream, in a session of this mode
 abbrev pub IsScript : Direction → Mode → List Frame → Type 0
-IsScript Initiator mode script = IsRequest mode script
-IsScript Receiver mode script =
+IsScript FromInitiator mode script = IsRequest mode script
+IsScript FromReceiver mode script =
     IsAnswer mode script ⊎ IsLoneAck mode script ⊎ IsCutShort mode script

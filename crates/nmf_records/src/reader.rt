@@ -5,7 +5,7 @@ ghost use Rattle.multibyte_ints.specs.Reader.{StandsFor as IntStandsFor};
 ghost use Rattle.nmf_records.specs.declared.frame.Expect.{Expect as Expected};
 ghost use Rattle.nmf_records.specs.Steps.{is_text_start};
 ghost use Rattle.nmf_records.specs.Reader.{StandsFor, ShowsText, FrameAnswers, AfterPiece, limit_of, held_of, pending_of, failure_of, shown_behind};
-ghost use Rattle.nmf_records.specs.Advancing.{SizeAnswers, TextAnswers, Leads, ReadsBytes, BeginsAnew, Steps, Moves, Keeps, stage_after, pending_after};
+ghost use Rattle.nmf_records.specs.Advancing.{SizeAnswers, TextAnswers, Progresses, ReadsBytes, BeginsAnew, Steps, Moves, Keeps, stage_after, pending_after};
 ghost use Rattle.unit_streams.specs.Front.{begun};
 ghost use Rattle.multibyte_ints.specs.Text.{string_at};
 ghost use Rattle.multibyte_ints.specs.TextReader.{StringStandsFor};
@@ -136,8 +136,8 @@ impl FrameReader {
         requires { 0 < length bytes.now }
         ensures within { result.0 ≤ length bytes.now }
         ensures moves { Moves result.0 result.1 }
-        ensures leads { (p : List ℕ) → StandsFor self.old expect p
-            → Leads (limit_of self.old) expect (p ++ take result.0 bytes.now) self.new result.1 }
+        ensures progresses { (p : List ℕ) → StandsFor self.old expect p
+            → Progresses (limit_of self.old) expect (p ++ take result.0 bytes.now) self.new result.1 }
         ensures text { (p s : List ℕ) → StandsFor self.old expect p → ShowsText self.old s
             → ShowsText self.new
             (shown_behind (limit_of self.old) expect (p ++ take result.0 bytes.now) s) }
@@ -169,8 +169,8 @@ impl FrameReader {
 
     // Reads a byte that belongs to no text.
     fn read_byte(&mut self, byte: u8, expect: Expect) -> Progress
-        ensures leads { (p : List ℕ) → StandsFor self.old expect p → ReadsBytes self.old.stage
-            → Leads (limit_of self.old) expect (p ++ byte ∷ []) self.new result }
+        ensures progresses { (p : List ℕ) → StandsFor self.old expect p → ReadsBytes self.old.stage
+            → Progresses (limit_of self.old) expect (p ++ byte ∷ []) self.new result }
         ensures text { (p s : List ℕ) → StandsFor self.old expect p → ReadsBytes self.old.stage
             → ShowsText self.old s
             → ShowsText self.new (shown_behind (limit_of self.old) expect (p ++ byte ∷ []) s) }
@@ -186,8 +186,8 @@ impl FrameReader {
 
     // Reads the first byte of a record or of a chunk's size.
     fn read_first_byte(&mut self, byte: u8, expect: Expect) -> Progress
-        ensures leads { StandsFor self.old expect [] → self.old.stage ≡ Stage.Type
-            → Leads (limit_of self.old) expect (byte ∷ []) self.new result }
+        ensures progresses { StandsFor self.old expect [] → self.old.stage ≡ Stage.Type
+            → Progresses (limit_of self.old) expect (byte ∷ []) self.new result }
         ensures text { (s : List ℕ) → ShowsText self.old s
             → ShowsText self.new (shown_behind (limit_of self.old) expect (byte ∷ []) s) }
         ensures limit { limit_of self.new ≡ limit_of self.old }

@@ -14,8 +14,8 @@ use nbfx_values::Mode;
 /// Whose stream it is.
 #[derive(Clone, Copy, Debug, PartialEq, Eq)]
 pub enum Direction {
-    Initiator,
-    Receiver,
+    FromInitiator,
+    FromReceiver,
 }
 
 impl Direction {
@@ -24,8 +24,8 @@ impl Direction {
         ensures { result ≡ or_fault self types }
     {
         match self {
-            Direction::Initiator => Expect::Types(types),
-            Direction::Receiver => Expect::Types(types | 1 << FAULT),
+            Direction::FromInitiator => Expect::Types(types),
+            Direction::FromReceiver => Expect::Types(types | 1 << FAULT),
         }
     }
 
@@ -34,10 +34,10 @@ impl Direction {
         ensures { result ≡ behind_preamble self mode }
     {
         match (self, mode) {
-            (_, Mode::Duplex) | (Direction::Initiator, Mode::Simplex) => Due::Messages,
-            (Direction::Initiator, Mode::Singleton) => Due::Envelope,
-            (Direction::Receiver, Mode::Singleton) => Due::Reply,
-            (Direction::Receiver, Mode::Simplex) => Due::End,
+            (_, Mode::Duplex) | (Direction::FromInitiator, Mode::Simplex) => Due::Messages,
+            (Direction::FromInitiator, Mode::Singleton) => Due::Envelope,
+            (Direction::FromReceiver, Mode::Singleton) => Due::Reply,
+            (Direction::FromReceiver, Mode::Simplex) => Due::End,
         }
     }
 }
@@ -72,8 +72,8 @@ impl Due {
         ensures { result ≡ first direction }
     {
         match direction {
-            Direction::Initiator => Due::Version,
-            Direction::Receiver => Due::Ack,
+            Direction::FromInitiator => Due::Version,
+            Direction::FromReceiver => Due::Ack,
         }
     }
 
@@ -119,7 +119,7 @@ impl Due {
         ensures { result ≡ may_end direction mode self }
     {
         match (self, direction, mode) {
-            (Due::Over, _, _) | (Due::End, Direction::Receiver, Mode::Simplex) => true,
+            (Due::Over, _, _) | (Due::End, Direction::FromReceiver, Mode::Simplex) => true,
             _ => false,
         }
     }

@@ -105,7 +105,7 @@ fn after_known_type(kind: u8) -> Progress
 }
 
 /// Whether a record of this type may come.
-fn may_come(types: u16, kind: u8) -> bool
+fn allows(types: u16, kind: u8) -> bool
     requires { kind ≤ GREATEST }
     ensures { result ≡ allows types kind }
 {
@@ -121,7 +121,7 @@ pub fn after_type(types: u16, kind: u8) -> Progress
     if kind > record_types::GREATEST {
         return Progress::Wrong(FrameFault::UnknownRecord);
     }
-    if !may_come(types, kind) {
+    if !allows(types, kind) {
         return Progress::Wrong(FrameFault::Unexpected(kind));
     }
     after_known_type(kind)

@@ -56,7 +56,7 @@ module _ {A R : Type 0} (f : List ℕ → Front A R) (reads : ReadsFront f) wher
       })
 
   -- what is begun at the end was begun all along
-  begun_before : (b c : List ℕ) → f (b ++ c) ≡ begun → f b ≡ begun
+  pub begun_before : (b c : List ℕ) → f (b ++ c) ≡ begun → f b ≡ begun
   begun_before b c e = elim (decided b) [ inl h ↦ h | inr d ↦ sym (d.stays c) ∙ e ]
 
   -- what decides it has more bytes than what is begun

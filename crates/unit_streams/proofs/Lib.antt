@@ -3,6 +3,7 @@ pub mod Peeling
 pub mod Fronts
 pub mod Taken
 pub mod Parts
+pub mod Within
 pub mod Behind
 pub mod Spelled
 pub mod Repeated
@@ -18,3 +19,4 @@ pub mod Pending
 pub mod Units
 pub mod Quiet
 pub mod Along
+pub mod Accepted

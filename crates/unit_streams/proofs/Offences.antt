@@ -48,6 +48,16 @@ module _ {Z U E R : Type 0} (g : Grammar Z U E R) where
   first_or_none [] p None e = inr (λ i le. ap (λ c. refusal_at g (p ++ c)) (take-nil i) ∙ ap (refusal_at g) (append-nil p) ∙ e)
   first_or_none (b ∷ y) p None e = one_more p b y e (first_or_none y (p ++ b ∷ []) (refusal_at g (p ++ b ∷ [])) refl)
 
+  -- where nothing that follows is refused, the end decides
+  pub unrefused_from : (p y : List ℕ) → ((i : ℕ) → i ≤ length y → refusal_at g (p ++ take i y) ≡ None) → (history_from g p y).offence ≡ ending_at g (p ++ y)
+  unrefused_from p y all =
+      let whole : take (length y) y ≡ y = take_all (length y) y (omega arith) in
+      let none : drop (length y) y ≡ [] = drop_all (length y) y (omega arith) in
+      ap (λ (h : History E R). h.offence) (history_behind g p y (length y) (omega arith) (λ i lt. all i (omega arith)))
+      ∙ ap (λ c. (history_from g (p ++ take (length y) y) c).offence) none
+      ∙ ap (λ c. (history_from g (p ++ c) []).offence) whole
+      ∙ ap (λ (h : History E R). h.offence) (history_ends g (p ++ y) (ap (λ c. refusal_at g (p ++ c)) (sym whole) ∙ all (length y) (omega arith)))
+
   -- of a stream
   module _ (bytes : List ℕ) where
     first_offence : (n : ℕ) (r : R) → n ≤ length bytes → ((i : ℕ) → i < n → refusal_at g (take i bytes) ≡ None) → refusal_at g (take n bytes) ≡ Some r → offence g bytes ≡ Some r
@@ -57,13 +67,7 @@ module _ {Z U E R : Type 0} (g : Grammar Z U E R) where
 
     pub unrefused_offence : ((i : ℕ) → i ≤ length bytes → refusal_at g (take i bytes) ≡ None) → offence g bytes ≡ ending_at g bytes
     unfolding offence history
-    unrefused_offence all =
-        let whole : take (length bytes) bytes ≡ bytes = take_all (length bytes) bytes (omega arith) in
-        let none : drop (length bytes) bytes ≡ [] = drop_all (length bytes) bytes (omega arith) in
-        ap (λ (h : History E R). h.offence) (history_behind g [] bytes (length bytes) (omega arith) (λ i lt. all i (omega arith)))
-        ∙ ap (λ c. (history_from g (take (length bytes) bytes) c).offence) none
-        ∙ ap (λ c. (history_from g c []).offence) whole
-        ∙ ap (λ (h : History E R). h.offence) (history_ends g bytes (ap (refusal_at g) (sym whole) ∙ all (length bytes) (omega arith)))
+    unrefused_offence all = unrefused_from [] bytes all
 
     pub refused_or_not : ((r : R) × IsRefusedAt g bytes r) ⊎ ((i : ℕ) → i ≤ length bytes → refusal_at g (take i bytes) ≡ None)
     refused_or_not =

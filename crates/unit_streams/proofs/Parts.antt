@@ -8,25 +8,23 @@ use Rattle.unit_streams.specs.Parts.{Reader, given, refuse, a_byte, some_bytes, 
 use Rattle.unit_streams.proofs.Peeling.{extent}
 use Rattle.unit_streams.proofs.Fronts.{IsDecided, reads_by, decided}
 
--- a thing of no bytes
-pub reads_given : {A R : Type 0} (a : A) → ReadsFront (given {R = R} a)
-reads_given {A} {R} a = reads_by (given {R = R} a) (λ b. inr (record {
-  said = λ h. cc;
-  within = omega arith;
+-- what is said at once, whatever the bytes
+reads_at_once : {A R : Type 0} (v : Front A R) → v ≢ begun → extent v ≡ 0 → ReadsFront (λ b. v)
+reads_at_once v said none = reads_by (λ b. v) (λ b. inr (record {
+  said = said;
+  within = omega (arith, none);
   alone = refl;
-  first = λ j lt. absurd (omega arith);
+  first = λ j lt. absurd (omega (arith, none));
   stays = λ more. refl;
 }))
 
+-- a thing of no bytes
+pub reads_given : {A R : Type 0} (a : A) → ReadsFront (given {R = R} a)
+reads_given {A} {R} a = let v : Front A R = whole a 0 in reads_at_once v (λ e. cc) refl
+
 -- nothing that may come
 pub reads_refuse : {A R : Type 0} (r : R) → ReadsFront (refuse {A = A} r)
-reads_refuse {A} {R} r = reads_by (refuse {A = A} r) (λ b. inr (record {
-  said = λ h. cc;
-  within = omega arith;
-  alone = refl;
-  first = λ j lt. absurd (omega arith);
-  stays = λ more. refl;
-}))
+reads_refuse {A} {R} r = let v : Front A R = wrong r 0 in reads_at_once v (λ e. cc) refl
 
 -- a byte
 pub reads_byte : {R : Type 0} → ReadsFront (a_byte {R = R})
@@ -160,6 +158,20 @@ module _ {A B R : Type 0} (f : Reader A R) (next : A → Reader B R) where
         by_first b (whole a n) e = by_rest b a n e (decided (next a) (rests a) (drop n b))
         by_first b (wrong r n) e = inr (subst (λ (m : ℕ). IsDecided (f >>= next) b m) (sym (ap extent (then_wrong b r n e))) (first_wrong b r n e))
 
+-- what is read, as h takes it: h decides just what is decided, by as many bytes
+module _ {A B R S : Type 0} (h : Front A R → Front B S) (open_as : h begun ≡ begun) (said_as : (v : Front A R) → h v ≡ begun → v ≡ begun) (extent_as : (v : Front A R) → extent (h v) ≡ extent v) where
+  pub reads_as : (f : Reader A R) → ReadsFront f → ReadsFront (λ b. h (f b))
+  reads_as f reads = reads_by (λ b. h (f b)) (λ b. elim (decided f reads b) [
+    | inl e ↦ inl (ap h e ∙ open_as)
+    | inr d ↦ inr (subst (λ (n : ℕ). IsDecided (λ b. h (f b)) b n) (sym (extent_as (f b))) (record {
+      said = λ e. d.said (said_as (f b) e);
+      within = d.within;
+      alone = ap h d.alone;
+      first = λ j lt. ap h (d.first j lt) ∙ open_as;
+      stays = λ more. ap h (d.stays more);
+    }))
+  ])
+
 -- the same thing seen otherwise
 module _ {A B R S : Type 0} (see : A → B) (tell : R → S) (f : Reader A R) where
   seen_extent : (v : Front A R) → extent (seen see tell v) ≡ extent v
@@ -173,16 +185,7 @@ module _ {A B R S : Type 0} (see : A → B) (tell : R → S) (f : Reader A R) wh
   seen_said (wrong r n) e = cc
 
   pub reads_seen : ReadsFront f → ReadsFront (λ b. seen see tell (f b))
-  reads_seen reads = reads_by (λ b. seen see tell (f b)) (λ b. elim (decided f reads b) [
-    | inl e ↦ inl (ap (seen see tell) e)
-    | inr d ↦ inr (subst (λ (n : ℕ). IsDecided (λ b. seen see tell (f b)) b n) (sym (seen_extent (f b))) (record {
-      said = λ h. d.said (seen_said (f b) h);
-      within = d.within;
-      alone = ap (seen see tell) d.alone;
-      first = λ j lt. ap (seen see tell) (d.first j lt);
-      stays = λ more. ap (seen see tell) (d.stays more);
-    }))
-  ])
+  reads_seen reads = reads_as (seen see tell) refl seen_said seen_extent f reads
 
 -- judged by what it says
 module _ {A B R : Type 0} (judge : A → Result B R) (f : Reader A R) where
@@ -205,13 +208,4 @@ module _ {A B R : Type 0} (judge : A → Result B R) (f : Reader A R) where
   judged_said (wrong r n) e = cc
 
   pub reads_judged : ReadsFront f → ReadsFront (λ b. judged judge (f b))
-  reads_judged reads = reads_by (λ b. judged judge (f b)) (λ b. elim (decided f reads b) [
-    | inl e ↦ inl (ap (judged judge) e)
-    | inr d ↦ inr (subst (λ (n : ℕ). IsDecided (λ b. judged judge (f b)) b n) (sym (judged_extent (f b))) (record {
-      said = λ h. d.said (judged_said (f b) h);
-      within = d.within;
-      alone = ap (judged judge) d.alone;
-      first = λ j lt. ap (judged judge) (d.first j lt);
-      stays = λ more. ap (judged judge) (d.stays more);
-    }))
-  ])
+  reads_judged reads = reads_as (judged judge) refl judged_said judged_extent f reads

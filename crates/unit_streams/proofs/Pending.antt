@@ -48,7 +48,7 @@ module _ {Z U E R : Type 0} (g : Grammar Z U E R) where
     past_end n le = take_all n y le ∙ sym (take_all (length y) y (omega arith))
 
     -- an open prefix, and bytes behind it that leave it so
-    open_longer : IsOpenAt g p → ((i : ℕ) → i < length y → refusal_at g (p ++ take i y) ≡ None) → ((i : ℕ) → i ≤ length y → is_over_at g (p ++ take i y) ≡ false) → IsOpenAt g (p ++ y)
+    pub open_longer : IsOpenAt g p → ((i : ℕ) → i < length y → refusal_at g (p ++ take i y) ≡ None) → ((i : ℕ) → i ≤ length y → is_over_at g (p ++ take i y) ≡ false) → IsOpenAt g (p ++ y)
     open_longer h unrefused on = record { before = before; going_on = going_on } where
       before : (n : ℕ) → n < length (p ++ y) → refusal_at g (take n (p ++ y)) ≡ None
       before n lt =
@@ -68,7 +68,7 @@ module _ {Z U E R : Type 0} (g : Grammar Z U E R) where
           ]
 
     -- and one that isn't refused itself is pending
-    open_pending : IsOpenAt g (p ++ y) → refusal_at g (p ++ y) ≡ None → IsPending g (p ++ y)
+    pub open_pending : IsOpenAt g (p ++ y) → refusal_at g (p ++ y) ≡ None → IsPending g (p ++ y)
     open_pending h none = record { unrefused = unrefused; going_on = h.going_on } where
       unrefused : (n : ℕ) → refusal_at g (take n (p ++ y)) ≡ None
       unrefused n =

@@ -8,7 +8,7 @@ use Rattle.unit_streams.specs.Judging.{given_at, refusal_at}
 use Rattle.unit_streams.specs.Refusals.{AreUnits, IsRefusedByUnit, IsRefusedByBytes, IsRefusedByLength, RefusalsAreThree}
 use Rattle.unit_streams.proofs.Fronts.{wrong_open}
 use Rattle.unit_streams.proofs.Standing.{peel_by, peel_open, peel_all, standing_nothing, standing_append}
-use Rattle.unit_streams.proofs.Passing.{given_none, refusal_from, going_refusal, open_cases}
+use Rattle.unit_streams.proofs.Passing.{given_none, given_some, refusal_from, going_refusal, open_cases}
 
 module _ {Z U E R : Type 0} (g : Grammar Z U E R) (readable : IsReadable g) where
   -- a standing with nothing begun
@@ -120,13 +120,9 @@ module _ {Z U E R : Type 0} (g : Grammar Z U E R) (readable : IsReadable g) wher
     by_length h = refusal_from g p (standing g p) refl ∙ going_refusal g (standing g p) (length p) h.going ∙ h.refused
 
     -- and there is no other
-    given_is : (b : List ℕ) (given : Option R) → given_at b given ≡ Some r → (b ≡ []) × (given ≡ Some r)
-    given_is [] given e = (refl, e)
-    given_is (y ∷ b) given e = cc
-
     of_unit : given_at (standing g p).begun (standing g p).refusal ≡ Some r → IsRefusedByUnit g p r
     of_unit e =
-        let given = given_is (standing g p).begun (standing g p).refusal e in
+        let given = given_some (standing g p).begun (standing g p).refusal r e in
         elim (standing_parts p).1 [
           | inl none ↦ absurd (let start = none.refusal in let some = given.1 in cc)
           | inr last ↦ record {

@@ -1,5 +1,5 @@
 -- What whole units bring to a stream, and which units it has.
-use Rattle.std.proofs.Common.{◌≡◌, ℕ, zero, suc, ◌+◌, ◌<◌, ◌≤◌, ◌⊎◌, inl, inr, List, [], ◌∷◌, ◌++◌, length, take, drop, Some, None, Option, refl, sym, ap, ◌∙◌, subst, arith, append_assoc, length-append, length-drop}
+use Rattle.std.proofs.Common.{◌≡◌, ℕ, zero, suc, ◌+◌, ◌-◌, ◌<◌, ◌≤◌, ◌⊎◌, inl, inr, List, [], ◌∷◌, ◌++◌, length, take, drop, Some, None, Option, refl, sym, ap, ◌∙◌, subst, arith, append_assoc, length-append, length-drop}
 use Rattle.std.proofs.Math.Seq.{take-add}
 use Rattle.std.proofs.lemmas.List.{append-nil, drop-drop, take-append-drop, length-take-le}
 use Rattle.std.specs.Option.{option_or, option_to_list}
@@ -7,11 +7,11 @@ use Rattle.unit_streams.specs.Front.{Front, begun, whole, wrong}
 use Rattle.unit_streams.specs.Grammar.{Grammar, Standing, standing, resumed, with_more, IsReadable}
 use Rattle.unit_streams.specs.Judging.{given_at, event_at, refusal_at, led_by, history_from}
 use Rattle.unit_streams.specs.Going.{IsGoing, IsQuietBefore, IsQuiet}
-use Rattle.unit_streams.specs.Units.{Counted, Leads, events_along, size_of}
+use Rattle.unit_streams.specs.Units.{Counted, UnitsLead, AreShort, events_along, size_of}
 use Rattle.unit_streams.specs.Laws.{NoUnitGoesOn}
 use Rattle.unit_streams.proofs.Peeling.{extent, Decides, Leaves}
 use Rattle.unit_streams.proofs.Fronts.{leaves_or_decides}
-use Rattle.unit_streams.proofs.Standing.{standing_nothing, standing_append, leaves_all, undecided_at}
+use Rattle.unit_streams.proofs.Standing.{standing_nothing, standing_append, standing_length, leaves_at, leaves_all, undecided_at}
 use Rattle.unit_streams.proofs.Histories.{history_behind, led_by_none, led_by_append, completed_events, quiet_events}
 use Rattle.unit_streams.proofs.Passing.{refusal_from, going_refusal, begun_refusal, decides_quiet, whole_standing, whole_size, whole_event, whole_refusal, whole_quiet, wrong_refusal}
 
@@ -28,6 +28,15 @@ module _ {Z U E R : Type 0} (g : Grammar Z U E R) (readable : IsReadable g) wher
     next = ap (g.unit_at (standing g p).situation (standing g p).from) at.begun ∙ readable.nothing (standing g p).situation (standing g p).from;
     last = ap (λ b. given_at b (standing g p).refusal) at.begun ∙ at.refusal;
   }
+
+  -- it begins behind all of p
+  pub between_place : (p : List ℕ) (z : Z) (from : ℕ) → IsBetween p z from → from ≡ length p
+  between_place p z from at = let n = standing_length g readable p in let none = ap length at.begun in let place = at.place in omega (arith, n, none, place)
+
+  -- so many bytes, behind p
+  pub length_at : (p : List ℕ) (z : Z) (from : ℕ) → IsBetween p z from → (i : ℕ) → g.at_length (standing g p).situation (standing g p).from (length p + i) ≡ g.at_length z from (from + i)
+  length_at p z from at i =
+      ap (λ y. g.at_length y (standing g p).from (length p + i)) at.situation ∙ ap (λ k. g.at_length z k (length p + i)) at.place ∙ ap (λ k. g.at_length z from (k + i)) (sym (between_place p z from at))
 
   -- a unit at the front of the bytes behind p
   module _ (p : List ℕ) (z : Z) (from : ℕ) (at : IsBetween p z from) (bytes : List ℕ) (u : U) (n : ℕ) (e : g.unit_at z from bytes ≡ whole u n) where
@@ -89,44 +98,48 @@ module _ {Z U E R : Type 0} (g : Grammar Z U E R) (readable : IsReadable g) wher
       pub unit_brings : history_from g p bytes ≡ led_by (option_to_list (g.completed z from u)) (history_from g (p ++ take n bytes) (drop n bytes))
       unit_brings = unit_events (g.completed z from u) refl
 
-  -- what several lead to and bring, where no length up to a limit is too long
-  module _ (limit : ℕ) (short : (z : Z) (from n : ℕ) → n < limit → g.at_length z from n ≡ None) where
-    pub record Brings (p : List ℕ) (z : Z) (from : ℕ) (units : List (Counted U)) (bytes : List ℕ) (z' : Z) (rest : List ℕ) : Type 0 where
-      pub within : size_of units ≤ length bytes
-      pub between : IsBetween (p ++ take (size_of units) bytes) z' (from + size_of units)
-      pub left : drop (size_of units) bytes ≡ rest
-      pub history : history_from g p bytes ≡ led_by (events_along g z from units) (history_from g (p ++ take (size_of units) bytes) rest)
+  -- what several lead to and bring, where no length on the way is too long
+  pub record Brings (p : List ℕ) (z : Z) (from : ℕ) (units : List (Counted U)) (bytes : List ℕ) (z' : Z) (rest : List ℕ) : Type 0 where
+    pub within : size_of units ≤ length bytes
+    pub between : IsBetween (p ++ take (size_of units) bytes) z' (from + size_of units)
+    pub left : drop (size_of units) bytes ≡ rest
+    pub history : history_from g p bytes ≡ led_by (events_along g z from units) (history_from g (p ++ take (size_of units) bytes) rest)
 
-    further : (p bytes : List ℕ) (k n : ℕ) → (p ++ take k bytes) ++ take n (drop k bytes) ≡ p ++ take (k + n) bytes
-    further p bytes k n = append_assoc p (take k bytes) (take n (drop k bytes)) ∙ ap (λ c. p ++ c) (sym (take-add k n bytes))
+  further : (p bytes : List ℕ) (k n : ℕ) → (p ++ take k bytes) ++ take n (drop k bytes) ≡ p ++ take (k + n) bytes
+  further p bytes k n = append_assoc p (take k bytes) (take n (drop k bytes)) ∙ ap (λ c. p ++ c) (sym (take-add k n bytes))
 
-    pub units_bring : (units : List (Counted U)) (p : List ℕ) (z : Z) (from : ℕ) (bytes : List ℕ) (z' : Z) (rest : List ℕ)
-        → IsBetween p z from → Leads g z from units bytes z' rest → length p + size_of units ≤ limit → Brings p z from units bytes z' rest
-    unfolding Leads events_along size_of
-    units_bring [] p z from bytes z' rest at l le = record {
-      within = omega arith;
-      between = subst (λ (q : List ℕ). IsBetween q z' (from + 0)) (sym (append-nil p)) (subst (λ (m : ℕ). IsBetween p z' m) (omega arith) (subst (λ (y : Z). IsBetween p y from) l.0 at));
-      left = l.1;
-      history = sym (led_by_none (history_from g (p ++ take 0 bytes) rest) ∙ ap (λ q. history_from g q rest) (append-nil p) ∙ ap (history_from g p) (sym l.1));
-    }
-    units_bring (one ∷ units) p z from bytes z' rest at l le =
-        let n : ℕ = one.size in
-        let close : (i : ℕ) → i < n → g.at_length (standing g p).situation (standing g p).from (length p + i) ≡ None = λ i lt. short (standing g p).situation (standing g p).from (length p + i) (omega (arith, le)) in
-        let within = unit_within p z from at bytes one.unit n l.0 in
-        let next = unit_between p z from at bytes one.unit n l.0 close l.1 in
-        let size : length (p ++ take n bytes) ≡ length p + n = length-append p (take n bytes) ∙ ap (λ k. length p + k) (length-take-le n bytes within) in
-        let b = units_bring units (p ++ take n bytes) (g.after z from one.unit) (from + n) (drop n bytes) z' rest next l.2 (omega (arith, size, le)) in
-        let sum : from + n + size_of units ≡ from + (n + size_of units) = omega arith in
-        record {
-          within = let m = length-drop n bytes in omega (arith, b.within, m, within);
-          between = subst (λ (q : List ℕ). IsBetween q z' (from + (n + size_of units))) (further p bytes n (size_of units)) (subst (λ (m : ℕ). IsBetween ((p ++ take n bytes) ++ take (size_of units) (drop n bytes)) z' m) sum b.between);
-          left = sym (drop-drop (size_of units) n bytes) ∙ b.left;
-          history =
-              unit_brings p z from at bytes one.unit n l.0 close
-              ∙ ap (led_by (option_to_list (g.completed z from one.unit))) b.history
-              ∙ sym (led_by_append (option_to_list (g.completed z from one.unit)) (events_along g (g.after z from one.unit) (from + n) units) (history_from g ((p ++ take n bytes) ++ take (size_of units) (drop n bytes)) rest))
-              ∙ ap (λ q. led_by (option_to_list (g.completed z from one.unit) ++ events_along g (g.after z from one.unit) (from + n) units) (history_from g q rest)) (further p bytes n (size_of units));
-        }
+  pub units_bring : (units : List (Counted U)) (p : List ℕ) (z : Z) (from : ℕ) (bytes : List ℕ) (z' : Z) (rest : List ℕ)
+      → IsBetween p z from → UnitsLead g z from units bytes z' rest → AreShort g z from units → Brings p z from units bytes z' rest
+  unfolding UnitsLead AreShort events_along size_of
+  units_bring [] p z from bytes z' rest at l short = record {
+    within = omega arith;
+    between = subst (λ (q : List ℕ). IsBetween q z' (from + 0)) (sym (append-nil p)) (subst (λ (m : ℕ). IsBetween p z' m) (omega arith) (subst (λ (y : Z). IsBetween p y from) l.0 at));
+    left = l.1;
+    history = sym (led_by_none (history_from g (p ++ take 0 bytes) rest) ∙ ap (λ q. history_from g q rest) (append-nil p) ∙ ap (history_from g p) (sym l.1));
+  }
+  units_bring (one ∷ units) p z from bytes z' rest at l short =
+      let n : ℕ = one.size in
+      let close : (i : ℕ) → i < n → g.at_length (standing g p).situation (standing g p).from (length p + i) ≡ None = λ i lt. length_at p z from at i ∙ short.0 (from + i) (omega arith) (omega arith) in
+      let within = unit_within p z from at bytes one.unit n l.0 in
+      let next = unit_between p z from at bytes one.unit n l.0 close l.1 in
+      let b = units_bring units (p ++ take n bytes) (g.after z from one.unit) (from + n) (drop n bytes) z' rest next l.2 short.1 in
+      let sum : from + n + size_of units ≡ from + (n + size_of units) = omega arith in
+      record {
+        within = let m = length-drop n bytes in omega (arith, b.within, m, within);
+        between = subst (λ (q : List ℕ). IsBetween q z' (from + (n + size_of units))) (further p bytes n (size_of units)) (subst (λ (m : ℕ). IsBetween ((p ++ take n bytes) ++ take (size_of units) (drop n bytes)) z' m) sum b.between);
+        left = sym (drop-drop (size_of units) n bytes) ∙ b.left;
+        history =
+            unit_brings p z from at bytes one.unit n l.0 close
+            ∙ ap (led_by (option_to_list (g.completed z from one.unit))) b.history
+            ∙ sym (led_by_append (option_to_list (g.completed z from one.unit)) (events_along g (g.after z from one.unit) (from + n) units) (history_from g ((p ++ take n bytes) ++ take (size_of units) (drop n bytes)) rest))
+            ∙ ap (λ q. led_by (option_to_list (g.completed z from one.unit) ++ events_along g (g.after z from one.unit) (from + n) units) (history_from g q rest)) (further p bytes n (size_of units));
+      }
+
+  -- units within a limit, below which no length is too long
+  pub short_below : (limit : ℕ) → ((z : Z) (from n : ℕ) → n < limit → g.at_length z from n ≡ None) → (units : List (Counted U)) (z : Z) (from : ℕ) → from + size_of units ≤ limit → AreShort g z from units
+  unfolding AreShort size_of
+  short_below limit short [] z from le = tt
+  short_below limit short (one ∷ units) z from le = (λ n low lt. short z from n (omega (arith, le)), short_below limit short units (g.after z from one.unit) (from + one.size) (omega (arith, le)))
 
   -- where a prefix isn't refused its length isn't too long
   module _ (p bytes : List ℕ) (going : IsGoing g (standing g p)) where
@@ -141,16 +154,27 @@ module _ {Z U E R : Type 0} (g : Grammar Z U E R) (readable : IsReadable g) wher
   -- the units of a stream that isn't refused
   pub record HasUnits (p : List ℕ) (z : Z) (from : ℕ) (bytes : List ℕ) : Type 0 where
     pub units : List (Counted U)
-    pub lead : Leads g z from units bytes (standing g (p ++ bytes)).situation (standing g (p ++ bytes)).begun
+    pub lead : UnitsLead g z from units bytes (standing g (p ++ bytes)).situation (standing g (p ++ bytes)).begun
+    pub units_short : AreShort g z from units
+    pub rest_short : (n : ℕ) → from + size_of units ≤ n → n ≤ length p + length bytes → g.at_length (standing g (p ++ bytes)).situation (from + size_of units) n ≡ None
 
   module _ (p : List ℕ) (z : Z) (from : ℕ) (at : IsBetween p z from) (bytes : List ℕ) (unrefused : (i : ℕ) → i ≤ length bytes → refusal_at g (p ++ take i bytes) ≡ None) where
     left_begun : Leaves (g.unit_at (standing g p).situation (standing g p).from) (standing g p).begun bytes → HasUnits p z from bytes
-    unfolding Leads
+    unfolding UnitsLead AreShort size_of
     left_begun l =
         let s : standing g (p ++ bytes) ≡ with_more (standing g p) bytes = standing_append g readable p bytes ∙ leaves_all g readable (standing g p) bytes l in
+        let place = between_place p z from at in
         record {
           units = [];
           lead = (sym (ap (λ (t : Standing Z E R). t.situation) s ∙ at.situation), sym (ap (λ (t : Standing Z E R). t.begun) s ∙ rw at.begun refl));
+          units_short = tt;
+          rest_short = λ n low high.
+              let i : ℕ = n - from in
+              let few : i ≤ length bytes = omega (arith, low, high, place) in
+              let sum : n ≡ from + i = omega (arith, low) in
+              let none : from + 0 ≡ from = omega arith in
+              ap (λ (t : Standing Z E R). g.at_length t.situation (from + 0) n) s ∙ ap (λ y. g.at_length y (from + 0) n) at.situation ∙ ap (λ k. g.at_length z k n) none ∙ ap (g.at_length z from) sum
+              ∙ sym (length_at p z from at i) ∙ short_at p bytes (between_going p z from at) i few (leaves_at g readable (standing g p) bytes l i) (l.along i) (unrefused i few);
         }
 
     module _ (n : ℕ) (d : Decides (g.unit_at (standing g p).situation (standing g p).from) (standing g p).begun bytes n) where
@@ -187,7 +211,7 @@ module _ {Z U E R : Type 0} (g : Grammar Z U E R) (readable : IsReadable g) wher
     -- a whole unit, and those behind it
     one_more : (m : ℕ) → HaveUnits m → length bytes ≤ suc m → (n : ℕ) (d : Decides (g.unit_at (standing g p).situation (standing g p).from) (standing g p).begun bytes n)
         → (u : U) (k : ℕ) → g.unit_at (standing g p).situation (standing g p).from ((standing g p).begun ++ bytes) ≡ whole u k → HasUnits p z from bytes
-    unfolding Leads
+    unfolding UnitsLead AreShort size_of
     one_more m have le n d u k e =
         let it = it_is p z from at bytes unrefused n d u k e in
         let ok = not_refused p z from at bytes unrefused n d u k e in
@@ -198,7 +222,19 @@ module _ {Z U E R : Type 0} (g : Grammar Z U E R) (readable : IsReadable g) wher
         (λ i less. ap (refusal_at g) (append_assoc p (take n bytes) (take i (drop n bytes)) ∙ ap (λ c. p ++ c) (sym (take-add n i bytes))) ∙ unrefused (n + i) (let size = length-drop n bytes in let within = d.within in omega (arith, size, less, within))) in
         record {
           units = record { unit = u; size = n } ∷ rest.units;
-          lead = (it, ok, subst (λ (q : List ℕ). Leads g (g.after z from u) (from + n) rest.units (drop n bytes) (standing g q).situation (standing g q).begun) joined rest.lead);
+          lead = (it, ok, subst (λ (q : List ℕ). UnitsLead g (g.after z from u) (from + n) rest.units (drop n bytes) (standing g q).situation (standing g q).begun) joined rest.lead);
+          units_short = (
+            λ m low lt.
+                let sum : m ≡ from + (m - from) = omega (arith, low) in
+                ap (g.at_length z from) sum ∙ sym (length_at p z from at (m - from)) ∙ close p z from at bytes unrefused n d (m - from) (omega (arith, low, lt)),
+            rest.units_short,
+          );
+          rest_short = λ m low high.
+              let all : length p + length bytes ≡ length (p ++ take n bytes) + length (drop n bytes) = sym (length-append p bytes) ∙ ap length (sym joined) ∙ length-append (p ++ take n bytes) (drop n bytes) in
+              let sum : from + (n + size_of rest.units) ≡ from + n + size_of rest.units = omega arith in
+              ap (λ k. g.at_length (standing g (p ++ bytes)).situation k m) sum
+              ∙ ap (λ (q : List ℕ). g.at_length (standing g q).situation (from + n + size_of rest.units) m) (sym joined)
+              ∙ rest.rest_short m (omega (arith, low)) (omega (arith, high, all));
         }
 
     by_front : (m : ℕ) → HaveUnits m → length bytes ≤ suc m → (n : ℕ) (d : Decides (g.unit_at (standing g p).situation (standing g p).from) (standing g p).begun bytes n)

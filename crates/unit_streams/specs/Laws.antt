@@ -4,6 +4,7 @@ use Rattle.unit_streams.specs.Front.{whole}
 use Rattle.unit_streams.specs.Grammar.{Grammar, standing, resumed}
 use Rattle.unit_streams.specs.Judging.{Answer, goes_on, completes, offends, answer, history_from, only, refusal_at, ending_at, is_over_at, offence}
 use Rattle.unit_streams.specs.Going.{Means, history_by}
+use Rattle.unit_streams.specs.Units.{IsAccepted}
 
 -- an answer, its bytes counted with so many before them
 abbrev pub raised : {E R : Type 0} → ℕ → Answer E R → Answer E R
@@ -59,3 +60,7 @@ module _ {Z U E R : Type 0} (g : Grammar Z U E R) where
   abbrev pub OffencesAreFirst : Type 0
   OffencesAreFirst = (bytes : List ℕ) (r : R)
       → (offence g bytes ≡ Some r) ↔ (IsRefusedAt bytes r ⊎ IsRefusedAtEnd bytes r)
+
+  -- no offence is there exactly where unrefused units lead to where the input may end
+  abbrev pub AcceptedOrOffended : Type 0
+  AcceptedOrOffended = (bytes : List ℕ) → (offence g bytes ≡ None) ↔ IsAccepted g bytes

@@ -1,5 +1,5 @@
 -- Things that are made of parts, one behind the other: what stands at the front of some bytes, by what stands there of each part.
-use Rattle.std.specs.Prelude.{◌≡◌, ℕ, zero, suc, ◌+◌, ◌≤◌, ◌↔◌, List, [], ◌∷◌, ◌++◌, length, take, drop, nat_lt, if◌then◌else◌, Result, Ok, Err}
+use Rattle.std.specs.Prelude.{◌≡◌, ℕ, zero, suc, ◌+◌, ◌≤◌, ◌↔◌, List, [], ◌∷◌, ◌++◌, length, take, drop, nat_lt, nat_le, if◌then◌else◌, Result, Ok, Err}
 use Rattle.unit_streams.specs.Front.{Front, begun, whole, wrong}
 
 -- what stands at the front of any bytes
@@ -55,6 +55,22 @@ abbrev pub judged : {A B R : Type 0} → (A → Result B R) → Front A R → Fr
 judged judge begun = begun
 judged judge (whole a n) = judged_whole (judge a) n
 judged judge (wrong r n) = wrong r n
+
+-- the same, where how many bytes it has is judged too
+abbrev pub judged_at : {A B R : Type 0} → (A → ℕ → Result B R) → Front A R → Front B R
+judged_at judge begun = begun
+judged_at judge (whole a n) = judged_whole (judge a n) n
+judged_at judge (wrong r n) = wrong r n
+
+-- what has begun where no more than so many bytes may have it: with all of these it is wrong
+abbrev pub closed_at : {A R : Type 0} → ℕ → R → ℕ → Front A R → Front A R
+closed_at limit r len begun = if nat_le limit len then wrong r limit else begun
+closed_at limit r len (whole a n) = whole a n
+closed_at limit r len (wrong s n) = wrong s n
+
+-- a thing within so many bytes
+abbrev pub within : {A R : Type 0} → ℕ → R → Reader A R → Reader A R
+within limit r reader bytes = closed_at limit r (length bytes) (reader (take limit bytes))
 
 -- what is read at the front is what bytes there are
 abbrev pub ReadsJust : {A R : Type 0} → Reader A R → (A → List ℕ → Type 0) → Type 0

@@ -6,7 +6,7 @@
 ghost use Rattle.std.specs.Prelude.{ℕ, List, ◌≡◌, length, OnSome, Some, None, Bool, true};
 ghost use Rattle.unit_streams.specs.Grammar.{Grammar, IsReadable, IsQuietWhenOver, TellsItsEnd};
 ghost use Rattle.unit_streams.specs.Judging.{History, only, history_from, refusal_at, is_over_at};
-ghost use Rattle.unit_streams.specs.Laws.{StandingsGoOn, AnswersAreFirst, CutsChangeNothing, HistoryIsAnswers, NoUnitGoesOn, EndsAreClosed, OffencesAreFirst};
+ghost use Rattle.unit_streams.specs.Laws.{StandingsGoOn, AnswersAreFirst, CutsChangeNothing, HistoryIsAnswers, NoUnitGoesOn, EndsAreClosed, OffencesAreFirst, AcceptedOrOffended};
 ghost use Rattle.unit_streams.specs.Refusals.{RefusalsAreThree};
 
 /// A stream stands where it stood before some bytes and went on by them.
@@ -50,4 +50,10 @@ pub fn offences_are_first()
 /// or by its length.
 pub fn refusals_are_three()
     ensures { (g : Grammar ℕ ℕ ℕ ℕ) → IsReadable g → RefusalsAreThree g }
+{}
+
+/// A stream has no offence exactly where its units, of which none is refused, lead to where the input
+/// may end: what is left behind them has only begun, and no length on the way is too great.
+pub fn accepted_or_offended()
+    ensures { (g : Grammar ℕ ℕ ℕ ℕ) → IsReadable g → AcceptedOrOffended g }
 {}

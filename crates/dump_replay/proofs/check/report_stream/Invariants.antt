@@ -1,5 +1,6 @@
 use Rattle.std.proofs.Common.{◌≡◌, ℕ, ◌-◌, List, ◌++◌, length, Some}
 use Rattle.unit_streams.specs.Going.{IsPending}
+use Rattle.dump_replay.specs.declared.check.TheConstants.{ROOM}
 use Rattle.dump_replay.specs.Stream.{stream}
 use Rattle.dump_replay.specs.Report.{event_lines}
 use Rattle.dump_replay.specs.Reading.{HasRead}
@@ -7,7 +8,7 @@ use Rattle.dump_replay.proofs.check.report_stream.Given as goal
 
 abbrev pub invariant-loop-n : goal.invariant-loop-n
 invariant-loop-n g l = record {
-  room : length l.room.items ≡ 65536;
+  room : length l.room.items ≡ ROOM;
   settings : g.E.ReadingEnd.settings l.end ≡ g.E.ReadingEnd.settings l.initial.end;
   input_faults : g.I.Source.faults l.input ≡ g.I.Source.faults l.initial.input;
   output_faults : g.O.Sink.faults l.output ≡ g.O.Sink.faults l.initial.output;

@@ -1,6 +1,11 @@
-use Rattle.dump_replay.proofs.FromSession.{closed_offence}
-use Rattle.dump_replay.proofs.ToSession.{offenceless_closed}
+use Rattle.unit_streams.proofs.Accepted.{accepted_or_offended}
+use Rattle.dump_replay.specs.Stream.{stream}
+use Rattle.dump_replay.proofs.Grammar.{readable}
+use Rattle.dump_replay.proofs.Closed.{none_is_closed}
 use Rattle.dump_replay.proofs.laws.closed_or_refused.Goals as goal
 
-pub returns : goal.returns
-returns c = λ x bytes. (offenceless_closed x bytes, closed_offence x bytes)
+pub returns-clause-accepted : goal.returns-clause-accepted
+returns-clause-accepted c = λ x. accepted_or_offended (stream x) (readable x)
+
+pub returns-clause-closed : goal.returns-clause-closed
+returns-clause-closed c = none_is_closed

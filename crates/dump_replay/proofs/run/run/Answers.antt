@@ -1,12 +1,13 @@
 use Rattle.std.proofs.Common.{Some, ap, sym, ◌∙◌}
 use Rattle.dump_replay.specs.Stream.{usual}
 use Rattle.dump_replay.specs.Checking.{status_at}
+use Rattle.dump_replay.proofs.CheckSteps.{usual_set}
 use Rattle.dump_replay.proofs.Closed.{none_is_closed}
 use Rattle.dump_replay.proofs.RunSteps.{status_closed, status_ended, status_offended, status_reported, status_judged, status_broken, status_cut}
 use Rattle.dump_replay.proofs.run.run.Goals as goal
 
 pub returns-clause-ended : goal.returns-clause-ended
-returns-clause-ended g c = λ form zero stream e. status_ended usual stream none_is_closed c.check.result (sym c.status-status.ensures ∙ zero) (c.check.ensures.judges stream e)
+returns-clause-ended g c = λ form zero stream e. status_ended usual stream none_is_closed usual_set c.check.result (sym c.status-status.ensures ∙ zero) (c.check.ensures.judges stream e)
 
 pub returns-clause-offended : goal.returns-clause-offended
 returns-clause-offended g c = λ form one stream e. status_offended usual stream c.check.result (sym c.status-status.ensures ∙ one) (c.check.ensures.judges stream e)
@@ -31,4 +32,4 @@ returns-clause-cut g c = λ form s stream w e o.
 
 pub returns-clause-closed : goal.returns-clause-closed
 returns-clause-closed g c = λ form stream e closed read written.
-    rw c.status-status.ensures (status_closed none_is_closed usual stream c.check.result closed (c.check.ensures.judges stream e) (λ r. read (c.check.ensures.read_failed r)) (λ w. written (c.check.ensures.write_failed w)))
+    rw c.status-status.ensures (status_closed none_is_closed usual usual_set stream c.check.result closed (c.check.ensures.judges stream e) (λ r. read (c.check.ensures.reads_counted.rose r)) (λ w. written (c.check.ensures.writes_counted.rose w)))

@@ -2,7 +2,7 @@ use Rattle.std.proofs.Common.{Err, refl, sym, ap, ◌∙◌}
 use Rattle.nbfx_values.specs.declared.refusals.Reason.TheVariants.{Truncated}
 use Rattle.dump_replay.specs.Stream.{offence_at}
 use Rattle.dump_replay.specs.Saying.{said_at_end}
-use Rattle.dump_replay.specs.Receiving.{StandsFor, FailedBehind, settings_of, failure_of, taken_of, held_of, ShowsVia}
+use Rattle.dump_replay.specs.Receiving.{reads_initiators, StandsFor, FailedBehind, settings_of, failure_of, taken_of, messages_of, held_of, ShowsVia}
 use Rattle.dump_replay.proofs.ReceiverFacts.{not_failed, ending_open, ending_over}
 use Rattle.dump_replay.proofs.receiver.Receiver.end_of_input.Goals as goal
 
@@ -34,7 +34,7 @@ pub returns-clause-answers : goal.returns-clause-answers
 unfolding StandsFor
 returns-clause-answers c = λ p h.
     ap Err (c.refuse.ensures.offence ∙ ap (λ f. offence_at f Truncated) c.open_from-from.ensures)
-    ∙ sym (ap said_at_end (ending_open c.args.self.now _ p h (sym c.has_ended.ensures ∙ c.if-has_ended.false)))
+    ∙ sym (ap said_at_end (ending_open c.args.self.now _ (reads_initiators c.args.self.now) p h (sym c.has_ended.ensures ∙ c.if-has_ended.false)))
 
 pub returns-clause-repeated : goal.returns-clause-repeated
 unfolding failure_of
@@ -45,8 +45,8 @@ unfolding failure_of
 returns-clause-unchanged c = λ o e. absurd (c.in_default.not-Some o e)
 
 pub returns-clause-failed : goal.returns-clause-failed
-unfolding StandsFor FailedBehind settings_of failure_of taken_of ShowsVia
-returns-clause-failed c = λ p h. rw c.refuse.ensures.refused (record { failure = refl; taken = h.taken; via = h.text })
+unfolding StandsFor FailedBehind settings_of failure_of taken_of messages_of ShowsVia
+returns-clause-failed c = λ p h. rw c.refuse.ensures.refused (record { failure = refl; taken = h.taken; via = h.text; messages = h.messages })
 
 pub returns-clause-via : goal.returns-clause-via
 unfolding ShowsVia

@@ -5,11 +5,11 @@ use Rattle.unit_streams.specs.Judging.{event_at}
 use Rattle.unit_streams.specs.Going.{IsQuietBefore}
 use Rattle.unit_streams.proofs.Units.{IsBetween}
 use Rattle.nbfx_values.specs.Limits.{Limits}
-use Rattle.nmf_records.specs.declared.script.Direction.TheVariants.{Initiator}
+use Rattle.nmf_records.specs.declared.script.Direction.TheVariants.{FromInitiator}
 use Rattle.nmf_records.specs.declared.script.Due.TheVariants as dues
 use Rattle.nmf_records.specs.Script.{may_come}
 use Rattle.dump_replay.specs.declared.receiver.Receiver.{Receiver}
-use Rattle.dump_replay.specs.Stream.{message, message_whole, stream}
+use Rattle.dump_replay.specs.Stream.{Settings, initiators, message, message_whole, stream}
 use Rattle.dump_replay.proofs.Grammar.{readable}
 use Rattle.dump_replay.proofs.Situations.{messages_within}
 use Rattle.dump_replay.proofs.ReceiverFacts.{stage_is, payload_between, payload_left, payload_place, no_record_begun}
@@ -21,10 +21,11 @@ session_is : (a b : Limits) → a ≡ b → a.session ≡ b.session
 session_is a b e = ap (λ (l : Limits). l.session) e
 
 pub returns-then-left-gt0-clause-answers : goal.returns-then-left-gt0-clause-answers
-returns-then-left-gt0-clause-answers c = λ x p y size is limits h.
+returns-then-left-gt0-clause-answers c = λ l p y size is limits h.
+    let x : Settings = initiators l in
     let r : Receiver = c.args.self.now in
     let n : ℕ = c.min-n.result in
-    let session = session_is _ x.limits limits in
+    let session = session_is _ l limits in
     let at = payload_between r x p h c.args.payload is in
     let fits : length p + length y ≤ x.limits.session = omega (arith, size, session, c.requires.fits, h.taken) in
     let lt : n < c.args.payload.left = omega (arith, c.if-left-gt0.true) in
@@ -37,10 +38,11 @@ returns-then-left-gt0-clause-answers c = λ x p y size is limits h.
     )
 
 pub returns-clause-answers : goal.returns-clause-answers
-returns-clause-answers c = λ x p y size is limits h.
+returns-clause-answers c = λ l p y size is limits h.
+    let x : Settings = initiators l in
     let r : Receiver = c.args.self.now in
     let n : ℕ = c.min-n.result in
-    let session = session_is _ x.limits limits in
+    let session = session_is _ l limits in
     let at = payload_between r x p h c.args.payload is in
     let place = payload_place r x p h c.args.payload is in
     let some = payload_left r x p h c.args.payload is in
@@ -65,6 +67,6 @@ returns-clause-answers c = λ x p y size is limits h.
       ap (λ k. event_at (stream x) (p ++ take k y)) (sym next) ∙ event,
       refl,
       reached_between _ x (p ++ take n y) (message_whole (standing (stream x) p).situation) ((standing (stream x) p).from + n) there refl h.kind
-          (omega (arith, c.saturating_add-self.ensures, h.messages, few, h.within, session, c.args.self.now.quotas.good.session_most)) (no_record_begun r x p h c.args.payload is (may_come Initiator dues.Messages)) h.text (omega (arith, place, h.taken))
+          (omega (arith, c.saturating_add-self.ensures, h.messages, few, h.within, session, c.args.self.now.quotas.good.session_most)) (no_record_begun r x p h c.args.payload is (may_come FromInitiator dues.Messages)) h.text (omega (arith, place, h.taken))
           (omega (arith, h.taken, len)) (omega (arith, len, within, fits)) h.unfailed,
     )

@@ -7,10 +7,11 @@ pub put-tells : goal.put-tells
 put-tells c = record {
   written = search rules;
   refused = refused_front _ _ _ c.args.self.now.kept c.result c.ensures.front c.ensures.memory;
-  good = grind (arith, common_steps);
-  failed = grind (arith, common_steps);
-  memory = grind (arith, common_steps);
+  counted = record {
+    rose = grind (arith, common_steps);
+    same = grind (arith, common_steps);
+    grows = grind (arith, common_steps);
+  };
   wanted = λ _. refl;
   settled = refl;
-  faults = grind (arith, common_steps);
 }

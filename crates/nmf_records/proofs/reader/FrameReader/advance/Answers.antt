@@ -22,7 +22,7 @@ pub returns-clause-steps : goal.returns-clause-steps
 unfolding StandsFor
 returns-clause-steps c = λ p stands.
     settled_steps (limit_of c.args.self.now) c.args.expect p c.args.bytes.now c.read_some-n.result.0 c.read_some-n.new.self c.settle.new.self c.read_some-n.result.1
-    c.read_some-n.ensures.within (limit_kept c) (c.read_some-n.ensures.pending ∙ stands.counted) (c.read_some-n.ensures.leads p stands) (settled c)
+    c.read_some-n.ensures.within (limit_kept c) (c.read_some-n.ensures.pending ∙ stands.counted) (c.read_some-n.ensures.progresses p stands) (settled c)
 
 pub returns-clause-text : goal.returns-clause-text
 returns-clause-text c = λ p s stands h. shows_same c.read_some-n.new.self c.settle.new.self _ c.settle.ensures.text (c.read_some-n.ensures.text p s stands h)

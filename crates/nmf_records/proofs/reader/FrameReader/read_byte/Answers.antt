@@ -9,17 +9,17 @@ use Rattle.nmf_records.proofs.Leading.{field_leads, size_byte_leads, only_type}
 use Rattle.nmf_records.proofs.Showing.{field_head, size_head, plain_shows, shows_same}
 use Rattle.nmf_records.proofs.reader.FrameReader.read_byte.Goals as goal
 
-pub returns-in-Field-clause-leads : goal.returns-in-Field-clause-leads
+pub returns-in-Field-clause-progresses : goal.returns-in-Field-clause-progresses
 unfolding StandsFor
-returns-in-Field-clause-leads c = λ p stands reads.
+returns-in-Field-clause-progresses c = λ p stands reads.
     let r = c.args.self.now in
     let shape : HasShape c.args.expect (stages.Field c.in-Field.field) p = rw c.in-Field.is at stands.shape in
     let int : IntStandsFor r.size [] = rw c.in-Field.is at stands.size in
     field_leads (limit_of r) c.args.expect c.in-Field.field p c.args.byte r c.after_field.result shape (c.after_field.ensures.reads _ _ p shape stands.begun) (c.after_field.ensures.goes _ p shape) int
 
-pub returns-in-Size-clause-leads : goal.returns-in-Size-clause-leads
+pub returns-in-Size-clause-progresses : goal.returns-in-Size-clause-progresses
 unfolding StandsFor
-returns-in-Size-clause-leads c = λ p stands reads.
+returns-in-Size-clause-progresses c = λ p stands reads.
     let r = c.args.self.now in
     let shape : HasShape c.args.expect (stages.Size c.in-Size.size) p = rw c.in-Size.is at stands.shape in
     let int : IntStandsFor r.size (size_bytes (stages.Size c.in-Size.size) p) = rw c.in-Size.is at stands.size in
@@ -29,13 +29,13 @@ pub returns-in-Size-clause-limit : goal.returns-in-Size-clause-limit
 unfolding limit_of
 returns-in-Size-clause-limit c = ap limit_of c.read_size_byte.ensures.others
 
-pub returns-in_default-clause-leads : goal.returns-in_default-clause-leads
+pub returns-in_default-clause-progresses : goal.returns-in_default-clause-progresses
 unfolding StandsFor
-returns-in_default-clause-leads c = λ p stands reads.
+returns-in_default-clause-progresses c = λ p stands reads.
     let r = c.args.self.now in
     let at_type = only_type r.stage reads c.in_default.not-Field c.in_default.not-Size in
     let none : p ≡ [] = rw at_type at stands.shape in
-    rw none (c.read_first_byte.ensures.leads (rw none at stands) at_type)
+    rw none (c.read_first_byte.ensures.progresses (rw none at stands) at_type)
 
 pub returns-in-Field-clause-text : goal.returns-in-Field-clause-text
 unfolding StandsFor

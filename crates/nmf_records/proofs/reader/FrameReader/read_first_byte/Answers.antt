@@ -11,16 +11,16 @@ use Rattle.nmf_records.proofs.Leading.{fixed_leads, size_leads}
 use Rattle.nmf_records.proofs.Showing.{first_shows, shows_same}
 use Rattle.nmf_records.proofs.reader.FrameReader.read_first_byte.Goals as goal
 
-pub returns-in-Types-clause-leads : goal.returns-in-Types-clause-leads
+pub returns-in-Types-clause-progresses : goal.returns-in-Types-clause-progresses
 unfolding StandsFor
-returns-in-Types-clause-leads c = λ stands at_type.
+returns-in-Types-clause-progresses c = λ stands at_type.
     let int : IntStandsFor c.args.self.now.size [] = rw at_type at stands.size in
     let size : c.begin_text.new.self.size ≡ c.args.self.now.size = ap (λ (r : FrameReader). r.size) c.begin_text.ensures.others in
     rw c.in-Types.is (fixed_leads (limit_of c.args.self.now) (expects.Types c.in-Types.types) (c.args.byte ∷ []) c.begin_text.new.self c.after_type-progress.result (c.after_type-progress.ensures.reads _) c.after_type-progress.ensures.goes (rw size int) c.begin_text.ensures.anew)
 
-pub returns-in-Chunk-clause-leads : goal.returns-in-Chunk-clause-leads
+pub returns-in-Chunk-clause-progresses : goal.returns-in-Chunk-clause-progresses
 unfolding StandsFor
-returns-in-Chunk-clause-leads c = λ stands at_type.
+returns-in-Chunk-clause-progresses c = λ stands at_type.
     let int : IntStandsFor c.args.self.now.size [] = rw at_type at stands.size in
     rw c.in-Chunk.is (size_leads (limit_of c.args.self.now) 0 expects.Chunk sizes.Chunk [] c.args.byte (c.args.byte ∷ []) c.read_size_byte.new.self c.read_size_byte.result refl refl refl refl int_peels.nothing (c.read_size_byte.ensures.answers [] int))
 

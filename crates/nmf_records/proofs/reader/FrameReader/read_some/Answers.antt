@@ -10,9 +10,9 @@ use Rattle.nmf_records.specs.Reader.{StandsFor, limit_of}
 use Rattle.nmf_records.proofs.Showing.{text_leads, text_shows, text_begun}
 use Rattle.nmf_records.proofs.reader.FrameReader.read_some.Goals as goal
 
-pub returns-in-Text-clause-leads : goal.returns-in-Text-clause-leads
+pub returns-in-Text-clause-progresses : goal.returns-in-Text-clause-progresses
 unfolding StandsFor
-returns-in-Text-clause-leads c = λ p stands.
+returns-in-Text-clause-progresses c = λ p stands.
     let r = c.args.self.now in
     let shape : HasShape c.args.expect (stages.Text c.in-Text.text) p = rw c.in-Text.is at stands.shape in
     let int : IntStandsFor r.size [] = rw c.in-Text.is at stands.size in
@@ -32,9 +32,9 @@ returns-in-Text-clause-text c = λ p s stands h.
     let h' : frame_at (limit_of r) c.args.expect (kind_of_text c.in-Text.text ∷ drop 1 p) ≡ begun = ap (frame_at (limit_of r) c.args.expect) (sym shape) ∙ stands.begun in
     rw more (text_shows (limit_of r) c.read_text.new.self s c.args.expect c.in-Text.text (drop 1 p) (drop 1 p ++ taken) c.read_text.ensures.limit h' (c.read_text.ensures.stands (drop 1 p) text))
 
-pub returns-in-Failed-clause-leads : goal.returns-in-Failed-clause-leads
+pub returns-in-Failed-clause-progresses : goal.returns-in-Failed-clause-progresses
 unfolding StandsFor
-returns-in-Failed-clause-leads c = λ p stands. let none : ⊥ = rw c.in-Failed.is at stands.shape in absurd none
+returns-in-Failed-clause-progresses c = λ p stands. let none : ⊥ = rw c.in-Failed.is at stands.shape in absurd none
 
 pub returns-in-Failed-clause-text : goal.returns-in-Failed-clause-text
 unfolding StandsFor

@@ -1,0 +1,12 @@
+-- What is answered to bytes at whose front an integer is read.
+use Rattle.std.specs.Prelude.{◌≡◌, ℕ, ◌^◌, ◌<◌, List}
+use Rattle.unit_streams.specs.Front.{begun, whole, wrong}
+use Rattle.multibyte_ints.specs.declared.front.IntRead.{IntRead}
+use Rattle.multibyte_ints.specs.declared.front.IntRead.TheVariants.{More, Done, Bad}
+use Rattle.multibyte_ints.specs.Integer.{int_at}
+
+-- what stands there
+abbrev pub StandsAtFront : List ℕ → IntRead → Type 0
+StandsAtFront b More = int_at b ≡ begun
+StandsAtFront b (Done value used) = (int_at b ≡ whole value used) × (value < 2 ^ 31)
+StandsAtFront b Bad = int_at b ≡ wrong tt 5

@@ -1,0 +1,36 @@
+//! The integer at the front of some bytes.
+
+ghost use Rattle.multibyte_ints.specs.AtFront.{StandsAtFront};
+
+use crate::integer::{IntReader, IntStep};
+
+/// What stands at the front of some bytes.
+#[derive(Clone, Copy, Debug, PartialEq, Eq)]
+pub enum IntRead {
+    /// An integer has begun.
+    More,
+    /// An integer of so many bytes.
+    Done { value: u32, used: usize },
+    /// No integer: the fifth byte is above 7.
+    Bad,
+}
+
+/// Reads the integer at the front of the bytes, in whatever spelling it stands.
+pub fn read_int(bytes: &[u8]) -> IntRead
+    ensures { StandsAtFront bytes.now result }
+{
+    let mut reader = IntReader::new();
+    for (at, byte) in bytes.iter().enumerate() {
+        match reader.feed(*byte) {
+            IntStep::More => {}
+            IntStep::Done(value) => {
+                return IntRead::Done {
+                    value,
+                    used: at + 1,
+                };
+            }
+            IntStep::Bad => return IntRead::Bad,
+        }
+    }
+    IntRead::More
+}

@@ -1,0 +1,74 @@
+-- A decoder takes the bytes of a piece, one unit after the other.
+use Rattle.std.proofs.Common.{◌≡◌, ℕ, ◌+◌, ◌-◌, ◌<◌, ◌≤◌, List, [], ◌++◌, length, take, drop, None, Result, Ok, Err, refl, sym, ap, ◌∙◌, subst, arith, append_assoc, length-append, length-drop}
+use Rattle.std.specs.Prelude.{IsErrAnd}
+use Rattle.std.proofs.lemmas.Result.{err_from_is_err_and}
+use Rattle.std.proofs.Math.Seq.{take-add, take-length}
+use Rattle.std.proofs.lemmas.List.{append-nil, take_all, length-take-le}
+use Rattle.unit_streams.specs.Judging.{refusal_at}
+use Rattle.unit_streams.specs.Going.{IsQuiet}
+use Rattle.unit_streams.proofs.Answers.{quiet_none}
+use Rattle.unit_streams.proofs.Quiet.{quiet_joined}
+use Rattle.nbfx_decoder.specs.declared.decoder.Decoder.{Decoder}
+use Rattle.nbfx_decoder.specs.declared.faults.UnitFault.{UnitFault}
+use Rattle.nbfx_decoder.specs.declared.faults.UnitFault.TheVariants.{Refused, Memory}
+use Rattle.nbfx_decoder.specs.Payload.{Settings, payload}
+use Rattle.nbfx_decoder.specs.Units.{HasStrings}
+use Rattle.nbfx_decoder.specs.Standing.{Reached, situation_of, from_of}
+use Rattle.nbfx_decoder.specs.Taking.{TakeAnswers, AllAnswers}
+
+-- so many bytes of y are taken behind p
+pub record HasTaken (d : Decoder) (x : Settings) (strings : List (List ℕ)) (p y : List ℕ) (used : ℕ) : Type 0 where
+  pub quiet : IsQuiet (payload x strings) p y used
+  pub reached : Reached d x strings (p ++ take used y)
+
+-- none
+pub taken_none : (d : Decoder) (x : Settings) (strings : List (List ℕ)) (p y : List ℕ) → Reached d x strings p → HasTaken d x strings p y 0
+taken_none d x strings p y h = record {
+  quiet = quiet_none (payload x strings) p y;
+  reached = subst (λ (q : List ℕ). Reached d x strings q) (sym (append-nil p)) h;
+}
+
+-- those behind some, as the bytes between two offsets
+pub rest_of : (y : List ℕ) (used : ℕ) → take (length y - used) (drop used y) ≡ drop used y
+rest_of y used = let n = length-drop used y in take_all (length y - used) (drop used y) (omega (arith, n))
+
+module _ (x : Settings) (strings : List (List ℕ)) (p y : List ℕ) (used : ℕ) (quiet : IsQuiet (payload x strings) p y used) where
+  -- n more
+  joined : (n : ℕ) → (p ++ take used y) ++ take n (drop used y) ≡ p ++ take (used + n) y
+  joined n = append_assoc p (take used y) (take n (drop used y)) ∙ ap (λ c. p ++ c) (sym (take-add used n y))
+
+  pub taken_more : (new : Decoder) (n : ℕ) → TakeAnswers x strings (p ++ take used y) (drop used y) new (Ok n) → HasTaken new x strings p y (used + n)
+  taken_more new n (some, more, reached) = record {
+    quiet = quiet_joined (payload x strings) p y used n quiet more;
+    reached = subst (λ (q : List ℕ). Reached new x strings q) (joined n) reached;
+  }
+
+  -- what is refused, as a `?` hands it on
+  pub taken_fault : (new : Decoder) (fault : UnitFault) (result : Result (Unit {0}) UnitFault) → IsErrAnd result (λ f. f ≡ fault) → TakeAnswers x strings (p ++ take used y) (drop used y) new (Err fault)
+      → AllAnswers x strings p y new result
+  taken_fault new fault result e answers =
+      let q = err_from_is_err_and result e in
+      subst (λ (r : Result (Unit {0}) UnitFault). AllAnswers x strings p y new r) (ap Err (sym q.2) ∙ sym q.1) (by_fault fault answers)
+    where
+      size : length (p ++ take used y) ≡ length p + used
+      size = length-append p (take used y) ∙ ap (λ n. length p + n) (length-take-le used y quiet.within)
+
+      by_fault : (fault : UnitFault) → TakeAnswers x strings (p ++ take used y) (drop used y) new (Err fault) → AllAnswers x strings p y new (Err fault)
+      by_fault (Refused reason shown_by) (k, more, shown, sum, set) = (
+        used + k,
+        from_of x strings (p ++ take used y),
+        quiet_joined (payload x strings) p y used k quiet more,
+        ap (refusal_at (payload x strings)) (sym (joined k)) ∙ shown,
+        (let n = size in omega (arith, n, sum)),
+        subst (λ (q : List ℕ). HasStrings new.units x (situation_of x strings q).strings (from_of x strings (p ++ take used y))) (joined k) set,
+      )
+      by_fault Memory set = (used, from_of x strings (p ++ take used y), quiet.within, set)
+
+-- all
+pub taken_all : (d : Decoder) (x : Settings) (strings : List (List ℕ)) (p y : List ℕ) (used : ℕ) → length y ≤ used → HasTaken d x strings p y used → AllAnswers x strings p y d (Ok tt)
+taken_all d x strings p y used past h =
+    let within = h.quiet.within in
+    let same : used ≡ length y = omega (arith, past, within) in (
+      subst (λ (n : ℕ). IsQuiet (payload x strings) p y n) same h.quiet,
+      subst (λ (q : List ℕ). Reached d x strings q) (ap (λ n. p ++ take n y) same ∙ ap (λ c. p ++ c) (take-length y)) h.reached,
+    )

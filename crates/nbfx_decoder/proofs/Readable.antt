@@ -1,0 +1,88 @@
+-- The units of a payload are known by their own bytes.
+use Rattle.std.proofs.Common.{◌≡◌, ℕ, zero, suc, ◌<◌, inl, List, [], refl, ap, arith}
+use Rattle.unit_streams.specs.Front.{begun, ReadsFront}
+use Rattle.unit_streams.specs.Parts.{some_bytes, seen, judged, judged_at, within}
+use Rattle.unit_streams.specs.Grammar.{IsReadable}
+use Rattle.unit_streams.proofs.Fronts.{reads_by}
+use Rattle.unit_streams.proofs.Parts.{reads_bytes, reads_then, reads_seen, reads_judged, then_begun}
+use Rattle.unit_streams.proofs.Peeling.{peels_front}
+use Rattle.unit_streams.proofs.Within.{reads_judged_at, reads_within, within_nothing}
+use Rattle.multibyte_ints.specs.Integer.{int_at}
+use Rattle.multibyte_ints.proofs.IntegerBytes.{int_peels}
+use Rattle.nbfx_values.specs.declared.content.Item.{Item}
+use Rattle.nbfx_values.specs.declared.refusals.Reason.{Reason}
+use Rattle.nbfx_values.specs.declared.refusals.Reason.TheVariants.{BadInt, TableCut}
+use Rattle.nbfx_values.specs.Positions.{position_of}
+use Rattle.nbfx_records.specs.Reading.{node_at}
+use Rattle.nbfx_records.proofs.ShapeFronts.{node_fronts, node_of_nothing}
+use Rattle.nbfx_decoder.specs.declared.section.Section.{Section}
+use Rattle.nbfx_decoder.specs.declared.section.Section.TheVariants.{TableSize, Strings, Nodes}
+use Rattle.nbfx_decoder.specs.Faults.{reason_of}
+use Rattle.nbfx_decoder.specs.Tables.{StringHead, an_integer, length_judged, head_at, text_judged, text_at, string_at}
+use Rattle.nbfx_decoder.specs.Payload.{Settings, Situation, PayloadUnit, table_size, table_string, node, refusal, place_of, room_for, node_behind, unit_of, unit_in, payload}
+
+-- an integer
+pub reads_integer : ReadsFront an_integer
+reads_integer = reads_seen (λ n. n) (λ _. BadInt) int_at (peels_front int_at int_peels)
+
+pub no_integer : an_integer [] ≡ begun
+no_integer = ap (seen (λ n. n) (λ _. BadInt)) int_peels.nothing
+
+-- a string of a table of which some bytes are left
+module _ (room left : ℕ) (some : 0 < left) where
+  pub reads_head : ReadsFront (head_at room left)
+  unfolding head_at
+  reads_head = reads_judged_at (length_judged room left) (within left TableCut an_integer) (reads_within left TableCut an_integer reads_integer some)
+
+  pub no_head : head_at room left [] ≡ begun
+  unfolding head_at
+  no_head = ap (judged_at (length_judged room left)) (within_nothing left TableCut an_integer reads_integer some no_integer)
+
+  pub reads_text : (head : StringHead) → ReadsFront (text_at head)
+  reads_text head =
+      reads_seen (λ text. record { text = text; left = head.left }) (λ reason. reason) (λ b. judged text_judged (some_bytes head.size b))
+      (reads_judged text_judged (some_bytes head.size) (reads_bytes head.size))
+
+  pub reads_string : ReadsFront (string_at room left)
+  unfolding string_at
+  reads_string = reads_then (head_at room left) text_at reads_head reads_text
+
+  pub no_string : string_at room left [] ≡ begun
+  unfolding string_at
+  no_string = then_begun (head_at room left) text_at [] no_head
+
+-- a node
+pub reads_node : (depth : ℕ) (items : List Item) → ReadsFront (node_behind depth items)
+reads_node depth items = reads_seen node reason_of (node_at (place_of depth (position_of items))) (node_fronts (place_of depth (position_of items)))
+
+pub no_node : (depth : ℕ) (items : List Item) → node_behind depth items [] ≡ begun
+no_node depth items = ap (seen node reason_of) (node_of_nothing (place_of depth (position_of items)))
+
+-- nothing
+reads_nothing : ReadsFront {A = PayloadUnit} {R = Reason} (λ bytes. begun)
+reads_nothing = reads_by (λ bytes. begun) (λ b. inl refl)
+
+module _ (x : Settings) (z : Situation) where
+  pub reads_section : (section : Section) → ReadsFront (unit_of x z section)
+  reads_section TableSize = reads_seen table_size (λ reason. reason) an_integer reads_integer
+  reads_section (Strings zero) = reads_nothing
+  reads_section (Strings (suc more)) =
+      reads_seen table_string (λ reason. reason) (string_at (room_for x.limits.dictionary z.strings) (suc more)) (reads_string (room_for x.limits.dictionary z.strings) (suc more) (omega arith))
+  reads_section Nodes = reads_node x.limits.depth z.items
+
+  pub no_unit : (section : Section) → unit_of x z section [] ≡ begun
+  no_unit TableSize = ap (seen table_size (λ reason. reason)) no_integer
+  no_unit (Strings zero) = refl
+  no_unit (Strings (suc more)) = ap (seen table_string (λ reason. reason)) (no_string (room_for x.limits.dictionary z.strings) (suc more) (omega arith))
+  no_unit Nodes = no_node x.limits.depth z.items
+
+  pub reads_unit : (from : ℕ) → ReadsFront (unit_in x z from)
+  unfolding unit_in
+  reads_unit from = reads_seen (λ unit. unit) (refusal from) (unit_of x z z.section) (reads_section z.section)
+
+  pub nothing_read : (from : ℕ) → unit_in x z from [] ≡ begun
+  unfolding unit_in
+  nothing_read from = ap (seen (λ unit. unit) (refusal from)) (no_unit z.section)
+
+pub readable : (x : Settings) (strings : List (List ℕ)) → IsReadable (payload x strings)
+readable x strings = record { reads = reads_unit x; nothing = nothing_read x }

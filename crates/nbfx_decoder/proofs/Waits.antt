@@ -1,0 +1,31 @@
+-- What has begun and wants more bytes.
+use Rattle.std.proofs.Common.{◌≡◌, ℕ, ◌+◌, ◌<◌, ◌≤◌, List, [], ◌∷◌, ◌++◌, length, sym, ap, ◌∙◌, arith, length-append}
+use Rattle.std.proofs.lemmas.List.{append-nil}
+use Rattle.unit_streams.specs.Front.{Front, begun}
+use Rattle.unit_streams.specs.Parts.{seen}
+use Rattle.nbfx_decoder.specs.Units.{WaitsFor}
+
+-- no bytes more
+no_more : (b next : List ℕ) → length (b ++ next) < length b + 1 → b ++ next ≡ b
+no_more b [] lt = append-nil b
+no_more b (y ∷ next) lt = absurd (let n = length-append b (y ∷ next) in omega (arith, n, lt))
+
+module _ {A R : Type 0} (reader : List ℕ → Front A R) (b : List ℕ) where
+  -- one more byte
+  pub waits_one : reader b ≡ begun → WaitsFor reader b (length b + 1)
+  waits_one e = record { more = omega arith; begins = λ next lt. ap reader (no_more b next lt) ∙ e }
+
+  -- so it has begun
+  pub waits_now : (n : ℕ) → WaitsFor reader b n → reader b ≡ begun
+  waits_now n w =
+      let same = length-append b [] in
+      let more = w.more in
+      ap reader (sym (append-nil b)) ∙ w.begins [] (omega (arith, same, more))
+
+  -- the same, seen otherwise
+  pub waits_seen : {B S : Type 0} (see : A → B) (tell : R → S) (n : ℕ) → WaitsFor reader b n → WaitsFor (λ c. seen see tell (reader c)) b n
+  waits_seen see tell n w = record { more = w.more; begins = λ next lt. ap (seen see tell) (w.begins next lt) }
+
+  -- or by another name
+  pub waits_as : (other : List ℕ → Front A R) (n : ℕ) → ((c : List ℕ) → other c ≡ reader c) → WaitsFor reader b n → WaitsFor other b n
+  waits_as other n same w = record { more = w.more; begins = λ next lt. same (b ++ next) ∙ w.begins next lt }

@@ -1,0 +1,9 @@
+use Rattle.nbfx_values.specs.Items.{is_valid_attribute}
+use Rattle.nbfx_records.specs.Meaning.{meant_part}
+use Rattle.nbfx_records.specs.Valid.{is_valid_part}
+use Rattle.nbfx_decoder.specs.Meant.{table_of}
+use Rattle.nbfx_decoder.proofs.MeaningFacts.{AreFound}
+use Rattle.nbfx_decoder.proofs.meaning.Names.parts.Given as goal
+
+abbrev pub invariant-loop-part : goal.invariant-loop-part
+invariant-loop-part l = AreFound (meant_part (table_of l.self)) is_valid_part is_valid_attribute l.yielded l.parts

@@ -1,0 +1,9 @@
+use Rattle.nbfx_values.specs.Scalars.{is_valid_scalar}
+use Rattle.nbfx_records.specs.Meaning.{meant_scalar}
+use Rattle.nbfx_records.specs.Valid.{is_valid_raw}
+use Rattle.nbfx_decoder.specs.Meant.{table_of}
+use Rattle.nbfx_decoder.proofs.MeaningFacts.{AreFound}
+use Rattle.nbfx_decoder.proofs.meaning.Names.scalars.Given as goal
+
+abbrev pub invariant-loop-scalar : goal.invariant-loop-scalar
+invariant-loop-scalar l = AreFound (meant_scalar (table_of l.self)) is_valid_raw is_valid_scalar l.yielded l.values

@@ -1,0 +1,27 @@
+use Rattle.std.proofs.Common.{Err, refl, ap, arith}
+use Rattle.nbfx_decoder.specs.Meant.{items_in}
+use Rattle.nbfx_decoder.proofs.UnitSteps.{set_kept, unnamed, too_much, unrefused, behind_node, leads_somewhere}
+use Rattle.nbfx_decoder.proofs.units.UnitReader.add.Goals as goal
+
+pub returns-in-Err-UnknownString-clause-answers : goal.returns-in-Err-UnknownString-clause-answers
+returns-in-Err-UnknownString-clause-answers c x z from at =
+    rw c.refused.ensures (unnamed c.args.self.now x z from at c.args.node _ refl (rw c.in-Err-UnknownString.field-0-is at c.in-Err-UnknownString.ensures.found), refl, at.set)
+
+pub returns-in-Ok-push-clause-answers : goal.returns-in-Ok-push-clause-answers
+returns-in-Ok-push-clause-answers c x z from at =
+    rw c.refused-in-Ok-push.ensures (
+      too_much c.args.self.now x z from at c.args.node _ refl (items_in c.in-Ok.meant) c.in-Ok.ensures.found c.push.new.document c.in-Ok-push.ensures.pushed c.content.result c.content.ensures c.if-content-self.true,
+      refl,
+      set_kept c.args.self.now x z from at _ from (record { statics = refl; quotas = refl; kind = refl; table = refl }) at.set.from_is,
+    )
+
+pub returns-in-Ok-2-clause-answers : goal.returns-in-Ok-2-clause-answers
+returns-in-Ok-2-clause-answers c x z from at =
+    let small = c.args.self.now.quotas.good.content_most in (
+      unrefused c.args.self.now x z from at c.args.node _ refl (items_in c.in-Ok.meant) c.in-Ok.ensures.found c.push.new.document c.in-Ok-2.ensures.pushed c.content.result c.content.ensures c.if-content-self.false (omega (arith, small)),
+      behind_node c.args.self.now x z from at c.args.node _ refl (items_in c.in-Ok.meant) c.in-Ok.ensures.found c.push.new.document c.in-Ok-2.ensures.pushed c.content.result c.content.ensures c.if-content-self.false (omega (arith, small)) _ refl refl refl refl refl refl refl,
+    )
+
+pub returns-in-Err-OutOfPlace-clause-answers : goal.returns-in-Err-OutOfPlace-clause-answers
+returns-in-Err-OutOfPlace-clause-answers c x z from at =
+    absurd (leads_somewhere _ c.args.self.now.quotas.depth c.args.self.now.document c.args.node (items_in c.in-Ok.meant) c.requires.stands c.in-Ok.ensures.found (c.in-Ok.ensures.valid c.requires.valid) (c.in-Err-OutOfPlace.ensures.out_of_place (ap Err c.in-Err-OutOfPlace.field-0-is)))

@@ -1,0 +1,26 @@
+-- What the steps of a decoder answer. Public contracts cite none of this.
+use Rattle.std.specs.Prelude.{◌≡◌, ℕ, ◌+◌, ◌<◌, ◌≤◌, List, ◌++◌, length, take, Some, Result, Ok, Err}
+use Rattle.unit_streams.specs.Judging.{refusal_at}
+use Rattle.unit_streams.specs.Going.{IsQuiet}
+use Rattle.nbfx_decoder.specs.declared.decoder.Decoder.{Decoder}
+use Rattle.nbfx_decoder.specs.declared.faults.UnitFault.{UnitFault}
+use Rattle.nbfx_decoder.specs.declared.faults.UnitFault.TheVariants.{Refused, Memory}
+use Rattle.nbfx_decoder.specs.Payload.{Settings, refusal, payload}
+use Rattle.nbfx_decoder.specs.Units.{HasStrings}
+use Rattle.nbfx_decoder.specs.Standing.{Reached, situation_of, from_of}
+
+-- some bytes of c behind p, of which there is one at least
+abbrev pub TakeAnswers : Settings → List (List ℕ) → List ℕ → List ℕ → Decoder → Result ℕ UnitFault → Type 0
+TakeAnswers x strings p c new (Ok k) = (0 < k) × IsQuiet (payload x strings) p c k × Reached new x strings (p ++ take k c)
+TakeAnswers x strings p c new (Err (Refused reason shown_by)) =
+    (k : ℕ) × IsQuiet (payload x strings) p c k × (refusal_at (payload x strings) (p ++ take k c) ≡ Some (refusal (from_of x strings p) reason))
+    × (from_of x strings p + shown_by ≡ length p + k) × HasStrings new.units x (situation_of x strings (p ++ take k c)).strings (from_of x strings p)
+TakeAnswers x strings p c new (Err Memory) = HasStrings new.units x (situation_of x strings p).strings (from_of x strings p)
+
+-- all bytes of c behind p
+abbrev pub AllAnswers : Settings → List (List ℕ) → List ℕ → List ℕ → Decoder → Result (Unit {0}) UnitFault → Type 0
+AllAnswers x strings p c new (Ok done) = IsQuiet (payload x strings) p c (length c) × Reached new x strings (p ++ c)
+AllAnswers x strings p c new (Err (Refused reason shown_by)) =
+    (k : ℕ) × (at : ℕ) × IsQuiet (payload x strings) p c k × (refusal_at (payload x strings) (p ++ take k c) ≡ Some (refusal at reason))
+    × (at + shown_by ≡ length p + k) × HasStrings new.units x (situation_of x strings (p ++ take k c)).strings at
+AllAnswers x strings p c new (Err Memory) = (k : ℕ) × (at : ℕ) × (k ≤ length c) × HasStrings new.units x (situation_of x strings (p ++ take k c)).strings at

@@ -1,0 +1,97 @@
+-- What a reader of units answers. Public contracts cite none of this.
+use Rattle.std.specs.Prelude.{◌≡◌, ⊤, ℕ, ◌+◌, ◌-◌, ◌<◌, ◌≤◌, ◌⊎◌, max, List, ◌++◌, length, Option, Some, None, Result, Ok, Err}
+use Rattle.unit_streams.specs.Front.{Front, begun, whole, wrong}
+use Rattle.nbfx_values.specs.QuotasOf.{limits_of}
+use Rattle.string_tables.specs.SessionStrings.{cost}
+use Rattle.nbfx_values.specs.declared.refusals.Reason.{Reason}
+use Rattle.nbfx_decoder.specs.declared.faults.UnitFault.{UnitFault}
+use Rattle.nbfx_decoder.specs.declared.faults.UnitFault.TheVariants.{Refused, Memory}
+use Rattle.nbfx_records.specs.declared.nodes.Node.{Node}
+use Rattle.nbfx_decoder.specs.declared.strings.Head.{Head}
+use Rattle.nbfx_decoder.specs.declared.strings.StringRead.{StringRead}
+use Rattle.nbfx_decoder.specs.declared.strings.StringRead.TheVariants as strings_read
+use Rattle.nbfx_decoder.specs.declared.units.UnitRead.{UnitRead}
+use Rattle.nbfx_decoder.specs.declared.units.UnitRead.TheVariants.{More, Done}
+use Rattle.nbfx_decoder.specs.declared.units.UnitReader.{UnitReader}
+use Rattle.nbfx_decoder.specs.Tables.{StringHead, head_at, string_at}
+use Rattle.nbfx_decoder.specs.Payload.{Settings, Situation, PayloadUnit, node, refusal, unit_in, after, refused}
+
+-- it has begun, and fewer than so many bytes in all decide nothing, however they go on
+pub record WaitsFor {A R : Type 0} (reader : List ℕ → Front A R) (bytes : List ℕ) (wants : ℕ) : Type 0 where
+  pub more : length bytes < wants
+  pub begins : (next : List ℕ) → length (bytes ++ next) < wants → reader (bytes ++ next) ≡ begun
+
+-- what stands at the front, of a length
+abbrev pub head_seen : ℕ → Head → StringHead
+head_seen left head = record { size = head.size; left = left - head.used - head.size }
+
+abbrev pub HeadStands : ℕ → ℕ → List ℕ → Result (Option Head) UnitFault → Type 0
+HeadStands room left bytes (Ok None) = head_at room left bytes ≡ begun
+HeadStands room left bytes (Ok (Some head)) = (head_at room left bytes ≡ whole (head_seen left head) head.used) × (max head.size 1 ≤ room)
+HeadStands room left bytes (Err (Refused reason shown_by)) = head_at room left bytes ≡ wrong reason shown_by
+HeadStands room left bytes (Err Memory) = ⊥
+
+-- and of a string
+abbrev pub StringStands : ℕ → ℕ → List ℕ → Result StringRead UnitFault → Type 0
+StringStands room left bytes (Ok (strings_read.More wants)) = WaitsFor (string_at room left) bytes wants
+StringStands room left bytes (Ok (strings_read.Done text used)) =
+    (string_at room left bytes ≡ whole (record { text = text.now; left = left - used }) used) × (cost text.now ≤ room)
+StringStands room left bytes (Err (Refused reason shown_by)) = string_at room left bytes ≡ wrong reason shown_by
+StringStands room left bytes (Err Memory) = ⊥
+
+-- it is set so, and has these strings, behind so many bytes of a payload
+pub record HasStrings (r : UnitReader) (x : Settings) (strings : List (List ℕ)) (from : ℕ) : Type 0 where
+  pub statics : r.statics.now ≡ x.statics
+  pub kind : r.kind ≡ x.kind
+  pub limits : limits_of r.quotas ≡ x.limits
+  pub table : r.table ≡ record { strings = strings; limit = x.limits.dictionary }
+  pub from_is : r.from ≡ from
+
+-- what always stays of a reader
+pub record KeepsSettings (old new : UnitReader) : Type 0 where
+  pub statics : new.statics ≡ old.statics
+  pub quotas : new.quotas ≡ old.quotas
+  pub kind : new.kind ≡ old.kind
+
+-- what stays of a reader where it goes on: all but where it stands in the payload
+pub record Keeps (old new : UnitReader) : Type 0 where
+  pub statics : new.statics ≡ old.statics
+  pub quotas : new.quotas ≡ old.quotas
+  pub kind : new.kind ≡ old.kind
+  pub table : new.table ≡ old.table
+
+-- it is in this situation
+pub record IsAt (r : UnitReader) (x : Settings) (z : Situation) (from : ℕ) : Type 0 where
+  pub set : HasStrings r x z.strings from
+  pub section : r.section ≡ z.section
+  pub items : r.document ≡ z.items
+
+-- a whole unit has some of so many bytes, and one that has begun wants more
+abbrev pub Counts : ℕ → UnitRead → Type 0
+Counts len (More wants) = len < wants
+Counts len (Done used) = (0 < used) × (used ≤ len)
+
+-- how many bytes the reader goes on by
+abbrev pub counted : UnitRead → ℕ
+counted (More wants) = 0
+counted (Done used) = used
+
+-- the unit at the front is refused, which so many bytes show
+abbrev pub IsRefused : Settings → Situation → ℕ → List ℕ → Reason → ℕ → Type 0
+IsRefused x z from bytes reason shown_by =
+    (unit_in x z from bytes ≡ wrong (refusal from reason) shown_by)
+    ⊎ ((unit : PayloadUnit) × (unit_in x z from bytes ≡ whole unit shown_by) × (refused x z unit ≡ Some reason))
+
+-- What bytes are answered with at whose front a unit is read: behind a whole one, and where nothing is read, the reader stands so.
+abbrev pub UnitAnswers : Settings → Situation → ℕ → List ℕ → UnitReader → Result UnitRead UnitFault → Type 0
+UnitAnswers x z from bytes new (Ok (Done used)) =
+    (unit : PayloadUnit) × (unit_in x z from bytes ≡ whole unit used) × (refused x z unit ≡ None) × IsAt new x (after x z unit) (from + used)
+UnitAnswers x z from bytes new (Ok (More wants)) = WaitsFor (unit_in x z from) bytes wants × IsAt new x z from
+UnitAnswers x z from bytes new (Err (Refused reason shown_by)) = IsRefused x z from bytes reason shown_by × HasStrings new x z.strings from
+UnitAnswers x z from bytes new (Err Memory) = HasStrings new x z.strings from
+
+-- what a whole node of so many bytes is answered with
+abbrev pub AddAnswers : Settings → Situation → ℕ → Node → ℕ → UnitReader → Result (Unit {0}) UnitFault → Type 0
+AddAnswers x z from n used new (Ok done) = (refused x z (node n) ≡ None) × IsAt new x (after x z (node n)) from
+AddAnswers x z from n used new (Err (Refused reason shown_by)) = (refused x z (node n) ≡ Some reason) × (shown_by ≡ used) × HasStrings new x z.strings from
+AddAnswers x z from n used new (Err Memory) = HasStrings new x z.strings from

@@ -1,0 +1,253 @@
+//! A payload, in any pieces.
+
+ghost use Rattle.std.specs.Prelude.{◌≡◌, ℕ, ◌+◌, ◌<◌, ◌≤◌, ◌^◌, ◌↔◌, List, [], ◌++◌, length, IfOk, IfErr, OnOk, Ok, Err, Some, None};
+ghost use Rattle.nbfx_values.specs.Measures.{content_of, opened_by};
+ghost use Rattle.nbfx_values.specs.QuotasOf.{limits_of};
+ghost use Rattle.nbfx_decoder.specs.declared.faults.DecodeFault.{DecodeFault as Fault};
+ghost use Rattle.nbfx_decoder.specs.Answers.{ShowsFault};
+
+use crate::begun::Begun;
+use crate::faults::{DecodeFault, UnitFault};
+use crate::units::{UnitRead, UnitReader};
+use nbfx_values::{Doc, Kept, Kind, Quotas, Reason};
+use session_dictionary::SessionTable;
+use static_dictionary::StaticTable;
+use std::alloc::Global;
+
+/// Reads payloads of one direction, one after the other, in whatever pieces their bytes come. It holds
+/// of a payload the items of its whole units, and the bytes of the unit that isn't whole.
+#[derive(Drop)]
+pub struct Decoder<'s> {
+    units: UnitReader<'s>,
+    /// The bytes of the unit that has begun.
+    begun: Begun,
+    /// How many bytes in all it wants at least.
+    wants: usize,
+    failure: Option<DecodeFault>,
+}
+
+impl<'s> Decoder<'s> {
+    ghost use Rattle.nbfx_values.specs.declared.content.Item.{Item as Content};
+    ghost use Rattle.nbfx_decoder.specs.Laws.{IsWhole};
+    ghost use Rattle.nbfx_decoder.specs.Payload.{Settings};
+    ghost use Rattle.nbfx_decoder.specs.Standing.{settings_of, failure_of, taken_of, situation_of, begun_of, table_at, Reached, StandsFor, FailedBehind, FailedWithin, WhereItStands, WhereItFailed, FeedAnswers, FinishAnswers};
+    ghost use Rattle.nbfx_decoder.specs.Taking.{AllAnswers, TakeAnswers};
+    ghost use Rattle.nbfx_decoder.specs.Units.{Keeps, KeepsSettings};
+
+    /// A reader before the first payload, with no strings.
+    pub fn new(alloc: Global, statics: &'s StaticTable, quotas: Quotas, kind: Kind) -> Decoder<'s>
+        ensures stands { StandsFor result [] [] }
+        ensures settings { settings_of result
+            ≡ record { statics = statics.now; kind = kind; limits = limits_of quotas } }
+    {
+        Decoder {
+            units: UnitReader::new(alloc, statics, quotas, kind),
+            begun: Begun::new(alloc),
+            wants: 0,
+            failure: None,
+        }
+    }
+
+    /// Takes the next bytes of the payload. A refusal comes at the first byte that shows it, and is
+    /// given from then on.
+    pub fn feed(&mut self, piece: &[u8]) -> Result<(), DecodeFault>
+        requires { failure_of self.old ≡ None
+            → taken_of self.old + length piece.now ≤ (settings_of self.old).limits.payload }
+        ensures answers { WhereItStands self.old (λ strings p.
+            FeedAnswers (settings_of self.old) strings p piece.now result) }
+        ensures stands { WhereItStands self.old (λ strings p.
+            OnOk result (StandsFor self.new strings (p ++ piece.now))) }
+        ensures failed { WhereItStands self.old (λ strings p.
+            IfErr result (λ fault. FailedWithin self.new fault strings p piece.now)) }
+        ensures refused { IfErr result (λ fault. failure_of self.new ≡ Some fault) }
+        ensures repeated { (fault : Fault) → failure_of self.old ≡ Some fault → result ≡ Err fault }
+        ensures unchanged { (fault : Fault) → failure_of self.old ≡ Some fault → self.new ≡ self.old }
+        ensures settings { settings_of self.new ≡ settings_of self.old }
+    {
+        if let Some(fault) = self.failure {
+            return Err(fault);
+        }
+        match self.take_all(piece) {
+            Ok(()) => Ok(()),
+            Err(fault) => Err(self.fail(fault)),
+        }
+    }
+
+    /// Says that the payload is whole, and hands out its document. The next payload may come then.
+    pub fn finish(&mut self) -> Result<Doc, DecodeFault>
+        ensures answers { WhereItStands self.old (λ strings p.
+            FinishAnswers (settings_of self.old) strings p result) }
+        // It gives a document exactly where the bytes are a payload of it.
+        ensures whole { WhereItStands self.old (λ strings p. (items : List Content)
+            → (result ≡ Ok items) ↔ IsWhole (settings_of self.old) strings p items) }
+        ensures anew { WhereItStands self.old (λ strings p. OnOk result
+            (StandsFor self.new (situation_of (settings_of self.old) strings p).strings [])) }
+        ensures failed { WhereItStands self.old (λ strings p.
+            IfErr result (λ fault. FailedBehind self.new fault strings p)) }
+        ensures refused { IfErr result (λ fault. failure_of self.new ≡ Some fault) }
+        ensures repeated { (fault : Fault) → failure_of self.old ≡ Some fault → result ≡ Err fault }
+        ensures unchanged { (fault : Fault) → failure_of self.old ≡ Some fault → self.new ≡ self.old }
+        ensures settings { settings_of self.new ≡ settings_of self.old }
+    {
+        if let Some(fault) = self.failure {
+            return Err(fault);
+        }
+        if let Some(doc) = self.units.finish() {
+            return Ok(doc);
+        }
+        let fault = UnitFault::Refused {
+            reason: Reason::DocumentCut,
+            shown_by: self.begun.len(),
+        };
+        Err(self.fail(fault))
+    }
+
+    /// Hands back a document that is done with, whose room serves the next payload.
+    pub fn reuse(&mut self, doc: Doc)
+        ensures stands { WhereItStands self.old (StandsFor self.new) }
+        ensures failed { WhereItFailed self.old (FailedBehind self.new) }
+        ensures settings { settings_of self.new ≡ settings_of self.old }
+    {
+        self.units.reuse(doc);
+    }
+
+    /// What it holds of the payload.
+    pub fn kept(&self) -> Kept
+        ensures raw { WhereItStands self.now (λ strings p.
+            result.raw ≡ length (begun_of (settings_of self.now) strings p)) }
+        ensures content { WhereItStands self.now (λ strings p.
+            result.content ≡ content_of (situation_of (settings_of self.now) strings p).items) }
+        ensures within { WhereItStands self.now (λ strings p.
+            result.content ≤ (settings_of self.now).limits.content) }
+        ensures failed { WhereItFailed self.now (λ fault strings p.
+            result ≡ record { raw = 0; content = 0 }) }
+    {
+        Kept {
+            raw: self.begun.len() as u64,
+            content: self.units.content(),
+        }
+    }
+
+    /// How many elements are open.
+    pub fn depth(&self) -> u32
+        ensures open { WhereItStands self.now (λ strings p.
+            result ≡ opened_by 0 (situation_of (settings_of self.now) strings p).items) }
+        ensures within { WhereItStands self.now (λ strings p.
+            result ≤ (settings_of self.now).limits.depth) }
+        ensures failed { WhereItFailed self.now (λ fault strings p. result ≡ 0) }
+    {
+        self.units.depth()
+    }
+
+    /// The strings of the direction so far.
+    pub fn table(&self) -> &SessionTable
+        ensures strings { WhereItStands self.now (λ strings p. result.now ≡ table_at self.now strings p) }
+        ensures failed { WhereItFailed self.now (λ fault strings p. result.now ≡ table_at self.now strings p) }
+    {
+        self.units.table()
+    }
+
+    // Takes all of the bytes.
+    fn take_all(&mut self, bytes: &[u8]) -> Result<(), UnitFault>
+        requires few { self.old.units.from + length self.old.begun + length bytes.now < 2 ^ 32 }
+        ensures answers { (x : Settings) (strings : List (List ℕ)) (p : List ℕ) → Reached self.old x strings p
+            → AllAnswers x strings p bytes.now self.new result }
+        ensures failure { self.new.failure ≡ self.old.failure }
+        ensures kept { KeepsSettings self.old.units self.new.units }
+    {
+        let mut used = 0;
+        while used < bytes.len() {
+            used += self.take(&bytes[used..])?;
+        }
+        Ok(())
+    }
+
+    // Takes some of the bytes: at most one unit, or what is wanted of one.
+    fn take(&mut self, bytes: &[u8]) -> Result<usize, UnitFault>
+        requires some { 0 < length bytes.now }
+        requires few { self.old.units.from + length self.old.begun + length bytes.now < 2 ^ 32 }
+        ensures answers { (x : Settings) (strings : List (List ℕ)) (p : List ℕ) → Reached self.old x strings p
+            → TakeAnswers x strings p bytes.now self.new result }
+        ensures within { IfOk result (λ used. (0 < used) × (used ≤ length bytes.now)) }
+        ensures taken { IfOk result (λ used. self.new.units.from + length self.new.begun ≤ self.old.units.from + length self.old.begun + used) }
+        ensures failure { self.new.failure ≡ self.old.failure }
+        ensures kept { KeepsSettings self.old.units self.new.units }
+    {
+        if self.begun.len() == 0 {
+            self.take_whole(bytes)
+        } else {
+            self.take_on(bytes)
+        }
+    }
+
+    // Takes a unit whose bytes are there, or keeps them all of one that has begun.
+    fn take_whole(&mut self, bytes: &[u8]) -> Result<usize, UnitFault>
+        requires none { self.old.begun ≡ [] }
+        requires some { 0 < length bytes.now }
+        requires few { self.old.units.from + length self.old.begun + length bytes.now < 2 ^ 32 }
+        ensures answers { (x : Settings) (strings : List (List ℕ)) (p : List ℕ) → Reached self.old x strings p
+            → TakeAnswers x strings p bytes.now self.new result }
+        ensures within { IfOk result (λ used. (0 < used) × (used ≤ length bytes.now)) }
+        ensures taken { IfOk result (λ used. self.new.units.from + length self.new.begun ≤ self.old.units.from + length self.old.begun + used) }
+        ensures failure { self.new.failure ≡ self.old.failure }
+        ensures kept { KeepsSettings self.old.units self.new.units }
+    {
+        match self.units.read(bytes)? {
+            UnitRead::Done { used } => Ok(used),
+            UnitRead::More { wants } => {
+                self.begun.keep(bytes)?;
+                self.wants = wants;
+                Ok(bytes.len())
+            }
+        }
+    }
+
+    // Takes of the unit that has begun the bytes that are wanted.
+    fn take_on(&mut self, bytes: &[u8]) -> Result<usize, UnitFault>
+        requires begun { 0 < length self.old.begun }
+        requires some { 0 < length bytes.now }
+        requires few { self.old.units.from + length self.old.begun + length bytes.now < 2 ^ 32 }
+        ensures answers { (x : Settings) (strings : List (List ℕ)) (p : List ℕ) → Reached self.old x strings p
+            → TakeAnswers x strings p bytes.now self.new result }
+        ensures within { IfOk result (λ used. (0 < used) × (used ≤ length bytes.now)) }
+        ensures taken { IfOk result (λ used. self.new.units.from + length self.new.begun ≤ self.old.units.from + length self.old.begun + used) }
+        ensures failure { self.new.failure ≡ self.old.failure }
+        ensures kept { KeepsSettings self.old.units self.new.units }
+    {
+        let wanted = self.wants.saturating_sub(self.begun.len()).max(1);
+        let used = bytes.len().min(wanted);
+        self.begun.keep(&bytes[..used])?;
+        if self.begun.len() < self.wants {
+            return Ok(used);
+        }
+        match self.units.read_on(&mut self.begun)? {
+            UnitRead::Done { .. } => self.begun.clear(),
+            UnitRead::More { wants } => self.wants = wants,
+        }
+        Ok(used)
+    }
+
+    // Fails for good, and holds nothing of the payload any more.
+    fn fail(&mut self, fault: UnitFault) -> DecodeFault
+        ensures fault { ShowsFault self.old.units.from fault result }
+        ensures failure { self.new.failure ≡ Some result }
+        ensures begun { self.new.begun ≡ [] }
+        ensures items { self.new.units.document ≡ [] }
+        ensures from { self.new.units.from ≡ self.old.units.from }
+        ensures kept { Keeps self.old.units self.new.units }
+    {
+        let at = self.units.from();
+        let fault = match fault {
+            UnitFault::Refused { reason, shown_by } => DecodeFault::Payload {
+                at,
+                reason,
+                shown_by: at.saturating_add(u32::try_from(shown_by).unwrap_or(u32::MAX)),
+            },
+            UnitFault::Memory => DecodeFault::Memory,
+        };
+        self.begun.clear();
+        self.units.give_up();
+        self.failure = Some(fault);
+        fault
+    }
+}

@@ -1,0 +1,323 @@
+//! The units of a payload, each read where all its bytes are there.
+
+ghost use Rattle.std.specs.Prelude.{◌≡◌, ℕ, ◌+◌, ◌<◌, ◌^◌, ◌↔◌, [], ◌∷◌, ◌++◌, List, length, IfSome, IfNone, IfOk, OnOk, OnSome, IsSome, IsErrOf, IsTrue, Err, None};
+ghost use Rattle.std.specs.List.{list_all};
+ghost use Rattle.nbfx_values.specs.Documents.{IsDocument};
+ghost use Rattle.nbfx_values.specs.Measures.{capped, content_of, opened_by};
+ghost use Rattle.nbfx_values.specs.Positions.{position_of};
+ghost use Rattle.nbfx_values.specs.QuotasOf.{limits_of};
+ghost use Rattle.nbfx_values.specs.Items.{is_valid_item};
+ghost use Rattle.nbfx_decoder.specs.Meant.{items_in};
+ghost use Rattle.nbfx_records.specs.Places.{Stands};
+ghost use Rattle.nbfx_records.specs.Answers.{Answers, ReadsValid, Wants};
+ghost use Rattle.nbfx_records.specs.Valid.{is_valid_node};
+ghost use Rattle.nbfx_decoder.specs.Sections.{first_section, left_in};
+
+use crate::begun::Begun;
+use crate::faults::{UnitFault, unread};
+use crate::meaning::{Meant, Names, Unmeant};
+use crate::section::Section;
+use crate::strings::{StringRead, string_at};
+use multibyte_ints::{IntRead, read_int};
+use nbfx_records::{Node, NodePlace, NodeRead, ReadFault, read_node};
+use nbfx_values::{Doc, DocBuilder, Item, Kind, Position, PushFault, Quotas, Reason};
+use session_dictionary::{AddFault, SessionTable};
+use static_dictionary::StaticTable;
+use std::alloc::Global;
+
+/// What was read at the front of some bytes.
+#[derive(Clone, Copy, Debug, PartialEq, Eq)]
+pub(crate) enum UnitRead {
+    /// A unit has begun, which wants so many bytes in all at least.
+    More { wants: usize },
+    /// A unit of so many bytes, behind which the reader is now.
+    Done { used: usize },
+}
+
+/// Where a payload stands behind whole units.
+#[derive(Drop)]
+pub(crate) struct UnitReader<'s> {
+    alloc: Global,
+    statics: &'s StaticTable,
+    quotas: Quotas,
+    kind: Kind,
+    section: Section,
+    table: SessionTable,
+    document: DocBuilder,
+    /// How many bytes the whole units have.
+    from: u32,
+    ghost some: { 0 < left_in section },
+}
+
+fn refused<T>(reason: Reason, shown_by: usize) -> Result<T, UnitFault>
+    ensures { result ≡ Err (UnitFault.Refused reason shown_by) }
+{
+    Err(UnitFault::Refused { reason, shown_by })
+}
+
+impl<'s> UnitReader<'s> {
+    ghost use Rattle.nbfx_decoder.specs.Payload.{Settings, Situation, beginning, place_of};
+    ghost use Rattle.nbfx_decoder.specs.Units.{IsAt, Keeps, KeepsSettings, Counts, counted, AddAnswers, UnitAnswers};
+
+    /// Before a payload's first byte, with no strings.
+    pub(crate) fn new(alloc: Global, statics: &'s StaticTable, quotas: Quotas, kind: Kind) -> Self
+        ensures at { (x : Settings) → x ≡ record { statics = statics.now; kind = kind; limits = limits_of quotas }
+            → IsAt result x (beginning x []) 0 }
+    {
+        UnitReader {
+            alloc,
+            statics,
+            quotas,
+            kind,
+            section: Section::first(kind),
+            table: SessionTable::new(alloc, quotas.dictionary),
+            document: DocBuilder::new(alloc),
+            from: 0,
+        }
+    }
+
+    /// Reads the unit at the front of the bytes.
+    pub(crate) fn read(&mut self, bytes: &[u8]) -> Result<UnitRead, UnitFault>
+        requires few { self.old.from + length bytes.now < 2 ^ 32 }
+        ensures answers { (x : Settings) (z : Situation) (from : ℕ) → IsAt self.old x z from
+            → UnitAnswers x z from bytes.now self.new result }
+        ensures counts { IfOk result (Counts (length bytes.now)) }
+        ensures from { IfOk result (λ read. self.new.from ≡ self.old.from + counted read) }
+        ensures kept { KeepsSettings self.old self.new }
+    {
+        match self.section {
+            Section::TableSize => self.table_size(bytes),
+            Section::Strings { left } => self.table_string(left, bytes),
+            Section::Nodes => {
+                let read = read_node(self.alloc, bytes, self.place());
+                self.node(bytes.len(), read)
+            }
+        }
+    }
+
+    /// Reads the unit whose bytes have begun, as far as they weren't read before.
+    pub(crate) fn read_on(&mut self, begun: &mut Begun) -> Result<UnitRead, UnitFault>
+        requires few { self.old.from + length begun.old < 2 ^ 32 }
+        ensures answers { (x : Settings) (z : Situation) (from : ℕ) → IsAt self.old x z from
+            → UnitAnswers x z from begun.old self.new result }
+        ensures counts { IfOk result (Counts (length begun.old)) }
+        ensures from { IfOk result (λ read. self.new.from ≡ self.old.from + counted read) }
+        ensures kept { KeepsSettings self.old self.new }
+        ensures unchanged { begun.new ≡ begun.old }
+    {
+        match self.section {
+            Section::TableSize => self.table_size(begun.as_slice()),
+            Section::Strings { left } => self.table_string(left, begun.as_slice()),
+            Section::Nodes => {
+                let read = begun.read_node(self.alloc, self.place());
+                self.node(begun.len(), read)
+            }
+        }
+    }
+
+    // Goes behind a unit of so many bytes.
+    fn pass(&mut self, used: usize) -> UnitRead
+        requires { self.old.from + used < 2 ^ 32 }
+        ensures done { result ≡ UnitRead.Done used }
+        ensures from { self.new.from ≡ self.old.from + used }
+        ensures section { self.new.section ≡ self.old.section }
+        ensures items { self.new.document ≡ self.old.document }
+        ensures kept { Keeps self.old self.new }
+    {
+        self.from += used as u32;
+        UnitRead::Done { used }
+    }
+
+    fn table_size(&mut self, bytes: &[u8]) -> Result<UnitRead, UnitFault>
+        requires here { self.old.section ≡ Section.TableSize }
+        requires few { self.old.from + length bytes.now < 2 ^ 32 }
+        ensures answers { (x : Settings) (z : Situation) (from : ℕ) → IsAt self.old x z from
+            → UnitAnswers x z from bytes.now self.new result }
+        ensures counts { IfOk result (Counts (length bytes.now)) }
+        ensures from { IfOk result (λ read. self.new.from ≡ self.old.from + counted read) }
+        ensures kept { KeepsSettings self.old self.new }
+    {
+        match read_int(bytes) {
+            IntRead::More => Ok(UnitRead::More {
+                wants: bytes.len() + 1,
+            }),
+            IntRead::Done { value, used } => {
+                self.section = Section::behind(value);
+                Ok(self.pass(used))
+            }
+            IntRead::Bad => refused(Reason::BadInt, 5),
+        }
+    }
+
+    fn table_string(&mut self, left: u32, bytes: &[u8]) -> Result<UnitRead, UnitFault>
+        requires here { self.old.section ≡ Section.Strings left }
+        requires few { self.old.from + length bytes.now < 2 ^ 32 }
+        ensures answers { (x : Settings) (z : Situation) (from : ℕ) → IsAt self.old x z from
+            → UnitAnswers x z from bytes.now self.new result }
+        ensures counts { IfOk result (Counts (length bytes.now)) }
+        ensures from { IfOk result (λ read. self.new.from ≡ self.old.from + counted read) }
+        ensures kept { KeepsSettings self.old self.new }
+    {
+        let room = self.quotas.dictionary.saturating_sub(self.table.used());
+        match string_at(bytes, left as usize, room as usize)? {
+            StringRead::More { wants } => Ok(UnitRead::More { wants }),
+            StringRead::Done { text, used } => match self.table.add(text) {
+                Ok(_id) => {
+                    self.section = Section::behind(left.saturating_sub(used as u32));
+                    Ok(self.pass(used))
+                }
+                Err(AddFault::Full) => refused(Reason::DictionaryFull, used),
+                Err(AddFault::Memory) => Err(UnitFault::Memory),
+            },
+        }
+    }
+
+    // Where the next node stands.
+    fn place(&self) -> NodePlace
+        ensures { result ≡ place_of self.now.quotas.depth (position_of self.now.document) }
+    {
+        match self.document.position() {
+            Position::Before => NodePlace::BeforeRoot,
+            Position::Within { inner, attributes } => NodePlace::Within {
+                attributes,
+                deeper: inner + 1 < self.quotas.depth as usize,
+            },
+            Position::After => NodePlace::AfterRoot,
+        }
+    }
+
+    // Goes behind a node that was read at the front of some bytes.
+    fn node(&mut self, len: usize, read: Result<NodeRead, ReadFault>) -> Result<UnitRead, UnitFault>
+        requires here { self.old.section ≡ Section.Nodes }
+        requires few { self.old.from + len < 2 ^ 32 }
+        requires valid { ReadsValid read }
+        requires there { (bytes : List ℕ) × (length bytes ≡ len)
+            × Answers (place_of self.old.quotas.depth (position_of self.old.document)) bytes read
+            × Wants (place_of self.old.quotas.depth (position_of self.old.document)) bytes read }
+        ensures answers { (x : Settings) (z : Situation) (from : ℕ) (bytes : List ℕ) → IsAt self.old x z from
+            → Answers (place_of self.old.quotas.depth (position_of self.old.document)) bytes read
+            → Wants (place_of self.old.quotas.depth (position_of self.old.document)) bytes read
+            → UnitAnswers x z from bytes self.new result }
+        ensures counts { IfOk result (Counts len) }
+        ensures from { IfOk result (λ read. self.new.from ≡ self.old.from + counted read) }
+        ensures kept { KeepsSettings self.old self.new }
+    {
+        match read {
+            Ok(NodeRead::More { wants }) => Ok(UnitRead::More { wants }),
+            Ok(NodeRead::Done { used, node }) => {
+                self.add(node, used)?;
+                Ok(self.pass(used))
+            }
+            Err(fault) => Err(unread(fault)),
+        }
+    }
+
+    // Puts what a node of so many bytes means behind the items.
+    fn add(&mut self, node: Node, used: usize) -> Result<(), UnitFault>
+        requires valid { IsTrue (is_valid_node node) }
+        requires stands { Stands (place_of self.old.quotas.depth (position_of self.old.document)) node }
+        ensures answers { (x : Settings) (z : Situation) (from : ℕ) → IsAt self.old x z from
+            → AddAnswers x z from node used self.new result }
+        ensures section { self.new.section ≡ self.old.section }
+        ensures from { self.new.from ≡ self.old.from }
+        ensures kept { KeepsSettings self.old self.new }
+    {
+        let names = Names {
+            alloc: self.alloc,
+            statics: self.statics,
+            strings: &self.table,
+        };
+        let meant = match names.meant(node) {
+            Ok(meant) => meant,
+            Err(Unmeant::UnknownString) => return refused(Reason::UnknownString, used),
+            Err(Unmeant::Memory) => return Err(UnitFault::Memory),
+        };
+        match push(&mut self.document, meant) {
+            Ok(()) if self.document.content() > self.quotas.content as u64 => {
+                refused(Reason::TooMuchContent, used)
+            }
+            Ok(()) => Ok(()),
+            Err(PushFault::OutOfPlace) => refused(Reason::NodeOutOfPlace, used),
+            Err(PushFault::Memory) => Err(UnitFault::Memory),
+        }
+    }
+
+    /// The document, where its root has ended. Then the next payload may come.
+    pub(crate) fn finish(&mut self) -> Option<Doc>
+        ensures document { IsSome result ↔ IsDocument self.old.document }
+        ensures same { IfSome result (λ doc. doc ≡ self.old.document) }
+        ensures anew { OnSome result ((self.new.document ≡ []) × (self.new.section ≡ first_section self.old.kind) × (self.new.from ≡ 0)) }
+        ensures unchanged { IfNone result ((self.new.from ≡ self.old.from) × (self.new.document ≡ self.old.document)) }
+        ensures kept { Keeps self.old self.new }
+    {
+        let doc = self.document.finish()?;
+        self.section = Section::first(self.kind);
+        self.from = 0;
+        Some(doc)
+    }
+
+    /// Drops the items.
+    pub(crate) fn give_up(&mut self)
+        ensures items { self.new.document ≡ [] }
+        ensures from { self.new.from ≡ self.old.from }
+        ensures kept { Keeps self.old self.new }
+    {
+        self.document = DocBuilder::new(self.alloc);
+    }
+
+    /// How many bytes the whole units have.
+    pub(crate) fn from(&self) -> u32
+        ensures { result ≡ self.now.from }
+    {
+        self.from
+    }
+
+    /// What the items count.
+    pub(crate) fn content(&self) -> u64
+        ensures { result ≡ capped (content_of self.now.document) }
+    {
+        self.document.content()
+    }
+
+    /// How many elements are open.
+    pub(crate) fn depth(&self) -> u32
+        ensures { opened_by 0 self.now.document < 2 ^ 32 → result ≡ opened_by 0 self.now.document }
+    {
+        u32::try_from(self.document.open_count()).unwrap_or(u32::MAX)
+    }
+
+    /// The strings of the direction.
+    pub(crate) fn table(&self) -> &SessionTable
+        ensures { result.now ≡ self.now.table }
+    {
+        &self.table
+    }
+
+    /// Where no item has come, the items of the next payload come in the room of this document.
+    pub(crate) fn reuse(&mut self, doc: Doc)
+        ensures items { self.new.document ≡ self.old.document }
+        ensures section { self.new.section ≡ self.old.section }
+        ensures from { self.new.from ≡ self.old.from }
+        ensures kept { Keeps self.old self.new }
+    {
+        if self.document.items().len() == 0 {
+            self.document.begin_in(doc);
+        }
+    }
+}
+
+// Puts what a node means behind the items.
+fn push(document: &mut DocBuilder, meant: Meant) -> Result<(), PushFault>
+    requires { IsTrue (list_all is_valid_item (items_in meant)) }
+    ensures pushed { OnOk result (document.new ≡ document.old ++ items_in meant) }
+    ensures out_of_place { IsErrOf result PushFault.OutOfPlace
+        → position_of (document.old ++ items_in meant) ≡ None }
+{
+    match meant {
+        Meant::Item(item) => document.push(item),
+        Meant::LastText(value) => {
+            document.push(Item::Text(value))?;
+            document.push(Item::Close)
+        }
+    }
+}

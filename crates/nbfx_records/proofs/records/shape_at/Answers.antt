@@ -1,0 +1,12 @@
+use Rattle.nbfx_records.specs.Shapes.{placed, shape_at}
+use Rattle.nbfx_records.proofs.CursorFacts.{then_stops, exit}
+use Rattle.nbfx_records.proofs.PartFacts.{typed_tells}
+use Rattle.nbfx_records.proofs.records.shape_at.Goals as goal
+
+pub returns-in_err-byte-clause-tells : goal.returns-in_err-byte-clause-tells
+unfolding shape_at
+returns-in_err-byte-clause-tells c = exit c.from_residual.ensures.1 (then_stops _ c.in_err-byte.ensures.told)
+
+pub returns-clause-tells : goal.returns-clause-tells
+unfolding shape_at
+returns-clause-tells c = typed_tells (placed c.args.place) c.in_ok-byte.ensures c.record_kind.ensures c.placed.ensures.tells

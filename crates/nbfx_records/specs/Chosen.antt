@@ -1,0 +1,189 @@
+-- The spelling in which each node is written: the shortest, with its texts in UTF-8.
+use Rattle.std.specs.Prelude.{ℕ, ◌/◌, ◌%◌, ◌^◌, pos, ℤ, List, [], ◌∷◌, ◌++◌, length, Bool, true, false, nat_lt, if◌then◌else◌, flat_map, unsigned_abs}
+use Rattle.std.specs.Int.{Width, w8, w16, w32, w64, to_le_bytes, cast_unsigned}
+use Rattle.std.specs.Ordering.{int_eq}
+use Rattle.multibyte_ints.specs.Integer.{shortest}
+use Rattle.multibyte_ints.specs.Text.{string_bytes_of}
+use Rattle.nbfx_values.specs.Scalars.{is_signed}
+use Rattle.nbfx_values.specs.declared.content.ArrayKind.{ArrayKind}
+use Rattle.nbfx_values.specs.declared.content.ArrayKind.TheVariants as arrays
+use Rattle.nbfx_values.specs.declared.scalars.Dec.{Dec}
+use Rattle.nbfx_values.specs.declared.scalars.Scalar.{Scalar}
+use Rattle.nbfx_values.specs.declared.scalars.Scalar.TheVariants.{Number, Truth, Float, Double, Decimal, DateTime, TimeSpan, Text as TextOf, Bytes, UniqueId, Uuid, QName as NamedBy}
+use Rattle.nbfx_records.specs.declared.kinds.TextKind.{TextKind}
+use Rattle.nbfx_records.specs.declared.kinds.TextKind.TheVariants as texts
+use Rattle.nbfx_records.specs.declared.kinds.LengthForm.{LengthForm}
+use Rattle.nbfx_records.specs.declared.kinds.LengthForm.TheVariants.{OneByte, TwoBytes, FourBytes}
+use Rattle.nbfx_records.specs.declared.kinds.PrefixForm.{PrefixForm}
+use Rattle.nbfx_records.specs.declared.kinds.PrefixForm.TheVariants.{Unprefixed, Lettered, Prefixed}
+use Rattle.nbfx_records.specs.declared.kinds.RecordKind.TheVariants as records
+use Rattle.nbfx_records.specs.declared.nodes.NameRef.{NameRef}
+use Rattle.nbfx_records.specs.declared.nodes.NameRef.TheVariants.{Inline, Id}
+use Rattle.nbfx_records.specs.declared.nodes.RawScalar.{RawScalar}
+use Rattle.nbfx_records.specs.declared.nodes.RawScalar.TheVariants.{Known, Dictionary, QName}
+use Rattle.nbfx_records.specs.declared.nodes.RawValue.{RawValue}
+use Rattle.nbfx_records.specs.declared.nodes.RawValue.TheVariants.{One, List as ListOf}
+use Rattle.nbfx_records.specs.declared.nodes.AttrNode.{AttrNode}
+use Rattle.nbfx_records.specs.declared.nodes.AttrNode.TheVariants as attribute_nodes
+use Rattle.nbfx_records.specs.declared.nodes.ArrayNode.{ArrayNode}
+use Rattle.nbfx_records.specs.declared.nodes.Node.{Node}
+use Rattle.nbfx_records.specs.declared.nodes.Node.TheVariants.{EndElement, Comment, Array, Attribute, Xmlns, Element, Text}
+use Rattle.nbfx_records.specs.Kinds.{text_kind_in}
+use Rattle.nbfx_records.specs.TypeBytes.{byte_of, form_of, is_letter, text_byte}
+use Rattle.nbfx_records.specs.Shapes.{ScalarShape, bytes_of, width_in}
+
+-- a text record: its kind, and what follows its type byte
+pub record TextRecord : Type 0 where
+  pub kind : TextKind
+  pub body : List ℕ
+
+-- of nothing, of a number of this width, and of one with a sign, as two's complement
+abbrev pub bare : TextKind → TextRecord
+bare kind = record { kind = kind; body = [] }
+
+abbrev pub sized : TextKind → Width → ℕ → TextRecord
+sized kind w n = record { kind = kind; body = to_le_bytes w n }
+
+abbrev pub signed : TextKind → Width → ℤ → TextRecord
+signed kind w n = sized kind w (cast_unsigned w n)
+
+-- the smallest that holds a number
+abbrev pub chosen_number : ℤ → TextRecord
+chosen_number n =
+    if int_eq n (pos 0) then bare texts.Zero
+    else if int_eq n (pos 1) then bare texts.One
+    else if is_signed 8 n then signed texts.Int8 w8 n
+    else if is_signed 16 n then signed texts.Int16 w16 n
+    else if is_signed 32 n then signed texts.Int32 w32 n
+    else if is_signed 64 n then signed texts.Int64 w64 n
+    else sized texts.UInt64 w64 (unsigned_abs n)
+
+-- two bytes that say nothing, the scale, the sign, the upper 32 bits, the lower 64
+abbrev pub decimal_body : Dec → List ℕ
+decimal_body d = 0 ∷ 0 ∷ d.scale ∷ (if d.negative then 128 else 0) ∷ (to_le_bytes w32 (d.magnitude / 2 ^ 64) ++ to_le_bytes w64 (d.magnitude % 2 ^ 64))
+
+-- the least width that holds a length
+abbrev pub least_form : ℕ → LengthForm
+least_form n = if nat_lt n (2 ^ 8) then OneByte else if nat_lt n (2 ^ 16) then TwoBytes else FourBytes
+
+abbrev pub characters : LengthForm → TextKind
+characters OneByte = texts.Chars8
+characters TwoBytes = texts.Chars16
+characters FourBytes = texts.Chars32
+
+abbrev pub binary : LengthForm → TextKind
+binary OneByte = texts.Bytes8
+binary TwoBytes = texts.Bytes16
+binary FourBytes = texts.Bytes32
+
+-- a length, and as many bytes
+abbrev pub counted_body : LengthForm → List ℕ → List ℕ
+counted_body form content = to_le_bytes (width_in form) (length content) ++ content
+
+abbrev pub counted : (LengthForm → TextKind) → List ℕ → TextRecord
+counted kind content = record { kind = kind (least_form (length content)); body = counted_body (least_form (length content)) content }
+
+abbrev pub chosen_text : List ℕ → TextRecord
+chosen_text [] = bare texts.Empty
+chosen_text s = counted characters s
+
+-- of a value that names no string; none is a QName
+abbrev pub chosen_known : Scalar → TextRecord
+chosen_known (Number n) = chosen_number n
+chosen_known (Truth false) = bare texts.False
+chosen_known (Truth true) = bare texts.True
+chosen_known (Float bits) = sized texts.Float w32 bits
+chosen_known (Double bits) = sized texts.Double w64 bits
+chosen_known (Decimal d) = record { kind = texts.Decimal; body = decimal_body d }
+chosen_known (DateTime pattern) = sized texts.DateTime w64 pattern
+chosen_known (TimeSpan span) = signed texts.TimeSpan w64 span
+chosen_known (TextOf s) = chosen_text s
+chosen_known (Bytes content) = counted binary content
+chosen_known (UniqueId identifier) = record { kind = texts.UniqueId; body = identifier }
+chosen_known (Uuid identifier) = record { kind = texts.Uuid; body = identifier }
+chosen_known (NamedBy letter name) = bare texts.QNameDictionary
+
+abbrev pub chosen_scalar : RawScalar → TextRecord
+chosen_scalar (Known value) = chosen_known value
+chosen_scalar (Dictionary id) = record { kind = texts.Dictionary; body = shortest id }
+chosen_scalar (QName letter id) = record { kind = texts.QNameDictionary; body = letter ∷ shortest id }
+
+-- the bytes of a text record, which may end the element that holds it
+abbrev pub record_bytes : Bool → TextRecord → List ℕ
+record_bytes ends it = byte_of (records.Text it.kind ends) ∷ it.body
+
+abbrev pub scalar_bytes : Bool → RawScalar → List ℕ
+scalar_bytes ends value = record_bytes ends (chosen_scalar value)
+
+-- a list ends the element at its own end
+abbrev pub value_bytes : Bool → RawValue → List ℕ
+value_bytes ends (One value) = scalar_bytes ends value
+value_bytes ends (ListOf values) = text_byte texts.StartList ∷ (flat_map (scalar_bytes false) values ++ byte_of (records.Text texts.EndList ends) ∷ [])
+
+-- no prefix takes the short form and a letter from a to z its own; a declaration has none for letters
+abbrev pub prefix_form : List ℕ → PrefixForm
+prefix_form [] = Unprefixed
+prefix_form (c ∷ []) = if is_letter c then Lettered c else Prefixed
+prefix_form _ = Prefixed
+
+abbrev pub declared_form : List ℕ → PrefixForm
+declared_form [] = Unprefixed
+declared_form _ = Prefixed
+
+-- what follows the type byte of it
+abbrev pub prefix_bytes : PrefixForm → List ℕ → List ℕ
+prefix_bytes Prefixed prefix = string_bytes_of prefix
+prefix_bytes _ prefix = []
+
+abbrev pub name_bytes : NameRef → List ℕ
+name_bytes (Inline s) = string_bytes_of s
+name_bytes (Id id) = shortest id
+
+-- a prefix and a name
+abbrev pub named_bytes : PrefixForm → List ℕ → NameRef → List ℕ
+named_bytes form prefix name = prefix_bytes form prefix ++ name_bytes name
+
+abbrev pub element_bytes : List ℕ → NameRef → List ℕ
+element_bytes prefix name = byte_of (records.Element (prefix_form prefix) (form_of name)) ∷ named_bytes (prefix_form prefix) prefix name
+
+abbrev pub declaration_bytes : List ℕ → NameRef → List ℕ
+declaration_bytes prefix uri = byte_of (records.Declaration (declared_form prefix) (form_of uri)) ∷ named_bytes (declared_form prefix) prefix uri
+
+abbrev pub attribute_bytes : List ℕ → NameRef → RawValue → List ℕ
+attribute_bytes prefix name value =
+    byte_of (records.Attribute (prefix_form prefix) (form_of name)) ∷ (named_bytes (prefix_form prefix) prefix name ++ value_bytes false value)
+
+abbrev pub part_bytes : AttrNode → List ℕ
+part_bytes (attribute_nodes.Attribute prefix name value) = attribute_bytes prefix name value
+part_bytes (attribute_nodes.Xmlns prefix uri) = declaration_bytes prefix uri
+
+-- a value of an array, as its text record has it behind the type byte
+abbrev pub cell_bytes : ArrayKind → Scalar → List ℕ
+cell_bytes arrays.Bool (Truth truth) = (if truth then 1 else 0) ∷ []
+cell_bytes arrays.Int16 (Number n) = to_le_bytes w16 (cast_unsigned w16 n)
+cell_bytes arrays.Int32 (Number n) = to_le_bytes w32 (cast_unsigned w32 n)
+cell_bytes arrays.Int64 (Number n) = to_le_bytes w64 (cast_unsigned w64 n)
+cell_bytes _ value = (chosen_known value).body
+
+-- their type byte, how many there are, and these
+abbrev pub counted_cells : ArrayNode → List ℕ
+counted_cells a = byte_of (records.Text (text_kind_in a.kind) true) ∷ (shortest (length a.values) ++ flat_map (cell_bytes a.kind) a.values)
+
+abbrev pub array_bytes : ArrayNode → List ℕ
+array_bytes a = byte_of records.Array ∷ (element_bytes a.prefix a.name ++ (flat_map part_bytes a.attrs ++ byte_of records.EndElement ∷ counted_cells a))
+
+abbrev pub chosen_bytes : Node → List ℕ
+chosen_bytes EndElement = byte_of records.EndElement ∷ []
+chosen_bytes (Comment s) = byte_of records.Comment ∷ string_bytes_of s
+chosen_bytes (Array a) = array_bytes a
+chosen_bytes (Attribute prefix name value) = attribute_bytes prefix name value
+chosen_bytes (Xmlns prefix uri) = declaration_bytes prefix uri
+chosen_bytes (Element prefix name) = element_bytes prefix name
+chosen_bytes (Text value ends) = value_bytes ends value
+
+-- a text that is spelled in UTF-16
+abbrev pub is_utf16 : ScalarShape → Bool
+is_utf16 (bytes_of texts.UnicodeChars8 bytes) = true
+is_utf16 (bytes_of texts.UnicodeChars16 bytes) = true
+is_utf16 (bytes_of texts.UnicodeChars32 bytes) = true
+is_utf16 _ = false

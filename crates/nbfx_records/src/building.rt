@@ -1,0 +1,337 @@
+//! The node of a whole record: its texts are judged before its values.
+
+ghost use Rattle.std.specs.Prelude.{◌≡◌, ◌<◌, [], ◌∷◌, IfNone, IfSome, length};
+ghost use Rattle.std.specs.List.{list_all};
+ghost use Rattle.std.specs.Str.{is_utf8};
+ghost use Rattle.nbfx_records.specs.Contents as spec;
+ghost use Rattle.nbfx_records.specs.Judged.{Makes};
+ghost use Rattle.nbfx_records.specs.Views.{AreParts, AreSized, HoldsLists, IsList, IsSoundAttribute, IsSoundRecord, array_seen, attribute_seen, cells_seen, listed, name_seen, named_seen, parts_of, prefix_seen, record_seen, scalar_seen, value_seen};
+
+use crate::arrays::{ArrayPart, ArrayTurn, CellsPart, array_turn_at};
+use crate::attributes::{AttributePart, ValuePart};
+use crate::lists::{ListHolder, ListTurn, list_turn_at};
+use crate::nodes::{
+    ArrayNode, AttrNode, AttrNodes, NameRef, Node, NodeFault, RawScalar, RawValue, RawValues,
+};
+use crate::parts::{NamePart, NamedPart, PrefixPart, ScalarPart};
+use crate::records::RecordPart;
+use crate::resume::Resume;
+use crate::type_bytes::{has_characters, text_kind_in, width};
+use crate::values::{Unfit, is_text, known, text};
+use nbfx_values::{Txt, Values};
+use std::alloc::Global;
+
+// The text of a prefix.
+fn prefix(alloc: Global, part: &PrefixPart) -> Result<Txt, Unfit>
+    ensures { Makes result (spec.text_judged (prefix_seen part.now)) }
+{
+    match part {
+        PrefixPart::Letter(letter) => text(alloc, &[*letter]),
+        PrefixPart::Text(bytes) => text(alloc, bytes),
+    }
+}
+
+// Whether a value's text is UTF-8.
+fn has_text(part: &ScalarPart) -> bool
+    ensures { result ≡ spec.scalar_is_text (scalar_seen part.now) }
+{
+    match part {
+        ScalarPart::Bytes(kind, bytes) => !has_characters(*kind) || is_text(bytes),
+        _ => true,
+    }
+}
+
+// A name.
+fn name(alloc: Global, part: &NamePart) -> Result<NameRef, Unfit>
+    ensures { Makes result (spec.name_judged (name_seen part.now)) }
+{
+    match part {
+        NamePart::Inline(bytes) => Ok(NameRef::Inline(text(alloc, bytes)?)),
+        NamePart::Id(id) => Ok(NameRef::Id(*id)),
+    }
+}
+
+// One value.
+fn scalar(alloc: Global, part: &ScalarPart) -> Result<RawScalar, Unfit>
+    ensures { Makes result (spec.scalar_judged (scalar_seen part.now)) }
+{
+    match part {
+        ScalarPart::Bytes(kind, bytes) => Ok(RawScalar::Known(known(alloc, *kind, bytes)?)),
+        ScalarPart::Named(id) => Ok(RawScalar::Dictionary(*id)),
+        ScalarPart::Qualified(letter, id) => {
+            if *letter > 25 {
+                return Err(Unfit::Fault(NodeFault::BadValue));
+            }
+            Ok(RawScalar::QName(*letter, *id))
+        }
+    }
+}
+
+// The first value of a list, and the bytes behind it.
+fn next_value(list: &[u8]) -> Option<(ScalarPart<'_>, &[u8])>
+    requires { IsList list.now }
+    ensures none { IfNone result (listed list.now ≡ []) }
+    ensures value { IfSome result (λ next. listed list.now ≡ scalar_seen next.0 ∷ listed next.1.now) }
+    ensures rest { IfSome result (λ next. IsList next.1.now) }
+    ensures shorter { IfSome result (λ next. length next.1.now < length list.now) }
+{
+    match list_turn_at(ListHolder::Text, list, 0) {
+        Ok((ListTurn::Value(part), to)) => Some((part, &list[to..])),
+        Ok((ListTurn::End(_), _)) => None,
+        Err(_) => None,
+    }
+}
+
+// Whether each text of a list is UTF-8.
+fn are_texts(list: &[u8]) -> bool
+    requires { IsList list.now }
+    ensures { result ≡ list_all spec.scalar_is_text (listed list.now) }
+{
+    let mut rest = list;
+    while let Some((part, behind)) = next_value(rest) {
+        if !has_text(&part) {
+            return false;
+        }
+        rest = behind;
+    }
+    true
+}
+
+// One value, where others come behind it: a text of them that isn't UTF-8 goes before a wrong
+// value.
+fn scalar_before(alloc: Global, part: &ScalarPart, rest: &[u8]) -> Result<RawScalar, Unfit>
+    requires { IsList rest.now }
+    ensures { Makes result (spec.behind_texts (list_all spec.scalar_is_text (listed rest.now)) (spec.scalar_judged (scalar_seen part.now))) }
+{
+    match scalar(alloc, part) {
+        Err(Unfit::Fault(NodeFault::BadValue)) => {
+            if are_texts(rest) {
+                Err(Unfit::Fault(NodeFault::BadValue))
+            } else {
+                Err(Unfit::Fault(NodeFault::BadUtf8))
+            }
+        }
+        made => made,
+    }
+}
+
+// The values of a list.
+fn scalars(alloc: Global, list: &[u8]) -> Result<RawValues, Unfit>
+    requires { IsList list.now }
+    ensures { Makes result (spec.scalars_judged (listed list.now)) }
+{
+    let mut values = RawValues::new(alloc);
+    let mut rest = list;
+    while let Some((part, behind)) = next_value(rest) {
+        values.push(scalar_before(alloc, &part, behind)?)?;
+        rest = behind;
+    }
+    Ok(values)
+}
+
+// The value of a text or an attribute.
+fn value(alloc: Global, part: &ValuePart) -> Result<RawValue, Unfit>
+    requires { HoldsLists part.now }
+    ensures { Makes result (spec.value_judged (value_seen part.now)) }
+{
+    match part {
+        ValuePart::One(part) => Ok(RawValue::One(scalar(alloc, part)?)),
+        ValuePart::List(list) => Ok(RawValue::List(scalars(alloc, list)?)),
+    }
+}
+
+// An attribute or a declaration.
+fn attribute(alloc: Global, part: &AttributePart) -> Result<AttrNode, Unfit>
+    requires { IsSoundAttribute part.now }
+    ensures { Makes result (spec.attribute_judged (attribute_seen part.now)) }
+{
+    match part {
+        AttributePart::Attribute {
+            prefix: prefix_part,
+            name: name_part,
+            value: value_part,
+        } => Ok(AttrNode::Attribute {
+            prefix: prefix(alloc, prefix_part)?,
+            name: name(alloc, name_part)?,
+            value: value(alloc, value_part)?,
+        }),
+        AttributePart::Declaration {
+            prefix: prefix_part,
+            uri,
+        } => Ok(AttrNode::Xmlns {
+            prefix: prefix(alloc, prefix_part)?,
+            uri: name(alloc, uri)?,
+        }),
+    }
+}
+
+// Whether each text of a value is UTF-8.
+fn value_has_text(part: &ValuePart) -> bool
+    requires { HoldsLists part.now }
+    ensures { result ≡ spec.value_is_text (value_seen part.now) }
+{
+    match part {
+        ValuePart::One(part) => has_text(part),
+        ValuePart::List(list) => are_texts(list),
+    }
+}
+
+// Whether a prefix is UTF-8.
+fn prefix_has_text(part: &PrefixPart) -> bool
+    ensures { result ≡ is_utf8 (prefix_seen part.now) }
+{
+    match part {
+        PrefixPart::Letter(letter) => is_text(&[*letter]),
+        PrefixPart::Text(bytes) => is_text(bytes),
+    }
+}
+
+// Whether a name is UTF-8, if it stands there.
+fn name_has_text(part: &NamePart) -> bool
+    ensures { result ≡ spec.name_is_text (name_seen part.now) }
+{
+    match part {
+        NamePart::Inline(bytes) => is_text(bytes),
+        NamePart::Id(_) => true,
+    }
+}
+
+// Whether each text of an attribute is UTF-8.
+fn attribute_has_text(part: &AttributePart) -> bool
+    requires { IsSoundAttribute part.now }
+    ensures { result ≡ spec.attribute_is_text (attribute_seen part.now) }
+{
+    match part {
+        AttributePart::Attribute {
+            prefix,
+            name,
+            value,
+        } => prefix_has_text(prefix) && name_has_text(name) && value_has_text(value),
+        AttributePart::Declaration { prefix, uri } => prefix_has_text(prefix) && name_has_text(uri),
+    }
+}
+
+// The first attribute of an array's element, and the bytes behind it.
+fn next_part(parts: &[u8]) -> Option<(AttributePart<'_>, &[u8])>
+    requires { AreParts parts.now }
+    ensures none { IfNone result (parts_of parts.now ≡ []) }
+    ensures part { IfSome result (λ next. parts_of parts.now ≡ attribute_seen next.0 ∷ parts_of next.1.now) }
+    ensures sound { IfSome result (λ next. IsSoundAttribute next.0) }
+    ensures rest { IfSome result (λ next. AreParts next.1.now) }
+    ensures shorter { IfSome result (λ next. length next.1.now < length parts.now) }
+{
+    match array_turn_at(parts, 0, &mut Resume::new()) {
+        Ok((ArrayTurn::Part(part), to)) => Some((part, &parts[to..])),
+        Ok((ArrayTurn::End, _)) => None,
+        Err(_) => None,
+    }
+}
+
+// Whether each text of the attributes is UTF-8.
+fn parts_have_text(parts: &[u8]) -> bool
+    requires { AreParts parts.now }
+    ensures { result ≡ list_all spec.attribute_is_text (parts_of parts.now) }
+{
+    let mut rest = parts;
+    while let Some((part, behind)) = next_part(rest) {
+        if !attribute_has_text(&part) {
+            return false;
+        }
+        rest = behind;
+    }
+    true
+}
+
+// An attribute, where others come behind it: a text of them that isn't UTF-8 goes before a wrong
+// value.
+fn attribute_before(alloc: Global, part: &AttributePart, rest: &[u8]) -> Result<AttrNode, Unfit>
+    requires sound { IsSoundAttribute part.now }
+    requires rest { AreParts rest.now }
+    ensures { Makes result (spec.behind_texts (list_all spec.attribute_is_text (parts_of rest.now)) (spec.attribute_judged (attribute_seen part.now))) }
+{
+    match attribute(alloc, part) {
+        Err(Unfit::Fault(NodeFault::BadValue)) => {
+            if parts_have_text(rest) {
+                Err(Unfit::Fault(NodeFault::BadValue))
+            } else {
+                Err(Unfit::Fault(NodeFault::BadUtf8))
+            }
+        }
+        made => made,
+    }
+}
+
+// The attributes of an array's element.
+fn attributes(alloc: Global, parts: &[u8]) -> Result<AttrNodes, Unfit>
+    requires { AreParts parts.now }
+    ensures { Makes result (spec.attributes_judged (parts_of parts.now)) }
+{
+    let mut nodes = AttrNodes::new(alloc);
+    let mut rest = parts;
+    while let Some((part, behind)) = next_part(rest) {
+        nodes.push(attribute_before(alloc, &part, behind)?)?;
+        rest = behind;
+    }
+    Ok(nodes)
+}
+
+// The values of an array, in so many bytes.
+fn cells(alloc: Global, part: &CellsPart) -> Result<Values, Unfit>
+    requires { AreSized part.now }
+    ensures { Makes result (spec.cells_judged (cells_seen part.now)) }
+{
+    let kind = text_kind_in(part.kind);
+    let width = width(part.kind);
+    let mut values = Values::new(alloc);
+    let mut rest = part.bytes;
+    for _place in 0..part.count {
+        let (cell, behind) = rest.split_at(width);
+        values.push(known(alloc, kind, cell)?)?;
+        rest = behind;
+    }
+    Ok(values)
+}
+
+// An array.
+fn array(alloc: Global, part: &ArrayPart) -> Result<ArrayNode, Unfit>
+    requires parts { AreParts part.now.attributes.now }
+    requires sized { AreSized part.now.cells }
+    ensures { Makes result (spec.array_judged (array_seen part.now)) }
+{
+    Ok(ArrayNode {
+        prefix: prefix(alloc, &part.element.prefix)?,
+        name: name(alloc, &part.element.name)?,
+        attrs: attributes(alloc, part.attributes)?,
+        kind: part.cells.kind,
+        values: cells(alloc, &part.cells)?,
+    })
+}
+
+// The node of an element.
+fn element(alloc: Global, part: &NamedPart) -> Result<Node, Unfit>
+    ensures { Makes result (spec.element_judged (named_seen part.now)) }
+{
+    Ok(Node::Element {
+        prefix: prefix(alloc, &part.prefix)?,
+        name: name(alloc, &part.name)?,
+    })
+}
+
+/// The node of a whole record.
+#[tactic(auto, unfolding(crate::specs::Contents::contents))]
+pub fn node(alloc: Global, part: &RecordPart) -> Result<Node, Unfit>
+    requires { IsSoundRecord part.now }
+    ensures { Makes result (spec.contents (record_seen part.now)) }
+{
+    match part {
+        RecordPart::EndElement => Ok(Node::EndElement),
+        RecordPart::Comment(bytes) => Ok(Node::Comment(text(alloc, bytes)?)),
+        RecordPart::Element(part) => element(alloc, part),
+        RecordPart::Attribute(part) => Ok(Node::from(attribute(alloc, part)?)),
+        RecordPart::Text(part, ends) => Ok(Node::Text {
+            value: value(alloc, part)?,
+            ends: *ends,
+        }),
+        RecordPart::Array(part) => Ok(Node::Array(array(alloc, part)?)),
+    }
+}

@@ -1,0 +1,84 @@
+//! The smallest parts of a record, each read from an offset on: it is whole up to another one, or
+//! it is wrong, or the bytes end within it.
+
+ghost use Rattle.std.specs.Prelude.{◌≡◌, ◌^◌, ◌<◌, ◌≤◌, IfOk, length};
+ghost use Rattle.unit_streams.specs.Parts.{a_byte, some_bytes};
+ghost use Rattle.nbfx_records.specs.Cursor.{Tells};
+ghost use Rattle.nbfx_records.specs.Shapes.{a_string, an_integer};
+
+use crate::nodes::NodeFault;
+use multibyte_ints::{IntReader, IntStep};
+
+/// Why a part isn't whole.
+#[derive(Clone, Copy, Debug, PartialEq, Eq)]
+pub enum Stop {
+    /// The bytes end within it: so many in all are wanted at least.
+    More { wants: usize },
+    /// So many bytes show what is wrong with it.
+    Fault { fault: NodeFault, shown_by: usize },
+}
+
+/// So many bytes show this fault.
+pub fn fault<T>(fault: NodeFault, shown_by: usize) -> Result<T, Stop>
+    ensures { result ≡ Err (Stop.Fault fault shown_by) }
+{
+    Err(Stop::Fault { fault, shown_by })
+}
+
+/// A byte.
+pub fn byte_at(bytes: &[u8], at: usize) -> Result<(u8, usize), Stop>
+    requires { at ≤ length bytes.now }
+    ensures { Tells (λ byte. byte) a_byte bytes.now at result }
+{
+    if at == bytes.len() {
+        return Err(Stop::More { wants: at + 1 });
+    }
+    Ok((bytes[at], at + 1))
+}
+
+/// So many bytes.
+pub fn bytes_at(bytes: &[u8], at: usize, count: usize) -> Result<(&[u8], usize), Stop>
+    requires within { at ≤ length bytes.now }
+    requires few { count < 2 ^ 62 }
+    ensures tells { Tells (λ part. part.now) (some_bytes count) bytes.now at result }
+    ensures size { IfOk result (λ read. length read.0.now ≡ count) }
+{
+    let to = at + count;
+    if bytes.len() < to {
+        return Err(Stop::More { wants: to });
+    }
+    Ok((&bytes[at..to], to))
+}
+
+/// An integer.
+pub fn integer_at(bytes: &[u8], from: usize) -> Result<(u32, usize), Stop>
+    requires { from ≤ length bytes.now }
+    ensures tells { Tells (λ n. n) an_integer bytes.now from result }
+    ensures small { IfOk result (λ read. read.0 < 2 ^ 31) }
+{
+    let mut reader = IntReader::new();
+    for at in from..bytes.len() {
+        match reader.feed(bytes[at]) {
+            IntStep::More => {}
+            IntStep::Done(n) => return Ok((n, at + 1)),
+            IntStep::Bad => {
+                return Err(Stop::Fault {
+                    fault: NodeFault::BadInt,
+                    shown_by: at + 1,
+                });
+            }
+        }
+    }
+    Err(Stop::More {
+        wants: bytes.len() + 1,
+    })
+}
+
+/// A string, whose text isn't judged.
+pub fn string_at(bytes: &[u8], from: usize) -> Result<(&[u8], usize), Stop>
+    requires { from ≤ length bytes.now }
+    ensures { Tells (λ part. part.now) a_string bytes.now from result }
+{
+    let (count, at) = integer_at(bytes, from)?;
+    bytes_at(bytes, at, count as usize)
+}

@@ -1,0 +1,55 @@
+//! What holds of records by their definitions alone. Each function does nothing: its contract is a
+//! law, which a caller has where it calls the function.
+
+ghost use Rattle.unit_streams.specs.Front.{ReadsFront};
+ghost use Rattle.nbfx_records.specs.declared.nodes.NodePlace.{NodePlace};
+ghost use Rattle.nbfx_records.specs.Reading.{node_at};
+ghost use Rattle.nbfx_records.specs.Laws.{NothingIsBegun, RecordsAreRead, NoRecordGoesOn, RecordsAreValid, WrongByPart, WrongByText, WrongByValue, ChosenIsRecord, ChosenIsRead, ChosenIsShortest, StillFits, MeaningsAreFound, NothingWithoutNames, MeansOnce, MeaningsAreValid};
+
+/// A record is known by its own bytes: it is wrong or whole at the byte that shows it, whatever
+/// follows, and has only begun before that.
+pub fn record_fronts()
+    ensures reads { (place : NodePlace) → ReadsFront (node_at place) }
+    ensures nothing { NothingIsBegun }
+{}
+
+/// The records that are read are those that the bytes are, where they may stand. No record begins a
+/// longer one that may stand in its place, and none is two. A record of bytes is one of a valid
+/// node.
+pub fn records()
+    ensures read { RecordsAreRead }
+    ensures none_goes_on { NoRecordGoesOn }
+    ensures valid { RecordsAreValid }
+{}
+
+/// Bytes are no record that may stand there by a type byte, a number or a length, each of which
+/// shows what is wrong where it comes; or by a text of the whole record that isn't UTF-8; or, where
+/// all are, by a value that is none of its kind.
+pub fn faults()
+    ensures by_part { WrongByPart }
+    ensures bad_utf8 { WrongByText }
+    ensures bad_value { WrongByValue }
+{}
+
+/// What `put_node` writes of a node is a record of it, and reading gives the node back where it may
+/// stand. No record of it is shorter, unless that has a text in UTF-16.
+pub fn written()
+    ensures is_record { ChosenIsRecord }
+    ensures read_back { ChosenIsRead }
+    ensures shortest { ChosenIsShortest }
+{}
+
+/// What was seen of a record that isn't whole holds when more of its bytes came.
+pub fn resumed()
+    ensures { StillFits }
+{}
+
+/// What a node says where a string table is given is at most one list of items. There is none
+/// exactly where one of its identifiers names no string. Where the table's strings are text, the
+/// items of a valid node are valid.
+pub fn meanings()
+    ensures found { MeaningsAreFound }
+    ensures unnamed { NothingWithoutNames }
+    ensures one { MeansOnce }
+    ensures valid { MeaningsAreValid }
+{}

@@ -1,0 +1,169 @@
+//! The structure of a whole record, as slices of its bytes: nothing of a text or a value is judged.
+
+ghost use Rattle.std.specs.Prelude.{◌≡◌, ◌≤◌, IfOk, length};
+ghost use Rattle.nbfx_records.specs.Cursor.{Tells};
+ghost use Rattle.nbfx_records.specs.Resuming.{Fits};
+ghost use Rattle.nbfx_records.specs.Shapes as spec;
+ghost use Rattle.nbfx_records.specs.Views.{IsSoundRecord, record_seen};
+
+use crate::arrays::{ArrayPart, array_at};
+use crate::attributes::{AttributePart, ValuePart, attribute_at, declaration_at};
+use crate::cursor::{Stop, byte_at, fault, string_at};
+use crate::kinds::{RecordKind, TextKind};
+use crate::lists::{ListHolder, list_at};
+use crate::nodes::{NodeFault, NodePlace};
+use crate::parts::{NamedPart, element_at, scalar_at};
+use crate::resume::Resume;
+use crate::type_bytes::record_kind;
+
+/// A record.
+#[derive(Clone, Copy, Debug)]
+pub enum RecordPart<'a> {
+    EndElement,
+    Comment(&'a [u8]),
+    Element(NamedPart<'a>),
+    Attribute(AttributePart<'a>),
+    /// And whether the element that holds it ends.
+    Text(ValuePart<'a>, bool),
+    Array(ArrayPart<'a>),
+}
+
+// What follows the type byte of a text.
+fn text_at<'a>(
+    kind: TextKind,
+    ends: bool,
+    bytes: &'a [u8],
+    at: usize,
+    resume: &mut Resume,
+) -> Result<(RecordPart<'a>, usize), Stop>
+    requires within { at ≤ length bytes.now }
+    requires fits { Fits resume.old bytes.now }
+    ensures tells { Tells record_seen (spec.text_at kind ends) bytes.now at result }
+    ensures sound { IfOk result (λ read. IsSoundRecord read.0) }
+    ensures fits { Fits resume.new bytes.now }
+{
+    match kind {
+        TextKind::StartList => {
+            let (list, at) = list_at(ListHolder::Text, bytes, at, resume)?;
+            Ok((
+                RecordPart::Text(ValuePart::List(list.bytes), list.closes),
+                at,
+            ))
+        }
+        _ => {
+            let (scalar, at) = scalar_at(kind, bytes, at)?;
+            Ok((RecordPart::Text(ValuePart::One(scalar), ends), at))
+        }
+    }
+}
+
+// What follows the type byte of a record.
+#[tactic(auto, unfolding(crate::specs::Shapes::record_at))]
+fn record_at<'a>(
+    kind: RecordKind,
+    bytes: &'a [u8],
+    at: usize,
+    resume: &mut Resume,
+) -> Result<(RecordPart<'a>, usize), Stop>
+    requires within { at ≤ length bytes.now }
+    requires fits { Fits resume.old bytes.now }
+    ensures tells { Tells record_seen (spec.record_at kind) bytes.now at result }
+    ensures sound { IfOk result (λ read. IsSoundRecord read.0) }
+    ensures fits { Fits resume.new bytes.now }
+{
+    match kind {
+        RecordKind::EndElement => Ok((RecordPart::EndElement, at)),
+        RecordKind::Comment => {
+            let (text, at) = string_at(bytes, at)?;
+            Ok((RecordPart::Comment(text), at))
+        }
+        RecordKind::Array => {
+            let (array, at) = array_at(bytes, at, resume)?;
+            Ok((RecordPart::Array(array), at))
+        }
+        RecordKind::Attribute(prefix, name) => {
+            let (attribute, at) = attribute_at(prefix, name, bytes, at, resume)?;
+            Ok((RecordPart::Attribute(attribute), at))
+        }
+        RecordKind::Declaration(prefix, uri) => {
+            let (declaration, at) = declaration_at(prefix, uri, bytes, at)?;
+            Ok((RecordPart::Attribute(declaration), at))
+        }
+        RecordKind::Element(prefix, name) => {
+            let (element, at) = element_at(prefix, name, bytes, at)?;
+            Ok((RecordPart::Element(element), at))
+        }
+        RecordKind::Text(kind, ends) => text_at(kind, ends, bytes, at, resume),
+    }
+}
+
+// Whether a record may come that opens an element, ends a list, or stands only behind an element's
+// start.
+fn misplaced_within(attributes: bool, deeper: bool, kind: RecordKind) -> Option<NodeFault>
+    ensures { result ≡ spec.misplaced (NodePlace.Within attributes deeper) kind }
+{
+    match kind {
+        RecordKind::Attribute(_, _) | RecordKind::Declaration(_, _) if !attributes => {
+            Some(NodeFault::OutOfPlace)
+        }
+        RecordKind::Text(TextKind::EndList, _) => Some(NodeFault::OutOfPlace),
+        RecordKind::Element(_, _) | RecordKind::Array if !deeper => Some(NodeFault::TooDeep),
+        _ => None,
+    }
+}
+
+// Why a record may not come at a place, by its kind.
+fn misplaced(place: NodePlace, kind: RecordKind) -> Option<NodeFault>
+    ensures { result ≡ spec.misplaced place kind }
+{
+    match place {
+        NodePlace::BeforeRoot => match kind {
+            RecordKind::Element(_, _) => None,
+            _ => Some(NodeFault::OutOfPlace),
+        },
+        NodePlace::Within { attributes, deeper } => misplaced_within(attributes, deeper, kind),
+        NodePlace::AfterRoot => Some(NodeFault::TrailingBytes),
+    }
+}
+
+// What follows a type byte, where the record may come that it begins.
+fn placed<'a>(
+    place: NodePlace,
+    kind: Option<RecordKind>,
+    bytes: &'a [u8],
+    at: usize,
+    resume: &mut Resume,
+) -> Result<(RecordPart<'a>, usize), Stop>
+    requires within { at ≤ length bytes.now }
+    requires fits { Fits resume.old bytes.now }
+    ensures tells { Tells record_seen (spec.placed place kind) bytes.now at result }
+    ensures sound { IfOk result (λ read. IsSoundRecord read.0) }
+    ensures fits { Fits resume.new bytes.now }
+{
+    if place == NodePlace::AfterRoot {
+        return fault(NodeFault::TrailingBytes, at);
+    }
+    let Some(kind) = kind else {
+        return fault(NodeFault::UnknownNode, at);
+    };
+    match misplaced(place, kind) {
+        Some(wrong) => fault(wrong, at),
+        None => record_at(kind, bytes, at, resume),
+    }
+}
+
+/// The record at the front of the bytes, where it may come at this place. What was seen of one that
+/// isn't whole is kept in `resume`.
+pub fn shape_at<'a>(
+    place: NodePlace,
+    bytes: &'a [u8],
+    resume: &mut Resume,
+) -> Result<(RecordPart<'a>, usize), Stop>
+    requires { Fits resume.old bytes.now }
+    ensures tells { Tells record_seen (spec.shape_at place) bytes.now 0 result }
+    ensures sound { IfOk result (λ read. IsSoundRecord read.0) }
+    ensures fits { Fits resume.new bytes.now }
+{
+    let (byte, at) = byte_at(bytes, 0)?;
+    placed(place, record_kind(byte), bytes, at, resume)
+}
