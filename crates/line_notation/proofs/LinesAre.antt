@@ -13,13 +13,14 @@ use Rattle.nbfx_values.specs.declared.position.Position.{Position}
 use Rattle.nbfx_values.specs.declared.position.Position.TheVariants.{Before, Within, After}
 use Rattle.nbfx_values.specs.declared.scalars.Scalar.{Scalar}
 use Rattle.nbfx_values.specs.Documents.{IsDocument}
+use Rattle.nbfx_values.specs.Items.{fits_kind}
 use Rattle.nbfx_values.specs.Positions.{position_of}
 use Rattle.nbfx_values.specs.Scalars.{is_valid_scalar}
 use Rattle.nbfx_values.proofs.Walks.{position_of-document}
 use Rattle.line_notation.specs.declared.line.Line.{Line}
 use Rattle.line_notation.specs.declared.reader.LineKind.{LineKind}
 use Rattle.line_notation.specs.Forms.{Form, start, ns, attr, text, comment, array, values, close, IsForm, IsLine, form_of}
-use Rattle.line_notation.specs.Judging.{are_in_range, are_scalars, begun_array, fits, judged, scalars_of, value_of}
+use Rattle.line_notation.specs.Judging.{are_in_range, are_scalars, begun_array, judged, scalars_of, value_of}
 use Rattle.line_notation.specs.Lines.{AreBlank, AreLines, AreLinesOf, attribute_form, forms_of, item_forms}
 use Rattle.line_notation.specs.Standing.{Placed, Standing, after, answer, answer_of, document_of, documents_from, ending, failed, going, kind_of, led, on, ends, outcome, outcome_of, placed, placed_array, placed_at, placed_item, standing_from, standing_of, with_attribute}
 use Rattle.line_notation.specs.Values.{Written, no_more, one, list, how_many, written_scalars, written_value}
@@ -155,7 +156,7 @@ within-says items a (text written) said w single j h = absurd (let e = ap (place
 within-says items a (comment bytes) said w single j h = absurd (let e = ap (placed items (Some a)) (ok_same j.said_is) ∙ h in cc)
 within-says items a (array kind prefix local) said w single j h = absurd (let e = ap (placed items (Some a)) (ok_same j.said_is) ∙ h in cc)
 within-says items a (values written) said w single j h =
-    let v = scalars-written (fits (Some a.kind)) written (not-false (are_scalars (fits (Some a.kind)) written) j.range) in
+    let v = scalars-written (fits_kind a.kind) written (not-false (are_scalars (fits_kind a.kind) written) j.range) in
     array-says items a (scalars_of written) (values written) w (ap values v) (ap (placed items (Some a)) (ok_same j.said_is) ∙ h)
 within-says items a close said w single j h = absurd (let e = ap (placed items (Some a)) (ok_same j.said_is) ∙ h in cc)
 

@@ -4,19 +4,21 @@ use Rattle.std.specs.Str.{is_utf8}
 use Rattle.nbfx_values.specs.declared.content.ArrayKind.{ArrayKind}
 use Rattle.nbfx_values.specs.declared.content.Item.TheVariants.{Start, Xmlns, Attr, Text, Comment}
 use Rattle.nbfx_values.specs.declared.scalars.Scalar.{Scalar}
+use Rattle.nbfx_values.specs.Items.{fits_kind}
 use Rattle.line_notation.specs.declared.line.Keyword.TheVariants as keywords
 use Rattle.line_notation.specs.declared.line.Line.{Line}
 use Rattle.line_notation.specs.declared.line.Line.TheVariants as says
 use Rattle.line_notation.specs.declared.reader.LineKind.{LineKind}
 use Rattle.line_notation.specs.declared.reader.LineKind.TheVariants.{BadText, OutOfRange}
 use Rattle.line_notation.specs.Forms.{Form, start, ns, attr, text, comment, array, values, array_kind_in, two_texts_at}
-use Rattle.line_notation.specs.Judging.{are_in_range, are_scalars, begun_array, fits, have_good_texts, judged, said, scalars_of, value_of}
+use Rattle.line_notation.specs.Judging.{are_in_range, are_scalars, begun_array, have_good_texts, judged, said, scalars_of, value_of}
 use Rattle.line_notation.specs.Options.{alone, ◌>>=◌}
-use Rattle.line_notation.specs.Parts.{both, judged_scalars, judged_text, judged_text_in, judged_texts_at, judged_value, judged_value_in, mapped}
+use Rattle.line_notation.specs.Parts.{both, holder_of, judged_by, judged_scalars, judged_text, judged_text_in, judged_texts_at, judged_value, judged_value_in, mapped}
 use Rattle.line_notation.specs.Quoted.{quoted_in}
 use Rattle.line_notation.specs.Reading.{array_in, attribute_in, attribute_of, comment_in, declaration_in, judged_behind, start_in, text_in, texts_alone, values_in, values_of}
 use Rattle.line_notation.specs.Scalars.{one_word}
 use Rattle.line_notation.specs.Values.{Written, how_many, if_some, value_in, values_in as written_in}
+use Rattle.line_notation.proofs.GatherFacts.{held-range}
 
 -- a list of bytes, texts in front of words, and the same judged
 abbrev Bytes : Type 0
@@ -185,8 +187,8 @@ reads-array kind words = go (one_word array_kind_in words)
     go None = refl
     go (Some own) = by-texts kind (array own.0) (make own.0) (two-texts (make own.0)) own.1
 
-values-said : (kind : Option ArrayKind) (written : Written) → judged kind (values written) ≡ values_of kind (judged_scalars kind written)
-values-said kind written = go kind (have_good_texts written) (are_scalars (fits kind) written)
+values-said : (kind : Option ArrayKind) (written : Written) → judged kind (values written) ≡ values_of kind (judged_scalars (holder_of kind) written)
+values-said kind written = each kind
   where
     go : (kind : Option ArrayKind) (goods fit : Bool)
         → (if not goods then Err BadText else if not fit then Err OutOfRange else said kind (values written))
@@ -196,17 +198,23 @@ values-said kind written = go kind (have_good_texts written) (are_scalars (fits 
     go kind true false = refl
     go kind false fit = refl
 
+    each : (kind : Option ArrayKind) → judged kind (values written) ≡ values_of kind (judged_scalars (holder_of kind) written)
+    each None =
+        go None (have_good_texts written) (are_in_range written)
+        ∙ ap (λ taken. values_of None (judged_by (have_good_texts written) taken (scalars_of written))) (sym (held-range written))
+    each (Some own) = go (Some own) (have_good_texts written) (are_scalars (fits_kind own) written)
+
 pub reads-values : (kind : Option ArrayKind) (words : List Bytes) → judged_behind kind keywords.Values words ≡ values_in kind words
 reads-values kind words = go (written_in words)
   where
     inner : (written : Written) (some : Bool)
         → (((if some then Some written else None) >>= λ written. Some (values written)) >>= λ f. Some (judged kind f))
-        ≡ (if some then Some (values_of kind (judged_scalars kind written)) else None)
+        ≡ (if some then Some (values_of kind (judged_scalars (holder_of kind) written)) else None)
     inner written true = ap Some (values-said kind written)
     inner written false = refl
 
     go : (read : Option Written)
         → (((read >>= if_some) >>= λ written. Some (values written)) >>= λ f. Some (judged kind f))
-        ≡ (◌>>=◌ {A = Written} {B = ℕ × Result (List Scalar) LineKind} read (λ written. Some (how_many written, judged_scalars kind written)) >>= λ all. if nat_lt 0 all.0 then Some (values_of kind all.1) else None)
+        ≡ (◌>>=◌ {A = Written} {B = ℕ × Result (List Scalar) LineKind} read (λ written. Some (how_many written, judged_scalars (holder_of kind) written)) >>= λ all. if nat_lt 0 all.0 then Some (values_of kind all.1) else None)
     go None = refl
     go (Some written) = inner written (nat_lt 0 (how_many written))

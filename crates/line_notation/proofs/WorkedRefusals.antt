@@ -236,6 +236,26 @@ values_outside_an_array : IsRefused root None (codes "values number 1") OutOfPla
 unfolding lines_on_literals root
 values_outside_an_array = refl
 
+a_list_outside_an_array : IsRefused root None (codes "values list 1 number 1") OutOfPlace
+unfolding lines_on_literals root
+a_list_outside_an_array = refl
+
+an_empty_list_outside_an_array : IsRefused root None (codes "values list 0") OutOfPlace
+unfolding lines_on_literals root
+an_empty_list_outside_an_array = refl
+
+values_and_lists_outside_an_array : IsRefused root None (codes "values list 1 number 1 list 0 truth true") OutOfPlace
+unfolding lines_on_literals root
+values_and_lists_outside_an_array = refl
+
+a_list_in_a_list_outside_an_array : IsRefused root None (codes "values truth true list 1 list 0") OutOfRange
+unfolding lines_on_literals root
+a_list_in_a_list_outside_an_array = refl
+
+a_bad_text_in_a_list_outside_an_array : IsRefused root None (codes "values list 2 list 0 string \"\\ff\"") BadText
+unfolding lines_on_literals root
+a_bad_text_in_a_list_outside_an_array = refl
+
 values_out_of_range_outside_an_array : IsRefused root None (codes "values number 18446744073709551616") OutOfRange
 unfolding lines_on_literals root
 values_out_of_range_outside_an_array = refl

@@ -12,7 +12,7 @@ use Rattle.line_notation.specs.declared.reader.LineKind.TheVariants.{OutOfPlace}
 use Rattle.line_notation.specs.Forms.{array_kind_in, form_behind, form_of}
 use Rattle.line_notation.specs.Judging.{begun_array, judged}
 use Rattle.line_notation.specs.Options.{alone, ◌>>=◌}
-use Rattle.line_notation.specs.Parts.{both, gathered_in, judged_text_in, judged_texts_at, judged_value_in, mapped}
+use Rattle.line_notation.specs.Parts.{both, gathered_in, holder_of, judged_text_in, judged_texts_at, judged_value_in, mapped}
 use Rattle.line_notation.specs.Scalars.{one_word}
 
 -- what a form says, if there is one
@@ -60,7 +60,7 @@ values_of (Some kind) (Ok values) = Ok (says.Values values)
 
 abbrev pub values_in : Option ArrayKind → List (List ℕ) → Option (Result Line LineKind)
 values_in kind words = do
-  all ← gathered_in kind words
+  all ← gathered_in (holder_of kind) words
   if nat_lt 0 all.0 then Some (values_of kind all.1) else None
 
 abbrev pub close_in : List (List ℕ) → Option (Result Line LineKind)

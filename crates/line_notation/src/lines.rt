@@ -10,7 +10,7 @@ use crate::judged::{Judged, both};
 use crate::line::{Keyword, Line};
 use crate::reader::LineKind;
 use crate::texts::{text, two_texts};
-use crate::values::{gathered, value};
+use crate::values::{Holder, gathered, value};
 use crate::words::{Stop, Words};
 use nbfx_values::{ArrayItem, ArrayKind, Attrs, Item, Txt, Values};
 use std::alloc::Global;
@@ -105,7 +105,7 @@ fn values_of(kind: Option<ArrayKind>, values: Judged<Values>) -> Judged<Line>
 fn values(alloc: Global, kind: Option<ArrayKind>, words: &mut Words) -> Result<Judged<Line>, Stop>
     ensures { Finds (λ line. line) result (spec.values_in kind words.old) }
 {
-    let all = gathered(alloc, kind, words)?;
+    let all = gathered(alloc, Holder::of(kind), words)?;
     if all.tally.count == 0 {
         return Err(Stop::NotALine);
     }
