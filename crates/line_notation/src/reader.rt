@@ -80,6 +80,7 @@ pub struct LineReader {
 }
 
 impl Model for LineReader {
+    ghost use Rattle.std.specs.Prelude.{◌≤◌, ◌^◌};
     ghost use Rattle.line_notation.specs.Placing.{IsOpen};
     ghost use Rattle.line_notation.specs.Standing.{Standing, kept};
 
@@ -87,7 +88,7 @@ impl Model for LineReader {
 
     ghost view = { λ r. kept r.fault r.lines r.builder r.array };
 
-    ghost invariant = { λ r. IsOpen r.array };
+    ghost invariant = { λ r. IsOpen r.array × (r.lines ≤ 2 ^ 63) };
 }
 
 impl LineReader {
@@ -129,7 +130,6 @@ impl LineReader {
 
     /// Ends the lines: they may not end within a document.
     pub fn finish(&mut self) -> Result<(), LineFault>
-        requires room { HasRoom self.old }
         ensures answer { result ≡ ending self.old }
         ensures stands { self.new ≡ ended self.old }
     {
