@@ -157,5 +157,5 @@ abbrev pub HasReadFewer : ℕ → Standing → Type 0
 HasReadFewer most (failed fault) = Unit {0}
 HasReadFewer most (going n items array) = n < most
 
-abbrev pub HasRoom : Standing → Type 0
-HasRoom = HasReadFewer (2 ^ 63)
+abbrev pub HasReadFew : Standing → Type 0
+HasReadFew = HasReadFewer (2 ^ 63)

@@ -1,7 +1,7 @@
 // Documents out of lines.
 ghost use Rattle.std.specs.Prelude.{◌≡◌, [], IsErrOf};
 ghost use Rattle.line_notation.specs.Placing.{fault_of};
-ghost use Rattle.line_notation.specs.Standing.{HasFailed, HasRoom, StandsBehind, UnlessMemory, after, answer, ended, ending};
+ghost use Rattle.line_notation.specs.Standing.{HasFailed, HasReadFew, StandsBehind, UnlessMemory, after, answer, ended, ending};
 
 use crate::placing::{Refusal, read_placed};
 use nbfx_values::{ArrayItem, Doc, DocBuilder, Memory};
@@ -107,7 +107,7 @@ impl LineReader {
 
     /// Reads one line more. A fault stays: each further line has the same.
     pub fn line(&mut self, line: &[u8]) -> Result<LineStep, LineFault>
-        requires room { HasRoom self.old }
+        requires few { HasReadFew self.old }
         ensures answer { UnlessMemory result (result ≡ answer self.old line.now) }
         ensures stands { UnlessMemory result (self.new ≡ after self.old line.now) }
         ensures out_of_memory { IsErrOf result LineFault.Memory
