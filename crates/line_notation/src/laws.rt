@@ -1,7 +1,7 @@
 //! What holds of lines and documents by their definitions alone. Each function does nothing: its
 //! contract is a law, which a caller has where it calls the function.
 
-ghost use Rattle.line_notation.specs.Laws.{AreCutAgain, AreOfWhatTheyBring, BringTheirDocument, HaveOneForm, HoldNoFeed, LeaveNothingUnfinished};
+ghost use Rattle.line_notation.specs.Laws.{AreCutAgain, AreOfWhatTheyBring, AreReadAsTheySay, AreRefusedAtALine, BringTheirDocument, HaveOneForm, HoldNoFeed, LeadOn, LeaveNothingUnfinished};
 ghost use Rattle.line_notation.specs.Refusals.{RefusedForNoForm, RefusedForNothingElse, RefusedForPlace, RefusedForRange, RefusedForText};
 
 /// A line has a form exactly where that form is read out of it, so it has one at most.
@@ -19,6 +19,15 @@ pub fn read_back()
 /// between and behind them.
 pub fn documents()
     ensures { AreOfWhatTheyBring }
+{}
+
+/// Behind lines that aren't refused a reader stands as they say: they are the lines of whole
+/// documents, and those of the unfinished one, as many as it counts. A line that is refused is the
+/// first such, and the refusal has its number. Each line leads on from where those before it lead.
+pub fn standing()
+    ensures read { AreReadAsTheySay }
+    ensures refused { AreRefusedAtALine }
+    ensures more { LeadOn }
 {}
 
 /// A line is refused for having no form, or else for a text that isn't UTF-8, or else for a value
