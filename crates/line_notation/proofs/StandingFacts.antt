@@ -7,7 +7,7 @@ use Rattle.line_notation.specs.declared.reader.LineFault.{LineFault}
 use Rattle.line_notation.specs.declared.reader.LineFault.TheVariants.{Bad}
 use Rattle.line_notation.specs.declared.reader.LineKind.{LineKind}
 use Rattle.line_notation.specs.Laws.{IsRefusedAt}
-use Rattle.line_notation.specs.Standing.{Placed, Standing, after, ends, failed, going, on, outcome, standing, standing_from, standing_of, start}
+use Rattle.line_notation.specs.Standing.{Placed, Standing, after, ends, failed, going, on, outcome, standing, standing_from, standing_of, at_start}
 
 -- a line more
 more-from : (z : Standing) (lines : List (List ℕ)) (line : List ℕ) → standing_from z (lines ++ line ∷ []) ≡ after (standing_from z lines) line
@@ -15,7 +15,7 @@ more-from z [] line = refl
 more-from z (first ∷ lines) line = more-from (after z first) lines line
 
 pub standing-more : (lines : List (List ℕ)) (line : List ℕ) → standing (lines ++ line ∷ []) ≡ after (standing lines) line
-standing-more lines line = more-from start lines line
+standing-more lines line = more-from at_start lines line
 
 -- so many lines, or one that is refused
 abbrev IsCounted : List (List ℕ) → Standing → Type 0
@@ -60,4 +60,4 @@ all-counted (line ∷ left) lines z stands h =
     (all-counted left (lines ++ line ∷ []) (after z line) (standing-more lines line ∙ ap (λ y. after y line) stands) (more-counted lines line z stands h))
 
 pub standing-refused : (lines : List (List ℕ)) (fault : LineFault) → standing lines ≡ failed fault → IsRefusedAt lines fault
-standing-refused lines fault e = subst (IsCounted lines) e (all-counted lines [] start refl refl)
+standing-refused lines fault e = subst (IsCounted lines) e (all-counted lines [] at_start refl refl)

@@ -48,11 +48,6 @@ IsHeld kind (says.Array a) = IsTrue (is_held a)
 IsHeld None (says.Values values) = Unit {0}
 IsHeld (Some kind) (says.Values values) = IsTrue (nat_lt 0 (length values) && list_all (fits_kind kind) values)
 
--- an empty line where no document has begun
-abbrev pub is_passed_over : List Item → Option ArrayItem → List ℕ → Bool
-is_passed_over [] None [] = true
-is_passed_over _ _ _ = false
-
 -- an item within an array's element
 abbrev pub attribute_of : Item → Option AttrItem
 attribute_of (Xmlns prefix uri) = Some (DeclaresOn prefix uri)

@@ -82,11 +82,11 @@ pub struct LineReader {
 impl Model for LineReader {
     ghost use Rattle.std.specs.Prelude.{◌≤◌, ◌^◌};
     ghost use Rattle.line_notation.specs.Placing.{IsOpen};
-    ghost use Rattle.line_notation.specs.Standing.{Standing, kept};
+    ghost use Rattle.line_notation.specs.Standing.{Standing, standing_kept};
 
     ghost Value = { Standing };
 
-    ghost view = { λ r. kept r.fault r.lines r.builder r.array };
+    ghost view = { λ r. standing_kept r.fault r.lines r.builder r.array };
 
     ghost invariant = { λ r. IsOpen r.array × (r.lines ≤ 2 ^ 63) };
 }
