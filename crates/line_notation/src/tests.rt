@@ -189,6 +189,17 @@ fn refused_lines(rt: HostRuntime) -> Result<(), Fail> {
             LineKind::OutOfRange,
         ),
         (["text number 1"].as_slice(), 1, LineKind::OutOfPlace),
+        (
+            [
+                "start \"\" \"x\"",
+                "attr \"\" \"a\" number 1",
+                "text number 1",
+                "attr \"\" \"b\" number 1",
+            ]
+            .as_slice(),
+            4,
+            LineKind::OutOfPlace,
+        ),
     ];
     for (lines, line, kind) in rows {
         match read(rt.alloc(), lines) {
