@@ -1,8 +1,6 @@
 -- Where lines lead, line by line.
-use Rattle.std.proofs.Common.{◌≡◌, ◌∙◌, ◌+◌, ℕ, List, [], ◌∷◌, ◌++◌, length, Option, None, Some, Result, Ok, Err, refl, sym, ap, subst, append_assoc, append-nil, arith}
+use Rattle.std.proofs.Common.{◌≡◌, ◌∙◌, ◌+◌, ℕ, List, [], ◌∷◌, ◌++◌, length, Result, Ok, Err, refl, sym, ap, subst, append_assoc, append-nil, arith}
 use Rattle.std.proofs.lemmas.List.{length-append}
-use Rattle.nbfx_values.specs.declared.content.ArrayItem.{ArrayItem}
-use Rattle.nbfx_values.specs.declared.content.Item.{Item}
 use Rattle.line_notation.specs.declared.reader.LineFault.{LineFault}
 use Rattle.line_notation.specs.declared.reader.LineFault.TheVariants.{Bad}
 use Rattle.line_notation.specs.declared.reader.LineKind.{LineKind}
