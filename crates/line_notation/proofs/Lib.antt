@@ -39,11 +39,13 @@ pub mod SpacedFacts
 pub mod WrittenFacts
 -- documents: the lines that are put have their forms (PutForms), where lines lead (StepFacts), the lines
 -- of documents are read (LinesRead), documents are read from their lines alone (LinesAre), why a line is
--- refused (RefusalFacts), no line holds a line feed (ShownFacts), how many were read (Counting)
+-- refused (RefusalFacts), no line holds a line feed (ShownFacts), each line
+-- leads on (StandingFacts), how many were read (Counting)
 pub mod Counting
 pub mod LinesAre
 pub mod LinesRead
 pub mod PutForms
 pub mod RefusalFacts
 pub mod ShownFacts
+pub mod StandingFacts
 pub mod StepFacts

@@ -13,13 +13,15 @@ use Rattle.nbfx_values.specs.declared.position.Position.{Position}
 use Rattle.nbfx_values.specs.declared.position.Position.TheVariants.{Before, Within, After}
 use Rattle.nbfx_values.specs.declared.scalars.Scalar.{Scalar}
 use Rattle.nbfx_values.specs.Documents.{IsDocument}
+use Rattle.nbfx_values.specs.Items.{fits_kind}
 use Rattle.nbfx_values.specs.Positions.{position_of}
 use Rattle.nbfx_values.specs.Scalars.{is_valid_scalar}
 use Rattle.nbfx_values.proofs.Walks.{position_of-document}
 use Rattle.line_notation.specs.declared.line.Line.{Line}
 use Rattle.line_notation.specs.declared.reader.LineKind.{LineKind}
 use Rattle.line_notation.specs.Forms.{Form, start, ns, attr, text, comment, array, values, close, IsForm, IsLine, form_of}
-use Rattle.line_notation.specs.Judging.{are_in_range, are_scalars, begun_array, fits, judged, scalars_of, value_of}
+use Rattle.line_notation.specs.Judging.{are_in_range, are_scalars, begun_array, judged, scalars_of, value_of}
+use Rattle.line_notation.specs.Laws.{AreReadTo, HaveRead, begun_forms}
 use Rattle.line_notation.specs.Lines.{AreBlank, AreLines, AreLinesOf, attribute_form, forms_of, item_forms}
 use Rattle.line_notation.specs.Standing.{Placed, Standing, after, answer, answer_of, document_of, documents_from, ending, failed, going, kind_of, led, on, ends, outcome, outcome_of, placed, placed_array, placed_at, placed_item, standing_from, standing_of, with_attribute}
 use Rattle.line_notation.specs.Values.{Written, no_more, one, list, how_many, written_scalars, written_value}
@@ -43,11 +45,6 @@ value-written (one s more) single h = ap (one s) (sym (none-more more single))
 value-written (list within more) single h =
     let p = and_parts (are_scalars is_valid_scalar within) (are_in_range more) h in
     ap (λ w. list w no_more) (scalars-written is_valid_scalar within p.0) ∙ ap (list within) (sym (none-more more single))
-
--- what the lines so far say of an unfinished document
-abbrev begun_forms : List Item → Option ArrayItem → List Form
-begun_forms items None = forms_of items
-begun_forms items (Some a) = forms_of items ++ array a.kind a.prefix a.local ∷ map attribute_form a.attrs
 
 -- and of one that the last of them ended
 abbrev placed_forms : Placed → List Form
@@ -155,7 +152,7 @@ within-says items a (text written) said w single j h = absurd (let e = ap (place
 within-says items a (comment bytes) said w single j h = absurd (let e = ap (placed items (Some a)) (ok_same j.said_is) ∙ h in cc)
 within-says items a (array kind prefix local) said w single j h = absurd (let e = ap (placed items (Some a)) (ok_same j.said_is) ∙ h in cc)
 within-says items a (values written) said w single j h =
-    let v = scalars-written (fits (Some a.kind)) written (not-false (are_scalars (fits (Some a.kind)) written) j.range) in
+    let v = scalars-written (fits_kind a.kind) written (not-false (are_scalars (fits_kind a.kind) written) j.range) in
     array-says items a (scalars_of written) (values written) w (ap values v) (ap (placed items (Some a)) (ok_same j.said_is) ∙ h)
 within-says items a close said w single j h = absurd (let e = ap (placed items (Some a)) (ok_same j.said_is) ∙ h in cc)
 
@@ -184,19 +181,6 @@ document-behind : (docs : List (List Item)) (doc : List Item) (lines own : List 
 document-behind [] doc lines own h d k = (lines, own, [], sym (append-nil (lines ++ own)), h, d, k, tt)
 document-behind (first ∷ docs) doc lines own (blank, mine, rest, e, empty, fd, f, g) d k =
     (blank, mine, rest ++ own, ap (λ l. l ++ own) e ∙ append_assoc (blank ++ mine) rest own, empty, fd, f, document-behind docs doc rest own g d k)
-
--- what was read: the lines of whole documents, and those of an unfinished one
-record AreReadTo (lines : List (List ℕ)) (docs : List (List Item)) (n : ℕ) (items : List Item) (opened : Option ArrayItem) : Type 0 where
-  whole : List (List ℕ)
-  own : List (List ℕ)
-  lines_are : lines ≡ whole ++ own
-  whole_are : AreLinesOf docs whole
-  own_are : AreLines (begun_forms items opened) own
-  count : n ≡ length lines
-
-abbrev HaveRead : List (List ℕ) → List (List Item) → Standing → Type 0
-HaveRead lines docs (failed fault) = Unit {0}
-HaveRead lines docs (going n items opened) = AreReadTo lines docs n items opened
 
 one-more : (n : ℕ) (lines : List (List ℕ)) (line : List ℕ) → n ≡ length lines → n + 1 ≡ length (lines ++ line ∷ [])
 one-more n lines line e = omega (arith, e, length-append lines (line ∷ []))
@@ -278,12 +262,15 @@ read-all (line ∷ left) lines docs z h =
     subst (λ l. HaveRead l (docs ++ (d ++ documents_from (after z line) left)) (standing_from (after z line) left)) (append_assoc lines (line ∷ []) left)
     (subst (λ e. HaveRead ((lines ++ line ∷ []) ++ left) e (standing_from (after z line) left)) (append_assoc docs d (documents_from (after z line) left)) more)
 
+pub read-lines : (lines : List (List ℕ)) → HaveRead lines (documents_from (going 0 [] None) lines) (standing_from (going 0 [] None) lines)
+read-lines lines = read-all lines [] [] (going 0 [] None) (record { whole = []; own = []; lines_are = refl; whole_are = tt; own_are = refl; count = refl })
+
 pub read-documents : (lines : List (List ℕ)) (docs : List (List Item)) → documents_from (going 0 [] None) lines ≡ docs → ending (standing_from (going 0 [] None) lines) ≡ Ok tt
     → AreLinesOf docs lines
 read-documents lines docs e end =
     go (standing_from (going 0 [] None) lines) end
     (subst (λ d. HaveRead lines d (standing_from (going 0 [] None) lines)) e
-    (read-all lines [] [] (going 0 [] None) (record { whole = []; own = []; lines_are = refl; whole_are = tt; own_are = refl; count = refl })))
+    (read-lines lines))
   where
     go : (z : Standing) → ending z ≡ Ok tt → HaveRead lines docs z → AreLinesOf docs lines
     go (failed fault) end h = absurd cc

@@ -18,7 +18,7 @@ use Rattle.line_notation.proofs.GatherFacts.{some_same}
 use Rattle.line_notation.proofs.NumeralsFacts.{all-digits, natural_parts, own}
 use Rattle.line_notation.proofs.SpacedFacts.{is_solid, solid}
 use Rattle.line_notation.proofs.TokenFacts.{found}
-use Rattle.line_notation.proofs.ValueFacts.{eqb-other}
+use Rattle.line_notation.proofs.GatherFacts.{eqb-other}
 
 -- the digits of a number
 record AreDigitsOf (n : ℕ) (ds : List ℕ) : Type 0 where

@@ -10,7 +10,7 @@ use Rattle.line_notation.specs.Options.{◌>>=◌}
 use Rattle.line_notation.specs.Quoted.{ArePieces, IsPiece, IsQuoted, between_quotes, digit_in, escape, is_in_quotes, is_plain, pair_in, quoted, quoted_byte, quoted_in, unescaped}
 use Rattle.line_notation.proofs.GatherFacts.{some_same}
 use Rattle.line_notation.proofs.SpacedFacts.{closes}
-use Rattle.line_notation.proofs.ValueFacts.{eqb-other}
+use Rattle.line_notation.proofs.GatherFacts.{eqb-other}
 use Rattle.line_notation.proofs.TextsFacts.{before, unescaped-plain}
 use Rattle.line_notation.proofs.TokenFacts.{found}
 

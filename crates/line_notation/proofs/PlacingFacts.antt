@@ -15,9 +15,9 @@ use Rattle.line_notation.specs.declared.words.Stop.TheVariants as stops
 use Rattle.line_notation.specs.Forms.{Form, form_of}
 use Rattle.line_notation.specs.Judging.{judged as judge}
 use Rattle.line_notation.specs.Options.{◌>>=◌}
-use Rattle.line_notation.specs.Placing.{Places, is_passed_over, stopped}
+use Rattle.line_notation.specs.Placing.{Places, stopped}
 use Rattle.line_notation.specs.Reading.{judged_form}
-use Rattle.line_notation.specs.Standing.{on, ends, kind_of, led, outcome, outcome_of, placed_at}
+use Rattle.line_notation.specs.Standing.{is_passed_over, on, ends, kind_of, led, outcome, outcome_of, placed_at}
 use Rattle.line_notation.specs.Steps.{Stops}
 use Rattle.line_notation.proofs.GatherFacts.{some_same}
 

@@ -4,19 +4,21 @@ use Rattle.std.specs.Str.{is_utf8}
 use Rattle.nbfx_values.specs.declared.content.ArrayKind.{ArrayKind}
 use Rattle.nbfx_values.specs.declared.content.Item.TheVariants.{Start, Xmlns, Attr, Text, Comment}
 use Rattle.nbfx_values.specs.declared.scalars.Scalar.{Scalar}
+use Rattle.nbfx_values.specs.Items.{fits_kind}
 use Rattle.line_notation.specs.declared.line.Keyword.TheVariants as keywords
 use Rattle.line_notation.specs.declared.line.Line.{Line}
 use Rattle.line_notation.specs.declared.line.Line.TheVariants as says
 use Rattle.line_notation.specs.declared.reader.LineKind.{LineKind}
 use Rattle.line_notation.specs.declared.reader.LineKind.TheVariants.{BadText, OutOfRange}
 use Rattle.line_notation.specs.Forms.{Form, start, ns, attr, text, comment, array, values, array_kind_in, two_texts_at}
-use Rattle.line_notation.specs.Judging.{are_in_range, are_scalars, begun_array, fits, have_good_texts, judged, said, scalars_of, value_of}
+use Rattle.line_notation.specs.Judging.{are_in_range, are_scalars, begun_array, have_good_texts, judged, said, scalars_of, value_of}
 use Rattle.line_notation.specs.Options.{alone, ◌>>=◌}
-use Rattle.line_notation.specs.Parts.{both, judged_scalars, judged_text, judged_text_in, judged_texts_at, judged_value, judged_value_in, mapped}
+use Rattle.line_notation.specs.Parts.{both, holder_of, judged_by, judged_scalars, judged_text, judged_text_in, judged_texts_at, judged_value, judged_value_in, mapped}
 use Rattle.line_notation.specs.Quoted.{quoted_in}
-use Rattle.line_notation.specs.Reading.{array_in, attribute_in, attribute_of, comment_in, declaration_in, judged_behind, start_in, text_in, texts_alone, values_in, values_of}
+use Rattle.line_notation.specs.Reading.{read_array, read_attribute, as_attribute, read_comment, read_declaration, judged_behind, read_start, read_text, texts_alone, read_values, values_of}
 use Rattle.line_notation.specs.Scalars.{one_word}
 use Rattle.line_notation.specs.Values.{Written, how_many, if_some, value_in, values_in as written_in}
+use Rattle.line_notation.proofs.GatherFacts.{held-range}
 
 -- a list of bytes, texts in front of words, and the same judged
 abbrev Bytes : Type 0
@@ -96,19 +98,19 @@ two-texts make a b = go (is_utf8 a) (is_utf8 b)
     go false true = refl
     go false false = refl
 
-pub reads-start : (kind : Option ArrayKind) (words : List Bytes) → judged_behind kind keywords.Start words ≡ start_in words
+pub reads-start : (kind : Option ArrayKind) (words : List Bytes) → judged_behind kind keywords.Start words ≡ read_start words
 reads-start kind words = by-texts kind start (λ t. says.Item (Start t.0 t.1)) (two-texts (λ t. says.Item (Start t.0 t.1))) words
 
-pub reads-declaration : (kind : Option ArrayKind) (words : List Bytes) → judged_behind kind keywords.Ns words ≡ declaration_in words
+pub reads-declaration : (kind : Option ArrayKind) (words : List Bytes) → judged_behind kind keywords.Ns words ≡ read_declaration words
 reads-declaration kind words = by-texts kind ns (λ t. says.Item (Xmlns t.0 t.1)) (two-texts (λ t. says.Item (Xmlns t.0 t.1))) words
 
 -- an attribute
-attribute-said : (kind : Option ArrayKind) (a b : Bytes) (written : Written) → judged kind (attr a b written) ≡ mapped attribute_of (both (judged_two (a, b)) (judged_value written))
+attribute-said : (kind : Option ArrayKind) (a b : Bytes) (written : Written) → judged kind (attr a b written) ≡ mapped as_attribute (both (judged_two (a, b)) (judged_value written))
 attribute-said kind a b written = go (is_utf8 a) (is_utf8 b) (have_good_texts written) (are_in_range written)
   where
     go : (s t goods fit : Bool)
         → (if not ((s && t) && goods) then Err BadText else if not fit then Err OutOfRange else Ok (says.Item (Attr a b (value_of written))))
-        ≡ mapped attribute_of (both (both (if s then Ok a else Err BadText) (if t then Ok b else Err BadText)) (if goods then (if fit then Ok (value_of written) else Err OutOfRange) else Err BadText))
+        ≡ mapped as_attribute (both (both (if s then Ok a else Err BadText) (if t then Ok b else Err BadText)) (if goods then (if fit then Ok (value_of written) else Err OutOfRange) else Err BadText))
     go true true true true = refl
     go true true true false = refl
     go true true false fit = refl
@@ -122,18 +124,18 @@ attribute-said kind a b written = go (is_utf8 a) (is_utf8 b) (have_good_texts wr
     go false false true false = refl
     go false false false fit = refl
 
-pub reads-attribute : (kind : Option ArrayKind) (words : List Bytes) → judged_behind kind keywords.Attr words ≡ attribute_in words
-reads-attribute kind words = go (two_texts_at words) ∙ ap (λ read. read >>= λ t. judged_value_in t.1 >>= λ value. Some (mapped attribute_of (both t.0 value))) (sym (texts-judged words))
+pub reads-attribute : (kind : Option ArrayKind) (words : List Bytes) → judged_behind kind keywords.Attr words ≡ read_attribute words
+reads-attribute kind words = go (two_texts_at words) ∙ ap (λ read. read >>= λ t. judged_value_in t.1 >>= λ value. Some (mapped as_attribute (both t.0 value))) (sym (texts-judged words))
   where
     inner : (a b : Bytes) (read : Option Written)
         → ((read >>= λ written. Some (attr a b written)) >>= λ f. Some (judged kind f))
-        ≡ ((read >>= λ written. Some (judged_value written)) >>= λ value. Some (mapped attribute_of (both (judged_two (a, b)) value)))
+        ≡ ((read >>= λ written. Some (judged_value written)) >>= λ value. Some (mapped as_attribute (both (judged_two (a, b)) value)))
     inner a b None = refl
     inner a b (Some written) = ap Some (attribute-said kind a b written)
 
     go : (read : Read (Bytes × Bytes))
         → ((read >>= λ t. value_in t.1 >>= λ written. Some (attr t.0.0 t.0.1 written)) >>= λ f. Some (judged kind f))
-        ≡ (judged_texts read >>= λ t. judged_value_in t.1 >>= λ value. Some (mapped attribute_of (both t.0 value)))
+        ≡ (judged_texts read >>= λ t. judged_value_in t.1 >>= λ value. Some (mapped as_attribute (both t.0 value)))
     go None = refl
     go (Some t) = inner t.0.0 t.0.1 (value_in t.1)
 
@@ -148,7 +150,7 @@ text-said kind written = go (have_good_texts written) (are_in_range written)
     go true false = refl
     go false fit = refl
 
-pub reads-text : (kind : Option ArrayKind) (words : List Bytes) → judged_behind kind keywords.Text words ≡ text_in words
+pub reads-text : (kind : Option ArrayKind) (words : List Bytes) → judged_behind kind keywords.Text words ≡ read_text words
 reads-text kind words = go (value_in words)
   where
     go : (read : Option Written)
@@ -164,7 +166,7 @@ comment-said kind bytes = go (is_utf8 bytes)
     go true = refl
     go false = refl
 
-pub reads-comment : (kind : Option ArrayKind) (words : List Bytes) → judged_behind kind keywords.Comment words ≡ comment_in words
+pub reads-comment : (kind : Option ArrayKind) (words : List Bytes) → judged_behind kind keywords.Comment words ≡ read_comment words
 reads-comment kind words = go (one_word quoted_in words) ∙ ap (λ read. alone read >>= λ t. Some (mapped (λ t. says.Item (Comment t)) t)) (sym (one-judged words))
   where
     go : (read : Read Bytes) → ((alone read >>= λ bytes. Some (comment bytes)) >>= λ f. Some (judged kind f)) ≡ (alone (judged_one read) >>= λ t. Some (mapped (λ t. says.Item (Comment t)) t))
@@ -173,7 +175,7 @@ reads-comment kind words = go (one_word quoted_in words) ∙ ap (λ read. alone 
     go (Some (bytes, word ∷ words)) = refl
 
 -- an array and its values
-pub reads-array : (kind : Option ArrayKind) (words : List Bytes) → judged_behind kind keywords.Array words ≡ array_in words
+pub reads-array : (kind : Option ArrayKind) (words : List Bytes) → judged_behind kind keywords.Array words ≡ read_array words
 reads-array kind words = go (one_word array_kind_in words)
   where
     make : ArrayKind → Bytes × Bytes → Line
@@ -185,8 +187,8 @@ reads-array kind words = go (one_word array_kind_in words)
     go None = refl
     go (Some own) = by-texts kind (array own.0) (make own.0) (two-texts (make own.0)) own.1
 
-values-said : (kind : Option ArrayKind) (written : Written) → judged kind (values written) ≡ values_of kind (judged_scalars kind written)
-values-said kind written = go kind (have_good_texts written) (are_scalars (fits kind) written)
+values-said : (kind : Option ArrayKind) (written : Written) → judged kind (values written) ≡ values_of kind (judged_scalars (holder_of kind) written)
+values-said kind written = each kind
   where
     go : (kind : Option ArrayKind) (goods fit : Bool)
         → (if not goods then Err BadText else if not fit then Err OutOfRange else said kind (values written))
@@ -196,17 +198,23 @@ values-said kind written = go kind (have_good_texts written) (are_scalars (fits 
     go kind true false = refl
     go kind false fit = refl
 
-pub reads-values : (kind : Option ArrayKind) (words : List Bytes) → judged_behind kind keywords.Values words ≡ values_in kind words
+    each : (kind : Option ArrayKind) → judged kind (values written) ≡ values_of kind (judged_scalars (holder_of kind) written)
+    each None =
+        go None (have_good_texts written) (are_in_range written)
+        ∙ ap (λ taken. values_of None (judged_by (have_good_texts written) taken (scalars_of written))) (sym (held-range written))
+    each (Some own) = go (Some own) (have_good_texts written) (are_scalars (fits_kind own) written)
+
+pub reads-values : (kind : Option ArrayKind) (words : List Bytes) → judged_behind kind keywords.Values words ≡ read_values kind words
 reads-values kind words = go (written_in words)
   where
     inner : (written : Written) (some : Bool)
         → (((if some then Some written else None) >>= λ written. Some (values written)) >>= λ f. Some (judged kind f))
-        ≡ (if some then Some (values_of kind (judged_scalars kind written)) else None)
+        ≡ (if some then Some (values_of kind (judged_scalars (holder_of kind) written)) else None)
     inner written true = ap Some (values-said kind written)
     inner written false = refl
 
     go : (read : Option Written)
         → (((read >>= if_some) >>= λ written. Some (values written)) >>= λ f. Some (judged kind f))
-        ≡ (◌>>=◌ {A = Written} {B = ℕ × Result (List Scalar) LineKind} read (λ written. Some (how_many written, judged_scalars kind written)) >>= λ all. if nat_lt 0 all.0 then Some (values_of kind all.1) else None)
+        ≡ (◌>>=◌ {A = Written} {B = ℕ × Result (List Scalar) LineKind} read (λ written. Some (how_many written, judged_scalars (holder_of kind) written)) >>= λ all. if nat_lt 0 all.0 then Some (values_of kind all.1) else None)
     go None = refl
     go (Some written) = inner written (nat_lt 0 (how_many written))

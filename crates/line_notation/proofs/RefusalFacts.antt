@@ -16,9 +16,8 @@ use Rattle.line_notation.specs.declared.reader.LineKind.{LineKind}
 use Rattle.line_notation.specs.declared.reader.LineKind.TheVariants.{NotALine, BadText, OutOfRange, OutOfPlace, Cut, WrongCount}
 use Rattle.line_notation.specs.Forms.{Form, start, ns, attr, text, comment, array, values, close, IsLine, form_of}
 use Rattle.line_notation.specs.Judging.{begun_array, has_bad_text, is_out_of_range, judged, said}
-use Rattle.line_notation.specs.Placing.{is_passed_over}
 use Rattle.line_notation.specs.Refusals.{CannotFollow, CannotStand, HasBadText, IsNoLine, IsOutOfPlace, IsOutOfRange, IsRefusedForNothingElse}
-use Rattle.line_notation.specs.Standing.{Placed, on, kind_of, led, outcome, outcome_of, placed_array, placed_at, placed_item}
+use Rattle.line_notation.specs.Standing.{is_passed_over, Placed, on, kind_of, led, outcome, outcome_of, placed_array, placed_at, placed_item}
 use Rattle.line_notation.proofs.FormFacts.{line-read, read-line}
 use Rattle.line_notation.proofs.LinesRead.{outcome-form}
 use Rattle.line_notation.proofs.PlacingFacts.{outcome-read}

@@ -13,7 +13,7 @@ use Rattle.line_notation.specs.Words.{behind_spaces, spaced}
 use Rattle.line_notation.proofs.LineWords.{AreWords, IsWord, glyph-solid, line-words}
 use Rattle.line_notation.proofs.PutForms.{lines_of-lines}
 use Rattle.line_notation.proofs.SpacedFacts.{is_solid}
-use Rattle.line_notation.proofs.ValueFacts.{eqb-other}
+use Rattle.line_notation.proofs.GatherFacts.{eqb-other}
 
 -- a byte of 32 or above, and words of such bytes
 abbrev is_shown : ℕ → Bool

@@ -4,7 +4,7 @@ use Rattle.std.specs.List.{list_all}
 use Rattle.std.proofs.lemmas.Bool.{and_parts, eqb-true, le-leb, lt-ltb, not-true}
 use Rattle.line_notation.specs.Quoted.{is_plain}
 use Rattle.line_notation.specs.Words.{behind_spaces, goes_on_within, onto_first, spaced, words_from, words_of}
-use Rattle.line_notation.proofs.ValueFacts.{eqb-other}
+use Rattle.line_notation.proofs.GatherFacts.{eqb-other}
 
 -- a line has a first word
 record HasFirst (words : List (List ℕ)) : Type 0 where

@@ -1,13 +1,14 @@
 -- One value, by its first token and all that is behind it.
 use Rattle.std.proofs.Common.{◌≡◌, ◌∙◌, ◌<◌, ◌≤◌, ◌^◌, ◌-◌, ◌==◌, ◌⊎◌, inl, inr, ℕ, suc, List, [], ◌∷◌, length, Bool, true, false, ◌&&◌, if◌then◌else◌, Option, None, Some, Result, Ok, Err, refl, ap, arith, subst, nat_le}
 use Rattle.std.specs.Option.{ok_or}
-use Rattle.std.proofs.lemmas.Bool.{cases_lt, eq-eqb, eqb-true, le-leb, lt-leb}
+use Rattle.std.proofs.lemmas.Bool.{cases_lt, eq-eqb, le-leb, lt-leb}
 use Rattle.nbfx_values.specs.declared.scalars.Scalar.{Scalar}
 use Rattle.nbfx_values.specs.declared.scalars.Value.{Value}
 use Rattle.nbfx_values.specs.declared.scalars.Value.TheVariants.{One, List as ListOf}
 use Rattle.nbfx_values.specs.Scalars.{is_valid_scalar}
 use Rattle.line_notation.specs.declared.reader.LineKind.{LineKind}
 use Rattle.line_notation.specs.declared.reader.LineKind.TheVariants.{BadText, OutOfRange}
+use Rattle.line_notation.specs.declared.values.Holder.TheVariants as holders
 use Rattle.line_notation.specs.declared.values.JudgedToken.{JudgedToken}
 use Rattle.line_notation.specs.declared.values.JudgedToken.TheVariants as tokens
 use Rattle.line_notation.specs.declared.words.Stop.{Stop}
@@ -17,7 +18,7 @@ use Rattle.line_notation.specs.Options.{◌>>=◌}
 use Rattle.line_notation.specs.Parts.{gathered_in, judged_scalar, judged_scalars, judged_token, judged_token_at, judged_value, judged_value_in, kept, mapped, value_from}
 use Rattle.line_notation.specs.Steps.{Finds, Stops}
 use Rattle.line_notation.specs.Values.{Token, scalar, listed, Written, no_more, one, list, behind, first, how_many, if_one, taken, token_at, tokens_within, values_in}
-use Rattle.line_notation.proofs.GatherFacts.{Few, how_many-behind, put}
+use Rattle.line_notation.proofs.GatherFacts.{Few, eqb-other, how_many-behind, put}
 use Rattle.line_notation.proofs.GatherSteps.{fewer-left}
 use Rattle.line_notation.proofs.TokenFacts.{is_judged, not_judged, values_in-few, values_in-step}
 
@@ -32,13 +33,6 @@ behind-all no_more = refl
 behind-all (one s more) = behind-all more
 behind-all (list within more) = behind-all more
 
-pub eqb-other : (a b : ℕ) → (a ≡ b → ⊥) → (a == b) ≡ false
-eqb-other a b other = go (a == b) refl
-  where
-    go : (t : Bool) → (a == b) ≡ t → t ≡ false
-    go true e = absurd (other (eqb-true a b e))
-    go false e = refl
-
 -- the one value of a token and those behind it
 abbrev one_of : Option Written → Option (Result Value LineKind)
 one_of read = (read >>= if_one) >>= λ written. Some (judged_value written)
@@ -51,7 +45,7 @@ one-judged s = go (has_good_text s) (is_valid_scalar s)
     go true false = refl
     go false valid = refl
 
-list-judged : (within : Written) → judged_value (list within no_more) ≡ mapped ListOf (judged_scalars None within)
+list-judged : (within : Written) → judged_value (list within no_more) ≡ mapped ListOf (judged_scalars holders.List within)
 list-judged within = go (have_good_texts within) (are_scalars is_valid_scalar within)
   where
     go : (good valid : Bool)
@@ -61,7 +55,7 @@ list-judged within = go (have_good_texts within) (are_scalars is_valid_scalar wi
     go true false = refl
     go false valid = refl
 
-put-scalar : (s : Scalar) (more : Written) → one_of (Some (one s more)) ≡ value_from (tokens.Scalar (judged_scalar s)) (how_many more) (judged_scalars None more)
+put-scalar : (s : Scalar) (more : Written) → one_of (Some (one s more)) ≡ value_from (tokens.Scalar (judged_scalar s)) (how_many more) (judged_scalars holders.List more)
 put-scalar s no_more = ap Some (one-judged s)
 put-scalar s (one t more) = rw (eqb-other (suc (suc (how_many more))) 1 (λ e. omega (arith, e)), eqb-other (suc (how_many more)) 0 (λ e. omega (arith, e))) refl
 put-scalar s (list within more) = rw (eqb-other (suc (suc (how_many more))) 1 (λ e. omega (arith, e)), eqb-other (suc (how_many more)) 0 (λ e. omega (arith, e))) refl
@@ -79,7 +73,7 @@ put-fewer n more less values = go (nat_le n (2 ^ 64 - 1))
     go false = rw (le-leb n (how_many more) (omega arith), other) refl
 
 put-all : (more : Written) → how_many more < 2 ^ 64
-    → one_of (taken (how_many more) more) ≡ value_from (tokens.Count (kept OutOfRange (λ n. nat_le n (2 ^ 64 - 1)) (how_many more))) (how_many more) (judged_scalars None more)
+    → one_of (taken (how_many more) more) ≡ value_from (tokens.Count (kept OutOfRange (λ n. nat_le n (2 ^ 64 - 1)) (how_many more))) (how_many more) (judged_scalars holders.List more)
 put-all more few =
     rw (le-leb (how_many more) (how_many more) (omega arith), le-leb (how_many more) (2 ^ 64 - 1) (omega arith), first-all more, behind-all more, eq-eqb (how_many more) (how_many more) refl)
     (ap Some (list-judged more))
@@ -93,26 +87,26 @@ put-too_many n more less values = go (nat_le n (2 ^ 64 - 1))
     go false = rw (lt-leb n (how_many more) less) refl
 
 put-list : (n : ℕ) (more : Written) → how_many more < 2 ^ 64
-    → one_of (taken n more) ≡ value_from (tokens.Count (kept OutOfRange (λ n. nat_le n (2 ^ 64 - 1)) n)) (how_many more) (judged_scalars None more)
+    → one_of (taken n more) ≡ value_from (tokens.Count (kept OutOfRange (λ n. nat_le n (2 ^ 64 - 1)) n)) (how_many more) (judged_scalars holders.List more)
 put-list n more few = go (cases_lt n (how_many more)) (cases_lt (how_many more) n)
   where
     claim : ℕ → Type 0
-    claim n = one_of (taken n more) ≡ value_from (tokens.Count (kept OutOfRange (λ n. nat_le n (2 ^ 64 - 1)) n)) (how_many more) (judged_scalars None more)
+    claim n = one_of (taken n more) ≡ value_from (tokens.Count (kept OutOfRange (λ n. nat_le n (2 ^ 64 - 1)) n)) (how_many more) (judged_scalars holders.List more)
 
     go : (n < how_many more) ⊎ (how_many more ≤ n) → (how_many more < n) ⊎ (n ≤ how_many more) → claim n
-    go (inl less) other = put-fewer n more less (judged_scalars None more)
-    go (inr enough) (inl over) = put-too_many n more over (judged_scalars None more)
+    go (inl less) other = put-fewer n more less (judged_scalars holders.List more)
+    go (inr enough) (inl over) = put-too_many n more over (judged_scalars holders.List more)
     go (inr enough) (inr within) = subst claim (equal _ _ enough within) (put-all more few)
       where
         equal : (a b : ℕ) → a ≤ b → b ≤ a → a ≡ b
         equal a b f g = omega arith
 
-put-one : (t : Token) (more : Written) → how_many more < 2 ^ 64 → one_of (put t more) ≡ value_from (judged_token t) (how_many more) (judged_scalars None more)
+put-one : (t : Token) (more : Written) → how_many more < 2 ^ 64 → one_of (put t more) ≡ value_from (judged_token t) (how_many more) (judged_scalars holders.List more)
 put-one (scalar s) more few = put-scalar s more
 put-one (listed n) more few = put-list n more few
 
 abbrev counted : Option Written → Option (ℕ × Result (List Scalar) LineKind)
-counted read = read >>= λ written. Some (how_many written, judged_scalars None written)
+counted read = read >>= λ written. Some (how_many written, judged_scalars holders.List written)
 
 put-one_of : (t : Token) (read : Option Written) → Few read → one_of (read >>= put t) ≡ (counted read >>= λ all. value_from (judged_token t) all.0 all.1)
 unfolding Few
@@ -121,7 +115,7 @@ put-one_of t (Some more) few = put-one t more few
 
 -- the token in front, and all values behind it
 pub value-step : (words rest : List (List ℕ)) (token : JudgedToken) → judged_token_at (token_at words) ≡ Some (token, rest) → length words ≤ 2 ^ 63
-    → judged_value_in words ≡ (gathered_in None rest >>= λ all. value_from token all.0 all.1)
+    → judged_value_in words ≡ (gathered_in holders.List rest >>= λ all. value_from token all.0 all.1)
 value-step [] rest token e few = absurd cc
 value-step (word ∷ words) rest token e few =
     let j = is_judged (token_at (word ∷ words)) token rest e in
@@ -129,7 +123,7 @@ value-step (word ∷ words) rest token e few =
     ap one_of (values_in-step word words)
     ∙ ap (λ read. one_of (read >>= λ t. values_in t.1 >>= put t.0)) j.read_is
     ∙ put-one_of j.token (values_in rest) (values_in-few rest (chain _ _ fewer few))
-    ∙ ap (λ t. gathered_in None rest >>= λ all. value_from t all.0 all.1) j.judged_is
+    ∙ ap (λ t. gathered_in holders.List rest >>= λ all. value_from t all.0 all.1) j.judged_is
   where
     chain : (l w : ℕ) → l < w → w ≤ 2 ^ 63 → l ≤ 2 ^ 63
     chain l w a b = omega arith
@@ -147,7 +141,7 @@ value-stops NotALine words h = value-none words h
 value-stops Memory words h = tt
 
 pub values-stop : (stop : Stop) (words rest : List (List ℕ)) (token : JudgedToken) → judged_token_at (token_at words) ≡ Some (token, rest) → length words ≤ 2 ^ 63
-    → Stops stop (gathered_in None rest) → Stops stop (judged_value_in words)
+    → Stops stop (gathered_in holders.List rest) → Stops stop (judged_value_in words)
 values-stop NotALine words rest token e few h = value-step words rest token e few ∙ ap (λ read. read >>= λ all. value_from token all.0 all.1) h
 values-stop Memory words rest token e few h = tt
 

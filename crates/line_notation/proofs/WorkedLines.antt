@@ -42,6 +42,42 @@ an_array : IsPutAndRead (array arrays.Int32 [] (codes "a")) (codes "array int32 
 unfolding lines_on_literals
 an_array = (refl, refl)
 
+an_array_of_truths : IsPutAndRead (array arrays.Bool [] (codes "a")) (codes "array bool \"\" \"a\"")
+unfolding lines_on_literals
+an_array_of_truths = (refl, refl)
+
+an_array_of_numbers_of_16_bits : IsPutAndRead (array arrays.Int16 [] (codes "a")) (codes "array int16 \"\" \"a\"")
+unfolding lines_on_literals
+an_array_of_numbers_of_16_bits = (refl, refl)
+
+an_array_of_numbers_of_64_bits : IsPutAndRead (array arrays.Int64 [] (codes "a")) (codes "array int64 \"\" \"a\"")
+unfolding lines_on_literals
+an_array_of_numbers_of_64_bits = (refl, refl)
+
+an_array_of_floats : IsPutAndRead (array arrays.Float [] (codes "a")) (codes "array float \"\" \"a\"")
+unfolding lines_on_literals
+an_array_of_floats = (refl, refl)
+
+an_array_of_doubles : IsPutAndRead (array arrays.Double [] (codes "a")) (codes "array double \"\" \"a\"")
+unfolding lines_on_literals
+an_array_of_doubles = (refl, refl)
+
+an_array_of_decimals : IsPutAndRead (array arrays.Decimal [] (codes "a")) (codes "array decimal \"\" \"a\"")
+unfolding lines_on_literals
+an_array_of_decimals = (refl, refl)
+
+an_array_of_dates : IsPutAndRead (array arrays.DateTime [] (codes "a")) (codes "array datetime \"\" \"a\"")
+unfolding lines_on_literals
+an_array_of_dates = (refl, refl)
+
+an_array_of_spans : IsPutAndRead (array arrays.TimeSpan [] (codes "a")) (codes "array timespan \"\" \"a\"")
+unfolding lines_on_literals
+an_array_of_spans = (refl, refl)
+
+an_array_of_uuids : IsPutAndRead (array arrays.Uuid [] (codes "a")) (codes "array uuid \"\" \"a\"")
+unfolding lines_on_literals
+an_array_of_uuids = (refl, refl)
+
 an_array's_values : IsPutAndRead (values (one (Number (pos 1)) (one (Number (pos 2)) (one (Number (negsuc 0)) no_more)))) (codes "values number 1 number 2 number -1")
 unfolding lines_on_literals
 an_array's_values = (refl, refl)

@@ -118,15 +118,47 @@ too_many_in_a_list : IsRefused root None (codes "text list 1 number 1 number 2")
 unfolding lines_on_literals root
 too_many_in_a_list = refl
 
+a_zero_in_front_of_a_count : IsRefused root None (codes "text list 01 number 1") NotALine
+unfolding lines_on_literals root
+a_zero_in_front_of_a_count = refl
+
+a_list_in_a_list_that_is_cut : IsRefused root None (codes "text list 1 list 1") NotALine
+unfolding lines_on_literals root
+a_list_in_a_list_that_is_cut = refl
+
 an_unknown_kind_of_array : IsRefused root None (codes "array int8 \"\" \"a\"") NotALine
 unfolding lines_on_literals root
 an_unknown_kind_of_array = refl
 
--- that goes before a text that isn't UTF-8
+a_truth_in_upper_case : IsRefused root None (codes "text truth True") NotALine
+unfolding lines_on_literals root
+a_truth_in_upper_case = refl
+
+an_identifier_without_hyphens : IsRefused root None (codes "text id 00112233445566778899aabbccddeeff") NotALine
+unfolding lines_on_literals root
+an_identifier_without_hyphens = refl
+
+an_identifier_as_a_name : IsRefused root None (codes "text id urn:uuid:00112233-4455-6677-8899-aabbccddeeff") NotALine
+unfolding lines_on_literals root
+an_identifier_as_a_name = refl
+
+two_letters : IsRefused root None (codes "text qname ab \"n\"") NotALine
+unfolding lines_on_literals root
+two_letters = refl
+
+-- that goes before a text that isn't UTF-8, a value out of range and the place
 
 no_form_before_a_bad_text : IsRefused root None (codes "comment \"\\ff\" \"\"") NotALine
 unfolding lines_on_literals root
 no_form_before_a_bad_text = refl
+
+no_form_before_a_range : IsRefused root None (codes "text number 18446744073709551616 number 1") NotALine
+unfolding lines_on_literals root
+no_form_before_a_range = refl
+
+no_form_before_the_place : IsRefused [] None (codes "text number 05") NotALine
+unfolding lines_on_literals
+no_form_before_the_place = refl
 
 a_bad_text : IsRefused root None (codes "comment \"\\ff\"") BadText
 unfolding lines_on_literals root
@@ -144,7 +176,7 @@ a_bad_name : IsRefused root None (codes "text qname a \"\\ed\\a0\\80\"") BadText
 unfolding lines_on_literals root
 a_bad_name = refl
 
--- which goes before a value out of range
+-- which goes before a value out of range and the place
 
 a_bad_text_before_a_range : IsRefused root None (codes "attr \"\" \"\\ff\" number 18446744073709551616") BadText
 unfolding lines_on_literals root
@@ -153,6 +185,14 @@ a_bad_text_before_a_range = refl
 a_bad_text_behind_a_range : IsRefused root None (codes "text list 2 number 18446744073709551616 string \"\\ff\"") BadText
 unfolding lines_on_literals root
 a_bad_text_behind_a_range = refl
+
+a_bad_text_before_another_kind : IsRefused root (Some numbers) (codes "values string \"\\ff\"") BadText
+unfolding lines_on_literals root numbers
+a_bad_text_before_another_kind = refl
+
+a_bad_text_before_the_place : IsRefused [] None (codes "comment \"\\ff\"") BadText
+unfolding lines_on_literals
+a_bad_text_before_the_place = refl
 
 a_greater_number : IsRefused root None (codes "text number 18446744073709551616") OutOfRange
 unfolding lines_on_literals root
@@ -224,6 +264,26 @@ values_outside_an_array : IsRefused root None (codes "values number 1") OutOfPla
 unfolding lines_on_literals root
 values_outside_an_array = refl
 
+a_list_outside_an_array : IsRefused root None (codes "values list 1 number 1") OutOfPlace
+unfolding lines_on_literals root
+a_list_outside_an_array = refl
+
+an_empty_list_outside_an_array : IsRefused root None (codes "values list 0") OutOfPlace
+unfolding lines_on_literals root
+an_empty_list_outside_an_array = refl
+
+values_and_lists_outside_an_array : IsRefused root None (codes "values list 1 number 1 list 0 truth true") OutOfPlace
+unfolding lines_on_literals root
+values_and_lists_outside_an_array = refl
+
+a_list_in_a_list_outside_an_array : IsRefused root None (codes "values truth true list 1 list 0") OutOfRange
+unfolding lines_on_literals root
+a_list_in_a_list_outside_an_array = refl
+
+a_bad_text_in_a_list_outside_an_array : IsRefused root None (codes "values list 2 list 0 string \"\\ff\"") BadText
+unfolding lines_on_literals root
+a_bad_text_in_a_list_outside_an_array = refl
+
 values_out_of_range_outside_an_array : IsRefused root None (codes "values number 18446744073709551616") OutOfRange
 unfolding lines_on_literals root
 values_out_of_range_outside_an_array = refl
@@ -269,6 +329,10 @@ ended_between_documents = refl
 the_first_refusal_stays : standing (codes "start \"\" x" ∷ codes "close" ∷ []) ≡ failed (Bad 1 NotALine)
 unfolding lines_on_literals
 the_first_refusal_stays = refl
+
+a_refusal_stays_at_the_end : ending (standing (codes "close" ∷ [])) ≡ Err (Bad 1 OutOfPlace)
+unfolding lines_on_literals
+a_refusal_stays_at_the_end = refl
 
 refused_at_its_line : standing ([] ∷ codes "start \"\" \"x\"" ∷ codes "comment \"\\ff\"" ∷ []) ≡ failed (Bad 3 BadText)
 unfolding lines_on_literals

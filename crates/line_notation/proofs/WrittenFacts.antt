@@ -134,9 +134,10 @@ plain-no_list : (word : List ℕ) (words rest : List (List ℕ)) (n : ℕ) → p
 plain-no_list word words rest n e =
     let k = found (scalar_kind_in word) _ (listed n, rest) e in
     let v = found (scalar_at k.value words) (λ s. Some (scalar s.0, s.1)) (listed n, rest) k.step_is in
-    let same : (scalar v.value.0, v.value.1) ≡ (listed n, rest) = some_same v.step_is in
-    let token : scalar v.value.0 ≡ listed n = ap (λ (p : Token × List (List ℕ)). p.0) same in
-    cc
+    other (v.value.0) (ap (λ (p : Token × List (List ℕ)). p.0) (some_same v.step_is))
+  where
+    other : (s : Scalar) → scalar s ≡ listed n → ⊥
+    other s e = cc
 
 -- a token and the values behind it
 abbrev WriteToken : Token → Type 0

@@ -1,5 +1,5 @@
 -- What a line of a form is refused for by itself, and what it says else.
-use Rattle.std.specs.Prelude.{ℕ, List, [], ◌∷◌, Bool, true, false, not, ◌&&◌, Option, None, Some, Result, Ok, Err, if◌then◌else◌}
+use Rattle.std.specs.Prelude.{ℕ, List, [], ◌∷◌, ◌++◌, Bool, true, false, not, ◌&&◌, Option, None, Some, Result, Ok, Err, if◌then◌else◌}
 use Rattle.std.specs.Str.{is_utf8}
 use Rattle.nbfx_values.specs.declared.content.ArrayItem.{ArrayItem}
 use Rattle.nbfx_values.specs.declared.content.ArrayKind.{ArrayKind}
@@ -52,21 +52,21 @@ are_in_range (one s more) = is_valid_scalar s && are_in_range more
 are_in_range (list within more) = are_scalars is_valid_scalar within && are_in_range more
 
 -- the values of an array are of its kind. Where no array is open they are judged each by itself
-abbrev pub fits : Option ArrayKind → Scalar → Bool
-fits None = is_valid_scalar
-fits (Some kind) = fits_kind kind
+abbrev pub fit : Option ArrayKind → Written → Bool
+fit None = are_in_range
+fit (Some kind) = are_scalars (fits_kind kind)
 
 abbrev pub is_out_of_range : Option ArrayKind → Form → Bool
 is_out_of_range kind (attr prefix local written) = not (are_in_range written)
 is_out_of_range kind (text written) = not (are_in_range written)
-is_out_of_range kind (values written) = not (are_scalars (fits kind) written)
+is_out_of_range kind (values written) = not (fit kind written)
 is_out_of_range kind _ = false
 
--- the values that are no lists
+-- the values that are no lists, those in lists too
 abbrev pub scalars_of : Written → List Scalar
 scalars_of no_more = []
 scalars_of (one s more) = s ∷ scalars_of more
-scalars_of (list within more) = scalars_of more
+scalars_of (list within more) = scalars_of within ++ scalars_of more
 
 -- the first value
 abbrev pub value_of : Written → Value

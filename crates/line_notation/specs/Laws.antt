@@ -1,12 +1,16 @@
 -- What holds of lines, forms and documents by the definitions alone.
-use Rattle.std.specs.Prelude.{◌≡◌, ◌↔◌, ℕ, List, [], ◌∷◌, true, None, Some, Ok, length}
+use Rattle.std.specs.Prelude.{◌≡◌, ◌↔◌, ◌+◌, ◌++◌, ℕ, List, [], ◌∷◌, true, Option, None, Some, Ok, Err, length, map}
 use Rattle.std.specs.List.{list_all}
+use Rattle.nbfx_values.specs.declared.content.ArrayItem.{ArrayItem}
 use Rattle.nbfx_values.specs.declared.content.Item.{Item}
 use Rattle.nbfx_values.specs.Documents.{IsDocument}
 use Rattle.nbfx_values.specs.Items.{is_valid_item}
-use Rattle.line_notation.specs.Forms.{Form, IsLine, form_of}
-use Rattle.line_notation.specs.Lines.{AreLinesOf, cut, has_no_feed, lines_of, text_of}
-use Rattle.line_notation.specs.Standing.{documents_of, ending, going, standing}
+use Rattle.line_notation.specs.declared.reader.LineFault.{LineFault}
+use Rattle.line_notation.specs.declared.reader.LineFault.TheVariants.{Bad}
+use Rattle.line_notation.specs.declared.reader.LineKind.{LineKind}
+use Rattle.line_notation.specs.Forms.{Form, array, IsLine, form_of}
+use Rattle.line_notation.specs.Lines.{AreLines, AreLinesOf, attribute_form, cut, forms_of, has_no_feed, lines_of, text_of}
+use Rattle.line_notation.specs.Standing.{Standing, after, documents_of, ending, failed, going, outcome, standing}
 
 -- a line has the form that is read out of it, and no other
 abbrev pub HaveOneForm : Type 0
@@ -23,6 +27,48 @@ LeaveNothingUnfinished = (doc : List Item) → IsDocument doc → standing (line
 abbrev pub AreOfWhatTheyBring : Type 0
 AreOfWhatTheyBring = (docs : List (List Item)) (lines : List (List ℕ))
     → AreLinesOf docs lines ↔ ((documents_of lines ≡ docs) × (ending (standing lines) ≡ Ok tt))
+
+-- what the lines of an unfinished document say so far
+abbrev pub begun_forms : List Item → Option ArrayItem → List Form
+begun_forms items None = forms_of items
+begun_forms items (Some a) = forms_of items ++ array a.kind a.prefix a.local ∷ map attribute_form a.attrs
+
+-- so many lines: those of whole documents, and those of an unfinished one
+pub record AreReadTo (lines : List (List ℕ)) (docs : List (List Item)) (n : ℕ) (items : List Item) (opened : Option ArrayItem) : Type 0 where
+  pub whole : List (List ℕ)
+  pub own : List (List ℕ)
+  pub lines_are : lines ≡ whole ++ own
+  pub whole_are : AreLinesOf docs whole
+  pub own_are : AreLines (begun_forms items opened) own
+  pub count : n ≡ length lines
+
+-- what was read, unless a line was refused
+abbrev pub HaveRead : List (List ℕ) → List (List Item) → Standing → Type 0
+HaveRead lines docs (failed fault) = Unit {0}
+HaveRead lines docs (going n items opened) = AreReadTo lines docs n items opened
+
+abbrev pub AreReadAsTheySay : Type 0
+AreReadAsTheySay = (lines : List (List ℕ)) → HaveRead lines (documents_of lines) (standing lines)
+
+-- the first line that is refused, by where a reader stands behind those before it
+pub record IsRefusedAt (lines : List (List ℕ)) (fault : LineFault) : Type 0 where
+  pub front : List (List ℕ)
+  pub line : List ℕ
+  pub rest : List (List ℕ)
+  pub items : List Item
+  pub opened : Option ArrayItem
+  pub kind : LineKind
+  pub lines_are : lines ≡ front ++ line ∷ rest
+  pub stood : standing front ≡ going (length front) items opened
+  pub refused : outcome items opened line ≡ Err kind
+  pub fault_is : fault ≡ Bad (length front + 1) kind
+
+abbrev pub AreRefusedAtALine : Type 0
+AreRefusedAtALine = (lines : List (List ℕ)) (fault : LineFault) → standing lines ≡ failed fault → IsRefusedAt lines fault
+
+-- a line more leads from where the lines before it lead
+abbrev pub LeadOn : Type 0
+LeadOn = (lines : List (List ℕ)) (line : List ℕ) → standing (lines ++ line ∷ []) ≡ after (standing lines) line
 
 -- no line of a form has a line feed in it
 abbrev pub HoldNoFeed : Type 0

@@ -1,5 +1,5 @@
 -- The parts of a line, read and judged at once, for private calls.
-use Rattle.std.specs.Prelude.{ℕ, ◌+◌, ◌-◌, ◌^◌, ◌++◌, List, [], ◌∷◌, ℤ, pos, Bool, Option, None, Some, Result, Ok, Err, nat_le, ◌≤◌, ◌==◌, if◌then◌else◌}
+use Rattle.std.specs.Prelude.{ℕ, zero, suc, true, false, ◌&&◌, ◌+◌, ◌-◌, ◌^◌, ◌++◌, List, [], ◌∷◌, ℤ, pos, Bool, Option, None, Some, Result, Ok, Err, nat_le, ◌≤◌, ◌==◌, if◌then◌else◌}
 use Rattle.std.specs.Str.{is_utf8}
 use Rattle.nbfx_values.specs.declared.scalars.Scalar.{Scalar}
 use Rattle.nbfx_values.specs.Items.{fits_kind}
@@ -7,18 +7,20 @@ use Rattle.nbfx_values.specs.Scalars.{is_between, is_valid_scalar, least_signed}
 use Rattle.line_notation.specs.declared.reader.LineKind.{LineKind}
 use Rattle.line_notation.specs.declared.reader.LineKind.TheVariants.{BadText, OutOfRange}
 use Rattle.line_notation.specs.declared.values.Gathering.{Gathering}
+use Rattle.line_notation.specs.declared.values.Holder.{Holder}
+use Rattle.line_notation.specs.declared.values.Holder.TheVariants as holders
 use Rattle.line_notation.specs.declared.values.JudgedToken.{JudgedToken}
 use Rattle.line_notation.specs.declared.values.JudgedToken.TheVariants as tokens
 use Rattle.line_notation.specs.declared.values.Tally.{Tally}
 use Rattle.nbfx_values.specs.declared.content.ArrayKind.{ArrayKind}
 use Rattle.nbfx_values.specs.declared.scalars.Value.{Value}
 use Rattle.nbfx_values.specs.declared.scalars.Value.TheVariants.{One, List as ListOf}
-use Rattle.line_notation.specs.Judging.{are_in_range, are_scalars, fits, has_good_text, have_good_texts, scalars_of, value_of}
+use Rattle.line_notation.specs.Judging.{are_in_range, are_scalars, has_good_text, have_good_texts, scalars_of, value_of}
 use Rattle.line_notation.specs.Numerals.{integer_in, natural_in}
 use Rattle.line_notation.specs.Options.{◌>>=◌}
 use Rattle.line_notation.specs.Quoted.{pair_in, quoted_in}
 use Rattle.line_notation.specs.Scalars.{one_word}
-use Rattle.line_notation.specs.Values.{Token, Written, how_many, listed, scalar, value_in, values_in}
+use Rattle.line_notation.specs.Values.{Token, Written, no_more, one, list, how_many, listed, scalar, value_in, values_in}
 
 -- a value, where a test holds of it
 abbrev pub kept : {A : Type 0} → LineKind → (A → Bool) → A → Result A LineKind
@@ -81,14 +83,41 @@ judged_token (listed n) = tokens.Count (kept OutOfRange (λ n. nat_le n (2 ^ 64 
 abbrev pub judged_token_at : Option (Token × List (List ℕ)) → Option (JudgedToken × List (List ℕ))
 judged_token_at read = read >>= λ token. Some (judged_token token.0, token.1)
 
--- a value as one of an array's
-abbrev pub judged_fit : Option ArrayKind → Scalar → Result Scalar LineKind
-judged_fit kind s = if has_good_text s then kept OutOfRange (fits kind) s else Err BadText
+-- what the values of a line stand in, by the array that is open
+abbrev pub holder_of : Option ArrayKind → Holder
+holder_of None = holders.Nothing
+holder_of (Some kind) = holders.Array kind
 
--- an array's values, or a list's
-abbrev pub judged_scalars : Option ArrayKind → Written → Result (List Scalar) LineKind
-judged_scalars kind written =
-    if have_good_texts written then (if are_scalars (fits kind) written then Ok (scalars_of written) else Err OutOfRange) else Err BadText
+-- a value that is no list and may stand there
+abbrev pub fits : Holder → Scalar → Bool
+fits holders.List = is_valid_scalar
+fits (holders.Array kind) = fits_kind kind
+fits holders.Nothing = is_valid_scalar
+
+-- values that records can hold, of which the first so many stand in a list
+abbrev pub are_held : ℕ → Written → Bool
+are_held n no_more = true
+are_held zero (one s more) = is_valid_scalar s && are_held zero more
+are_held (suc n) (one s more) = is_valid_scalar s && are_held n more
+are_held zero (list within more) = are_scalars is_valid_scalar within && are_held zero more
+are_held (suc n) (list within more) = false
+
+-- values that may stand there, of which the first so many stand in a list there
+abbrev pub are_taken : Holder → ℕ → Written → Bool
+are_taken holders.List due = are_scalars is_valid_scalar
+are_taken (holders.Array kind) due = are_scalars (fits_kind kind)
+are_taken holders.Nothing due = are_held due
+
+-- values, by whether their texts are good, and whether they may stand there
+abbrev pub judged_by : (good taken : Bool) → List Scalar → Result (List Scalar) LineKind
+judged_by good taken ss = if good then (if taken then Ok ss else Err OutOfRange) else Err BadText
+
+abbrev pub judged_due : Holder → ℕ → Written → Result (List Scalar) LineKind
+judged_due holder due written = judged_by (have_good_texts written) (are_taken holder due written) (scalars_of written)
+
+-- an array's values, or a list's, or those where no array is open
+abbrev pub judged_scalars : Holder → Written → Result (List Scalar) LineKind
+judged_scalars holder = judged_due holder 0
 
 abbrev pub judged_value : Written → Result Value LineKind
 judged_value written = if have_good_texts written then (if are_in_range written then Ok (value_of written) else Err OutOfRange) else Err BadText
@@ -101,25 +130,33 @@ tallied t n = if t.due == 0 then record { count = t.count + 1; due = n } else re
 abbrev pub with_scalar : Result (List Scalar) LineKind → Result Scalar LineKind → Result (List Scalar) LineKind
 with_scalar values s = mapped (λ p. p.0 ++ p.1 ∷ []) (both values s)
 
-abbrev pub with_list : Result (List Scalar) LineKind → Result (List Scalar) LineKind
-with_list (Ok values) = Err OutOfRange
-with_list (Err kind) = Err (first_of kind OutOfRange)
+-- whether a list may come where so many values are due in lists
+abbrev pub may_hold_a_list : Holder → ℕ → Bool
+may_hold_a_list holders.List due = false
+may_hold_a_list (holders.Array kind) due = false
+may_hold_a_list holders.Nothing due = due == 0
+
+abbrev pub with_list : Bool → Result (List Scalar) LineKind → Result (List Scalar) LineKind
+with_list true values = values
+with_list false (Ok values) = Err OutOfRange
+with_list false (Err kind) = Err (first_of kind OutOfRange)
 
 -- a value that can be held, where it fits an array too
-abbrev pub refit : Option ArrayKind → Result Scalar LineKind → Result Scalar LineKind
-refit None s = s
-refit (Some kind) (Ok s) = kept OutOfRange (fits_kind kind) s
-refit (Some kind) (Err refusal) = Err refusal
+abbrev pub refit : Holder → Result Scalar LineKind → Result Scalar LineKind
+refit holders.List s = s
+refit (holders.Array kind) (Ok s) = kept OutOfRange (fits_kind kind) s
+refit (holders.Array kind) (Err refusal) = Err refusal
+refit holders.Nothing s = s
 
 -- nothing has come
 abbrev pub no_values : Gathering
 no_values = record { tally = record { count = 0; due = 0 }; values = Ok [] }
 
 -- a token more
-abbrev pub with_token : Option ArrayKind → Gathering → JudgedToken → Option Gathering
-with_token kind g (tokens.Scalar s) = Some (record { tally = tallied g.tally 0; values = with_scalar g.values (refit kind s) })
-with_token kind g (tokens.Count (Ok n)) = Some (record { tally = tallied g.tally n; values = with_list g.values })
-with_token kind g (tokens.Count (Err refusal)) = None
+abbrev pub with_token : Holder → Gathering → JudgedToken → Option Gathering
+with_token holder g (tokens.Scalar s) = Some (record { tally = tallied g.tally 0; values = with_scalar g.values (refit holder s) })
+with_token holder g (tokens.Count (Ok n)) = Some (record { tally = tallied g.tally n; values = with_list (may_hold_a_list holder g.tally.due) g.values })
+with_token holder g (tokens.Count (Err refusal)) = None
 
 -- no value can have come, or too many are due
 abbrev pub IsTooMuch : Option Gathering → Type 0
@@ -127,8 +164,8 @@ IsTooMuch None = Unit {0}
 IsTooMuch (Some g) = 2 ^ 64 ≤ g.tally.due
 
 -- all values in words, judged
-abbrev pub gathered_in : Option ArrayKind → List (List ℕ) → Option (ℕ × Result (List Scalar) LineKind)
-gathered_in kind words = values_in words >>= λ written. Some (how_many written, judged_scalars kind written)
+abbrev pub gathered_in : Holder → List (List ℕ) → Option (ℕ × Result (List Scalar) LineKind)
+gathered_in holder words = values_in words >>= λ written. Some (how_many written, judged_scalars holder written)
 
 -- a value, by its first token and all that is behind it
 abbrev pub value_from : JudgedToken → ℕ → Result (List Scalar) LineKind → Option (Result Value LineKind)

@@ -1,5 +1,5 @@
 -- What a reader makes of what a line says, for private calls.
-use Rattle.std.specs.Prelude.{◌≡◌, ℕ, List, [], Bool, true, false, ◌&&◌, Option, None, Some, Result, Ok, Err, nat_lt, length, IsTrue}
+use Rattle.std.specs.Prelude.{◌≡◌, ℕ, List, [], Bool, ◌&&◌, Option, None, Some, Result, Ok, Err, nat_lt, length, IsTrue}
 use Rattle.std.specs.List.{list_all}
 use Rattle.nbfx_values.specs.declared.content.ArrayItem.{ArrayItem}
 use Rattle.nbfx_values.specs.declared.content.ArrayKind.{ArrayKind}
@@ -47,11 +47,6 @@ IsHeld kind (says.Item item) = IsTrue (is_valid_item item)
 IsHeld kind (says.Array a) = IsTrue (is_held a)
 IsHeld None (says.Values values) = Unit {0}
 IsHeld (Some kind) (says.Values values) = IsTrue (nat_lt 0 (length values) && list_all (fits_kind kind) values)
-
--- an empty line where no document has begun
-abbrev pub is_passed_over : List Item → Option ArrayItem → List ℕ → Bool
-is_passed_over [] None [] = true
-is_passed_over _ _ _ = false
 
 -- an item within an array's element
 abbrev pub attribute_of : Item → Option AttrItem

@@ -2,7 +2,7 @@
 use Rattle.std.specs.Prelude.{◌≡◌, ◌≤◌, ℕ, List, ◌∷◌, ◌++◌, Bool, true, Option, Result, OnOk, OnErr, IsErrOf}
 use Rattle.std.specs.Fmt.{decimal, signed_decimal}
 use Rattle.std.specs.List.{flat_map}
-use Rattle.io_edges.specs.Faults.{Rose}
+use Rattle.io_edges.specs.Faults.{CountsFaults}
 use Rattle.io_edges.specs.Flow.{Told, GrowsByPrefix}
 use Rattle.io_edges.specs.declared.SinkFault.{SinkFault}
 use Rattle.io_edges.specs.declared.SinkFault.TheVariants as faults
@@ -17,17 +17,32 @@ use Rattle.line_notation.specs.Scalars.{digits_in_quotes, identifier_word, lette
 pub record PutsAll (bytes : List ℕ) (result : Result (Unit {0}) SinkFault) (w w' : Option (List ℕ)) (f f' : ℕ) (m m' : Bool) : Type 0 where
   pub written : OnOk result (Told w w' (λ w w'. w' ≡ w ++ bytes))
   pub refused : OnErr result (Told w w' (λ w w'. GrowsByPrefix w w' bytes))
-  pub good : OnOk result (f' ≡ f)
-  pub failed : IsErrOf result faults.Failed → Rose f f'
-  pub memory : IsErrOf result faults.Memory → f' ≡ f
+  pub counted : CountsFaults f f' (IsErrOf result faults.Failed)
   pub wanted : IsErrOf result faults.Memory → m ≡ true
   pub settled : m' ≡ m
-  pub rising : f ≤ f'
 
 -- the same of a sink that was like this and is like that now, by what it tells
 abbrev pub Puts : {S : Type 0} → (S → Option (List ℕ)) → (S → ℕ) → (S → Bool) → S → S → List ℕ → Result (Unit {0}) SinkFault → Type 0
 Puts written faults may_want old new bytes result =
     PutsAll bytes result (written old) (written new) (faults old) (faults new) (may_want old) (may_want new)
+
+-- of what stood in a room and bytes behind it the first were put, and the others stand there now
+pub record Passes (w w' r r' bytes : List ℕ) : Type 0 where
+  pub put : List ℕ
+  pub split : r ++ bytes ≡ put ++ r'
+  pub grown : w' ≡ w ++ put
+
+-- bytes were added behind what stood in a room, from which the first bytes go to such a sink
+pub record AddsAll (bytes : List ℕ) (result : Result (Unit {0}) SinkFault) (w w' : Option (List ℕ)) (r r' : List ℕ) (f f' : ℕ) (m m' : Bool) : Type 0 where
+  pub written : OnOk result (Told w w' (λ w w'. Passes w w' r r' bytes))
+  pub refused : OnErr result (Told w w' (λ w w'. GrowsByPrefix w w' (r ++ bytes)))
+  pub counted : CountsFaults f f' (IsErrOf result faults.Failed)
+  pub wanted : IsErrOf result faults.Memory → m ≡ true
+  pub settled : m' ≡ m
+
+abbrev pub Adds : {S : Type 0} → (S → Option (List ℕ)) → (S → ℕ) → (S → Bool) → S → S → (room room' : List ℕ) → List ℕ → Result (Unit {0}) SinkFault → Type 0
+Adds written faults may_want old new room room' bytes result =
+    AddsAll bytes result (written old) (written new) room room' (faults old) (faults new) (may_want old) (may_want new)
 
 -- a word's bytes
 abbrev pub word_bytes : Word → List ℕ

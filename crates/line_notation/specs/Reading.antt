@@ -12,7 +12,7 @@ use Rattle.line_notation.specs.declared.reader.LineKind.TheVariants.{OutOfPlace}
 use Rattle.line_notation.specs.Forms.{array_kind_in, form_behind, form_of}
 use Rattle.line_notation.specs.Judging.{begun_array, judged}
 use Rattle.line_notation.specs.Options.{alone, ◌>>=◌}
-use Rattle.line_notation.specs.Parts.{both, gathered_in, judged_text_in, judged_texts_at, judged_value_in, mapped}
+use Rattle.line_notation.specs.Parts.{both, gathered_in, holder_of, judged_text_in, judged_texts_at, judged_value_in, mapped}
 use Rattle.line_notation.specs.Scalars.{one_word}
 
 -- what a form says, if there is one
@@ -26,29 +26,29 @@ judged_behind kind keyword words = form_behind keyword words >>= λ form. Some (
 abbrev pub texts_alone : List (List ℕ) → Option (Result (List ℕ × List ℕ) LineKind)
 texts_alone words = alone (judged_texts_at words)
 
-abbrev pub start_in : List (List ℕ) → Option (Result Line LineKind)
-start_in words = texts_alone words >>= λ texts. Some (mapped (λ t. says.Item (Start t.0 t.1)) texts)
+abbrev pub read_start : List (List ℕ) → Option (Result Line LineKind)
+read_start words = texts_alone words >>= λ texts. Some (mapped (λ t. says.Item (Start t.0 t.1)) texts)
 
-abbrev pub declaration_in : List (List ℕ) → Option (Result Line LineKind)
-declaration_in words = texts_alone words >>= λ texts. Some (mapped (λ t. says.Item (Xmlns t.0 t.1)) texts)
+abbrev pub read_declaration : List (List ℕ) → Option (Result Line LineKind)
+read_declaration words = texts_alone words >>= λ texts. Some (mapped (λ t. says.Item (Xmlns t.0 t.1)) texts)
 
-abbrev pub attribute_of : (List ℕ × List ℕ) × Value → Line
-attribute_of one = says.Item (Attr one.0.0 one.0.1 one.1)
+abbrev pub as_attribute : (List ℕ × List ℕ) × Value → Line
+as_attribute one = says.Item (Attr one.0.0 one.0.1 one.1)
 
-abbrev pub attribute_in : List (List ℕ) → Option (Result Line LineKind)
-attribute_in words = do
+abbrev pub read_attribute : List (List ℕ) → Option (Result Line LineKind)
+read_attribute words = do
   texts ← judged_texts_at words
   value ← judged_value_in texts.1
-  Some (mapped attribute_of (both texts.0 value))
+  Some (mapped as_attribute (both texts.0 value))
 
-abbrev pub text_in : List (List ℕ) → Option (Result Line LineKind)
-text_in words = judged_value_in words >>= λ value. Some (mapped (λ v. says.Item (Text v)) value)
+abbrev pub read_text : List (List ℕ) → Option (Result Line LineKind)
+read_text words = judged_value_in words >>= λ value. Some (mapped (λ v. says.Item (Text v)) value)
 
-abbrev pub comment_in : List (List ℕ) → Option (Result Line LineKind)
-comment_in words = alone (one_word judged_text_in words) >>= λ text. Some (mapped (λ t. says.Item (Comment t)) text)
+abbrev pub read_comment : List (List ℕ) → Option (Result Line LineKind)
+read_comment words = alone (one_word judged_text_in words) >>= λ text. Some (mapped (λ t. says.Item (Comment t)) text)
 
-abbrev pub array_in : List (List ℕ) → Option (Result Line LineKind)
-array_in words = do
+abbrev pub read_array : List (List ℕ) → Option (Result Line LineKind)
+read_array words = do
   kind ← one_word array_kind_in words
   texts ← texts_alone kind.1
   Some (mapped (λ t. says.Array (begun_array kind.0 t.0 t.1)) texts)
@@ -58,11 +58,11 @@ values_of kind (Err refusal) = Err refusal
 values_of None (Ok values) = Err OutOfPlace
 values_of (Some kind) (Ok values) = Ok (says.Values values)
 
-abbrev pub values_in : Option ArrayKind → List (List ℕ) → Option (Result Line LineKind)
-values_in kind words = do
-  all ← gathered_in kind words
+abbrev pub read_values : Option ArrayKind → List (List ℕ) → Option (Result Line LineKind)
+read_values kind words = do
+  all ← gathered_in (holder_of kind) words
   if nat_lt 0 all.0 then Some (values_of kind all.1) else None
 
-abbrev pub close_in : List (List ℕ) → Option (Result Line LineKind)
-close_in [] = Some (Ok (says.Item Close))
-close_in (word ∷ words) = None
+abbrev pub read_close : List (List ℕ) → Option (Result Line LineKind)
+read_close [] = Some (Ok (says.Item Close))
+read_close (word ∷ words) = None

@@ -7,8 +7,7 @@ use Rattle.nbfx_values.specs.Documents.{IsFront}
 use Rattle.line_notation.specs.declared.reader.LineKind.TheVariants.{NotALine, BadText, OutOfRange, OutOfPlace, Cut, WrongCount}
 use Rattle.line_notation.specs.Forms.{Form, start, ns, attr, text, comment, array, values, close, IsLine}
 use Rattle.line_notation.specs.Judging.{has_bad_text, is_out_of_range, scalars_of, value_of}
-use Rattle.line_notation.specs.Placing.{is_passed_over}
-use Rattle.line_notation.specs.Standing.{kind_of, outcome}
+use Rattle.line_notation.specs.Standing.{is_passed_over, kind_of, outcome}
 
 -- no document begins with these items and this one
 abbrev pub CannotStand : List Item → Item → Type 0

@@ -1,5 +1,5 @@
 -- Where a reader stands behind some lines, and what a line brings there.
-use Rattle.std.specs.Prelude.{◌≡◌, ◌+◌, ◌<◌, ◌^◌, ℕ, List, [], ◌∷◌, ◌++◌, Option, None, Some, Result, Ok, Err}
+use Rattle.std.specs.Prelude.{◌≡◌, ◌+◌, ◌<◌, ◌^◌, ℕ, Bool, true, false, if◌then◌else◌, List, [], ◌∷◌, ◌++◌, Option, None, Some, Result, Ok, Err}
 use Rattle.std.specs.Option.{option_map}
 use Rattle.nbfx_values.specs.declared.content.ArrayItem.{ArrayItem}
 use Rattle.nbfx_values.specs.declared.content.ArrayKind.{ArrayKind}
@@ -73,10 +73,14 @@ abbrev pub outcome_of : List Item → Option ArrayItem → Option Form → Resul
 outcome_of items array None = Err NotALine
 outcome_of items array (Some form) = led items array (judged (kind_of array) form)
 
--- where a line leads. An empty one is passed over where no document has begun
+-- an empty line where no document has begun
+abbrev pub is_passed_over : List Item → Option ArrayItem → List ℕ → Bool
+is_passed_over [] None [] = true
+is_passed_over _ _ _ = false
+
+-- where a line leads. One that is passed over leads nowhere
 abbrev pub outcome : List Item → Option ArrayItem → List ℕ → Result Placed LineKind
-outcome [] None [] = Ok (on [] None)
-outcome items array line = outcome_of items array (form_of line)
+outcome items array line = if is_passed_over items array line then Ok (on items array) else outcome_of items array (form_of line)
 
 -- what the line of a number brings, by where it leads
 abbrev pub answer_of : ℕ → Result Placed LineKind → Result LineStep LineFault
@@ -103,11 +107,11 @@ abbrev pub standing_from : Standing → List (List ℕ) → Standing
 standing_from z [] = z
 standing_from z (line ∷ lines) = standing_from (after z line) lines
 
-abbrev pub start : Standing
-start = going 0 [] None
+abbrev pub at_start : Standing
+at_start = going 0 [] None
 
 abbrev pub standing : List (List ℕ) → Standing
-standing lines = standing_from start lines
+standing lines = standing_from at_start lines
 
 -- the documents that lines bring
 abbrev pub document_of : Result LineStep LineFault → List (List Item)
@@ -120,7 +124,7 @@ documents_from z [] = []
 documents_from z (line ∷ lines) = document_of (answer z line) ++ documents_from (after z line) lines
 
 abbrev pub documents_of : List (List ℕ) → List (List Item)
-documents_of lines = documents_from start lines
+documents_of lines = documents_from at_start lines
 
 -- what the end of the lines brings
 abbrev pub ending : Standing → Result (Unit {0}) LineFault
@@ -135,9 +139,9 @@ ended (going n [] None) = going n [] None
 ended (going n items array) = failed (Bad (n + 1) Cut)
 
 -- where a reader stands, by what it keeps
-abbrev pub kept : Option LineFault → ℕ → List Item → Option ArrayItem → Standing
-kept (Some fault) n items array = failed fault
-kept None n items array = going n items array
+abbrev pub standing_kept : Option LineFault → ℕ → List Item → Option ArrayItem → Standing
+standing_kept (Some fault) n items array = failed fault
+standing_kept None n items array = going n items array
 
 -- a reader has refused a line, or wanted memory
 abbrev pub HasFailed : Standing → LineFault → Type 0
@@ -157,5 +161,5 @@ abbrev pub HasReadFewer : ℕ → Standing → Type 0
 HasReadFewer most (failed fault) = Unit {0}
 HasReadFewer most (going n items array) = n < most
 
-abbrev pub HasRoom : Standing → Type 0
-HasRoom = HasReadFewer (2 ^ 63)
+abbrev pub HasReadFew : Standing → Type 0
+HasReadFew = HasReadFewer (2 ^ 63)

@@ -1,7 +1,7 @@
 //! What holds of lines and documents by their definitions alone. Each function does nothing: its
 //! contract is a law, which a caller has where it calls the function.
 
-ghost use Rattle.line_notation.specs.Laws.{AreCutAgain, AreOfWhatTheyBring, BringTheirDocument, HaveOneForm, HoldNoFeed, LeaveNothingUnfinished};
+ghost use Rattle.line_notation.specs.Laws.{AreCutAgain, AreOfWhatTheyBring, AreReadAsTheySay, AreRefusedAtALine, BringTheirDocument, HaveOneForm, HoldNoFeed, LeadOn, LeaveNothingUnfinished};
 ghost use Rattle.line_notation.specs.Refusals.{RefusedForNoForm, RefusedForNothingElse, RefusedForPlace, RefusedForRange, RefusedForText};
 
 /// A line has a form exactly where that form is read out of it, so it has one at most.
@@ -21,8 +21,18 @@ pub fn documents()
     ensures { AreOfWhatTheyBring }
 {}
 
-/// A line is refused for having no form, or else for a text that isn't UTF-8, or else for a value out
-/// of its range, or else for its place. Each refusal comes exactly where that holds, and no other.
+/// Behind lines that aren't refused a reader stands as they say: they are the lines of whole
+/// documents, and those of the unfinished one, as many as it counts. A line that is refused is the
+/// first such, and the refusal has its number. Each line leads on from where those before it lead.
+pub fn standing()
+    ensures read { AreReadAsTheySay }
+    ensures refused { AreRefusedAtALine }
+    ensures more { LeadOn }
+{}
+
+/// A line is refused for having no form, or else for a text that isn't UTF-8, or else for a value
+/// out of its range, or else for its place. Each refusal comes exactly where that holds, and no
+/// other.
 pub fn refusals()
     ensures no_form { RefusedForNoForm }
     ensures text { RefusedForText }
@@ -31,8 +41,8 @@ pub fn refusals()
     ensures nothing_else { RefusedForNothingElse }
 {}
 
-/// No line has a line feed in it, so the text that is put for items is cut at its line feeds into their
-/// lines.
+/// No line has a line feed in it, so the text that is put for items is cut at its line feeds into
+/// their lines.
 pub fn texts()
     ensures no_feed { HoldNoFeed }
     ensures cut { AreCutAgain }

@@ -2,17 +2,18 @@
 //! notation is this stack's own.
 //!
 //! The one idea is the form of a line: what its words say, before it is judged. `IsLine` of
-//! `specs/Forms.antt` has one row for each form, with the words as they may be written, and `line_of` is
-//! the line that is put for one. A document is the forms of its items (`specs/Lines.antt`): an array has
-//! several lines, any other item has one. What a line is refused for by itself, and what it says else,
-//! is in `specs/Judging.antt`; where that leads is in `specs/Standing.antt`, by the positions of
-//! `nbfx_values`.
+//! `specs/Forms.antt` has one row for each form, with the words as they may be written, and
+//! `line_of` is the line that is put for one. A document is the forms of its items
+//! (`specs/Lines.antt`): an array has several lines, any other item has one. What a line is
+//! refused for by itself, and what it says else, is in `specs/Judging.antt`; where that leads is
+//! in `specs/Standing.antt`, by the positions of `nbfx_values`.
 //!
-//! `print` puts a document's lines and `quote` a quoted text, byte for byte. They take no memory but the
-//! sink's. A `LineReader` reads line after line, and is proved to answer what the definitions bring: a
-//! document at its last line, or the first refusal, with the line's number. `laws` has that reading
-//! what was put gives the document back, that documents come from their own lines alone, and which
-//! lines are refused for what.
+//! `print` puts a document's lines and `quote` a quoted text, byte for byte, a line of some hundred
+//! bytes by one call (`src/room.rt`). They take no memory but the sink's. A `LineReader` reads line
+//! after line, and is proved to answer what the definitions bring: a document at its last line, or
+//! the first refusal, with the line's number. `laws` has that reading what was put gives the
+//! document back, that documents come from their own lines alone, and which lines are refused for
+//! what.
 #![tactic(auto)]
 
 mod arrays;
@@ -26,6 +27,7 @@ mod placing;
 mod printing;
 mod puts;
 mod reader;
+mod room;
 mod scalar_words;
 mod scalars;
 mod texts;

@@ -10,7 +10,7 @@ use crate::judged::{Judged, both};
 use crate::line::{Keyword, Line};
 use crate::reader::LineKind;
 use crate::texts::{text, two_texts};
-use crate::values::{gathered, value};
+use crate::values::{Holder, gathered, value};
 use crate::words::{Stop, Words};
 use nbfx_values::{ArrayItem, ArrayKind, Attrs, Item, Txt, Values};
 use std::alloc::Global;
@@ -35,21 +35,21 @@ fn texts_alone(alloc: Global, words: &mut Words) -> Result<Judged<(Txt, Txt)>, S
 }
 
 fn start(alloc: Global, words: &mut Words) -> Result<Judged<Line>, Stop>
-    ensures { Finds (λ line. line) result (spec.start_in words.old) }
+    ensures { Finds (λ line. line) result (spec.read_start words.old) }
 {
     let texts = texts_alone(alloc, words)?;
     Ok(texts.map(|(prefix, local)| Line::Item(Item::Start { prefix, local })))
 }
 
 fn declaration(alloc: Global, words: &mut Words) -> Result<Judged<Line>, Stop>
-    ensures { Finds (λ line. line) result (spec.declaration_in words.old) }
+    ensures { Finds (λ line. line) result (spec.read_declaration words.old) }
 {
     let texts = texts_alone(alloc, words)?;
     Ok(texts.map(|(prefix, uri)| Line::Item(Item::Xmlns { prefix, uri })))
 }
 
 fn attribute(alloc: Global, words: &mut Words) -> Result<Judged<Line>, Stop>
-    ensures { Finds (λ line. line) result (spec.attribute_in words.old) }
+    ensures { Finds (λ line. line) result (spec.read_attribute words.old) }
 {
     let texts = two_texts(alloc, words)?;
     let value = value(alloc, words)?;
@@ -63,21 +63,21 @@ fn attribute(alloc: Global, words: &mut Words) -> Result<Judged<Line>, Stop>
 }
 
 fn text_item(alloc: Global, words: &mut Words) -> Result<Judged<Line>, Stop>
-    ensures { Finds (λ line. line) result (spec.text_in words.old) }
+    ensures { Finds (λ line. line) result (spec.read_text words.old) }
 {
     let value = value(alloc, words)?;
     Ok(value.map(|value| Line::Item(Item::Text(value))))
 }
 
 fn comment(alloc: Global, words: &mut Words) -> Result<Judged<Line>, Stop>
-    ensures { Finds (λ line. line) result (spec.comment_in words.old) }
+    ensures { Finds (λ line. line) result (spec.read_comment words.old) }
 {
     let text = alone(text(alloc, words)?, words)?;
     Ok(text.map(|text| Line::Item(Item::Comment(text))))
 }
 
 fn array(alloc: Global, words: &mut Words) -> Result<Judged<Line>, Stop>
-    ensures { Finds (λ line. line) result (spec.array_in words.old) }
+    ensures { Finds (λ line. line) result (spec.read_array words.old) }
 {
     let kind = array_kind(words.next()?).ok_or(Stop::NotALine)?;
     let texts = texts_alone(alloc, words)?;
@@ -103,9 +103,9 @@ fn values_of(kind: Option<ArrayKind>, values: Judged<Values>) -> Judged<Line>
 }
 
 fn values(alloc: Global, kind: Option<ArrayKind>, words: &mut Words) -> Result<Judged<Line>, Stop>
-    ensures { Finds (λ line. line) result (spec.values_in kind words.old) }
+    ensures { Finds (λ line. line) result (spec.read_values kind words.old) }
 {
-    let all = gathered(alloc, kind, words)?;
+    let all = gathered(alloc, Holder::of(kind), words)?;
     if all.tally.count == 0 {
         return Err(Stop::NotALine);
     }
@@ -113,7 +113,7 @@ fn values(alloc: Global, kind: Option<ArrayKind>, words: &mut Words) -> Result<J
 }
 
 fn close(words: &Words) -> Result<Judged<Line>, Stop>
-    ensures { Finds (λ line. line) result (spec.close_in words.now) }
+    ensures { Finds (λ line. line) result (spec.read_close words.now) }
 {
     if words.is_empty() {
         Ok(Ok(Line::Item(Item::Close)))

@@ -16,7 +16,7 @@ fn has_zero_in_front(word: &[u8]) -> bool
     word.len() > 1 && word[0] == b'0'
 }
 
-fn are_digits(word: &[u8]) -> bool
+fn are_decimal_digits(word: &[u8]) -> bool
     ensures { result ≡ list_all is_ascii_digit word.now }
 {
     word.iter().all(|byte| byte.is_ascii_digit())
@@ -26,7 +26,7 @@ fn are_digits(word: &[u8]) -> bool
 fn is_natural(word: &[u8]) -> bool
     ensures { result ≡ spec.is_natural word.now }
 {
-    !(word.is_empty() || has_zero_in_front(word)) && are_digits(word)
+    !(word.is_empty() || has_zero_in_front(word)) && are_decimal_digits(word)
 }
 
 // The number that a word writes.

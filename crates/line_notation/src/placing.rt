@@ -2,9 +2,9 @@
 ghost use Rattle.std.specs.Prelude.{◌≡◌, None, Some, Ok, Err, IfErr, IfOk, IsTrue};
 ghost use Rattle.nbfx_values.specs.Items.{is_valid_attribute, is_valid_item};
 ghost use Rattle.nbfx_values.specs.Positions.{position_of};
-ghost use Rattle.line_notation.specs.Placing.{IsHeld, IsOpen, Places, attribute_of, is_held, is_passed_over};
+ghost use Rattle.line_notation.specs.Placing.{IsHeld, IsOpen, Places, attribute_of, is_held};
 ghost use Rattle.line_notation.specs.Standing as spec;
-ghost use Rattle.line_notation.specs.Standing.{kind_of, on, outcome, placed, placed_array, placed_item, with_attribute};
+ghost use Rattle.line_notation.specs.Standing.{is_passed_over, kind_of, on, outcome, placed, placed_array, placed_item, with_attribute};
 
 use crate::line::Line;
 use crate::lines;
@@ -74,7 +74,8 @@ fn place_item(builder: &mut DocBuilder, item: Item) -> Result<LineStep, Refusal>
 
 // An array, where it may begin: within the root.
 fn opened(builder: &DocBuilder, begun: ArrayItem) -> Result<ArrayItem, Refusal>
-    ensures ok { IfOk result (λ a. placed_array (position_of builder.now) builder.now begun ≡ Ok (on builder.now (Some a))) }
+    ensures ok { IfOk result (λ a.
+        placed_array (position_of builder.now) builder.now begun ≡ Ok (on builder.now (Some a))) }
     ensures err { IfErr result (λ refusal. refusal ≡ Refusal.Kind LineKind.OutOfPlace
         × (placed_array (position_of builder.now) builder.now begun ≡ Err LineKind.OutOfPlace)) }
     ensures same { IfOk result (λ a. a ≡ begun) }

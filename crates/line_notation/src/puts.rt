@@ -1,12 +1,13 @@
-// Words that go out. No memory is taken but the sink's.
+// Words that go out.
 ghost use Rattle.std.specs.Prelude.{◌≡◌, ◌≤◌, ◌<◌, ◌^◌, ◌∷◌, ◌++◌, [], false, length, take_while, All};
 ghost use Rattle.std.specs.Fmt.{decimal, digit_glyph, signed_decimal};
 ghost use Rattle.std.specs.List.{flat_map};
 ghost use Rattle.hex.specs.Hex.{encode_lower};
-ghost use Rattle.line_notation.specs.Puts.{IsPuttable, Puts, spaced_word, spaced_words, word_bytes};
+ghost use Rattle.line_notation.specs.Puts.{Adds, IsPuttable, Puts, spaced_word, spaced_words, word_bytes};
 ghost use Rattle.line_notation.specs.Quoted.{escape, is_plain, quoted, quoted_byte};
 ghost use Rattle.line_notation.specs.Scalars.{digits_in_quotes, identifier_word, letter_word};
 
+use crate::room::{Room, add};
 use io_edges::{Sink, SinkFault};
 use itoa::Buffer;
 use uuid::Uuid;
@@ -37,13 +38,6 @@ pub fn is_plain(byte: u8) -> bool
     32 <= byte && byte < 127 && byte != b'"' && byte != b'\\'
 }
 
-// Puts bytes by one call.
-pub fn put<K: Sink>(bytes: &[u8], sink: &mut K) -> Result<(), SinkFault>
-    ensures { Puts K.written K.faults K.may_want sink.old sink.new bytes.now result }
-{
-    sink.put(bytes)
-}
-
 // The digit of four bits.
 fn digit(bits: u8) -> u8
     requires { bits < 16 }
@@ -56,11 +50,12 @@ fn digit(bits: u8) -> u8
     }
 }
 
-// Puts a backslash and the byte's digits.
-fn put_escape<K: Sink>(byte: u8, sink: &mut K) -> Result<(), SinkFault>
-    ensures { Puts K.written K.faults K.may_want sink.old sink.new (escape byte) result }
+// Adds a backslash and the byte's digits.
+fn add_escape<K: Sink>(byte: u8, room: &mut Room, sink: &mut K) -> Result<(), SinkFault>
+    ensures { Adds K.written K.faults K.may_want sink.old sink.new room.old room.new
+        (escape byte) result }
 {
-    put(&[b'\\', digit(byte / 16), digit(byte % 16)], sink)
+    add(&[b'\\', digit(byte / 16), digit(byte % 16)], room, sink)
 }
 
 // How many bytes at the front are plain.
@@ -70,9 +65,9 @@ pub fn plain_count(bytes: &[u8]) -> usize
     bytes.iter().take_while(|byte| is_plain(**byte)).count()
 }
 
-// Puts the bytes of a quoted text.
-fn put_pieces<K: Sink>(bytes: &[u8], sink: &mut K) -> Result<(), SinkFault>
-    ensures { Puts K.written K.faults K.may_want sink.old sink.new
+// Adds the bytes of a quoted text.
+fn add_pieces<K: Sink>(bytes: &[u8], room: &mut Room, sink: &mut K) -> Result<(), SinkFault>
+    ensures { Adds K.written K.faults K.may_want sink.old sink.new room.old room.new
         (flat_map quoted_byte bytes.now) result }
 {
     let mut rest = bytes;
@@ -80,118 +75,142 @@ fn put_pieces<K: Sink>(bytes: &[u8], sink: &mut K) -> Result<(), SinkFault>
         let plain = plain_count(rest);
         if plain == 0 {
             let (escaped, behind) = rest.split_at(1);
-            put_escape(escaped[0], sink)?;
+            add_escape(escaped[0], room, sink)?;
             rest = behind;
         } else {
             let (shown, behind) = rest.split_at(plain);
-            put(shown, sink)?;
+            add(shown, room, sink)?;
             rest = behind;
         }
     }
     Ok(())
 }
 
+fn add_quoted<K: Sink>(text: &str, room: &mut Room, sink: &mut K) -> Result<(), SinkFault>
+    ensures { Adds K.written K.faults K.may_want sink.old sink.new room.old room.new
+        (quoted text.now) result }
+{
+    add(b"\"", room, sink)?;
+    add_pieces(text.as_bytes(), room, sink)?;
+    add(b"\"", room, sink)
+}
+
 /// Puts a text in double quotes. A printable byte of ASCII stands as it is, and any other, the
-/// quote and the backslash as a backslash and two hexadecimal digits. A refusal has put the first
-/// bytes. No memory is taken but the sink's.
+/// quote and the backslash as a backslash and two hexadecimal digits. A text of some hundred bytes
+/// is put by one call. A refusal has put the first bytes. No memory is taken but the sink's.
 pub fn quote<K: Sink>(text: &str, sink: &mut K) -> Result<(), SinkFault>
     ensures { Puts K.written K.faults K.may_want sink.old sink.new (quoted text.now) result }
 {
-    put(b"\"", sink)?;
-    put_pieces(text.as_bytes(), sink)?;
-    put(b"\"", sink)
+    let mut room = Room::new();
+    add_quoted(text, &mut room, sink)?;
+    room.put(sink)
 }
 
 const CHUNK: usize = 32;
 
-// Puts the hexadecimal digits of a few bytes.
-fn put_chunk<K: Sink>(bytes: &[u8], sink: &mut K) -> Result<(), SinkFault>
+// Adds the hexadecimal digits of a few bytes.
+fn add_chunk<K: Sink>(bytes: &[u8], room: &mut Room, sink: &mut K) -> Result<(), SinkFault>
     requires { length bytes.now ≤ CHUNK }
-    ensures { Puts K.written K.faults K.may_want sink.old sink.new (encode_lower bytes.now) result }
+    ensures { Adds K.written K.faults K.may_want sink.old sink.new room.old room.new
+        (encode_lower bytes.now) result }
 {
     let mut digits = [0; 2 * CHUNK];
-    let room = &mut digits[..2 * bytes.len()];
-    hex::encode_to_slice(bytes, room).unwrap();
-    put(room, sink)
+    let spelled = &mut digits[..2 * bytes.len()];
+    hex::encode_to_slice(bytes, spelled).unwrap();
+    add(spelled, room, sink)
 }
 
-// Puts the hexadecimal digits of bytes.
-fn put_digits<K: Sink>(bytes: &[u8], sink: &mut K) -> Result<(), SinkFault>
-    ensures { Puts K.written K.faults K.may_want sink.old sink.new (encode_lower bytes.now) result }
+// Adds the hexadecimal digits of bytes.
+fn add_digits<K: Sink>(bytes: &[u8], room: &mut Room, sink: &mut K) -> Result<(), SinkFault>
+    ensures { Adds K.written K.faults K.may_want sink.old sink.new room.old room.new
+        (encode_lower bytes.now) result }
 {
     let mut rest = bytes;
     while !rest.is_empty() {
         let (chunk, behind) = rest.split_at(rest.len().min(CHUNK));
-        put_chunk(chunk, sink)?;
+        add_chunk(chunk, room, sink)?;
         rest = behind;
     }
     Ok(())
 }
 
-fn put_digits_in_quotes<K: Sink>(bytes: &[u8], sink: &mut K) -> Result<(), SinkFault>
-    ensures { Puts K.written K.faults K.may_want sink.old sink.new
+fn add_digits_in_quotes<K: Sink>(
+    bytes: &[u8],
+    room: &mut Room,
+    sink: &mut K,
+) -> Result<(), SinkFault>
+    ensures { Adds K.written K.faults K.may_want sink.old sink.new room.old room.new
         (digits_in_quotes bytes.now) result }
 {
-    put(b"\"", sink)?;
-    put_digits(bytes, sink)?;
-    put(b"\"", sink)
+    add(b"\"", room, sink)?;
+    add_digits(bytes, room, sink)?;
+    add(b"\"", room, sink)
 }
 
-fn put_natural<K: Sink>(n: u128, sink: &mut K) -> Result<(), SinkFault>
-    ensures { Puts K.written K.faults K.may_want sink.old sink.new (decimal n) result }
+fn add_natural<K: Sink>(n: u128, room: &mut Room, sink: &mut K) -> Result<(), SinkFault>
+    ensures { Adds K.written K.faults K.may_want sink.old sink.new room.old room.new
+        (decimal n) result }
 {
     let mut buffer = Buffer::new();
-    put(buffer.format(n).as_bytes(), sink)
+    add(buffer.format(n).as_bytes(), room, sink)
 }
 
-fn put_integer<K: Sink>(n: i128, sink: &mut K) -> Result<(), SinkFault>
-    ensures { Puts K.written K.faults K.may_want sink.old sink.new (signed_decimal n) result }
+fn add_integer<K: Sink>(n: i128, room: &mut Room, sink: &mut K) -> Result<(), SinkFault>
+    ensures { Adds K.written K.faults K.may_want sink.old sink.new room.old room.new
+        (signed_decimal n) result }
 {
     let mut buffer = Buffer::new();
-    put(buffer.format(n).as_bytes(), sink)
+    add(buffer.format(n).as_bytes(), room, sink)
 }
 
-fn put_identifier<K: Sink>(bytes: &[u8; 16], sink: &mut K) -> Result<(), SinkFault>
-    ensures { Puts K.written K.faults K.may_want sink.old sink.new
+fn add_identifier<K: Sink>(bytes: &[u8; 16], room: &mut Room, sink: &mut K) -> Result<(), SinkFault>
+    ensures { Adds K.written K.faults K.may_want sink.old sink.new room.old room.new
         (identifier_word bytes.now) result }
 {
     let mut buffer = Uuid::encode_buffer();
     let id = Uuid::from_bytes_le(*bytes);
-    put(id.hyphenated().encode_lower(&mut buffer).as_bytes(), sink)
+    add(
+        id.hyphenated().encode_lower(&mut buffer).as_bytes(),
+        room,
+        sink,
+    )
 }
 
-fn put_word<K: Sink>(word: &Word, sink: &mut K) -> Result<(), SinkFault>
+fn add_word<K: Sink>(word: &Word, room: &mut Room, sink: &mut K) -> Result<(), SinkFault>
     requires { IsPuttable word.now }
-    ensures { Puts K.written K.faults K.may_want sink.old sink.new (word_bytes word.now) result }
+    ensures { Adds K.written K.faults K.may_want sink.old sink.new room.old room.new
+        (word_bytes word.now) result }
 {
     match word {
-        Word::Plain(text) => put(text.as_bytes(), sink),
-        Word::Quoted(text) => quote(text, sink),
-        Word::Natural(n) => put_natural(*n, sink),
-        Word::Integer(n) => put_integer(*n, sink),
-        Word::Digits(bytes) => put_digits(bytes, sink),
-        Word::DigitsInQuotes(bytes) => put_digits_in_quotes(bytes, sink),
-        Word::Identifier(bytes) => put_identifier(bytes, sink),
-        Word::Letter(letter) => put(&[b'a' + *letter], sink),
+        Word::Plain(text) => add(text.as_bytes(), room, sink),
+        Word::Quoted(text) => add_quoted(text, room, sink),
+        Word::Natural(n) => add_natural(*n, room, sink),
+        Word::Integer(n) => add_integer(*n, room, sink),
+        Word::Digits(bytes) => add_digits(bytes, room, sink),
+        Word::DigitsInQuotes(bytes) => add_digits_in_quotes(bytes, room, sink),
+        Word::Identifier(bytes) => add_identifier(bytes, room, sink),
+        Word::Letter(letter) => add(&[b'a' + *letter], room, sink),
     }
 }
 
-// Puts a space and a word.
-fn put_spaced_word<K: Sink>(word: &Word, sink: &mut K) -> Result<(), SinkFault>
+// Adds a space and a word.
+fn add_spaced_word<K: Sink>(word: &Word, room: &mut Room, sink: &mut K) -> Result<(), SinkFault>
     requires { IsPuttable word.now }
-    ensures { Puts K.written K.faults K.may_want sink.old sink.new (spaced_word word.now) result }
+    ensures { Adds K.written K.faults K.may_want sink.old sink.new room.old room.new
+        (spaced_word word.now) result }
 {
-    put(b" ", sink)?;
-    put_word(word, sink)
+    add(b" ", room, sink)?;
+    add_word(word, room, sink)
 }
 
-// Puts words, each behind a space.
-pub fn put_words<K: Sink>(words: &[Word], sink: &mut K) -> Result<(), SinkFault>
+// Adds words, each behind a space.
+pub fn add_words<K: Sink>(words: &[Word], room: &mut Room, sink: &mut K) -> Result<(), SinkFault>
     requires { All IsPuttable words.now }
-    ensures { Puts K.written K.faults K.may_want sink.old sink.new (spaced_words words.now) result }
+    ensures { Adds K.written K.faults K.may_want sink.old sink.new room.old room.new
+        (spaced_words words.now) result }
 {
     for word in words {
-        put_spaced_word(word, sink)?;
+        add_spaced_word(word, room, sink)?;
     }
     Ok(())
 }

@@ -1,7 +1,7 @@
 // Documents out of lines.
 ghost use Rattle.std.specs.Prelude.{◌≡◌, [], IsErrOf};
 ghost use Rattle.line_notation.specs.Placing.{fault_of};
-ghost use Rattle.line_notation.specs.Standing.{HasFailed, HasRoom, StandsBehind, UnlessMemory, after, answer, ended, ending};
+ghost use Rattle.line_notation.specs.Standing.{HasFailed, HasReadFew, StandsBehind, UnlessMemory, after, answer, ended, ending};
 
 use crate::placing::{Refusal, read_placed};
 use nbfx_values::{ArrayItem, Doc, DocBuilder, Memory};
@@ -24,8 +24,8 @@ pub enum LineKind {
     NotALine,
     /// A text in it isn't UTF-8.
     BadText,
-    /// A number is out of the range of its value, a list stands in a list, or a value of an array isn't
-    /// of its kind.
+    /// A number is out of the range of its value, a list stands in a list, or a value of an array
+    /// isn't of its kind.
     OutOfRange,
     /// It may not stand there.
     OutOfPlace,
@@ -68,8 +68,8 @@ impl Refusal {
 }
 
 /// Reads documents out of lines, of which each is given without its line feed. Contracts see where
-/// it stands: behind how many lines, with which items and which array of the unfinished document, or
-/// refused.
+/// it stands: behind how many lines, with which items and which array of the unfinished document,
+/// or refused.
 #[derive(Debug, Drop)]
 pub struct LineReader {
     alloc: Global,
@@ -80,14 +80,15 @@ pub struct LineReader {
 }
 
 impl Model for LineReader {
+    ghost use Rattle.std.specs.Prelude.{◌≤◌, ◌^◌};
     ghost use Rattle.line_notation.specs.Placing.{IsOpen};
-    ghost use Rattle.line_notation.specs.Standing.{Standing, kept};
+    ghost use Rattle.line_notation.specs.Standing.{Standing, standing_kept};
 
     ghost Value = { Standing };
 
-    ghost view = { λ r. kept r.fault r.lines r.builder r.array };
+    ghost view = { λ r. standing_kept r.fault r.lines r.builder r.array };
 
-    ghost invariant = { λ r. IsOpen r.array };
+    ghost invariant = { λ r. IsOpen r.array × (r.lines ≤ 2 ^ 63) };
 }
 
 impl LineReader {
@@ -106,10 +107,11 @@ impl LineReader {
 
     /// Reads one line more. A fault stays: each further line has the same.
     pub fn line(&mut self, line: &[u8]) -> Result<LineStep, LineFault>
-        requires room { HasRoom self.old }
+        requires few { HasReadFew self.old }
         ensures answer { UnlessMemory result (result ≡ answer self.old line.now) }
         ensures stands { UnlessMemory result (self.new ≡ after self.old line.now) }
-        ensures out_of_memory { IsErrOf result LineFault.Memory → HasFailed self.new LineFault.Memory }
+        ensures out_of_memory { IsErrOf result LineFault.Memory
+            → HasFailed self.new LineFault.Memory }
         ensures again { (fault : LineFault) → HasFailed self.old fault → IsErrOf result fault }
     {
         if let Some(fault) = self.fault {
@@ -128,7 +130,6 @@ impl LineReader {
 
     /// Ends the lines: they may not end within a document.
     pub fn finish(&mut self) -> Result<(), LineFault>
-        requires room { HasRoom self.old }
         ensures answer { result ≡ ending self.old }
         ensures stands { self.new ≡ ended self.old }
     {

@@ -133,6 +133,24 @@ fn lines_come_back(rt: HostRuntime) -> Result<(), Fail> {
 }
 
 #[test]
+fn a_long_line_comes_back(rt: HostRuntime) -> Result<(), Fail> {
+    let mut line = String::new(rt.alloc());
+    line.push_str("comment \"")?;
+    for _ in 0..200 {
+        line.push_str("\\0a")?;
+    }
+    for _ in 0..600 {
+        line.push('a')?;
+    }
+    line.push('"')?;
+    let lines = ["start \"\" \"x\"", line.as_str(), "close"];
+    let docs = read(rt.alloc(), &lines)?;
+    let sink = printed(rt.alloc(), &docs)?;
+    assert_eq!(rt; sink.bytes(), text(rt.alloc(), &lines)?.as_bytes());
+    Ok(())
+}
+
+#[test]
 fn other_spellings(rt: HostRuntime) -> Result<(), Fail> {
     let lines = [
         "",
@@ -171,6 +189,17 @@ fn refused_lines(rt: HostRuntime) -> Result<(), Fail> {
             LineKind::OutOfRange,
         ),
         (["text number 1"].as_slice(), 1, LineKind::OutOfPlace),
+        (
+            [
+                "start \"\" \"x\"",
+                "attr \"\" \"a\" number 1",
+                "text number 1",
+                "attr \"\" \"b\" number 1",
+            ]
+            .as_slice(),
+            4,
+            LineKind::OutOfPlace,
+        ),
     ];
     for (lines, line, kind) in rows {
         match read(rt.alloc(), lines) {
@@ -210,6 +239,8 @@ fn a_write_that_fails(rt: HostRuntime) -> Result<(), Fail> {
         Some(doc) => assert_eq!(rt; print(doc, &mut sink).err(), Some(SinkFault::Failed)),
         None => assert!(rt; false),
     }
-    assert!(rt; b"start \"s\" \"Envelope\"\n".starts_with(sink.bytes()));
+    let mut five_lines_and_a_byte = text(rt.alloc(), &ENVELOPE[..5])?;
+    five_lines_and_a_byte.push('a')?;
+    assert_eq!(rt; sink.bytes(), five_lines_and_a_byte.as_bytes());
     Ok(())
 }

@@ -1,7 +1,7 @@
 // Values out of the words of a line.
 ghost use Rattle.std.specs.Prelude.{◌≡◌, ◌≤◌, ◌<◌, ◌^◌, ◌-◌, IfOk, IfNone, IfSome, IsErrOf, Some, length};
 ghost use Rattle.line_notation.specs.Parts as spec;
-ghost use Rattle.line_notation.specs.Parts.{IsTooMuch, gathered_in, no_values, judged_token_at, judged_value_in, refit, tallied, with_list, with_scalar, with_token};
+ghost use Rattle.line_notation.specs.Parts.{IsTooMuch, gathered_in, holder_of, no_values, judged_token_at, judged_value_in, may_hold_a_list, refit, tallied, with_list, with_scalar, with_token};
 ghost use Rattle.line_notation.specs.Steps.{Finds, Gives};
 ghost use Rattle.line_notation.specs.Values.{plain_at, token_at};
 
@@ -73,12 +73,45 @@ impl Tally {
     }
 }
 
+/// What values stand in, which says what may come.
+#[derive(Clone, Copy, Debug)]
+pub enum Holder {
+    /// A list: values that are no lists.
+    List,
+    /// An array: values of its kind.
+    Array(ArrayKind),
+    /// Neither: each value is judged by itself.
+    Nothing,
+}
+
+impl Holder {
+    /// What the values of a line stand in, by the array that is open.
+    pub fn of(kind: Option<ArrayKind>) -> Holder
+        ensures { result ≡ holder_of kind }
+    {
+        match kind {
+            Some(kind) => Holder::Array(kind),
+            None => Holder::Nothing,
+        }
+    }
+
+    // Whether a list may come where so many values are due in lists.
+    fn may_hold_a_list(self, due: usize) -> bool
+        ensures { result ≡ may_hold_a_list self due }
+    {
+        match self {
+            Holder::Nothing => due == 0,
+            Holder::List | Holder::Array(_) => false,
+        }
+    }
+}
+
 // A value that can be held, where it fits an array too.
-fn refit(kind: Option<ArrayKind>, scalar: Judged<Scalar>) -> Judged<Scalar>
-    ensures { result ≡ refit kind scalar }
+fn refit(holder: Holder, scalar: Judged<Scalar>) -> Judged<Scalar>
+    ensures { result ≡ refit holder scalar }
 {
-    match (kind, scalar) {
-        (Some(kind), Ok(scalar)) => {
+    match (holder, scalar) {
+        (Holder::Array(kind), Ok(scalar)) => {
             if kind.takes(&scalar) {
                 Ok(scalar)
             } else {
@@ -102,12 +135,13 @@ fn with_scalar(values: Judged<Values>, scalar: Judged<Scalar>) -> Result<Judged<
     }
 }
 
-fn with_list(values: Judged<Values>) -> Judged<Values>
-    ensures { result ≡ with_list values }
+fn with_list(may_come: bool, values: Judged<Values>) -> Judged<Values>
+    ensures { result ≡ with_list may_come values }
 {
-    match values {
-        Ok(_) => Err(LineKind::OutOfRange),
-        Err(kind) => Err(first_of(kind, LineKind::OutOfRange)),
+    match (may_come, values) {
+        (true, values) => values,
+        (false, Ok(_)) => Err(LineKind::OutOfRange),
+        (false, Err(kind)) => Err(first_of(kind, LineKind::OutOfRange)),
     }
 }
 
@@ -130,18 +164,19 @@ impl Gathering {
     }
 
     // One token more.
-    fn with(self, kind: Option<ArrayKind>, token: JudgedToken) -> Result<Gathering, Stop>
+    fn with(self, holder: Holder, token: JudgedToken) -> Result<Gathering, Stop>
         requires { self.tally.count < 2 ^ 64 - 1 }
-        ensures more { IfOk result (λ more. with_token kind self token ≡ Some more) }
-        ensures too_much { IsErrOf result Stop.NotALine → IsTooMuch (with_token kind self token) }
+        ensures more { IfOk result (λ more. with_token holder self token ≡ Some more) }
+        ensures too_much { IsErrOf result Stop.NotALine → IsTooMuch (with_token holder self token) }
     {
+        let may_list = holder.may_hold_a_list(self.tally.due);
         let (due, values) = match token {
-            JudgedToken::Scalar(scalar) => (0, with_scalar(self.values, refit(kind, scalar))?),
+            JudgedToken::Scalar(scalar) => (0, with_scalar(self.values, refit(holder, scalar))?),
             JudgedToken::Count(Ok(count)) => {
                 let Ok(due) = usize::try_from(count) else {
                     return Err(Stop::NotALine);
                 };
-                (due, with_list(self.values))
+                (due, with_list(may_list, self.values))
             }
             JudgedToken::Count(Err(_)) => return Err(Stop::NotALine),
         };
@@ -151,17 +186,13 @@ impl Gathering {
 }
 
 // The values in all words that are left.
-pub fn gathered(
-    alloc: Global,
-    kind: Option<ArrayKind>,
-    words: &mut Words,
-) -> Result<Gathering, Stop>
-    ensures { Finds (λ g. (g.tally.count, g.values)) result (gathered_in kind words.old) }
+pub fn gathered(alloc: Global, holder: Holder, words: &mut Words) -> Result<Gathering, Stop>
+    ensures { Finds (λ g. (g.tally.count, g.values)) result (gathered_in holder words.old) }
 {
     let mut so_far = Gathering::none(alloc);
     while !words.is_empty() {
         let token = token(alloc, words)?;
-        so_far = so_far.with(kind, token)?;
+        so_far = so_far.with(holder, token)?;
     }
     if so_far.tally.due > 0 {
         return Err(Stop::NotALine);
@@ -187,6 +218,6 @@ pub fn value(alloc: Global, words: &mut Words) -> Result<Judged<Value>, Stop>
     ensures { Finds (λ value. value) result (judged_value_in words.old) }
 {
     let token = token(alloc, words)?;
-    let all = gathered(alloc, None, words)?;
+    let all = gathered(alloc, Holder::List, words)?;
     value_from(token, all).ok_or(Stop::NotALine)
 }

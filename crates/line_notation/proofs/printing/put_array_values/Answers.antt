@@ -1,21 +1,22 @@
 use Rattle.std.proofs.Common.{◌∷◌, [], ◌∙◌}
 use Rattle.std.proofs.lemmas.Result.{err_from_is_err_and}
 use Rattle.line_notation.proofs.PrintFacts.{value_words-scalars}
-use Rattle.line_notation.proofs.PutsFacts.{PutsAll-then, PutsAll-cut}
+use Rattle.line_notation.proofs.PutsFacts.{AddsAll-then, AddsAll-cut, as_put}
 use Rattle.line_notation.proofs.printing.put_array_values.Goals as goal
 
-pub returns-in_err-put : goal.returns-in_err-put
-returns-in_err-put g c =
+pub returns-in_err-add : goal.returns-in_err-add
+returns-in_err-add g c =
     let p = err_from_is_err_and c.from_residual.result c.from_residual.ensures.1 in
-    rw (p.1, p.2) (PutsAll-cut (10 ∷ []) (PutsAll-cut _ (rw (c.as_bytes.ensures.value ∙ c.word.ensures) at c.in_err-put.ensures)))
+    rw (p.1, p.2)
+    (as_put _ (AddsAll-cut (10 ∷ []) (AddsAll-cut _ {r2 = []} (rw (c.as_bytes.ensures.value ∙ c.word.ensures, c.new-room.ensures) at c.in_err-add.ensures))))
 
-pub returns-in_err-put_scalars : goal.returns-in_err-put_scalars
-returns-in_err-put_scalars g c =
-    let p = err_from_is_err_and c.from_residual-in_err-put_scalars.result c.from_residual-in_err-put_scalars.ensures.1 in
+pub returns-in_err-add_scalars : goal.returns-in_err-add_scalars
+returns-in_err-add_scalars g c =
+    let p = err_from_is_err_and c.from_residual-in_err-add_scalars.result c.from_residual-in_err-add_scalars.ensures.1 in
     rw (p.1, p.2, value_words-scalars c.args.scalars.now)
-    (PutsAll-cut (10 ∷ []) (PutsAll-then _ (rw (c.as_bytes.ensures.value ∙ c.word.ensures) at c.in_ok-put.ensures) c.in_err-put_scalars.ensures))
+    (as_put _ (AddsAll-cut (10 ∷ []) (AddsAll-then _ (rw (c.as_bytes.ensures.value ∙ c.word.ensures, c.new-room.ensures) at c.in_ok-add.ensures) c.in_err-add_scalars.ensures)))
 
 pub returns : goal.returns
 returns g c =
     rw (value_words-scalars c.args.scalars.now)
-    (PutsAll-then _ (PutsAll-then _ (rw (c.as_bytes.ensures.value ∙ c.word.ensures) at c.in_ok-put.ensures) c.in_ok-put_scalars.ensures) c.put-2.ensures)
+    (as_put _ (AddsAll-then _ (AddsAll-then _ (rw (c.as_bytes.ensures.value ∙ c.word.ensures, c.new-room.ensures) at c.in_ok-add.ensures) c.in_ok-add_scalars.ensures) c.end_line.ensures))

@@ -1,22 +1,11 @@
-use Rattle.std.proofs.Common.{◌∷◌, []}
 use Rattle.std.proofs.lemmas.Result.{err_from_is_err_and}
-use Rattle.line_notation.specs.Quoted.{quoted}
-use Rattle.line_notation.proofs.PutsFacts.{PutsAll-then, PutsAll-cut}
+use Rattle.line_notation.proofs.PutsFacts.{AddsAll-ends, as_put, line_cut}
 use Rattle.line_notation.proofs.puts.quote.Goals as goal
 
-pub returns-in_err-put : goal.returns-in_err-put
-unfolding quoted
-returns-in_err-put g c =
+pub returns-in_err-add_quoted : goal.returns-in_err-add_quoted
+returns-in_err-add_quoted g c =
     let p = err_from_is_err_and c.from_residual.result c.from_residual.ensures.1 in
-    rw (p.1, p.2) (PutsAll-cut _ c.in_err-put.ensures)
-
-pub returns-in_err-put_pieces : goal.returns-in_err-put_pieces
-unfolding quoted
-returns-in_err-put_pieces g c =
-    let p = err_from_is_err_and c.from_residual-in_err-put_pieces.result c.from_residual-in_err-put_pieces.ensures.1 in
-    rw (p.1, p.2) (PutsAll-cut (34 ∷ []) (PutsAll-then _ c.in_ok-put.ensures (rw c.as_bytes.ensures.value at c.in_err-put_pieces.ensures)))
+    rw (p.1, p.2) (line_cut (rw c.new-room.ensures at c.in_err-add_quoted.ensures))
 
 pub returns : goal.returns
-unfolding quoted
-returns g c =
-    PutsAll-then _ c.in_ok-put.ensures (PutsAll-then _ (rw c.as_bytes.ensures.value at c.in_ok-put_pieces.ensures) c.put-2.ensures)
+returns g c = as_put _ (AddsAll-ends _ (rw c.new-room.ensures at c.in_ok-add_quoted.ensures) c.put.ensures.puts)
