@@ -1,10 +1,9 @@
 -- An integer at the front of some bytes is read byte by byte.
-use Rattle.std.proofs.Common.{◌≡◌, ℕ, suc, ◌+◌, ◌<◌, ◌≤◌, List, [], ◌∷◌, ◌++◌, length, take, drop, get_or, sym, ap, ◌∙◌, arith}
-use Rattle.std.proofs.lemmas.List.{take_more, take-append-drop, take_all, length-take-le}
-use Rattle.unit_streams.specs.Front.{Front, begun, whole, wrong, ReadsFront}
+use Rattle.std.proofs.Common.{◌≡◌, ℕ, ◌+◌, ◌<◌, List, [], ◌∷◌, ◌++◌, length, take, drop, get_or, sym, ap, ◌∙◌, arith}
+use Rattle.std.proofs.lemmas.List.{take_more, take-append-drop, length-take-le}
+use Rattle.unit_streams.specs.Front.{whole, wrong, ReadsFront}
 use Rattle.unit_streams.proofs.Peeling.{peels_front}
 use Rattle.multibyte_ints.specs.Integer.{int_at}
-use Rattle.multibyte_ints.specs.declared.integer.IntStep.{IntStep}
 use Rattle.multibyte_ints.proofs.IntegerBytes.{int_peels}
 
 reads : ReadsFront int_at

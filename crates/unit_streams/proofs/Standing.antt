@@ -1,6 +1,6 @@
 -- How the standing of a stream grows with its bytes.
-use Rattle.std.proofs.Common.{◌≡◌, ℕ, zero, suc, ◌+◌, ◌<◌, ◌≤◌, ◌⊎◌, inl, inr, List, [], ◌++◌, length, take, drop, Option, None, refl, sym, ap, ◌∙◌, arith, append_assoc, length-append, length-drop}
-use Rattle.std.proofs.lemmas.List.{drop-append-le, drop_all, drop-drop, length-take-le}
+use Rattle.std.proofs.Common.{◌≡◌, ℕ, zero, suc, ◌+◌, ◌<◌, ◌≤◌, ◌⊎◌, inl, inr, List, [], ◌++◌, length, take, drop, Option, None, refl, sym, ap, ◌∙◌, arith, length-append, length-drop}
+use Rattle.std.proofs.lemmas.List.{drop-append-le, drop_all, length-take-le}
 use Rattle.unit_streams.specs.Front.{Front, begun, whole, wrong, on_whole, IsOpen}
 use Rattle.unit_streams.specs.Grammar.{Grammar, Standing, next_unit, behind_unit, peeled, peel, at_start, standing, with_more, resumed, IsReadable}
 use Rattle.unit_streams.proofs.Peeling.{extent, Decides, Leaves}
@@ -93,14 +93,6 @@ module _ {Z U E R : Type 0} (g : Grammar Z U E R) (readable : IsReadable g) wher
   pub peel_length : (s : Standing Z E R) → (peel g s).from + length (peel g s).begun ≡ s.from + length s.begun
   peel_length = peel_by (λ s t. t.from + length t.begun ≡ s.from + length s.begun) (λ s o. refl) (λ s u k t e some within h. h ∙ simp length-drop (omega arith))
 
-  -- the unit that is begun has the last of the bytes
-  pub peel_begun : (s : Standing Z E R) → (n : ℕ) × (n ≤ length s.begun) × ((peel g s).begun ≡ drop n s.begun)
-  peel_begun = peel_by (λ s t. (n : ℕ) × (n ≤ length s.begun) × (t.begun ≡ drop n s.begun)) (λ s o. (0, omega arith, refl))
-      (λ s u k t e some within h. (k + h.0, (let fits = h.1 in let size = length-drop k s.begun in omega (arith, fits, size, within)), h.2 ∙ drop_more k h.0 s.begun))
-    where
-      drop_more : (k n : ℕ) (b : List ℕ) → drop n (drop k b) ≡ drop (k + n) b
-      drop_more k n b = drop-drop n k b
-
   -- bytes behind go to the unit that is begun
   pub peel_append : (c : List ℕ) (s : Standing Z E R) → peel g (with_more s c) ≡ resumed g (peel g s) c
   unfolding resumed
@@ -119,11 +111,6 @@ module _ {Z U E R : Type 0} (g : Grammar Z U E R) (readable : IsReadable g) wher
   pub standing_append : (p c : List ℕ) → standing g (p ++ c) ≡ resumed g (standing g p) c
   unfolding standing
   standing_append p c = peel_append c (at_start g p)
-
-  -- the same, further on
-  pub resumed_append : (s : Standing Z E R) (c d : List ℕ) → resumed g s (c ++ d) ≡ resumed g (resumed g s c) d
-  unfolding resumed
-  resumed_append s c d = ap (λ b. peel g (record s { begun = b })) (sym (append_assoc s.begun c d)) ∙ peel_append d (with_more s c)
 
   -- the whole units and the one that is begun are all the bytes
   pub standing_length : (p : List ℕ) → (standing g p).from + length (standing g p).begun ≡ length p

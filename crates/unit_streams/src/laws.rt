@@ -3,9 +3,8 @@
 //! whose situations, units, events and refusals are numbers, by a proof that holds at any types; a crate
 //! with a grammar of its own says it of that.
 
-ghost use Rattle.std.specs.Prelude.{ℕ, List, ◌≡◌, length, OnSome, Some, None, Bool, true};
-ghost use Rattle.unit_streams.specs.Grammar.{Grammar, IsReadable, IsQuietWhenOver, TellsItsEnd};
-ghost use Rattle.unit_streams.specs.Judging.{History, only, history_from, refusal_at, is_over_at};
+ghost use Rattle.std.specs.Prelude.{ℕ};
+ghost use Rattle.unit_streams.specs.Grammar.{Grammar, IsReadable, IsQuietWhenOver};
 ghost use Rattle.unit_streams.specs.Laws.{StandingsGoOn, AnswersAreFirst, CutsChangeNothing, HistoryIsAnswers, PendingHistories, NoUnitGoesOn, EndsAreClosed, OffencesAreFirst, AcceptedOrOffended};
 ghost use Rattle.unit_streams.specs.Refusals.{RefusalsAreThree};
 
