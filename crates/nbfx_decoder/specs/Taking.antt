@@ -1,13 +1,24 @@
 -- What the steps of a decoder answer. Public contracts cite none of this.
-use Rattle.std.specs.Prelude.{◌≡◌, ℕ, ◌+◌, ◌<◌, List, ◌++◌, length, take, Some, Result, Ok, Err}
+use Rattle.std.specs.Prelude.{◌≡◌, ℕ, ◌+◌, ◌<◌, ◌≤◌, List, ◌++◌, length, take, Some, Result, Ok, Err}
 use Rattle.unit_streams.specs.Judging.{refusal_at}
 use Rattle.unit_streams.specs.Going.{IsQuiet}
 use Rattle.nbfx_decoder.specs.declared.decoder.Decoder.{Decoder}
 use Rattle.nbfx_decoder.specs.declared.faults.UnitFault.{UnitFault}
 use Rattle.nbfx_decoder.specs.declared.faults.UnitFault.TheVariants.{Refused, Memory}
 use Rattle.nbfx_decoder.specs.Payload.{Settings, refusal, payload}
-use Rattle.nbfx_decoder.specs.Units.{HasStrings}
+use Rattle.nbfx_decoder.specs.Units.{HasStrings, KeepsSettings}
 use Rattle.nbfx_decoder.specs.Standing.{Reached, situation_of, from_of}
+
+-- some of the bytes are used, and no more are taken
+pub record TakesSome (old new : Decoder) (bytes : List ℕ) (used : ℕ) : Type 0 where
+  pub some : 0 < used
+  pub within : used ≤ length bytes
+  pub taken : new.units.from + length new.begun ≤ old.units.from + length old.begun + used
+
+-- how it is set stays, and so does what it has failed by
+pub record KeepsRest (old new : Decoder) : Type 0 where
+  pub failure : new.failure ≡ old.failure
+  pub settings : KeepsSettings old.units new.units
 
 -- some bytes of c behind p, of which there is one at least
 abbrev pub TakeAnswers : Settings → List (List ℕ) → List ℕ → List ℕ → Decoder → Result ℕ UnitFault

@@ -34,7 +34,7 @@ impl<'s> Decoder<'s> {
     ghost use Rattle.nbfx_decoder.specs.Laws.{IsWholePayload};
     ghost use Rattle.nbfx_decoder.specs.Payload.{Settings};
     ghost use Rattle.nbfx_decoder.specs.Standing.{settings_of, failure_of, taken_of, situation_of, begun_of, table_at, Reached, StandsFor, FailedBehind, FailedWithin, WhereItStands, WhereItFailed, FeedAnswers, FinishAnswers};
-    ghost use Rattle.nbfx_decoder.specs.Taking.{AllAnswers, TakeAnswers};
+    ghost use Rattle.nbfx_decoder.specs.Taking.{AllAnswers, KeepsRest, TakeAnswers, TakesSome};
     ghost use Rattle.nbfx_decoder.specs.Units.{Keeps, KeepsSettings};
 
     /// A reader before the first payload, with no strings.
@@ -181,8 +181,7 @@ impl<'s> Decoder<'s> {
         ensures answers { (x : Settings) (strings : List (List ℕ)) (p : List ℕ)
             → Reached self.old x strings p
             → AllAnswers x strings p bytes.now self.new result }
-        ensures failure { self.new.failure ≡ self.old.failure }
-        ensures kept { KeepsSettings self.old.units self.new.units }
+        ensures keeps { KeepsRest self.old self.new }
     {
         let mut used = 0;
         while used < bytes.len() {
@@ -198,11 +197,8 @@ impl<'s> Decoder<'s> {
         ensures answers { (x : Settings) (strings : List (List ℕ)) (p : List ℕ)
             → Reached self.old x strings p
             → TakeAnswers x strings p bytes.now self.new result }
-        ensures within { IfOk result (λ used. (0 < used) × (used ≤ length bytes.now)) }
-        ensures taken { IfOk result (λ used. self.new.units.from + length self.new.begun
-            ≤ self.old.units.from + length self.old.begun + used) }
-        ensures failure { self.new.failure ≡ self.old.failure }
-        ensures kept { KeepsSettings self.old.units self.new.units }
+        ensures takes { IfOk result (TakesSome self.old self.new bytes.now) }
+        ensures keeps { KeepsRest self.old self.new }
     {
         if self.begun.len() == 0 {
             self.take_whole(bytes)
@@ -219,11 +215,8 @@ impl<'s> Decoder<'s> {
         ensures answers { (x : Settings) (strings : List (List ℕ)) (p : List ℕ)
             → Reached self.old x strings p
             → TakeAnswers x strings p bytes.now self.new result }
-        ensures within { IfOk result (λ used. (0 < used) × (used ≤ length bytes.now)) }
-        ensures taken { IfOk result (λ used. self.new.units.from + length self.new.begun
-            ≤ self.old.units.from + length self.old.begun + used) }
-        ensures failure { self.new.failure ≡ self.old.failure }
-        ensures kept { KeepsSettings self.old.units self.new.units }
+        ensures takes { IfOk result (TakesSome self.old self.new bytes.now) }
+        ensures keeps { KeepsRest self.old self.new }
     {
         match self.units.read(bytes)? {
             UnitRead::Done { used } => Ok(used),
@@ -243,11 +236,8 @@ impl<'s> Decoder<'s> {
         ensures answers { (x : Settings) (strings : List (List ℕ)) (p : List ℕ)
             → Reached self.old x strings p
             → TakeAnswers x strings p bytes.now self.new result }
-        ensures within { IfOk result (λ used. (0 < used) × (used ≤ length bytes.now)) }
-        ensures taken { IfOk result (λ used. self.new.units.from + length self.new.begun
-            ≤ self.old.units.from + length self.old.begun + used) }
-        ensures failure { self.new.failure ≡ self.old.failure }
-        ensures kept { KeepsSettings self.old.units self.new.units }
+        ensures takes { IfOk result (TakesSome self.old self.new bytes.now) }
+        ensures keeps { KeepsRest self.old self.new }
     {
         let wanted = self.wants.saturating_sub(self.begun.len()).max(1);
         let used = bytes.len().min(wanted);

@@ -19,11 +19,11 @@ take_all-requires c = record { few = few_bytes c.args.self.now _ c.in_default.is
 
 pub returns-in-Ok-clause-answers : goal.returns-in-Ok-clause-answers
 returns-in-Ok-clause-answers c strings p h =
-    answer_goes_on c.args.self.now c.take_all.new.self strings p c.args.piece.now h c.take_all.ensures.kept (c.in-Ok.ensures.answers _ strings p (reached_of c.args.self.now strings p h))
+    answer_goes_on c.args.self.now c.take_all.new.self strings p c.args.piece.now h c.take_all.ensures.keeps.settings (c.in-Ok.ensures.answers _ strings p (reached_of c.args.self.now strings p h))
 
 pub returns-in-Ok-clause-stands : goal.returns-in-Ok-clause-stands
 returns-in-Ok-clause-stands c strings p h =
-    stands_behind c.args.self.now c.take_all.new.self strings p c.args.piece.now h c.take_all.ensures.kept (c.in-Ok.ensures.answers _ strings p (reached_of c.args.self.now strings p h)) (c.requires (failure_is c.args.self.now _ c.in_default.is))
+    stands_behind c.args.self.now c.take_all.new.self strings p c.args.piece.now h c.take_all.ensures.keeps.settings (c.in-Ok.ensures.answers _ strings p (reached_of c.args.self.now strings p h)) (c.requires (failure_is c.args.self.now _ c.in_default.is))
 
 pub returns-in-Ok-clause-repeated : goal.returns-in-Ok-clause-repeated
 returns-in-Ok-clause-repeated c fault told = absurd (unfailed_failure c.args.self.now fault c.in_default.is told)
@@ -32,16 +32,16 @@ pub returns-in-Ok-clause-unchanged : goal.returns-in-Ok-clause-unchanged
 returns-in-Ok-clause-unchanged c fault told = absurd (unfailed_failure c.args.self.now fault c.in_default.is told)
 
 pub returns-in-Ok-clause-settings : goal.returns-in-Ok-clause-settings
-returns-in-Ok-clause-settings c = settings_kept c.args.self.now c.take_all.new.self c.take_all.ensures.kept
+returns-in-Ok-clause-settings c = settings_kept c.args.self.now c.take_all.new.self c.take_all.ensures.keeps.settings
 
 pub returns-in-Err-clause-answers : goal.returns-in-Err-clause-answers
 returns-in-Err-clause-answers c strings p h =
-    answer_fault c.args.self.now c.take_all.new.self strings p c.args.piece.now h c.take_all.ensures.kept c.fail.new.self c.in-Err.fault c.fail.result c.fail.ensures.fault c.fail.ensures.failure c.fail.ensures.begun
+    answer_fault c.args.self.now c.take_all.new.self strings p c.args.piece.now h c.take_all.ensures.keeps.settings c.fail.new.self c.in-Err.fault c.fail.result c.fail.ensures.fault c.fail.ensures.failure c.fail.ensures.begun
     c.fail.ensures.items c.fail.ensures.from c.fail.ensures.kept (few_bytes c.args.self.now _ c.in_default.is c.requires) (c.in-Err.ensures.answers _ strings p (reached_of c.args.self.now strings p h))
 
 pub returns-in-Err-clause-failed : goal.returns-in-Err-clause-failed
 returns-in-Err-clause-failed c strings p h =
-    failed_within c.args.self.now c.take_all.new.self strings p c.args.piece.now h c.take_all.ensures.kept c.fail.new.self c.in-Err.fault c.fail.result c.fail.ensures.fault c.fail.ensures.failure c.fail.ensures.begun
+    failed_within c.args.self.now c.take_all.new.self strings p c.args.piece.now h c.take_all.ensures.keeps.settings c.fail.new.self c.in-Err.fault c.fail.result c.fail.ensures.fault c.fail.ensures.failure c.fail.ensures.begun
     c.fail.ensures.items c.fail.ensures.from c.fail.ensures.kept (few_bytes c.args.self.now _ c.in_default.is c.requires) (c.in-Err.ensures.answers _ strings p (reached_of c.args.self.now strings p h))
 
 pub returns-in-Err-clause-refused : goal.returns-in-Err-clause-refused
@@ -55,6 +55,6 @@ returns-in-Err-clause-unchanged c fault told = absurd (unfailed_failure c.args.s
 
 pub returns-in-Err-clause-settings : goal.returns-in-Err-clause-settings
 returns-in-Err-clause-settings c =
-    let kept = c.take_all.ensures.kept in
+    let kept = c.take_all.ensures.keeps.settings in
     let same = c.fail.ensures.kept in
     settings_kept c.args.self.now c.fail.new.self (record { statics = same.statics ∙ kept.statics; quotas = same.quotas ∙ kept.quotas; kind = same.kind ∙ kept.kind })

@@ -13,16 +13,16 @@ returns-in_err-used-clause-answers c x strings p h =
 pub loop-used-preserved : goal.loop-used-preserved
 loop-used-preserved c =
     let size = ap length (rest_of c.args.bytes.now c.loop-used.used) ∙ length-drop c.loop-used.used c.args.bytes.now in
-    let counts = c.in_ok-used.ensures.within in
+    let counts = c.in_ok-used.ensures.takes.within in
     let before = c.loop-used.invariant.taken in
-    let more = c.in_ok-used.ensures.taken in
+    let more = c.in_ok-used.ensures.takes.taken in
     let within = c.loop-used.invariant.within in
     let kept = c.loop-used.invariant.kept in
-    let still = c.take.ensures.kept in
+    let still = c.take.ensures.keeps.settings in
     record {
-      within = omega (arith, counts.1, size, within);
+      within = omega (arith, counts, size, within);
       taken = omega (arith, before, more);
-      failure = c.take.ensures.failure ∙ c.loop-used.invariant.failure;
+      failure = c.take.ensures.keeps.failure ∙ c.loop-used.invariant.failure;
       kept = record { statics = still.statics ∙ kept.statics; quotas = still.quotas ∙ kept.quotas; kind = still.kind ∙ kept.kind };
       far = λ x strings p h.
           let far = c.loop-used.invariant.far x strings p h in

@@ -37,15 +37,21 @@ returns-in-Done-clause-answers c x strings p h =
     on_done c.args.self.now x strings p h c.requires.begun c.args.bytes.now c.min-used.result (omega (arith, used)) (omega (arith, used, wanted, some)) c.keep.new.self c.in_ok-keep.ensures.kept
     _ c.in-Done.used (omega (arith, used, wanted, left, len, waits)) read c.clear.ensures refl
 
-pub returns-in-Done-clause-taken : goal.returns-in-Done-clause-taken
-returns-in-Done-clause-taken c =
+pub returns-in-Done-clause-takes : goal.returns-in-Done-clause-takes
+returns-in-Done-clause-takes c =
     let used = c.min-used.ensures in
     let counts : Counts (length c.keep.new.self) (Done c.in-Done.used) = rw c.in-Done.is at c.in_ok-read_on.ensures.counts in
     let from : c.read_on.new.self.from ≡ c.args.self.now.units.from + c.in-Done.used = rw c.in-Done.is at c.in_ok-read_on.ensures.from in
     let size = ap length c.in_ok-keep.ensures.kept ∙ length-append c.args.self.now.begun (take c.min-used.result c.args.bytes.now) in
     let part = length-take-le c.min-used.result c.args.bytes.now (omega (arith, used)) in
     let none = ap length c.clear.ensures in
-    omega (arith, counts.1, from, size, part, none)
+    let wanted = c.max-wanted.ensures in
+    let some = c.requires.some in
+    record {
+      some = omega (arith, used, wanted, some);
+      within = omega (arith, used);
+      taken = omega (arith, counts.1, from, size, part, none);
+    }
 
 pub returns-in-More-clause-answers : goal.returns-in-More-clause-answers
 returns-in-More-clause-answers c x strings p h =
