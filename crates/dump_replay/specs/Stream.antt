@@ -1,4 +1,5 @@
--- A stream as a grammar of units, by whose stream it is and in which mode: a record, where an envelope's is its head, or a byte of a payload.
+-- A stream as a grammar of units, by whose stream it is and in which mode: a record, where an envelope's is its head, or a byte of a
+-- payload. The bytes of a chunk, which singleton mode has, are no units yet.
 use Rattle.std.specs.Prelude.{◌≡◌, ℕ, ◌+◌, ◌-◌, List, [], Bool, true, false, Option, Some, None, nat_lt, nat_le, ◌==◌, ◌&&◌, ◌||◌, not, if◌then◌else◌}
 use Rattle.std.specs.Option.{option_map}
 use Rattle.unit_streams.specs.Front.{Front, begun}
