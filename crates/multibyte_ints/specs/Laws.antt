@@ -6,7 +6,8 @@ use Rattle.multibyte_ints.specs.Text.{IsString, bad_int, too_long, bad_utf8, str
 
 -- the integer at the front is the one that bytes there are a spelling of
 abbrev pub IntegersAreSpellings : Type 0
-IntegersAreSpellings = (b : List ℕ) (n k : ℕ) → (int_at b ≡ whole n k) ↔ ((k ≤ length b) × Spells n (take k b))
+IntegersAreSpellings = (b : List ℕ) (n k : ℕ)
+    → (int_at b ≡ whole n k) ↔ ((k ≤ length b) × Spells n (take k b))
 
 -- an integer has begun where a spelling goes on from the bytes
 abbrev pub BegunGoesOn : Type 0
@@ -38,12 +39,14 @@ ShortestIsAlone = (n : ℕ) (b : List ℕ) → IsBytes b → Spells n b
 -- the text at the front is the one that bytes there are a string of
 abbrev pub TextsAreStrings : Type 0
 TextsAreStrings = (limit : ℕ) (b s : List ℕ) (k : ℕ)
-    → (string_at limit b ≡ whole s k) ↔ ((k ≤ length b) × (length s ≤ limit) × IsString s (take k b))
+    → (string_at limit b ≡ whole s k)
+    ↔ ((k ≤ length b) × (length s ≤ limit) × IsString s (take k b))
 
--- a string is wrong by its integer, by a length above the limit, where that is whole, and by text that
--- isn't UTF-8, where all of it is there
+-- a string is wrong by its integer, by a length above the limit, where that is whole, and by text
+-- that isn't UTF-8, where all of it is there
 abbrev pub BadByInteger : Type 0
-BadByInteger = (limit : ℕ) (b : List ℕ) (k : ℕ) → (string_at limit b ≡ wrong bad_int k) ↔ (int_at b ≡ wrong tt k)
+BadByInteger = (limit : ℕ) (b : List ℕ) (k : ℕ)
+    → (string_at limit b ≡ wrong bad_int k) ↔ (int_at b ≡ wrong tt k)
 
 abbrev pub BadByLength : Type 0
 BadByLength = (limit : ℕ) (b : List ℕ) (k : ℕ)
@@ -60,7 +63,8 @@ pub record IsBadText (limit : ℕ) (b : List ℕ) (k : ℕ) : Type 0 where
   pub bad : ¬ (IsUtf8 (take n (drop j b)))
 
 abbrev pub BadByText : Type 0
-BadByText = (limit : ℕ) (b : List ℕ) (k : ℕ) → (string_at limit b ≡ wrong bad_utf8 k) ↔ IsBadText limit b k
+BadByText = (limit : ℕ) (b : List ℕ) (k : ℕ)
+    → (string_at limit b ≡ wrong bad_utf8 k) ↔ IsBadText limit b k
 
 -- no string goes on to a longer one
 abbrev pub NoStringGoesOn : Type 0

@@ -1,4 +1,5 @@
--- What a reader of integers stands for, and what it answers. A reader doesn't keep the bytes that it used.
+-- What a reader of integers stands for, and what it answers. A reader doesn't keep the bytes that
+-- it used.
 use Rattle.std.specs.Prelude.{◌≡◌, ℕ, List, [], length, ◌⊎◌}
 use Rattle.multibyte_ints.specs.declared.integer.IntReader.{IntReader}
 use Rattle.multibyte_ints.specs.declared.integer.State.TheVariants.{Within, Refused}

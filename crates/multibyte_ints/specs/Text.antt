@@ -41,6 +41,7 @@ text_behind limit begun b = begun
 text_behind limit (whole n k) b = text_at limit n k b
 text_behind limit (wrong _ k) b = wrong bad_int k
 
--- the string at the front: the integer is judged where it is whole, the text where all of it is there
+-- the string at the front: the integer is judged where it is whole, the text where all of it is
+-- there
 unfoldable pub string_at : ℕ → List ℕ → Front (List ℕ) StringFault
 string_at limit b = text_behind limit (int_at b) b

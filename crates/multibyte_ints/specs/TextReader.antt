@@ -1,4 +1,5 @@
--- What a reader of strings stands for, and what it answers. It keeps the text alone of the bytes that it used.
+-- What a reader of strings stands for, and what it answers. It keeps the text alone of the bytes
+-- that it used.
 use Rattle.std.specs.Prelude.{◌≡◌, ℕ, ◌+◌, ◌≤◌, List, [], ◌++◌, length, drop, vec_len}
 use Rattle.multibyte_ints.specs.declared.text.Part.{Part}
 use Rattle.multibyte_ints.specs.declared.text.Part.TheVariants.{Length, Text, Answered}
@@ -57,12 +58,16 @@ StringStandsFor reader p = Reached reader p reader.part × Waits reader.part
 
 -- the answer where so many bytes of a piece were used behind the bytes p
 abbrev pub StringAnswersAt : ℕ → List ℕ → List ℕ → ℕ → StringStep → Type 0
-StringAnswersAt limit p piece used More = (string_at limit (p ++ piece) ≡ begun) × (used ≡ length piece)
+StringAnswersAt limit p piece used More =
+    (string_at limit (p ++ piece) ≡ begun) × (used ≡ length piece)
 StringAnswersAt limit p piece used Done =
     (s : List ℕ) × (string_at limit (p ++ piece) ≡ whole s (length p + used))
-StringAnswersAt limit p piece used BadInt = string_at limit (p ++ piece) ≡ wrong bad_int (length p + used)
-StringAnswersAt limit p piece used TooLong = string_at limit (p ++ piece) ≡ wrong too_long (length p + used)
-StringAnswersAt limit p piece used BadUtf8 = string_at limit (p ++ piece) ≡ wrong bad_utf8 (length p + used)
+StringAnswersAt limit p piece used BadInt =
+    string_at limit (p ++ piece) ≡ wrong bad_int (length p + used)
+StringAnswersAt limit p piece used TooLong =
+    string_at limit (p ++ piece) ≡ wrong too_long (length p + used)
+StringAnswersAt limit p piece used BadUtf8 =
+    string_at limit (p ++ piece) ≡ wrong bad_utf8 (length p + used)
 
 -- the text of a whole string, else none
 abbrev pub text_of : Front (List ℕ) StringFault → List ℕ

@@ -1,12 +1,11 @@
 -- A decoder takes the bytes of a piece, one unit after the other.
-use Rattle.std.proofs.Common.{◌≡◌, ℕ, ◌+◌, ◌-◌, ◌≤◌, List, ◌++◌, length, take, drop, Result, Ok, Err, sym, ap, ◌∙◌, subst, arith, append_assoc, length-append, length-drop}
+use Rattle.std.proofs.Common.{◌≡◌, ℕ, ◌+◌, ◌-◌, List, ◌++◌, length, take, drop, Result, Ok, Err, sym, ap, ◌∙◌, subst, arith, append_assoc, length-append, length-drop}
 use Rattle.std.specs.Prelude.{IsErrAnd}
 use Rattle.std.proofs.lemmas.Result.{err_from_is_err_and}
-use Rattle.std.proofs.Math.Seq.{take-add, take-length}
-use Rattle.std.proofs.lemmas.List.{append-nil, take_all, length-take-le}
+use Rattle.std.proofs.Math.Seq.{take-add}
+use Rattle.std.proofs.lemmas.List.{take_all, length-take-le}
 use Rattle.unit_streams.specs.Judging.{refusal_at}
 use Rattle.unit_streams.specs.Going.{IsQuiet}
-use Rattle.unit_streams.proofs.Answers.{quiet_none}
 use Rattle.unit_streams.proofs.Quiet.{quiet_joined}
 use Rattle.nbfx_decoder.specs.declared.decoder.Decoder.{Decoder}
 use Rattle.nbfx_decoder.specs.declared.faults.UnitFault.{UnitFault}
@@ -20,13 +19,6 @@ use Rattle.nbfx_decoder.specs.Taking.{TakeAnswers, AllAnswers}
 pub record HasTaken (d : Decoder) (x : Settings) (strings : List (List ℕ)) (p y : List ℕ) (used : ℕ) : Type 0 where
   pub quiet : IsQuiet (payload x strings) p y used
   pub reached : Reached d x strings (p ++ take used y)
-
--- none
-pub taken_none : (d : Decoder) (x : Settings) (strings : List (List ℕ)) (p y : List ℕ) → Reached d x strings p → HasTaken d x strings p y 0
-taken_none d x strings p y h = record {
-  quiet = quiet_none (payload x strings) p y;
-  reached = subst (λ (q : List ℕ). Reached d x strings q) (sym (append-nil p)) h;
-}
 
 -- those behind some, as the bytes between two offsets
 pub rest_of : (y : List ℕ) (used : ℕ) → take (length y - used) (drop used y) ≡ drop used y
@@ -63,12 +55,3 @@ module _ (x : Settings) (strings : List (List ℕ)) (p y : List ℕ) (used : ℕ
         subst (λ (q : List ℕ). HasStrings new.units x (situation_of x strings q).strings (from_of x strings (p ++ take used y))) (joined k) set,
       )
       by_fault Memory set = (used, from_of x strings (p ++ take used y), quiet, set)
-
--- all
-pub taken_all : (d : Decoder) (x : Settings) (strings : List (List ℕ)) (p y : List ℕ) (used : ℕ) → length y ≤ used → HasTaken d x strings p y used → AllAnswers x strings p y d (Ok tt)
-taken_all d x strings p y used past h =
-    let within = h.quiet.within in
-    let same : used ≡ length y = omega (arith, past, within) in (
-      subst (λ (n : ℕ). IsQuiet (payload x strings) p y n) same h.quiet,
-      subst (λ (q : List ℕ). Reached d x strings q) (ap (λ n. p ++ take n y) same ∙ ap (λ c. p ++ c) (take-length y)) h.reached,
-    )

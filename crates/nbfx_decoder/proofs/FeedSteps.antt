@@ -41,6 +41,7 @@ use Rattle.nbfx_decoder.specs.Units.{HasStrings, IsAt, Keeps, KeepsSettings}
 use Rattle.string_tables.specs.SessionStrings.{used_cost}
 use Rattle.nbfx_decoder.specs.Bounds.{KeepsWithin}
 use Rattle.nbfx_decoder.specs.Laws.{MayBegin, IsUnrefused, IsWholePayload}
+use Rattle.nbfx_decoder.proofs.Keeping.{keeps_settings, settings_through, strings_kept}
 use Rattle.nbfx_decoder.proofs.Readable.{readable}
 use Rattle.nbfx_decoder.proofs.Sound.{keeps_within}
 use Rattle.nbfx_decoder.proofs.PayloadAnswers.{finished_where_whole, strings_behind}
@@ -194,19 +195,13 @@ module _ (d mid : Decoder) (strings : List (List ℕ)) (p y : List ℕ) (h : Sta
   module _ (new : Decoder) (fault : UnitFault) (told : DecodeFault) (shows : ShowsFault mid.units.from fault told) (failure : new.failure ≡ Some told) (no_bytes : new.begun ≡ []) (no_items : new.units.document ≡ [])
       (from : new.units.from ≡ mid.units.from) (same : Keeps mid.units new.units) where
     all_kept : KeepsSettings d.units new.units
-    all_kept = record { statics = same.statics ∙ kept.statics; quotas = same.quotas ∙ kept.quotas; kind = same.kind ∙ kept.kind }
+    all_kept = settings_through kept (keeps_settings same)
 
     failed_at : (q : List ℕ) (at : ℕ) → HasStrings mid.units (settings_of d) (situation_of (settings_of d) strings q).strings at → FailedBehind new told strings q
     failed_at q at set =
         failed_of new (settings_of d) told strings q (settings_kept d new all_kept) (record {
           failure = failure;
-          strings_are = record {
-            statics = ap (λ s. s.now) same.statics ∙ set.statics;
-            kind = same.kind ∙ set.kind;
-            limits = ap limits_of same.quotas ∙ set.limits;
-            table = same.table ∙ set.table;
-            from_is = refl;
-          };
+          strings_are = strings_kept same set refl;
           no_bytes = no_bytes;
           no_items = no_items;
         })
@@ -323,14 +318,8 @@ module _ (d : Decoder) (strings : List (List ℕ)) (p : List ℕ) (h : StandsFor
         let left = (situation_of (settings_of d) strings p).strings in
         let bounds = (keeps_within (settings_of d) strings (readable (settings_of d) strings) p).dictionary in
         let before = s.before in
-        stands_first new (settings_of d) left (settings_kept d new (record { statics = same.statics; quotas = same.quotas; kind = same.kind })) (record {
-          set = record {
-            statics = ap (λ s. s.now) same.statics ∙ set.statics;
-            kind = same.kind ∙ set.kind;
-            limits = ap limits_of same.quotas ∙ set.limits;
-            table = same.table ∙ set.table;
-            from_is = from;
-          };
+        stands_first new (settings_of d) left (settings_kept d new (keeps_settings same)) (record {
+          set = strings_kept same set from;
           section = section ∙ ap first_section set.kind;
           items = items;
         }) (bytes ∙ none_begun) (failure ∙ s.reached.unfailed) (omega (arith, bounds, before))
@@ -350,15 +339,9 @@ module _ (d : Decoder) (strings : List (List ℕ)) (p : List ℕ) (h : StandsFor
     pub finish_failed : (new : Decoder) (told : DecodeFault) → new.failure ≡ Some told → new.begun ≡ [] → new.units.document ≡ [] → Keeps d.units new.units → FailedBehind new told strings p
     finish_failed new told failure no_bytes no_items same =
         let set = (reached_of d strings p h).at.set in
-        failed_of new (settings_of d) told strings p (settings_kept d new (record { statics = same.statics; quotas = same.quotas; kind = same.kind })) (record {
+        failed_of new (settings_of d) told strings p (settings_kept d new (keeps_settings same)) (record {
           failure = failure;
-          strings_are = record {
-            statics = ap (λ s. s.now) same.statics ∙ set.statics;
-            kind = same.kind ∙ set.kind;
-            limits = ap limits_of same.quotas ∙ set.limits;
-            table = same.table ∙ set.table;
-            from_is = refl;
-          };
+          strings_are = strings_kept same set refl;
           no_bytes = no_bytes;
           no_items = no_items;
         })
@@ -426,16 +409,10 @@ module _ (d : Decoder) (fault : DecodeFault) (strings : List (List ℕ)) (p : Li
 module _ (d new : Decoder) (items : new.units.document ≡ d.units.document) (section : new.units.section ≡ d.units.section) (from : new.units.from ≡ d.units.from) (same : Keeps d.units new.units)
     (bytes : new.begun ≡ d.begun) (wants : new.wants ≡ d.wants) (failure : new.failure ≡ d.failure) where
   pub settings_stay : settings_of new ≡ settings_of d
-  settings_stay = settings_kept d new (record { statics = same.statics; quotas = same.quotas; kind = same.kind })
+  settings_stay = settings_kept d new (keeps_settings same)
 
   set_stays : (x : Settings) (strings : List (List ℕ)) (n : ℕ) → HasStrings d.units x strings n → HasStrings new.units x strings n
-  set_stays x strings n set = record {
-    statics = ap (λ s. s.now) same.statics ∙ set.statics;
-    kind = same.kind ∙ set.kind;
-    limits = ap limits_of same.quotas ∙ set.limits;
-    table = same.table ∙ set.table;
-    from_is = from ∙ set.from_is;
-  }
+  set_stays x strings n set = strings_kept same set (from ∙ set.from_is)
 
   pub stands_still : (strings : List (List ℕ)) (p : List ℕ) → StandsFor d strings p → StandsFor new strings p
   stands_still strings p h =

@@ -9,6 +9,7 @@ pub mod MeaningFacts
 pub mod Places
 -- what the functions of strings.rt, units.rt and decoder.rt answer
 pub mod Waits
+pub mod Keeping
 pub mod StringSteps
 pub mod UnitSteps
 pub mod TakeSteps

@@ -49,9 +49,6 @@ pub record AreFound {A B : Type 0} (f : A → Option B) (p : A → Bool) (q : B 
   pub valid : IsTrue (list_all p xs) → IsTrue (list_all q ys)
 
 module _ {A B : Type 0} (f : A → Option B) (p : A → Bool) (q : B → Bool) where
-  pub none_yet : AreFound f p q [] []
-  none_yet = record { found = refl; valid = λ h. refl }
-
   pub one_more : (xs : List A) (ys : List B) (x : A) (y : B) → AreFound f p q xs ys → f x ≡ Some y → (IsTrue (p x) → IsTrue (q y)) → AreFound f p q (xs ++ x ∷ []) (ys ++ y ∷ [])
   one_more xs ys x y are is passes = record {
     found = each_more f xs ys x y are.found is;

@@ -50,7 +50,8 @@ use Rattle.nbfx_decoder.specs.Sections.{section_of, left_in}
 use Rattle.nbfx_decoder.specs.Faults.{reason_of, unread}
 use Rattle.nbfx_decoder.specs.Tables.{TableString, table_string_at}
 use Rattle.nbfx_decoder.specs.Payload.{Settings, Situation, table_size, table_string, node, refusal, place_of, room_for, unit_of, unit_in, table_in, reason_in, added, after, refused}
-use Rattle.nbfx_decoder.specs.Units.{AwaitsBytes, HasStrings, Keeps, IsAt, StringStands, AddAnswers, UnitAnswers}
+use Rattle.nbfx_decoder.specs.Units.{AwaitsBytes, Keeps, IsAt, StringStands, AddAnswers, UnitAnswers}
+use Rattle.nbfx_decoder.proofs.Keeping.{strings_kept}
 use Rattle.nbfx_decoder.proofs.Readable.{reads_string, no_string}
 use Rattle.nbfx_decoder.proofs.Places.{stands_behind}
 use Rattle.nbfx_decoder.proofs.Waits.{waits_one}
@@ -81,16 +82,6 @@ pub left_some : (r : UnitReader) (left : ℕ) → r.section ≡ Strings left →
 left_some r left here = subst (λ (s : Section). 0 < left_in s) here r.some
 
 module _ (r : UnitReader) (x : Settings) (z : Situation) (from : ℕ) (at : IsAt r x z from) where
-  -- what stays
-  pub set_kept : (new : UnitReader) (n : ℕ) → Keeps r new → new.from ≡ n → HasStrings new x z.strings n
-  set_kept new n kept is = record {
-    statics = ap (λ s. s.now) kept.statics ∙ at.set.statics;
-    kind = kept.kind ∙ at.set.kind;
-    limits = ap limits_of kept.quotas ∙ at.set.limits;
-    table = kept.table ∙ at.set.table;
-    from_is = is;
-  }
-
   pub quota_here : r.quotas.dictionary ≡ x.limits.dictionary
   quota_here = ap (λ (l : Limits). l.dictionary) at.set.limits
 
@@ -122,7 +113,7 @@ module _ (r : UnitReader) (x : Settings) (z : Situation) (from : ℕ) (at : IsAt
     pub behind_size : (new : UnitReader) (n k : ℕ) → Keeps r new → new.from ≡ r.from + k → new.section ≡ section_of n → new.document ≡ r.document → IsAt new x (after x z (table_size n)) (from + k)
     unfolding after
     behind_size new n k kept gone section items = record {
-      set = set_kept new (from + k) kept (gone ∙ ap (λ m. m + k) at.set.from_is);
+      set = strings_kept kept at.set (gone ∙ ap (λ m. m + k) at.set.from_is);
       section = section;
       items = items ∙ at.items;
     }
@@ -262,7 +253,7 @@ module _ (r : UnitReader) (x : Settings) (z : Situation) (from : ℕ) (at : IsAt
           → new.from ≡ r.from → new.section ≡ r.section → new.document ≡ document → IsAt new x (after x z (node n)) from
       behind_node le small new statics kind quotas table same section is =
           rw (leads_to, few le small, some) (record {
-            set = set_kept new from (record { statics = statics; quotas = quotas; kind = kind; table = table }) (same ∙ at.set.from_is);
+            set = strings_kept (record { statics = statics; quotas = quotas; kind = kind; table = table }) at.set (same ∙ at.set.from_is);
             section = section ∙ at.section;
             items = is ∙ same_items;
           })
@@ -294,7 +285,7 @@ leads_somewhere table depth before n more stands found valid none = by_position 
 -- behind some bytes more it is in the same situation
 pub passed : (r : UnitReader) (x : Settings) (z : Situation) (from k : ℕ) → IsAt r x z from → (new : UnitReader) → Keeps r new → new.from ≡ r.from + k → new.section ≡ r.section → new.document ≡ r.document → IsAt new x z (from + k)
 passed r x z from k at new kept gone section items = record {
-  set = set_kept r x z from at new (from + k) kept (gone ∙ ap (λ m. m + k) at.set.from_is);
+  set = strings_kept kept at.set (gone ∙ ap (λ m. m + k) at.set.from_is);
   section = section ∙ at.section;
   items = items ∙ at.items;
 }

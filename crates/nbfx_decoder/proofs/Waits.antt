@@ -2,7 +2,6 @@
 use Rattle.std.proofs.Common.{◌≡◌, ℕ, ◌+◌, ◌<◌, List, [], ◌∷◌, ◌++◌, length, sym, ap, ◌∙◌, arith, length-append}
 use Rattle.std.proofs.lemmas.List.{append-nil}
 use Rattle.unit_streams.specs.Front.{Front, begun}
-use Rattle.unit_streams.specs.Parts.{seen}
 use Rattle.nbfx_decoder.specs.Units.{AwaitsBytes}
 
 -- no bytes more
@@ -21,11 +20,3 @@ module _ {A R : Type 0} (reader : List ℕ → Front A R) (b : List ℕ) where
       let same = length-append b [] in
       let more = w.more in
       ap reader (sym (append-nil b)) ∙ w.begins [] (omega (arith, same, more))
-
-  -- the same, seen otherwise
-  pub waits_seen : {B S : Type 0} (see : A → B) (tell : R → S) (n : ℕ) → AwaitsBytes reader b n → AwaitsBytes (λ c. seen see tell (reader c)) b n
-  waits_seen see tell n w = record { more = w.more; begins = λ next lt. ap (seen see tell) (w.begins next lt) }
-
-  -- or by another name
-  pub waits_as : (other : List ℕ → Front A R) (n : ℕ) → ((c : List ℕ) → other c ≡ reader c) → AwaitsBytes reader b n → AwaitsBytes other b n
-  waits_as other n same w = record { more = w.more; begins = λ next lt. same (b ++ next) ∙ w.begins next lt }

@@ -109,7 +109,9 @@ after x z (table_string s) = record z {
   section = section_of s.left;
   strings = z.strings ++ s.text ∷ [];
 }
-after x z (node n) = record z { items = z.items ++ added (reason_in x.limits.content z.items (items_of (table_in x z) n)) (items_of (table_in x z) n) }
+after x z (node n) =
+    let more = items_of (table_in x z) n in
+    record z { items = z.items ++ added (reason_in x.limits.content z.items more) more }
 
 -- why a whole unit is refused
 unfoldable pub refused : Settings → Situation → PayloadUnit → Option Reason

@@ -68,8 +68,8 @@ WhereItStands d Holds = (strings : List (List ℕ)) (p : List ℕ) → StandsFor
 
 -- what a decoder shows that has failed: the fault, and behind the bytes p of the payload its
 -- strings alone
-pub record Failed (d : Decoder) (x : Settings) (fault : DecodeFault) (strings : List (List ℕ)) (p : List ℕ)
-    : Type 0 where
+pub record Failed (d : Decoder) (x : Settings) (fault : DecodeFault) (strings : List (List ℕ))
+    (p : List ℕ) : Type 0 where
   pub failure : d.failure ≡ Some fault
   pub strings_are : HasStrings d.units x (situation_of x strings p).strings d.units.from
   pub no_bytes : d.begun ≡ []

@@ -38,7 +38,8 @@ text_judged bytes = if is_utf8 bytes then Ok bytes else Err BadUtf8
 
 -- the text of a string
 abbrev pub table_text_at : StringHead → Reader TableString Reason
-table_text_at head bytes = seen (λ text. record { text = text; left = head.left }) (λ reason. reason)
+table_text_at head bytes =
+    seen (λ text. record { text = text; left = head.left }) (λ reason. reason)
     (judged text_judged (some_bytes head.size bytes))
 
 -- a string of a table of which so many bytes are left, where its strings may cost so much more

@@ -231,14 +231,25 @@ array_joined own parts attributes values count byte kind counted bytes joined pa
     ap (λ p. p ++ byte ∷ counted) parts_are ∙ append_assoc attributes (1 ∷ []) (byte ∷ counted) ∙ ap (λ b. attributes ++ 1 ∷ b ∷ counted) of_kind ∙ ap (λ c. attributes ++ 1 ∷ array_byte kind ∷ c) counted_is in
     ap (λ c. 3 ∷ c) (joined ∙ ap (λ c. own ++ c) tail) ∙ sym (append_assoc (3 ∷ own) attributes (1 ∷ array_byte kind ∷ (count ++ values)))
 
-abbrev array_node : NamedShape → List AttrNode → ArrayKind → List Scalar → ArrayNode
+abbrev pub array_node : NamedShape → List AttrNode → ArrayKind → List Scalar → ArrayNode
 array_node it attrs kind values = record { prefix = it.prefix; name = it.name; attrs = attrs; kind = kind; values = values }
 
-some_values : (count : ℕ) (values : List Scalar) → (count == 0) ≡ false → length values ≡ count → 0 < length values
-some_values count values some size = elim (cases_lt 0 (length values)) [ inl lt ↦ lt | inr le ↦ absurd (eqb-false count 0 some (omega (arith, size, le))) ]
+-- what a whole array says: its texts are text, and its parts and values are these
+pub record ArraySays (shape : ArrayShape) (node : ArrayNode) (bytes : List ℕ) (a : ArrayIs shape bytes) : Type 0 where
+  pub counted : AreCounted a.are_cells.byte a.cells a.are_cells.rest
+  pub attrs : List AttrNode
+  pub values : List Scalar
+  pub shape_is : array_shape a.it a.parts.items (cells_shape counted.kind counted.counted.count counted.counted.values) ≡ shape
+  pub prefix_text : is_utf8 a.it.prefix ≡ true
+  pub name_text : name_is_text a.it.name ≡ true
+  pub part_texts : list_all attribute_is_text a.parts.items ≡ true
+  pub attrs_are : each attribute_value a.parts.items ≡ Some attrs
+  pub are_cells : AreCells counted.kind values counted.counted.values
+  pub count_is : length values ≡ counted.counted.count
+  pub node_is : array_node a.it attrs counted.kind values ≡ node
 
-pub array_there : (shape : ArrayShape) (node : ArrayNode) (bytes : List ℕ) → ArrayIs shape bytes → is_text (repeats shape) ≡ true → array_of shape ≡ Some node → IsArray node (3 ∷ bytes)
-array_there shape node bytes a t v =
+pub array_says : (shape : ArrayShape) (node : ArrayNode) (bytes : List ℕ) (a : ArrayIs shape bytes) → is_text (repeats shape) ≡ true → array_of shape ≡ Some node → ArraySays shape node bytes a
+array_says shape node bytes a t v =
     let counted = counted_there a.are_cells.byte a.cells a.are_cells.rest (array_kind a.are_cells.byte) refl a.are_cells.behind in
     let c = counted.counted in
     let shape_is : array_shape a.it a.parts.items (cells_shape counted.kind c.count c.values) ≡ shape = ap (array_shape a.it a.parts.items) c.shape_is ∙ a.shape_is in
@@ -248,19 +259,40 @@ array_there shape node bytes a t v =
     let head = bound_some (λ attrs. option_map (array_node a.it attrs counted.kind) values_of) (each attribute_value a.parts.items) node (ap array_of shape_is ∙ v) in
     let found = mapped_some (array_node a.it head.0 counted.kind) values_of node head.2 in
     let values = cells_there counted.kind c.count c.values found.0 c.size found.1 in
-    let attributes = parts_there a.parts.last a.parts.items head.0 a.part_bytes a.are_parts others.1 head.1 in
-    subst (λ (n : ArrayNode). IsArray n (3 ∷ bytes)) found.2 (record {
+    record {
+      counted = counted;
+      attrs = head.0;
+      values = found.0;
+      shape_is = shape_is;
+      prefix_text = texts.0;
+      name_text = others.0;
+      part_texts = others.1;
+      attrs_are = head.1;
+      are_cells = values.0;
+      count_is = values.1;
+      node_is = found.2;
+    }
+
+some_values : (count : ℕ) (values : List Scalar) → (count == 0) ≡ false → length values ≡ count → 0 < length values
+some_values count values some size = elim (cases_lt 0 (length values)) [ inl lt ↦ lt | inr le ↦ absurd (eqb-false count 0 some (omega (arith, size, le))) ]
+
+pub array_there : (shape : ArrayShape) (node : ArrayNode) (bytes : List ℕ) → ArrayIs shape bytes → is_text (repeats shape) ≡ true → array_of shape ≡ Some node → IsArray node (3 ∷ bytes)
+array_there shape node bytes a t v =
+    let says = array_says shape node bytes a t v in
+    let c = says.counted.counted in
+    let attributes = parts_there a.parts.last a.parts.items says.attrs a.part_bytes a.are_parts says.part_texts says.attrs_are in
+    subst (λ (n : ArrayNode). IsArray n (3 ∷ bytes)) says.node_is (record {
       element = a.element_bytes;
       attributes = attributes.0;
       count = c.count_bytes;
       cells = c.values;
-      is_element = repeated_there a.it a.is_element.byte a.is_element.rest a.element_bytes (record_kind a.is_element.byte) refl a.is_element.joined a.is_element.behind texts.0 others.0;
+      is_element = repeated_there a.it a.is_element.byte a.is_element.rest a.element_bytes (record_kind a.is_element.byte) refl a.is_element.joined a.is_element.behind says.prefix_text says.name_text;
       are_attributes = attributes.1;
-      is_count = subst (λ (n : ℕ). Spells n c.count_bytes) (sym values.1) c.is_count;
-      some = some_values c.count found.0 c.some values.1;
-      are_cells = values.0;
-      joined = array_joined a.element_bytes a.part_bytes attributes.0 c.values c.count_bytes a.are_cells.byte counted.kind a.are_cells.rest bytes
-          (a.joined ∙ ap (λ b. a.element_bytes ++ (a.part_bytes ++ b)) a.are_cells.joined) attributes.2 counted.is_kind c.joined;
+      is_count = subst (λ (n : ℕ). Spells n c.count_bytes) (sym says.count_is) c.is_count;
+      some = some_values c.count says.values c.some says.count_is;
+      are_cells = says.are_cells;
+      joined = array_joined a.element_bytes a.part_bytes attributes.0 c.values c.count_bytes a.are_cells.byte says.counted.kind a.are_cells.rest bytes
+          (a.joined ∙ ap (λ b. a.element_bytes ++ (a.part_bytes ++ b)) a.are_cells.joined) attributes.2 says.counted.is_kind c.joined;
     })
 
 -- an array that is read of these bytes
@@ -272,9 +304,9 @@ pub record IsReadArray (node : ArrayNode) (bytes : List ℕ) : Type 0 where
   pub is_text : is_text (repeats shape) ≡ true
   pub says : array_of shape ≡ Some node
 
-array_says : (it : NamedShape) (parts : List AttributeShape) (attrs : List AttrNode) (kind : ArrayKind) (count : ℕ) (bytes : List ℕ) (values : List Scalar) → each attribute_value parts ≡ Some attrs
+array_said : (it : NamedShape) (parts : List AttributeShape) (attrs : List AttrNode) (kind : ArrayKind) (count : ℕ) (bytes : List ℕ) (values : List Scalar) → each attribute_value parts ≡ Some attrs
     → each (scalar_of (text_kind_in kind)) (cells count (width_of kind) bytes) ≡ Some values → array_of (array_shape it parts (cells_shape kind count bytes)) ≡ Some (array_node it attrs kind values)
-array_says it parts attrs kind count bytes values e f = rw (e, f) refl
+array_said it parts attrs kind count bytes values e f = rw (e, f) refl
 
 pub array_back : (node : ArrayNode) (bytes : List ℕ) → IsArray node bytes → IsReadArray node bytes
 array_back node bytes a =
@@ -321,5 +353,5 @@ array_back node bytes a =
       };
       is_text = and_from (is_utf8 node.prefix) (name_is_text node.name && list_all attribute_is_text parts.items) own.prefix_is_text
           (and_from (name_is_text node.name) (list_all attribute_is_text parts.items) own.name_is_text parts.texts);
-      says = array_says it parts.items node.attrs node.kind (length node.values) a.cells node.values parts.says values.1;
+      says = array_said it parts.items node.attrs node.kind (length node.values) a.cells node.values parts.says values.1;
     }

@@ -52,7 +52,7 @@ attribute_byte Unprefixed = (refl, refl)
 attribute_byte (Lettered n) = (refl, refl)
 attribute_byte Prefixed = (refl, refl)
 
-attribute_form : (form : PrefixForm) (name : NameForm) → is_kind (records.Attribute form name) ≡ is_form true form
+pub attribute_form : (form : PrefixForm) (name : NameForm) → is_kind (records.Attribute form name) ≡ is_form true form
 attribute_form Unprefixed name = refl
 attribute_form (Lettered n) name = refl
 attribute_form Prefixed name = refl
@@ -80,7 +80,7 @@ element_byte Unprefixed = (refl, refl)
 element_byte (Lettered n) = (refl, refl)
 element_byte Prefixed = (refl, refl)
 
-element_form : (form : PrefixForm) (name : NameForm) → is_kind (records.Element form name) ≡ is_form true form
+pub element_form : (form : PrefixForm) (name : NameForm) → is_kind (records.Element form name) ≡ is_form true form
 element_form Unprefixed name = refl
 element_form (Lettered n) name = refl
 element_form Prefixed name = refl
@@ -108,7 +108,7 @@ declaration_byte Unprefixed e = (refl, refl)
 declaration_byte (Lettered n) e = cc
 declaration_byte Prefixed e = (refl, refl)
 
-declaration_form : (form : PrefixForm) (name : NameForm) → is_kind (records.Declaration form name) ≡ is_form false form
+pub declaration_form : (form : PrefixForm) (name : NameForm) → is_kind (records.Declaration form name) ≡ is_form false form
 declaration_form Unprefixed name = refl
 declaration_form (Lettered n) name = refl
 declaration_form Prefixed name = refl

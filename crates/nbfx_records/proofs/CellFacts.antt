@@ -1,5 +1,5 @@
 -- The values of an array, one after the other.
-use Rattle.std.proofs.Common.{◌≡◌, ℕ, suc, ◌+◌, ◌*◌, ◌<◌, ◌≤◌, List, [], ◌∷◌, ◌++◌, length, take, drop, true, Option, Some, None, Result, Ok, Err, refl, sym, ap, ◌∙◌, subst, arith, length-drop}
+use Rattle.std.proofs.Common.{◌≡◌, ℕ, suc, ◌+◌, ◌*◌, ◌<◌, ◌≤◌, List, [], ◌∷◌, ◌++◌, length, take, drop, true, Option, Some, None, Ok, Err, refl, sym, ap, ◌∙◌, subst, arith, length-drop}
 use Rattle.std.proofs.Common.{◌-◌}
 use Rattle.std.proofs.lemmas.List.{append-nil}
 use Rattle.std.specs.Prelude.{◌||◌, not}
@@ -24,13 +24,6 @@ pub record AreLeft (shape : CellsShape) (done : ℕ) (rest : List ℕ) (values :
   pub count : left + done ≡ shape.count
   pub size : length rest ≡ left * width_of shape.kind
   pub same : cells_judged shape ≡ led values (judge true (cell_values shape.kind left rest))
-
-pub all_left : (shape : CellsShape) → length shape.bytes ≡ shape.count * width_of shape.kind → AreLeft shape 0 shape.bytes []
-all_left shape size = record { left = shape.count; count = omega arith; size = size; same = none (cells_judged shape) }
-  where
-    none : (r : Result (List Scalar) NodeFault) → r ≡ led [] r
-    none (Ok values) = refl
-    none (Err fault) = refl
 
 none_left : (left done count : ℕ) → left + done ≡ count → count ≤ done → left ≡ 0
 none_left left done count e le = omega arith

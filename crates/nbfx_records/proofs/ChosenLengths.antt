@@ -38,14 +38,14 @@ use Rattle.nbfx_records.specs.declared.nodes.RawValue.{RawValue}
 use Rattle.nbfx_records.specs.declared.nodes.RawValue.TheVariants.{One, List as ListOf}
 use Rattle.nbfx_records.specs.Causes.{scalars_in, scalars_of_attribute, scalars_of_value}
 use Rattle.nbfx_records.specs.Chosen.{array_bytes, cell_bytes, chosen_bytes, counted_cells, declared_form, element_bytes, is_utf16, name_bytes, part_bytes, prefix_bytes, prefix_form, scalar_bytes, value_bytes}
-use Rattle.nbfx_records.specs.Contents.{array_of, attribute_is_text, attribute_node, attribute_value, cells, each, is_text, name_is_text, node_of, scalar_is_text, scalar_of, scalar_value, value_is_text, value_of}
-use Rattle.nbfx_records.specs.Kinds.{array_kind, record_kind, text_kind_in, width_of}
+use Rattle.nbfx_records.specs.Contents.{array_of, attribute_is_text, attribute_node, attribute_value, each, is_text, name_is_text, node_of, scalar_is_text, scalar_value, value_is_text, value_of}
+use Rattle.nbfx_records.specs.Kinds.{record_kind, text_kind_in}
 use Rattle.nbfx_records.specs.Laws.{ChosenIsShortest}
 use Rattle.nbfx_records.specs.Records.{AreCells, SpellsAs}
-use Rattle.nbfx_records.specs.Shapes.{ArrayShape, AttributeShape, NamedShape, ScalarShape, Shape, ValueShape, adds, bytes_of, named_by, one, qualified_by, repeats, several, array_shape, cells_shape}
+use Rattle.nbfx_records.specs.Shapes.{ArrayShape, AttributeShape, NamedShape, ScalarShape, Shape, ValueShape, adds, bytes_of, named_by, one, qualified_by, repeats, several}
 use Rattle.nbfx_records.specs.TypeBytes.{is_kind, is_letter, text_byte}
-use Rattle.nbfx_records.proofs.ArrayBytes.{cells_there, counted_there, one_there}
-use Rattle.nbfx_records.proofs.AttributeBytes.{PartIs}
+use Rattle.nbfx_records.proofs.ArrayBytes.{array_node, array_says, one_there}
+use Rattle.nbfx_records.proofs.AttributeBytes.{PartIs, attribute_form, declaration_form, element_form}
 use Rattle.nbfx_records.proofs.ChosenShort.{fixed_length, of_utf16, shortest_least, sixteen_length, spelled_long}
 use Rattle.nbfx_records.proofs.KindBytes.{byte_is}
 use Rattle.nbfx_records.proofs.NameBytes.{is_form}
@@ -157,24 +157,9 @@ name_long Identified (Id id) bytes h = shortest_least id bytes h
 name_long Inlined (Id id) bytes h = absurd h
 name_long Identified (Inline s) bytes h = absurd h
 
-element_form : (form : PrefixForm) (name : NameForm) → is_kind (records.Element form name) ≡ true → is_form true form ≡ true
-element_form Unprefixed name e = refl
-element_form (Lettered c) name e = e
-element_form Prefixed name e = refl
-
-attribute_form : (form : PrefixForm) (name : NameForm) → is_kind (records.Attribute form name) ≡ true → is_form true form ≡ true
-attribute_form Unprefixed name e = refl
-attribute_form (Lettered c) name e = e
-attribute_form Prefixed name e = refl
-
-declaration_form : (form : PrefixForm) (name : NameForm) → is_kind (records.Declaration form name) ≡ true → is_form false form ≡ true
-declaration_form Unprefixed name e = refl
-declaration_form (Lettered c) name e = cc e
-declaration_form Prefixed name e = refl
-
 element_long : (form : PrefixForm) (name_form : NameForm) (it : NamedShape) (rest : List ℕ) → is_kind (records.Element form name_form) ≡ true → ElementIs form name_form it rest → length (element_bytes it.prefix it.name) ≤ suc (length rest)
 element_long form name_form it rest real a =
-    let prefix = prefix_long form a.prefix a.prefix_bytes (element_form form name_form real) a.is_prefix in
+    let prefix = prefix_long form a.prefix a.prefix_bytes (sym (element_form form name_form) ∙ real) a.is_prefix in
     let name = name_long name_form a.name a.name_bytes a.is_name in
     subst (λ (s : NamedShape). length (element_bytes s.prefix s.name) ≤ suc (length rest)) a.shape_is
     (omega (arith, prefix, name, ap length a.joined, length-append a.prefix_bytes a.name_bytes, length-append (prefix_bytes (prefix_form a.prefix) a.prefix) (name_bytes a.name)))
@@ -190,7 +175,7 @@ part_long (records.Attribute form name_form) shape node rest are real a t v plai
     let texts = and_parts (is_utf8 a.prefix) (name_is_text a.name && value_is_text a.value) (ap attribute_is_text a.shape_is ∙ t) in
     let others = and_parts (name_is_text a.name) (value_is_text a.value) texts.1 in
     let own = bytes_rest a.name_bytes a.value_bytes (bytes_rest a.prefix_bytes (a.name_bytes ++ a.value_bytes) (subst IsBytes a.joined are)) in
-    let prefix = prefix_long form a.prefix a.prefix_bytes (attribute_form form name_form real) a.is_prefix in
+    let prefix = prefix_long form a.prefix a.prefix_bytes (sym (attribute_form form name_form) ∙ real) a.is_prefix in
     let name = name_long name_form a.name a.name_bytes a.is_name in
     let value = value_long a.value found.0 a.value_bytes own a.is_value others.1 found.1 (ap (λ s. list_all (λ x. not (is_utf16 x)) (scalars_of_attribute s)) a.shape_is ∙ plain) in
     part_as node (attribute_nodes.Attribute a.prefix a.name found.0) (suc (length rest)) found.2
@@ -207,7 +192,7 @@ part_long (records.Attribute form name_form) shape node rest are real a t v plai
     ))
 part_long (records.Declaration form name_form) shape node rest are real a t v plain =
     let found : attribute_nodes.Xmlns a.prefix a.name ≡ node = cc (ap attribute_value a.shape_is ∙ v) in
-    let prefix = declared_long form a.prefix a.prefix_bytes (declaration_form form name_form real) a.is_prefix in
+    let prefix = declared_long form a.prefix a.prefix_bytes (sym (declaration_form form name_form) ∙ real) a.is_prefix in
     let name = name_long name_form a.name a.name_bytes a.is_name in
     part_as node (attribute_nodes.Xmlns a.prefix a.name) (suc (length rest)) found
     (omega (arith, prefix, name, ap length a.joined, length-append a.prefix_bytes a.name_bytes, length-append (prefix_bytes (declared_form a.prefix) a.prefix) (name_bytes a.name)))
@@ -271,29 +256,19 @@ repeated_long it byte rest bytes (Some (records.Element form name)) e joined h =
 repeated_long it byte rest bytes None e joined h = absurd h
 repeated_long it byte rest bytes (Some _) e joined h = absurd h
 
-abbrev array_with : NamedShape → List AttrNode → ArrayKind → List Scalar → ArrayNode
-array_with it attrs kind values = record { prefix = it.prefix; name = it.name; attrs = attrs; kind = kind; values = values }
-
 array_long : (shape : ArrayShape) (node : ArrayNode) (bytes : List ℕ) → IsBytes bytes → ArrayIs shape bytes → is_text (repeats shape) ≡ true → array_of shape ≡ Some node → Plain (scalars_in (repeats shape)) → length (array_bytes node) ≤ suc (length bytes)
 array_long shape node bytes are a t v plain =
-    let counted = counted_there a.are_cells.byte a.cells a.are_cells.rest (array_kind a.are_cells.byte) refl a.are_cells.behind in
-    let c = counted.counted in
-    let shape_is : array_shape a.it a.parts.items (cells_shape counted.kind c.count c.values) ≡ shape = ap (array_shape a.it a.parts.items) c.shape_is ∙ a.shape_is in
-    let texts = and_parts (is_utf8 a.it.prefix) (name_is_text a.it.name && list_all attribute_is_text a.parts.items) (ap (λ s. is_text (repeats s)) shape_is ∙ t) in
-    let others = and_parts (name_is_text a.it.name) (list_all attribute_is_text a.parts.items) texts.1 in
-    let values_of = each (scalar_of (text_kind_in counted.kind)) (cells c.count (width_of counted.kind) c.values) in
-    let head = bound_some (λ attrs. option_map (array_with a.it attrs counted.kind) values_of) (each attribute_value a.parts.items) node (ap array_of shape_is ∙ v) in
-    let found = mapped_some (array_with a.it head.0 counted.kind) values_of node head.2 in
-    let values = cells_there counted.kind c.count c.values found.0 c.size found.1 in
-    let all_plain = ap (λ s. list_all (λ x. not (is_utf16 x)) (scalars_in (repeats s))) shape_is ∙ plain in
+    let says = array_says shape node bytes a t v in
+    let c = says.counted.counted in
+    let all_plain = ap (λ s. list_all (λ x. not (is_utf16 x)) (scalars_in (repeats s))) says.shape_is ∙ plain in
     let plains = and_parts (list_all (λ x. not (is_utf16 x)) (flat_map scalars_of_attribute a.parts.items)) _
     (sym (list_all-append (λ x. not (is_utf16 x)) (flat_map scalars_of_attribute a.parts.items) _) ∙ all_plain) in
     let own = bytes_front a.part_bytes a.cell_bytes (bytes_rest a.element_bytes (a.part_bytes ++ a.cell_bytes) (subst IsBytes a.joined are)) in
     let element = repeated_long a.it a.is_element.byte a.is_element.rest a.element_bytes (record_kind a.is_element.byte) refl a.is_element.joined a.is_element.behind in
-    let parts = parts_long a.parts.last a.parts.items head.0 a.part_bytes own a.are_parts others.1 head.1 plains.0 in
-    let count = shortest_least (length found.0) c.count_bytes (subst (λ (n : ℕ). Spells n c.count_bytes) (sym values.1) c.is_count) in
-    let cells = cells_long counted.kind found.0 c.values values.0 in
-    subst (λ (n : ArrayNode). length (array_bytes n) ≤ suc (length bytes)) found.2
+    let parts = parts_long a.parts.last a.parts.items says.attrs a.part_bytes own a.are_parts says.part_texts says.attrs_are plains.0 in
+    let count = shortest_least (length says.values) c.count_bytes (subst (λ (n : ℕ). Spells n c.count_bytes) (sym says.count_is) c.is_count) in
+    let cells = cells_long says.counted.kind says.values c.values says.are_cells in
+    subst (λ (n : ArrayNode). length (array_bytes n) ≤ suc (length bytes)) says.node_is
     (omega (
       arith,
       element,
@@ -306,9 +281,9 @@ array_long shape node bytes are a t v plain =
       ap length a.are_cells.joined,
       ap length c.joined,
       length-append c.count_bytes c.values,
-      length-append (element_bytes a.it.prefix a.it.name) (flat_map part_bytes head.0 ++ 1 ∷ counted_cells (array_with a.it head.0 counted.kind found.0)),
-      length-append (flat_map part_bytes head.0) (1 ∷ counted_cells (array_with a.it head.0 counted.kind found.0)),
-      length-append (shortest (length found.0)) (flat_map (cell_bytes counted.kind) found.0),
+      length-append (element_bytes a.it.prefix a.it.name) (flat_map part_bytes says.attrs ++ 1 ∷ counted_cells (array_node a.it says.attrs says.counted.kind says.values)),
+      length-append (flat_map part_bytes says.attrs) (1 ∷ counted_cells (array_node a.it says.attrs says.counted.kind says.values)),
+      length-append (shortest (length says.values)) (flat_map (cell_bytes says.counted.kind) says.values),
     ))
 
 -- a record behind its type byte

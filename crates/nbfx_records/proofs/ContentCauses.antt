@@ -116,9 +116,6 @@ none_then : {A B : Type 0} (f : A → B) (o : Option A) → option_map f o ≡ N
 none_then f None e = refl
 none_then f (Some a) e = cc e
 
-some_never : {A B C : Type 0} (f : B → C) (g : A → B) (a : A) → option_map f (Some (g a)) ≡ None → ⊥
-some_never f g a e = cc e
-
 truth_none : (byte : ℕ) → (truth_of byte ≡ None) ↔ (1 < byte)
 truth_none byte = (λ e. to e, λ h. from h)
   where

@@ -1,6 +1,6 @@
 -- Parts that are read from an offset on, by what their readers say of the bytes there.
 use Rattle.std.proofs.Common.{◌≡◌, ℕ, ◌+◌, ◌-◌, ◌<◌, ◌≤◌, List, [], ◌∷◌, ◌++◌, length, take, drop, get_or, Result, Ok, Err, refl, sym, ap, ◌∙◌, subst, arith, append_assoc, length-append, length-drop}
-use Rattle.std.proofs.lemmas.List.{append-nil, nil_from_length, length-take-le, take-append-drop, drop-append-le, drop-drop, take_more, get_or-drop}
+use Rattle.std.proofs.lemmas.List.{append-nil, length-take-le, take-append-drop, drop-append-le, drop-drop, take_more, get_or-drop}
 use Rattle.std.specs.Prelude.{IsErrAnd}
 use Rattle.std.proofs.lemmas.Result.{err_from_is_err_and}
 use Rattle.unit_streams.specs.Front.{Front, begun, whole, wrong, ReadsFront}
@@ -17,7 +17,7 @@ use Rattle.nbfx_records.specs.declared.nodes.NodeFault.TheVariants as faults
 use Rattle.nbfx_records.specs.Shapes.{an_integer}
 use Rattle.nbfx_records.proofs.ShapeFronts.{reads_integer}
 use Rattle.nbfx_records.specs.Asked.{Either, here, later}
-use Rattle.nbfx_records.specs.Cursor.{read_from, IsWhole, IsWrong, Waits, Why, AsksAt, Stops, Told, Tells}
+use Rattle.nbfx_records.specs.Cursor.{read_from, IsWhole, IsWrong, Why, AsksAt, Stops, Told, Tells}
 
 -- bytes that follow, behind an offset
 drop_more : (bytes more : List ℕ) (at : ℕ) → at ≤ length bytes → drop at (bytes ++ more) ≡ drop at bytes ++ more
@@ -43,15 +43,6 @@ module _ {A : Type 0} (reader : Reader A NodeFault) (reads : ReadsFront reader) 
     stands = λ more. ap (λ b. further at (reader b)) (part_then bytes more at to after within)
         ∙ ap (further at) (reads.wrong_stays (take (to - at) (drop at bytes)) (drop (to - at) (drop at bytes) ++ more) fault (to - at) e) ∙ ap (wrong fault) (omega arith);
   }
-
--- what has begun at the end of the bytes wants one more
-pub waits_by : {A : Type 0} (reader : Reader A NodeFault) (bytes : List ℕ) (at : ℕ) → reader (drop at bytes) ≡ begun → Waits reader bytes at (length bytes + 1)
-waits_by reader bytes at e = record {
-  above = omega arith;
-  begins = λ more lt.
-      let none : more ≡ [] = nil_from_length more (omega (arith, length-append bytes more, lt)) in
-      ap (λ m. further at (reader (drop at (bytes ++ m)))) none ∙ ap (λ b. further at (reader (drop at b))) (append-nil bytes) ∙ ap (further at) e;
-}
 
 -- one more byte behind those from an offset on
 pub one_more : (bytes : List ℕ) (from at : ℕ) → from ≤ at → at < length bytes → take (at - from) (drop from bytes) ++ get_or bytes at 0 ∷ [] ≡ take ((at + 1) - from) (drop from bytes)

@@ -29,12 +29,6 @@ name_there Identified (Id id) bytes h t = h
 name_there Inlined (Id id) bytes h t = absurd h
 name_there Identified (Inline s) bytes h t = absurd h
 
-pub form_is : (form : NameForm) (name : NameRef) (bytes : List ℕ) → NameIs form name bytes → form ≡ form_of name
-form_is Inlined (Inline s) bytes h = refl
-form_is Identified (Id id) bytes h = refl
-form_is Inlined (Id id) bytes h = absurd h
-form_is Identified (Inline s) bytes h = absurd h
-
 pub name_back : (name : NameRef) (bytes : List ℕ) → IsName name bytes → NameIs (form_of name) name bytes × (name_is_text name ≡ true)
 name_back (Inline s) bytes h = string_back s bytes h
 name_back (Id id) bytes h = (h, refl)

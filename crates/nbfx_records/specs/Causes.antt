@@ -1,4 +1,5 @@
--- What may be wrong with a record: a type byte or a number in it, once those before are whole; or a text or a value of one that is whole.
+-- What may be wrong with a record: a type byte or a number in it, once those before are whole; or a
+-- text or a value of one that is whole.
 use Rattle.std.specs.Prelude.{◌≡◌, ◌≢◌, ⊤, ℕ, ◌+◌, ◌%◌, ◌^◌, ◌<◌, ◌≤◌, ◌⊎◌, List, [], ◌∷◌, ◌++◌, length, take, drop, slice_index, Bool, true, false, not, ◌&&◌, if◌then◌else◌, Option, Some, None, IsUtf8, Contains, flat_map}
 use Rattle.std.specs.Int.{w32, from_le_bytes}
 use Rattle.std.specs.Char.Utf16.{has_unpaired_surrogate}
@@ -46,7 +47,8 @@ pub data Part : Type 0 where
   -- a length of four bytes
   long_length : Part
 
--- Why a type byte may not come, by the record that it begins: one byte may not begin a record at a place,
+-- Why a type byte may not come, by the record that it begins: one byte may not begin a record at a
+-- place,
 abbrev pub record_refused : NodePlace → Option RecordKind → Option NodeFault
 record_refused AfterRoot kind = Some faults.TrailingBytes
 record_refused place None = Some faults.UnknownNode
@@ -62,9 +64,11 @@ value_refused (Some _) = Some faults.OutOfPlace
 -- nor one thing of a list, which is a plain text that is no list, or the end,
 abbrev pub item_refused : Bool → Option RecordKind → Option NodeFault
 item_refused may_close None = Some faults.UnknownNode
-item_refused may_close (Some (records.Text texts.EndList ends)) = if ends && not may_close then Some faults.OutOfPlace else None
+item_refused may_close (Some (records.Text texts.EndList ends)) =
+    if ends && not may_close then Some faults.OutOfPlace else None
 item_refused may_close (Some (records.Text texts.StartList ends)) = Some faults.OutOfPlace
-item_refused may_close (Some (records.Text kind ends)) = if ends then Some faults.OutOfPlace else None
+item_refused may_close (Some (records.Text kind ends)) =
+    if ends then Some faults.OutOfPlace else None
 item_refused may_close (Some _) = Some faults.OutOfPlace
 
 -- nor an array's element, an attribute of it or their end, its values
@@ -108,7 +112,9 @@ IsNone fault bytes m = (fault ≡ faults.BadArray) × (int_at bytes ≡ whole 0 
 
 -- a length of four bytes is negative
 abbrev pub IsNegative : NodeFault → List ℕ → ℕ → Type 0
-IsNegative fault bytes m = (fault ≡ faults.BadInt) × (m ≡ 4) × (4 ≤ length bytes) × (2 ^ 31 ≤ from_le_bytes w32 (take 4 bytes))
+IsNegative fault bytes m =
+    (fault ≡ faults.BadInt) × (m ≡ 4) × (4 ≤ length bytes)
+    × (2 ^ 31 ≤ from_le_bytes w32 (take 4 bytes))
 
 -- a part is wrong, as its first m bytes show
 abbrev pub IsWrongPart : Part → NodeFault → List ℕ → ℕ → Type 0
@@ -122,15 +128,21 @@ abbrev pub Now : Part → Part → ℕ → Type 0
 Now due part k = (part ≡ due) × (k ≡ 0)
 
 -- or behind a whole thing, as next says by what that is,
-abbrev pub Behind : {A : Type 0} → Reader A NodeFault → (A → List ℕ → ℕ → Type 0) → List ℕ → ℕ → Type 0
-Behind {A} reader next bytes k = (a : A) × (j : ℕ) × (i : ℕ) × (reader bytes ≡ whole a j) × (k ≡ j + i) × next a (drop j bytes) i
+abbrev pub Behind : {A : Type 0} → Reader A NodeFault → (A → List ℕ → ℕ → Type 0) → List ℕ → ℕ
+    → Type 0
+Behind {A} reader next bytes k =
+    (a : A) × (j : ℕ) × (i : ℕ) × (reader bytes ≡ whole a j) × (k ≡ j + i) × next a (drop j bytes) i
 
 -- or behind whole things one behind the other
-abbrev pub BehindThese : {A B : Type 0} → Reader (Turn A B) NodeFault → (List ℕ → ℕ → Type 0) → List A → List ℕ → ℕ → Type 0
+abbrev pub BehindThese : {A B : Type 0} → Reader (Turn A B) NodeFault → (List ℕ → ℕ → Type 0)
+    → List A → List ℕ → ℕ → Type 0
 BehindThese turn next [] bytes k = next bytes k
-BehindThese turn next (a ∷ items) bytes k = (j : ℕ) × (i : ℕ) × (turn bytes ≡ whole (more a) j) × (k ≡ j + i) × BehindThese turn next items (drop j bytes) i
+BehindThese turn next (a ∷ items) bytes k =
+    (j : ℕ) × (i : ℕ) × (turn bytes ≡ whole (more a) j) × (k ≡ j + i)
+    × BehindThese turn next items (drop j bytes) i
 
-abbrev pub BehindMany : {A B : Type 0} → Reader (Turn A B) NodeFault → (List ℕ → ℕ → Type 0) → List ℕ → ℕ → Type 0
+abbrev pub BehindMany : {A B : Type 0} → Reader (Turn A B) NodeFault → (List ℕ → ℕ → Type 0)
+    → List ℕ → ℕ → Type 0
 BehindMany {A} turn next bytes k = (items : List A) × BehindThese turn next items bytes k
 
 -- in a prefix, and in a prefix and a name
@@ -139,13 +151,15 @@ InPrefix Prefixed part k = Now integer part k
 InPrefix _ part k = ⊥
 
 abbrev pub InNamed : PrefixForm → Part → List ℕ → ℕ → Type 0
-InNamed prefix part bytes k = InPrefix prefix part k ⊎ Behind (prefix_at prefix) (λ _ rest i. Now integer part i) bytes k
+InNamed prefix part bytes k =
+    InPrefix prefix part k ⊎ Behind (prefix_at prefix) (λ _ rest i. Now integer part i) bytes k
 
 -- in one value
 abbrev pub InBody : Body → Part → List ℕ → ℕ → Type 0
 InBody (Counted FourBytes) part bytes k = Now long_length part k
 InBody Named part bytes k = Now integer part k
-InBody Qualified part bytes k = Behind (a_byte {R = NodeFault}) (λ _ rest i. Now integer part i) bytes k
+InBody Qualified part bytes k =
+    Behind (a_byte {R = NodeFault}) (λ _ rest i. Now integer part i) bytes k
 InBody _ part bytes k = ⊥
 
 -- in a list
@@ -154,7 +168,9 @@ InItem (Some (records.Text kind false)) part bytes k = InBody (body_of kind) par
 InItem _ part bytes k = ⊥
 
 abbrev pub InTurn : Bool → Part → List ℕ → ℕ → Type 0
-InTurn may_close part bytes k = Now (item_type may_close) part k ⊎ Behind (a_byte {R = NodeFault}) (λ byte rest i. InItem (record_kind byte) part rest i) bytes k
+InTurn may_close part bytes k =
+    Now (item_type may_close) part k
+    ⊎ Behind (a_byte {R = NodeFault}) (λ byte rest i. InItem (record_kind byte) part rest i) bytes k
 
 abbrev pub InList : Bool → Part → List ℕ → ℕ → Type 0
 InList may_close part bytes k = BehindMany (list_turn may_close) (InTurn may_close part) bytes k
@@ -170,12 +186,17 @@ InValueOf (Some (records.Text kind false)) part bytes k = InText false kind part
 InValueOf _ part bytes k = ⊥
 
 abbrev pub InValue : Part → List ℕ → ℕ → Type 0
-InValue part bytes k = Now value_type part k ⊎ Behind (a_byte {R = NodeFault}) (λ byte rest i. InValueOf (record_kind byte) part rest i) bytes k
+InValue part bytes k =
+    Now value_type part k
+    ⊎ Behind (a_byte {R = NodeFault}) (λ byte rest i. InValueOf (record_kind byte) part rest i)
+    bytes k
 
 abbrev pub InAttribute : PrefixForm → NameForm → Part → List ℕ → ℕ → Type 0
 InAttribute prefix name part bytes k =
     InPrefix prefix part k
-    ⊎ Behind (prefix_at prefix) (λ _ rest i. Now integer part i ⊎ Behind (name_at name) (λ _ behind h. InValue part behind h) rest i) bytes k
+    ⊎ Behind (prefix_at prefix)
+    (λ _ rest i. Now integer part i
+    ⊎ Behind (name_at name) (λ _ behind h. InValue part behind h) rest i) bytes k
 
 -- in an array: in its element, its attributes, its values
 abbrev pub InElementOf : Option RecordKind → Part → List ℕ → ℕ → Type 0
@@ -183,7 +204,10 @@ InElementOf (Some (records.Element prefix name)) part bytes k = InNamed prefix p
 InElementOf _ part bytes k = ⊥
 
 abbrev pub InElement : Part → List ℕ → ℕ → Type 0
-InElement part bytes k = Now element_type part k ⊎ Behind (a_byte {R = NodeFault}) (λ byte rest i. InElementOf (record_kind byte) part rest i) bytes k
+InElement part bytes k =
+    Now element_type part k
+    ⊎ Behind (a_byte {R = NodeFault}) (λ byte rest i. InElementOf (record_kind byte) part rest i)
+    bytes k
 
 abbrev pub InPartOf : Option RecordKind → Part → List ℕ → ℕ → Type 0
 InPartOf (Some (records.Attribute prefix name)) part bytes k = InAttribute prefix name part bytes k
@@ -191,19 +215,27 @@ InPartOf (Some (records.Declaration prefix uri)) part bytes k = InNamed prefix p
 InPartOf _ part bytes k = ⊥
 
 abbrev pub InParts : Part → List ℕ → ℕ → Type 0
-InParts part bytes k = BehindMany array_turn (λ rest i. Now part_type part i ⊎ Behind (a_byte {R = NodeFault}) (λ byte behind h. InPartOf (record_kind byte) part behind h) rest i) bytes k
+InParts part bytes k =
+    BehindMany array_turn
+    (λ rest i. Now part_type part i
+    ⊎ Behind (a_byte {R = NodeFault})
+    (λ byte behind h. InPartOf (record_kind byte) part behind h) rest i) bytes k
 
 abbrev pub InCellsOf : Option ArrayKind → Part → ℕ → Type 0
 InCellsOf (Some kind) part k = Now count part k
 InCellsOf None part k = ⊥
 
 abbrev pub InCells : Part → List ℕ → ℕ → Type 0
-InCells part bytes k = Now cells_type part k ⊎ Behind (a_byte {R = NodeFault}) (λ byte rest i. InCellsOf (array_kind byte) part i) bytes k
+InCells part bytes k =
+    Now cells_type part k
+    ⊎ Behind (a_byte {R = NodeFault}) (λ byte rest i. InCellsOf (array_kind byte) part i) bytes k
 
 abbrev pub InArray : Part → List ℕ → ℕ → Type 0
 InArray part bytes k =
     InElement part bytes k
-    ⊎ Behind array_element (λ _ rest i. InParts part rest i ⊎ Behind array_parts (λ _ behind h. InCells part behind h) rest i) bytes k
+    ⊎ Behind array_element
+    (λ _ rest i. InParts part rest i
+    ⊎ Behind array_parts (λ _ behind h. InCells part behind h) rest i) bytes k
 
 -- in a record, behind its type byte and with it
 abbrev pub InRecordOf : RecordKind → Part → List ℕ → ℕ → Type 0
@@ -216,14 +248,19 @@ InRecordOf (records.Element prefix name) part bytes k = InNamed prefix part byte
 InRecordOf (records.Text kind ends) part bytes k = InText true kind part bytes k
 
 abbrev pub InPlaced : NodePlace → Option RecordKind → Part → List ℕ → ℕ → Type 0
-InPlaced place (Some kind) part bytes k = (record_refused place (Some kind) ≡ None) × InRecordOf kind part bytes k
+InPlaced place (Some kind) part bytes k =
+    (record_refused place (Some kind) ≡ None) × InRecordOf kind part bytes k
 InPlaced place None part bytes k = ⊥
 
 abbrev pub InRecord : NodePlace → Part → List ℕ → ℕ → Type 0
-InRecord place part bytes k = Now (record_type place) part k ⊎ Behind (a_byte {R = NodeFault}) (λ byte rest i. InPlaced place (record_kind byte) part rest i) bytes k
+InRecord place part bytes k =
+    Now (record_type place) part k
+    ⊎ Behind (a_byte {R = NodeFault}) (λ byte rest i. InPlaced place (record_kind byte) part rest i)
+    bytes k
 
 -- some part is wrong of those that come so, as the first n bytes show
-pub record Caused (comes : Part → List ℕ → ℕ → Type 0) (fault : NodeFault) (bytes : List ℕ) (n : ℕ) : Type 0 where
+pub record Caused (comes : Part → List ℕ → ℕ → Type 0) (fault : NodeFault) (bytes : List ℕ)
+    (n : ℕ) : Type 0 where
   pub part : Part
   pub at : ℕ
   pub shown : ℕ
@@ -231,7 +268,8 @@ pub record Caused (comes : Part → List ℕ → ℕ → Type 0) (fault : NodeFa
   pub wrong : IsWrongPart part fault (drop at bytes) shown
   pub place : n ≡ at + shown
 
--- The texts of a record, in their order: prefixes, names, URIs, comments, and what is to be UTF-8 of values.
+-- The texts of a record, in their order: prefixes, names, URIs, comments, and what is to be UTF-8
+-- of values.
 abbrev pub texts_of_scalar : ScalarShape → List (List ℕ)
 texts_of_scalar (bytes_of kind bytes) = if has_characters kind then bytes ∷ [] else []
 texts_of_scalar _ = []
@@ -245,7 +283,8 @@ texts_of_name (Inline s) = s ∷ []
 texts_of_name (Id id) = []
 
 abbrev pub texts_of_attribute : AttributeShape → List (List ℕ)
-texts_of_attribute (attributes prefix name value) = prefix ∷ (texts_of_name name ++ texts_of_value value)
+texts_of_attribute (attributes prefix name value) =
+    prefix ∷ (texts_of_name name ++ texts_of_value value)
 texts_of_attribute (declares prefix uri) = prefix ∷ texts_of_name uri
 
 abbrev pub texts_in : Shape → List (List ℕ)
@@ -254,7 +293,8 @@ texts_in (comments bytes) = bytes ∷ []
 texts_in (begins_element prefix name) = prefix ∷ texts_of_name name
 texts_in (adds attribute) = texts_of_attribute attribute
 texts_in (has_text value ends) = texts_of_value value
-texts_in (repeats array) = array.prefix ∷ (texts_of_name array.name ++ flat_map texts_of_attribute array.attributes)
+texts_in (repeats array) =
+    array.prefix ∷ (texts_of_name array.name ++ flat_map texts_of_attribute array.attributes)
 
 -- its values
 abbrev pub scalars_of_value : ValueShape → List ScalarShape
@@ -266,22 +306,27 @@ scalars_of_attribute (attributes prefix name value) = scalars_of_value value
 scalars_of_attribute (declares prefix uri) = []
 
 abbrev pub scalars_of_cells : ArrayShape → List ScalarShape
-scalars_of_cells array = flat_map (λ cell. bytes_of (text_kind_in array.kind) cell ∷ []) (cells array.count (width_of array.kind) array.bytes)
+scalars_of_cells array =
+    flat_map (λ cell. bytes_of (text_kind_in array.kind) cell ∷ [])
+    (cells array.count (width_of array.kind) array.bytes)
 
 abbrev pub scalars_in : Shape → List ScalarShape
 scalars_in (adds attribute) = scalars_of_attribute attribute
 scalars_in (has_text value ends) = scalars_of_value value
-scalars_in (repeats array) = flat_map scalars_of_attribute array.attributes ++ scalars_of_cells array
+scalars_in (repeats array) =
+    flat_map scalars_of_attribute array.attributes ++ scalars_of_cells array
 scalars_in _ = []
 
 -- bytes that are an odd number, or have a surrogate without its partner
 abbrev pub IsNoUtf16 : List ℕ → Type 0
 IsNoUtf16 bytes = (length bytes % 2 ≡ 1) ⊎ (has_unpaired_surrogate (units_of bytes) ≡ true)
 
--- A value whose bytes are none of its kind. Of the last six kinds no record has such: an identifier has 16 bytes, and the others no bytes of their own.
+-- A value whose bytes are none of its kind. Of the last six kinds no record has such: an identifier
+-- has 16 bytes, and the others no bytes of their own.
 abbrev pub IsNoValue : ScalarShape → Type 0
 IsNoValue (bytes_of texts.Bool bytes) = 1 < slice_index bytes 0
-IsNoValue (bytes_of texts.Decimal bytes) = (28 < slice_index bytes 2) ⊎ ((slice_index bytes 3 ≢ 0) × (slice_index bytes 3 ≢ 128))
+IsNoValue (bytes_of texts.Decimal bytes) =
+    (28 < slice_index bytes 2) ⊎ ((slice_index bytes 3 ≢ 0) × (slice_index bytes 3 ≢ 128))
 IsNoValue (bytes_of texts.UnicodeChars8 bytes) = IsNoUtf16 bytes
 IsNoValue (bytes_of texts.UnicodeChars16 bytes) = IsNoUtf16 bytes
 IsNoValue (bytes_of texts.UnicodeChars32 bytes) = IsNoUtf16 bytes

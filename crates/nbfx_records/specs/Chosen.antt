@@ -60,11 +60,14 @@ chosen_number n =
 
 -- two bytes that say nothing, the scale, the sign, the upper 32 bits, the lower 64
 abbrev pub decimal_body : Dec → List ℕ
-decimal_body d = 0 ∷ 0 ∷ d.scale ∷ (if d.negative then 128 else 0) ∷ (to_le_bytes w32 (d.magnitude / 2 ^ 64) ++ to_le_bytes w64 (d.magnitude % 2 ^ 64))
+decimal_body d =
+    0 ∷ 0 ∷ d.scale ∷ (if d.negative then 128 else 0)
+    ∷ (to_le_bytes w32 (d.magnitude / 2 ^ 64) ++ to_le_bytes w64 (d.magnitude % 2 ^ 64))
 
 -- the least width that holds a length
 abbrev pub least_form : ℕ → LengthForm
-least_form n = if nat_lt n (2 ^ 8) then OneByte else if nat_lt n (2 ^ 16) then TwoBytes else FourBytes
+least_form n =
+    if nat_lt n (2 ^ 8) then OneByte else if nat_lt n (2 ^ 16) then TwoBytes else FourBytes
 
 abbrev pub characters : LengthForm → TextKind
 characters OneByte = texts.Chars8
@@ -81,7 +84,9 @@ abbrev pub counted_body : LengthForm → List ℕ → List ℕ
 counted_body form content = to_le_bytes (width_in form) (length content) ++ content
 
 abbrev pub counted : (LengthForm → TextKind) → List ℕ → TextRecord
-counted kind content = record { kind = kind (least_form (length content)); body = counted_body (least_form (length content)) content }
+counted kind content =
+    let form = least_form (length content) in
+    record { kind = kind form; body = counted_body form content }
 
 abbrev pub chosen_text : List ℕ → TextRecord
 chosen_text [] = bare texts.Empty
@@ -106,7 +111,8 @@ chosen_known (NamedBy letter name) = bare texts.QNameDictionary
 abbrev pub chosen_scalar : RawScalar → TextRecord
 chosen_scalar (Known value) = chosen_known value
 chosen_scalar (Dictionary id) = record { kind = texts.Dictionary; body = shortest id }
-chosen_scalar (QName letter id) = record { kind = texts.QNameDictionary; body = letter ∷ shortest id }
+chosen_scalar (QName letter id) =
+    record { kind = texts.QNameDictionary; body = letter ∷ shortest id }
 
 -- the bytes of a text record, which may end the element that holds it
 abbrev pub record_bytes : Bool → TextRecord → List ℕ
@@ -118,9 +124,12 @@ scalar_bytes ends value = record_bytes ends (chosen_scalar value)
 -- a list ends the element at its own end
 abbrev pub value_bytes : Bool → RawValue → List ℕ
 value_bytes ends (One value) = scalar_bytes ends value
-value_bytes ends (ListOf values) = text_byte texts.StartList ∷ (flat_map (scalar_bytes false) values ++ byte_of (records.Text texts.EndList ends) ∷ [])
+value_bytes ends (ListOf values) =
+    text_byte texts.StartList
+    ∷ (flat_map (scalar_bytes false) values ++ byte_of (records.Text texts.EndList ends) ∷ [])
 
--- no prefix takes the short form and a letter from a to z its own; a declaration has none for letters
+-- no prefix takes the short form and a letter from a to z its own; a declaration has none for
+-- letters
 abbrev pub prefix_form : List ℕ → PrefixForm
 prefix_form [] = Unprefixed
 prefix_form (c ∷ []) = if is_letter c then Lettered c else Prefixed
@@ -144,14 +153,19 @@ abbrev pub named_bytes : PrefixForm → List ℕ → NameRef → List ℕ
 named_bytes form prefix name = prefix_bytes form prefix ++ name_bytes name
 
 abbrev pub element_bytes : List ℕ → NameRef → List ℕ
-element_bytes prefix name = byte_of (records.Element (prefix_form prefix) (form_of name)) ∷ named_bytes (prefix_form prefix) prefix name
+element_bytes prefix name =
+    byte_of (records.Element (prefix_form prefix) (form_of name))
+    ∷ named_bytes (prefix_form prefix) prefix name
 
 abbrev pub declaration_bytes : List ℕ → NameRef → List ℕ
-declaration_bytes prefix uri = byte_of (records.Declaration (declared_form prefix) (form_of uri)) ∷ named_bytes (declared_form prefix) prefix uri
+declaration_bytes prefix uri =
+    byte_of (records.Declaration (declared_form prefix) (form_of uri))
+    ∷ named_bytes (declared_form prefix) prefix uri
 
 abbrev pub attribute_bytes : List ℕ → NameRef → RawValue → List ℕ
 attribute_bytes prefix name value =
-    byte_of (records.Attribute (prefix_form prefix) (form_of name)) ∷ (named_bytes (prefix_form prefix) prefix name ++ value_bytes false value)
+    byte_of (records.Attribute (prefix_form prefix) (form_of name))
+    ∷ (named_bytes (prefix_form prefix) prefix name ++ value_bytes false value)
 
 abbrev pub part_bytes : AttrNode → List ℕ
 part_bytes (attribute_nodes.Attribute prefix name value) = attribute_bytes prefix name value
@@ -167,10 +181,15 @@ cell_bytes _ value = (chosen_known value).body
 
 -- their type byte, how many there are, and these
 abbrev pub counted_cells : ArrayNode → List ℕ
-counted_cells a = byte_of (records.Text (text_kind_in a.kind) true) ∷ (shortest (length a.values) ++ flat_map (cell_bytes a.kind) a.values)
+counted_cells a =
+    byte_of (records.Text (text_kind_in a.kind) true)
+    ∷ (shortest (length a.values) ++ flat_map (cell_bytes a.kind) a.values)
 
 abbrev pub array_bytes : ArrayNode → List ℕ
-array_bytes a = byte_of records.Array ∷ (element_bytes a.prefix a.name ++ (flat_map part_bytes a.attrs ++ byte_of records.EndElement ∷ counted_cells a))
+array_bytes a =
+    byte_of records.Array
+    ∷ (element_bytes a.prefix a.name
+    ++ (flat_map part_bytes a.attrs ++ byte_of records.EndElement ∷ counted_cells a))
 
 abbrev pub chosen_bytes : Node → List ℕ
 chosen_bytes EndElement = byte_of records.EndElement ∷ []

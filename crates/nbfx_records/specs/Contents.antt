@@ -1,4 +1,5 @@
--- What a whole shape says: its node, unless one of its texts isn't UTF-8 or one of its values is none of its kind.
+-- What a whole shape says: its node, unless one of its texts isn't UTF-8 or one of its values is
+-- none of its kind.
 use Rattle.std.specs.Prelude.{ℕ, zero, suc, ◌+◌, ◌*◌, ◌%◌, ◌^◌, pos, List, [], ◌∷◌, ◌++◌, length, take, drop, slice_index, Bool, true, false, Option, Some, None, ok_or, Result, Ok, Err, nat_le, ◌==◌, ◌&&◌, ◌||◌, not, if◌then◌else◌, encode_utf8_all}
 use Rattle.std.specs.Int.{Width, w8, w16, w32, w64, from_le_bytes, cast_signed}
 use Rattle.std.specs.Char.Utf16.{has_unpaired_surrogate, utf16_lossy_chars}
@@ -34,18 +35,30 @@ units_of (low ∷ high ∷ bytes) = (low + 256 * high) ∷ units_of bytes
 
 -- the text that UTF-16 spells
 abbrev pub utf16_text : List ℕ → Option (List ℕ)
-utf16_text bytes = if (length bytes % 2 == 1) || has_unpaired_surrogate (units_of bytes) then None else Some (encode_utf8_all (utf16_lossy_chars (units_of bytes)))
+utf16_text bytes =
+    if (length bytes % 2 == 1) || has_unpaired_surrogate (units_of bytes)
+    then None
+    else Some (encode_utf8_all (utf16_lossy_chars (units_of bytes)))
 
 abbrev pub truth_of : ℕ → Option Scalar
-truth_of byte = if byte == 0 then Some (scalars.Truth false) else if byte == 1 then Some (scalars.Truth true) else None
+truth_of byte =
+    if byte == 0 then Some (scalars.Truth false)
+    else if byte == 1 then Some (scalars.Truth true)
+    else None
 
 -- two bytes that say nothing, the scale, the sign, the upper 32 bits, the lower 64
 abbrev pub decimal_of : List ℕ → Option Scalar
 decimal_of bytes =
     let scale = slice_index bytes 2 in
     let sign = slice_index bytes 3 in
+    let high = from_le_bytes w32 (take 4 (drop 4 bytes)) in
+    let low = from_le_bytes w64 (drop 8 bytes) in
     if nat_le scale 28 && ((sign == 0) || (sign == 128))
-    then Some (scalars.Decimal (record { scale = scale; negative = (sign == 128); magnitude = from_le_bytes w32 (take 4 (drop 4 bytes)) * 2 ^ 64 + from_le_bytes w64 (drop 8 bytes) }))
+    then Some (scalars.Decimal (record {
+      scale = scale;
+      negative = (sign == 128);
+      magnitude = high * 2 ^ 64 + low;
+    }))
     else None
 
 abbrev pub signed_of : Width → List ℕ → Option Scalar
@@ -132,7 +145,8 @@ name_is_text (Inline bytes) = is_utf8 bytes
 name_is_text (Id id) = true
 
 abbrev pub attribute_is_text : AttributeShape → Bool
-attribute_is_text (attributes prefix name value) = is_utf8 prefix && (name_is_text name && value_is_text value)
+attribute_is_text (attributes prefix name value) =
+    is_utf8 prefix && (name_is_text name && value_is_text value)
 attribute_is_text (declares prefix uri) = is_utf8 prefix && name_is_text uri
 
 abbrev pub is_text : Shape → Bool
@@ -141,7 +155,8 @@ is_text (comments bytes) = is_utf8 bytes
 is_text (begins_element prefix name) = is_utf8 prefix && name_is_text name
 is_text (adds attribute) = attribute_is_text attribute
 is_text (has_text value ends) = value_is_text value
-is_text (repeats array) = is_utf8 array.prefix && (name_is_text array.name && list_all attribute_is_text array.attributes)
+is_text (repeats array) =
+    is_utf8 array.prefix && (name_is_text array.name && list_all attribute_is_text array.attributes)
 
 -- the value of a shape, if its bytes are of its kind
 abbrev pub scalar_value : ScalarShape → Option RawScalar
@@ -159,7 +174,8 @@ value_of (one scalar) = option_map One (scalar_value scalar)
 value_of (several values) = option_map ListOf (each scalar_value values)
 
 abbrev pub attribute_value : AttributeShape → Option AttrNode
-attribute_value (attributes prefix name value) = option_map (attribute_nodes.Attribute prefix name) (value_of value)
+attribute_value (attributes prefix name value) =
+    option_map (attribute_nodes.Attribute prefix name) (value_of value)
 attribute_value (declares prefix uri) = Some (attribute_nodes.Xmlns prefix uri)
 
 -- so many values of so many bytes each
@@ -168,12 +184,18 @@ cells zero width bytes = []
 cells (suc count) width bytes = take width bytes ∷ cells count width (drop width bytes)
 
 abbrev pub cell_values : ArrayKind → ℕ → List ℕ → Option (List Scalar)
-cell_values kind count bytes = each (scalar_of (text_kind_in kind)) (cells count (width_of kind) bytes)
+cell_values kind count bytes =
+    each (scalar_of (text_kind_in kind)) (cells count (width_of kind) bytes)
 
 abbrev pub array_of : ArrayShape → Option ArrayNode
 array_of a =
-    option_and_then (λ attrs. option_map (λ values. record { prefix = a.prefix; name = a.name; attrs = attrs; kind = a.kind; values = values })
-    (cell_values a.kind a.count a.bytes)) (each attribute_value a.attributes)
+    option_and_then (λ attrs. option_map (λ values. record {
+      prefix = a.prefix;
+      name = a.name;
+      attrs = attrs;
+      kind = a.kind;
+      values = values;
+    }) (cell_values a.kind a.count a.bytes)) (each attribute_value a.attributes)
 
 abbrev pub attribute_node : AttrNode → Node
 attribute_node (attribute_nodes.Attribute prefix name value) = nodes.Attribute prefix name value
@@ -195,7 +217,8 @@ abbrev pub name_judged : NameRef → Result NameRef NodeFault
 name_judged name = judge (name_is_text name) (Some name)
 
 abbrev pub element_judged : NamedShape → Result Node NodeFault
-element_judged it = judge (is_utf8 it.prefix && name_is_text it.name) (Some (nodes.Element it.prefix it.name))
+element_judged it =
+    judge (is_utf8 it.prefix && name_is_text it.name) (Some (nodes.Element it.prefix it.name))
 
 abbrev pub scalar_judged : ScalarShape → Result RawScalar NodeFault
 scalar_judged scalar = judge (scalar_is_text scalar) (scalar_value scalar)

@@ -1,4 +1,5 @@
--- What is told of a part of a record that is read from an offset on: what stands there, whatever follows the bytes, or how many are wanted.
+-- What is told of a part of a record that is read from an offset on: what stands there, whatever
+-- follows the bytes, or how many are wanted.
 use Rattle.std.specs.Prelude.{◌≡◌, ⊤, ℕ, ◌+◌, ◌<◌, ◌≤◌, List, ◌++◌, length, drop, Result, Ok, Err}
 use Rattle.unit_streams.specs.Front.{Front, begun, whole, wrong}
 use Rattle.unit_streams.specs.Parts.{Reader, further}
@@ -11,19 +12,23 @@ abbrev pub read_from : {A : Type 0} → ℕ → Reader A NodeFault → List ℕ 
 read_from at reader bytes = further at (reader (drop at bytes))
 
 -- a whole part up to an offset
-pub record IsWhole {A : Type 0} (reader : Reader A NodeFault) (bytes : List ℕ) (at : ℕ) (a : A) (to : ℕ) : Type 0 where
+pub record IsWhole {A : Type 0} (reader : Reader A NodeFault) (bytes : List ℕ) (at : ℕ) (a : A)
+    (to : ℕ) : Type 0 where
   pub after : at ≤ to
   pub within : to ≤ length bytes
   pub stands : (more : List ℕ) → read_from at reader (bytes ++ more) ≡ whole a to
 
 -- so many bytes show what is wrong with it
-pub record IsWrong {A : Type 0} (reader : Reader A NodeFault) (bytes : List ℕ) (at : ℕ) (fault : NodeFault) (shown_by : ℕ) : Type 0 where
+pub record IsWrong {A : Type 0} (reader : Reader A NodeFault) (bytes : List ℕ) (at : ℕ)
+    (fault : NodeFault) (shown_by : ℕ) : Type 0 where
   pub stands : (more : List ℕ) → read_from at reader (bytes ++ more) ≡ wrong fault shown_by
 
 -- it has begun, and fewer than so many bytes decide nothing
-pub record Waits {A : Type 0} (reader : Reader A NodeFault) (bytes : List ℕ) (at wants : ℕ) : Type 0 where
+pub record Waits {A : Type 0} (reader : Reader A NodeFault) (bytes : List ℕ)
+    (at wants : ℕ) : Type 0 where
   pub above : length bytes < wants
-  pub begins : (more : List ℕ) → length (bytes ++ more) < wants → read_from at reader (bytes ++ more) ≡ begun
+  pub begins : (more : List ℕ) → length (bytes ++ more) < wants
+      → read_from at reader (bytes ++ more) ≡ begun
 
 -- why it isn't whole
 abbrev pub Why : {A : Type 0} → Reader A NodeFault → List ℕ → ℕ → Stop → Type 0
@@ -35,12 +40,14 @@ abbrev pub AsksAt : (List ℕ → ℕ → Type 0) → List ℕ → ℕ → Stop 
 AsksAt asked bytes at (Fault fault shown_by) = ⊤
 AsksAt asked bytes at (More wants) = (m : ℕ) × (wants ≡ at + m) × asked (drop at bytes) m
 
-pub record Stops {A : Type 0} (reader : Reader A NodeFault) (asked : List ℕ → ℕ → Type 0) (bytes : List ℕ) (at : ℕ) (stop : Stop) : Type 0 where
+pub record Stops {A : Type 0} (reader : Reader A NodeFault) (asked : List ℕ → ℕ → Type 0)
+    (bytes : List ℕ) (at : ℕ) (stop : Stop) : Type 0 where
   pub why : Why reader bytes at stop
   pub asks : AsksAt asked bytes at stop
 
 -- what it is, of which see is what the reader has, or why it isn't whole
-abbrev pub Told : {X A : Type 0} → (X → A) → Reader A NodeFault → (List ℕ → ℕ → Type 0) → List ℕ → ℕ → Result (X × ℕ) Stop → Type 0
+abbrev pub Told : {X A : Type 0} → (X → A) → Reader A NodeFault → (List ℕ → ℕ → Type 0) → List ℕ → ℕ
+    → Result (X × ℕ) Stop → Type 0
 Told see reader asked bytes at (Ok read) = IsWhole reader bytes at (see read.0) read.1
 Told see reader asked bytes at (Err stop) = Stops reader asked bytes at stop
 
@@ -50,5 +57,7 @@ OnMore (Err (More wants)) P = P
 OnMore _ P = ⊤
 
 -- what a part's function returns
-pub record Tells {X A : Type 0} (see : X → A) (reader : Reader A NodeFault) (asked : List ℕ → ℕ → Type 0) (bytes : List ℕ) (at : ℕ) (result : Result (X × ℕ) Stop) : Type 0 where
+pub record Tells {X A : Type 0} (see : X → A) (reader : Reader A NodeFault)
+    (asked : List ℕ → ℕ → Type 0) (bytes : List ℕ) (at : ℕ)
+    (result : Result (X × ℕ) Stop) : Type 0 where
   pub told : Told see reader asked bytes at result

@@ -1,4 +1,5 @@
--- What a function returns that makes something of a whole part: what the part says, unless there is no memory.
+-- What a function returns that makes something of a whole part: what the part says, unless there is
+-- no memory.
 use Rattle.std.specs.Prelude.{◌≡◌, ⊤, Result, Ok, Err}
 use Rattle.nbfx_records.specs.declared.nodes.NodeFault.{NodeFault}
 use Rattle.nbfx_records.specs.declared.values.Unfit.{Unfit}

@@ -25,7 +25,8 @@ named false = Identified
 abbrev pub letter_from : ℕ → ℕ → PrefixForm
 letter_from first byte = Lettered (97 + (byte - first))
 
--- 04 to 07 and 40 to 43, as 0 to 3: with a string without and with a prefix, and with an identifier so
+-- 04 to 07 and 40 to 43, as 0 to 3: with a string without and with a prefix, and with an identifier
+-- so
 abbrev pub prefix_of : ℕ → PrefixForm
 prefix_of n = if n % 2 == 0 then Unprefixed else Prefixed
 
@@ -38,7 +39,8 @@ text_kind byte = if nat_lt byte 128 then None else slice_get TEXT_KINDS ((byte -
 
 -- an odd start of a list is no record
 abbrev pub text_record : ℕ → TextKind → Option RecordKind
-text_record byte texts.StartList = if byte % 2 == 0 then Some (records.Text texts.StartList false) else None
+text_record byte texts.StartList =
+    if byte % 2 == 0 then Some (records.Text texts.StartList false) else None
 text_record byte kind = Some (records.Text kind (byte % 2 == 1))
 
 -- the record that a type byte begins
@@ -49,7 +51,8 @@ record_kind byte =
     else if byte == 2 then Some records.Comment
     else if byte == 3 then Some records.Array
     else if nat_lt byte 8 then Some (records.Attribute (prefix_of (byte - 4)) (name_of (byte - 4)))
-    else if nat_lt byte 12 then Some (records.Declaration (prefix_of (byte - 8)) (name_of (byte - 8)))
+    else if nat_lt byte 12
+    then Some (records.Declaration (prefix_of (byte - 8)) (name_of (byte - 8)))
     else if nat_lt byte 38 then Some (records.Attribute (letter_from 12 byte) Identified)
     else if nat_lt byte 64 then Some (records.Attribute (letter_from 38 byte) Inlined)
     else if nat_lt byte 68 then Some (records.Element (prefix_of (byte - 64)) (name_of (byte - 64)))

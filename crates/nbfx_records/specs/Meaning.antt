@@ -1,4 +1,5 @@
--- What a node says where a string table is given: the one or the two items in which a text that it names stands for each identifier.
+-- What a node says where a string table is given: the one or the two items in which a text that it
+-- names stands for each identifier.
 use Rattle.std.specs.Prelude.{◌≡◌, ℕ, List, [], ◌∷◌, ◌++◌, Bool, true, false, Option, Some, flat_map}
 use Rattle.std.specs.Option.{option_map, option_and_then}
 use Rattle.nbfx_values.specs.declared.content.ArrayItem.{ArrayItem}
@@ -31,27 +32,35 @@ NameMeans table (Id id) text = Names table id text
 
 abbrev pub ScalarMeans : StringTable → RawScalar → Scalar → Type 0
 ScalarMeans table (Known value) scalar = scalar ≡ value
-ScalarMeans table (Dictionary id) scalar = (text : List ℕ) × Names table id text × (scalar ≡ scalars.Text text)
-ScalarMeans table (QName letter id) scalar = (text : List ℕ) × Names table id text × (scalar ≡ scalars.QName letter text)
+ScalarMeans table (Dictionary id) scalar =
+    (text : List ℕ) × Names table id text × (scalar ≡ scalars.Text text)
+ScalarMeans table (QName letter id) scalar =
+    (text : List ℕ) × Names table id text × (scalar ≡ scalars.QName letter text)
 
 -- each of a list, in its place
 abbrev pub EachMeans : {A B : Type 0} → (A → B → Type 0) → List A → List B → Type 0
 EachMeans Means [] ys = ys ≡ []
-EachMeans {B = B} Means (x ∷ xs) ys = (y : B) × (rest : List B) × Means x y × EachMeans Means xs rest × (ys ≡ y ∷ rest)
+EachMeans {B = B} Means (x ∷ xs) ys =
+    (y : B) × (rest : List B) × Means x y × EachMeans Means xs rest × (ys ≡ y ∷ rest)
 
 abbrev pub ValueMeans : StringTable → RawValue → Value → Type 0
-ValueMeans table (One raw) value = (scalar : Scalar) × ScalarMeans table raw scalar × (value ≡ values.One scalar)
-ValueMeans table (ListOf raws) value = (found : List Scalar) × EachMeans (ScalarMeans table) raws found × (value ≡ values.List found)
+ValueMeans table (One raw) value =
+    (scalar : Scalar) × ScalarMeans table raw scalar × (value ≡ values.One scalar)
+ValueMeans table (ListOf raws) value =
+    (found : List Scalar) × EachMeans (ScalarMeans table) raws found × (value ≡ values.List found)
 
 -- a declaration or an attribute of an array's element
 abbrev pub PartMeans : StringTable → AttrNode → AttrItem → Type 0
 PartMeans table (attribute_nodes.Attribute prefix name raw) item =
-    (local : List ℕ) × (value : Value) × NameMeans table name local × ValueMeans table raw value × (item ≡ attributes.Attr prefix local value)
-PartMeans table (attribute_nodes.Xmlns prefix name) item = (uri : List ℕ) × NameMeans table name uri × (item ≡ attributes.Xmlns prefix uri)
+    (local : List ℕ) × (value : Value) × NameMeans table name local × ValueMeans table raw value
+    × (item ≡ attributes.Attr prefix local value)
+PartMeans table (attribute_nodes.Xmlns prefix name) item =
+    (uri : List ℕ) × NameMeans table name uri × (item ≡ attributes.Xmlns prefix uri)
 
 -- an array, with these in place of its identifiers
 abbrev pub array_with : ArrayNode → List ℕ → List AttrItem → ArrayItem
-array_with a local parts = record { prefix = a.prefix; local = local; attrs = parts; kind = a.kind; values = a.values }
+array_with a local parts =
+    record { prefix = a.prefix; local = local; attrs = parts; kind = a.kind; values = a.values }
 
 pub record ArrayMeans (table : StringTable) (a : ArrayNode) (item : ArrayItem) : Type 0 where
   pub local : List ℕ
@@ -69,12 +78,17 @@ closing true = items.Close ∷ []
 abbrev pub Means : StringTable → Node → List Item → Type 0
 Means table EndElement said = said ≡ items.Close ∷ []
 Means table (Comment text) said = said ≡ items.Comment text ∷ []
-Means table (Array a) said = (item : ArrayItem) × ArrayMeans table a item × (said ≡ items.Array item ∷ [])
+Means table (Array a) said =
+    (item : ArrayItem) × ArrayMeans table a item × (said ≡ items.Array item ∷ [])
 Means table (Attribute prefix name raw) said =
-    (local : List ℕ) × (value : Value) × NameMeans table name local × ValueMeans table raw value × (said ≡ items.Attr prefix local value ∷ [])
-Means table (Xmlns prefix name) said = (uri : List ℕ) × NameMeans table name uri × (said ≡ items.Xmlns prefix uri ∷ [])
-Means table (Element prefix name) said = (local : List ℕ) × NameMeans table name local × (said ≡ items.Start prefix local ∷ [])
-Means table (Text raw ends) said = (value : Value) × ValueMeans table raw value × (said ≡ items.Text value ∷ closing ends)
+    (local : List ℕ) × (value : Value) × NameMeans table name local × ValueMeans table raw value
+    × (said ≡ items.Attr prefix local value ∷ [])
+Means table (Xmlns prefix name) said =
+    (uri : List ℕ) × NameMeans table name uri × (said ≡ items.Xmlns prefix uri ∷ [])
+Means table (Element prefix name) said =
+    (local : List ℕ) × NameMeans table name local × (said ≡ items.Start prefix local ∷ [])
+Means table (Text raw ends) said =
+    (value : Value) × ValueMeans table raw value × (said ≡ items.Text value ∷ closing ends)
 
 -- The same, found: none where an identifier names no string.
 abbrev pub name_text : StringTable → NameRef → Option (List ℕ)
@@ -95,20 +109,28 @@ abbrev pub with_both : {A B C : Type 0} → (A → B → C) → Option A → Opt
 with_both make first second = option_and_then (λ a. option_map (make a) second) first
 
 abbrev pub meant_part : StringTable → AttrNode → Option AttrItem
-meant_part table (attribute_nodes.Attribute prefix name raw) = with_both (attributes.Attr prefix) (name_text table name) (meant_value table raw)
-meant_part table (attribute_nodes.Xmlns prefix name) = option_map (attributes.Xmlns prefix) (name_text table name)
+meant_part table (attribute_nodes.Attribute prefix name raw) =
+    with_both (attributes.Attr prefix) (name_text table name) (meant_value table raw)
+meant_part table (attribute_nodes.Xmlns prefix name) =
+    option_map (attributes.Xmlns prefix) (name_text table name)
 
 abbrev pub meant_array : StringTable → ArrayNode → Option ArrayItem
-meant_array table a = with_both (array_with a) (name_text table a.name) (each (meant_part table) a.attrs)
+meant_array table a =
+    with_both (array_with a) (name_text table a.name) (each (meant_part table) a.attrs)
 
 abbrev pub items_of : StringTable → Node → Option (List Item)
 items_of table EndElement = Some (items.Close ∷ [])
 items_of table (Comment text) = Some (items.Comment text ∷ [])
 items_of table (Array a) = option_map (λ item. items.Array item ∷ []) (meant_array table a)
-items_of table (Attribute prefix name raw) = with_both (λ local value. items.Attr prefix local value ∷ []) (name_text table name) (meant_value table raw)
-items_of table (Xmlns prefix name) = option_map (λ uri. items.Xmlns prefix uri ∷ []) (name_text table name)
-items_of table (Element prefix name) = option_map (λ local. items.Start prefix local ∷ []) (name_text table name)
-items_of table (Text raw ends) = option_map (λ value. items.Text value ∷ closing ends) (meant_value table raw)
+items_of table (Attribute prefix name raw) =
+    with_both (λ local value. items.Attr prefix local value ∷ [])
+    (name_text table name) (meant_value table raw)
+items_of table (Xmlns prefix name) =
+    option_map (λ uri. items.Xmlns prefix uri ∷ []) (name_text table name)
+items_of table (Element prefix name) =
+    option_map (λ local. items.Start prefix local ∷ []) (name_text table name)
+items_of table (Text raw ends) =
+    option_map (λ value. items.Text value ∷ closing ends) (meant_value table raw)
 
 -- The identifiers of a node, in the order of its record.
 abbrev pub ids_of_name : NameRef → List ℕ

@@ -5,8 +5,9 @@ use Rattle.nbfx_records.specs.declared.nodes.Node.TheVariants.{Array, Attribute,
 use Rattle.nbfx_records.specs.declared.nodes.NodePlace.{NodePlace}
 use Rattle.nbfx_records.specs.declared.nodes.NodePlace.TheVariants.{BeforeRoot, Within, AfterRoot}
 
--- Before the root only an element, behind it nothing. Within it an element or an array where one more may be opened, an attribute or a
--- declaration where one may stand, and anything else anywhere.
+-- Before the root only an element, behind it nothing. Within it an element or an array where one
+-- more may be opened, an attribute or a declaration where one may stand, and anything else
+-- anywhere.
 abbrev pub Stands : NodePlace → Node → Type 0
 Stands BeforeRoot (Element prefix name) = ⊤
 Stands BeforeRoot _ = ⊥

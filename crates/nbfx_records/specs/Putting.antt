@@ -1,4 +1,5 @@
--- What a function does that appends bytes to others: where there is no memory for all of them, some may stand there.
+-- What a function does that appends bytes to others: where there is no memory for all of them, some
+-- may stand there.
 use Rattle.std.specs.Prelude.{◌≡◌, ℕ, List, ◌++◌, Result, Ok, Err}
 
 abbrev pub Appended : {T E : Type 0} → Result T E → List ℕ → List ℕ → List ℕ → Type 0

@@ -39,7 +39,8 @@ pub record IsCounted (kind : ℕ) (w : Width) (content bytes : List ℕ) : Type 
 abbrev pub IsFixed : ℕ → Width → ℕ → List ℕ → Type 0
 IsFixed kind w n bytes = (number : List ℕ) × IsNumberOf w n number × (bytes ≡ kind ∷ number)
 
--- the 16 bytes of a decimal: two that say nothing, the scale, the sign, the upper 32 bits, the lower 64
+-- the 16 bytes of a decimal: two that say nothing, the scale, the sign, the upper 32 bits, the
+-- lower 64
 pub record IsDecimal (value : Scalar) (bytes : List ℕ) : Type 0 where
   pub reserved : List ℕ
   pub scale : ℕ
@@ -53,7 +54,8 @@ pub record IsDecimal (value : Scalar) (bytes : List ℕ) : Type 0 where
   pub is_upper : IsNumberOf w32 high upper
   pub is_lower : IsNumberOf w64 low lower
   pub joined : bytes ≡ reserved ++ scale ∷ (if negative then 128 else 0) ∷ (upper ++ lower)
-  pub is_value : value ≡ Decimal (record { scale = scale; negative = negative; magnitude = high * 2 ^ 64 + low })
+  pub is_value : value
+      ≡ Decimal (record { scale = scale; negative = negative; magnitude = high * 2 ^ 64 + low })
 
 -- sixteen bytes of an identifier
 abbrev pub IsSixteen : ℕ → List ℕ → List ℕ → Type 0
@@ -61,28 +63,40 @@ IsSixteen kind identifier bytes = (length identifier ≡ 16) × (bytes ≡ kind 
 
 -- a text in UTF-8, and one in UTF-16
 abbrev pub IsChars : ℕ → Width → RawScalar → List ℕ → Type 0
-IsChars kind w value bytes = (s : List ℕ) × IsUtf8 s × (value ≡ Known (TextOf s)) × IsCounted kind w s bytes
+IsChars kind w value bytes =
+    (s : List ℕ) × IsUtf8 s × (value ≡ Known (TextOf s)) × IsCounted kind w s bytes
 
 abbrev pub IsUnicode : ℕ → Width → RawScalar → List ℕ → Type 0
-IsUnicode kind w value bytes = (units : List ℕ) × (s : List ℕ) × (utf16_text units ≡ Some s) × (value ≡ Known (TextOf s)) × IsCounted kind w units bytes
+IsUnicode kind w value bytes =
+    (units : List ℕ) × (s : List ℕ) × (utf16_text units ≡ Some s) × (value ≡ Known (TextOf s))
+    × IsCounted kind w units bytes
 
 abbrev pub IsBinary : ℕ → Width → RawScalar → List ℕ → Type 0
-IsBinary kind w value bytes = (content : List ℕ) × (value ≡ Known (Bytes content)) × IsCounted kind w content bytes
+IsBinary kind w value bytes =
+    (content : List ℕ) × (value ≡ Known (Bytes content)) × IsCounted kind w content bytes
 
--- The value is spelled by a plain record of this kind. A length of four bytes has a sign, and isn't negative.
+-- The value is spelled by a plain record of this kind. A length of four bytes has a sign, and isn't
+-- negative.
 abbrev pub SpellsAs : TextKind → RawScalar → List ℕ → Type 0
 SpellsAs texts.Zero value bytes = (value ≡ Known (Number (pos 0))) × (bytes ≡ 0x80 ∷ [])
 SpellsAs texts.One value bytes = (value ≡ Known (Number (pos 1))) × (bytes ≡ 0x82 ∷ [])
 SpellsAs texts.False value bytes = (value ≡ Known (Truth false)) × (bytes ≡ 0x84 ∷ [])
 SpellsAs texts.True value bytes = (value ≡ Known (Truth true)) × (bytes ≡ 0x86 ∷ [])
-SpellsAs texts.Int8 value bytes = (n : ℕ) × (value ≡ Known (Number (cast_signed w8 n))) × IsFixed 0x88 w8 n bytes
-SpellsAs texts.Int16 value bytes = (n : ℕ) × (value ≡ Known (Number (cast_signed w16 n))) × IsFixed 0x8a w16 n bytes
-SpellsAs texts.Int32 value bytes = (n : ℕ) × (value ≡ Known (Number (cast_signed w32 n))) × IsFixed 0x8c w32 n bytes
-SpellsAs texts.Int64 value bytes = (n : ℕ) × (value ≡ Known (Number (cast_signed w64 n))) × IsFixed 0x8e w64 n bytes
+SpellsAs texts.Int8 value bytes =
+    (n : ℕ) × (value ≡ Known (Number (cast_signed w8 n))) × IsFixed 0x88 w8 n bytes
+SpellsAs texts.Int16 value bytes =
+    (n : ℕ) × (value ≡ Known (Number (cast_signed w16 n))) × IsFixed 0x8a w16 n bytes
+SpellsAs texts.Int32 value bytes =
+    (n : ℕ) × (value ≡ Known (Number (cast_signed w32 n))) × IsFixed 0x8c w32 n bytes
+SpellsAs texts.Int64 value bytes =
+    (n : ℕ) × (value ≡ Known (Number (cast_signed w64 n))) × IsFixed 0x8e w64 n bytes
 SpellsAs texts.Float value bytes = (n : ℕ) × (value ≡ Known (Float n)) × IsFixed 0x90 w32 n bytes
 SpellsAs texts.Double value bytes = (n : ℕ) × (value ≡ Known (Double n)) × IsFixed 0x92 w64 n bytes
-SpellsAs texts.Decimal value bytes = (d : Scalar) × (content : List ℕ) × (value ≡ Known d) × IsDecimal d content × (bytes ≡ 0x94 ∷ content)
-SpellsAs texts.DateTime value bytes = (n : ℕ) × (value ≡ Known (DateTime n)) × IsFixed 0x96 w64 n bytes
+SpellsAs texts.Decimal value bytes =
+    (d : Scalar) × (content : List ℕ) × (value ≡ Known d) × IsDecimal d content
+    × (bytes ≡ 0x94 ∷ content)
+SpellsAs texts.DateTime value bytes =
+    (n : ℕ) × (value ≡ Known (DateTime n)) × IsFixed 0x96 w64 n bytes
 SpellsAs texts.Chars8 value bytes = IsChars 0x98 w8 value bytes
 SpellsAs texts.Chars16 value bytes = IsChars 0x9a w16 value bytes
 SpellsAs texts.Chars32 value bytes = IsChars 0x9c w32 value bytes × (length bytes < 5 + 2 ^ 31)
@@ -90,16 +104,27 @@ SpellsAs texts.Bytes8 value bytes = IsBinary 0x9e w8 value bytes
 SpellsAs texts.Bytes16 value bytes = IsBinary 0xa0 w16 value bytes
 SpellsAs texts.Bytes32 value bytes = IsBinary 0xa2 w32 value bytes × (length bytes < 5 + 2 ^ 31)
 SpellsAs texts.Empty value bytes = (value ≡ Known (TextOf [])) × (bytes ≡ 0xa8 ∷ [])
-SpellsAs texts.Dictionary value bytes = (id : ℕ) × (spelling : List ℕ) × (value ≡ Dictionary id) × Spells id spelling × (bytes ≡ 0xaa ∷ spelling)
-SpellsAs texts.UniqueId value bytes = (identifier : List ℕ) × (value ≡ Known (UniqueId identifier)) × IsSixteen 0xac identifier bytes
-SpellsAs texts.TimeSpan value bytes = (n : ℕ) × (value ≡ Known (TimeSpan (cast_signed w64 n))) × IsFixed 0xae w64 n bytes
-SpellsAs texts.Uuid value bytes = (identifier : List ℕ) × (value ≡ Known (Uuid identifier)) × IsSixteen 0xb0 identifier bytes
-SpellsAs texts.UInt64 value bytes = (n : ℕ) × (value ≡ Known (Number (pos n))) × IsFixed 0xb2 w64 n bytes
-SpellsAs texts.Bool value bytes = ((value ≡ Known (Truth false)) × (bytes ≡ 0xb4 ∷ 0 ∷ [])) ⊎ ((value ≡ Known (Truth true)) × (bytes ≡ 0xb4 ∷ 1 ∷ []))
+SpellsAs texts.Dictionary value bytes =
+    (id : ℕ) × (spelling : List ℕ) × (value ≡ Dictionary id) × Spells id spelling
+    × (bytes ≡ 0xaa ∷ spelling)
+SpellsAs texts.UniqueId value bytes =
+    (identifier : List ℕ) × (value ≡ Known (UniqueId identifier)) × IsSixteen 0xac identifier bytes
+SpellsAs texts.TimeSpan value bytes =
+    (n : ℕ) × (value ≡ Known (TimeSpan (cast_signed w64 n))) × IsFixed 0xae w64 n bytes
+SpellsAs texts.Uuid value bytes =
+    (identifier : List ℕ) × (value ≡ Known (Uuid identifier)) × IsSixteen 0xb0 identifier bytes
+SpellsAs texts.UInt64 value bytes =
+    (n : ℕ) × (value ≡ Known (Number (pos n))) × IsFixed 0xb2 w64 n bytes
+SpellsAs texts.Bool value bytes =
+    ((value ≡ Known (Truth false)) × (bytes ≡ 0xb4 ∷ 0 ∷ []))
+    ⊎ ((value ≡ Known (Truth true)) × (bytes ≡ 0xb4 ∷ 1 ∷ []))
 SpellsAs texts.UnicodeChars8 value bytes = IsUnicode 0xb6 w8 value bytes
 SpellsAs texts.UnicodeChars16 value bytes = IsUnicode 0xb8 w16 value bytes
-SpellsAs texts.UnicodeChars32 value bytes = IsUnicode 0xba w32 value bytes × (length bytes < 5 + 2 ^ 31)
-SpellsAs texts.QNameDictionary value bytes = (letter : ℕ) × (id : ℕ) × (spelling : List ℕ) × (letter ≤ 25) × (value ≡ QName letter id) × Spells id spelling × (bytes ≡ 0xbc ∷ letter ∷ spelling)
+SpellsAs texts.UnicodeChars32 value bytes =
+    IsUnicode 0xba w32 value bytes × (length bytes < 5 + 2 ^ 31)
+SpellsAs texts.QNameDictionary value bytes =
+    (letter : ℕ) × (id : ℕ) × (spelling : List ℕ) × (letter ≤ 25) × (value ≡ QName letter id)
+    × Spells id spelling × (bytes ≡ 0xbc ∷ letter ∷ spelling)
 -- lists are no one value
 SpellsAs texts.StartList value bytes = ⊥
 SpellsAs texts.EndList value bytes = ⊥
@@ -112,11 +137,14 @@ pub record SpellsScalar (value : RawScalar) (bytes : List ℕ) : Type 0 where
 -- each value of a list by one
 abbrev pub SpellScalars : List RawScalar → List ℕ → Type 0
 SpellScalars [] bytes = bytes ≡ []
-SpellScalars (value ∷ values) bytes = (front : List ℕ) × (rest : List ℕ) × (bytes ≡ front ++ rest) × SpellsScalar value front × SpellScalars values rest
+SpellScalars (value ∷ values) bytes =
+    (front : List ℕ) × (rest : List ℕ) × (bytes ≡ front ++ rest) × SpellsScalar value front
+    × SpellScalars values rest
 
 -- a list begins and ends with a byte of its own
 abbrev pub SpellsList : List RawScalar → ℕ → List ℕ → Type 0
-SpellsList values end bytes = (content : List ℕ) × SpellScalars values content × (bytes ≡ 0xa4 ∷ content ++ end ∷ [])
+SpellsList values end bytes =
+    (content : List ℕ) × SpellScalars values content × (bytes ≡ 0xa4 ∷ content ++ end ∷ [])
 
 -- the value is spelled by a plain record
 abbrev pub SpellsValue : RawValue → List ℕ → Type 0
@@ -125,7 +153,8 @@ SpellsValue (ListOf values) bytes = SpellsList values 0xa6 bytes
 
 -- the same text, and the end of the element that holds it: the odd byte, or a list's other end
 abbrev pub SpellsLast : RawValue → List ℕ → Type 0
-SpellsLast (One value) bytes = (kind : ℕ) × (rest : List ℕ) × SpellsScalar value (kind ∷ rest) × (bytes ≡ (kind + 1) ∷ rest)
+SpellsLast (One value) bytes =
+    (kind : ℕ) × (rest : List ℕ) × SpellsScalar value (kind ∷ rest) × (bytes ≡ (kind + 1) ∷ rest)
 SpellsLast (ListOf values) bytes = SpellsList values 0xa7 bytes
 
 -- a name in a string, or by its identifier
@@ -142,7 +171,9 @@ IsHead plain with_string with_letter prefix bytes =
 
 -- the same without letters
 abbrev pub IsHeadOnly : ℕ → ℕ → List ℕ → List ℕ → Type 0
-IsHeadOnly plain with_string prefix bytes = ((prefix ≡ []) × (bytes ≡ plain ∷ [])) ⊎ ((string : List ℕ) × IsString prefix string × (bytes ≡ with_string ∷ string))
+IsHeadOnly plain with_string prefix bytes =
+    ((prefix ≡ []) × (bytes ≡ plain ∷ []))
+    ⊎ ((string : List ℕ) × IsString prefix string × (bytes ≡ with_string ∷ string))
 
 abbrev pub IsElementHead : List ℕ → NameRef → List ℕ → Type 0
 IsElementHead prefix (Inline s) head = IsHead 0x40 0x41 0x5e prefix head
@@ -165,7 +196,8 @@ pub record IsElement (prefix : List ℕ) (name : NameRef) (bytes : List ℕ) : T
   pub joined : bytes ≡ head ++ name_bytes
 
 -- a head, a name and a plain text
-pub record IsAttribute (prefix : List ℕ) (name : NameRef) (value : RawValue) (bytes : List ℕ) : Type 0 where
+pub record IsAttribute (prefix : List ℕ) (name : NameRef) (value : RawValue)
+    (bytes : List ℕ) : Type 0 where
   pub head : List ℕ
   pub name_bytes : List ℕ
   pub value_bytes : List ℕ
@@ -187,9 +219,12 @@ IsAttrNode (attribute_nodes.Xmlns prefix uri) bytes = IsDeclaration prefix uri b
 
 abbrev pub AreAttrNodes : List AttrNode → List ℕ → Type 0
 AreAttrNodes [] bytes = bytes ≡ []
-AreAttrNodes (attribute ∷ attributes) bytes = (front : List ℕ) × (rest : List ℕ) × (bytes ≡ front ++ rest) × IsAttrNode attribute front × AreAttrNodes attributes rest
+AreAttrNodes (attribute ∷ attributes) bytes =
+    (front : List ℕ) × (rest : List ℕ) × (bytes ≡ front ++ rest) × IsAttrNode attribute front
+    × AreAttrNodes attributes rest
 
--- the type byte of an array's values: that of the text record of one of them, where it ends its element
+-- the type byte of an array's values: that of the text record of one of them, where it ends its
+-- element
 abbrev pub array_byte : ArrayKind → ℕ
 array_byte kind = byte_of (records.Text (text_kind_in kind) true)
 
@@ -197,7 +232,8 @@ array_byte kind = byte_of (records.Text (text_kind_in kind) true)
 abbrev pub AreCells : ArrayKind → List Scalar → List ℕ → Type 0
 AreCells kind [] bytes = bytes ≡ []
 AreCells kind (value ∷ values) bytes =
-    (type : ℕ) × (cell : List ℕ) × (rest : List ℕ) × (bytes ≡ cell ++ rest) × SpellsAs (text_kind_in kind) (Known value) (type ∷ cell) × AreCells kind values rest
+    (type : ℕ) × (cell : List ℕ) × (rest : List ℕ) × (bytes ≡ cell ++ rest)
+    × SpellsAs (text_kind_in kind) (Known value) (type ∷ cell) × AreCells kind values rest
 
 pub record IsArray (a : ArrayNode) (bytes : List ℕ) : Type 0 where
   pub element : List ℕ

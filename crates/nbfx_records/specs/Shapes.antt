@@ -1,4 +1,5 @@
--- What stands at the front of some bytes, as the parts of a record: type bytes and lengths are judged where they are read, and no text or value yet.
+-- What stands at the front of some bytes, as the parts of a record: type bytes and lengths are
+-- judged where they are read, and no text or value yet.
 use Rattle.std.specs.Prelude.{ℕ, ◌*◌, ◌^◌, List, [], ◌∷◌, Bool, true, false, Option, Some, None, nat_le, ◌==◌, ◌&&◌, ◌||◌, not, if◌then◌else◌}
 use Rattle.std.specs.Int.{Width, w8, w16, w32, byte_len, from_le_bytes}
 use Rattle.unit_streams.specs.Front.{wrong}
@@ -107,7 +108,8 @@ length_of form said = from_le_bytes (width_in form) said
 
 -- where it isn't negative
 abbrev pub said_length : LengthForm → List ℕ → Option ℕ
-said_length form said = if is_negative form (length_of form said) then None else Some (length_of form said)
+said_length form said =
+    if is_negative form (length_of form said) then None else Some (length_of form said)
 
 -- a thing of no bytes, or what is wrong where there is none
 abbrev pub given_or : {A : Type 0} → NodeFault → Option A → Reader A NodeFault
@@ -116,7 +118,8 @@ given_or fault (Some a) = given a
 
 -- a length
 abbrev pub a_length : LengthForm → Reader ℕ NodeFault
-a_length form = some_bytes (byte_len (width_in form)) >>= λ said. given_or faults.BadInt (said_length form said)
+a_length form =
+    some_bytes (byte_len (width_in form)) >>= λ said. given_or faults.BadInt (said_length form said)
 
 -- a length, and as many bytes as it says
 abbrev pub counted_bytes : LengthForm → Reader (List ℕ) NodeFault
@@ -124,7 +127,8 @@ counted_bytes form = a_length form >>= some_bytes
 
 -- a letter, and an identifier
 abbrev pub a_qualified : Reader ScalarShape NodeFault
-a_qualified = a_byte >>= λ letter bytes. seen (qualified_by letter) (λ fault. fault) (an_integer bytes)
+a_qualified =
+    a_byte >>= λ letter bytes. seen (qualified_by letter) (λ fault. fault) (an_integer bytes)
 
 -- what follows the type byte of one value
 abbrev pub body_at : TextKind → Body → Reader ScalarShape NodeFault
@@ -164,7 +168,8 @@ list_at may_close = many (list_turn may_close)
 -- what follows the type byte of an attribute's value, which is a plain text
 abbrev pub text_value : TextKind → Bool → Reader ValueShape NodeFault
 text_value kind true = refuse faults.OutOfPlace
-text_value texts.StartList false = λ bytes. seen (λ list. several list.items) (λ fault. fault) (list_at false bytes)
+text_value texts.StartList false =
+    λ bytes. seen (λ list. several list.items) (λ fault. fault) (list_at false bytes)
 text_value kind false = λ bytes. seen one (λ fault. fault) (scalar_at kind bytes)
 
 abbrev pub value_of_kind : Option RecordKind → Reader ValueShape NodeFault
@@ -176,16 +181,22 @@ abbrev pub value_at : Reader ValueShape NodeFault
 value_at = a_byte >>= λ byte. value_of_kind (record_kind byte)
 
 abbrev pub attribute_at : PrefixForm → NameForm → Reader AttributeShape NodeFault
-attribute_at prefix name = prefix_at prefix >>= λ p. name_at name >>= λ n bytes. seen (attributes p n) (λ fault. fault) (value_at bytes)
+attribute_at prefix name =
+    prefix_at prefix >>= λ p. name_at name >>= λ n bytes.
+    seen (attributes p n) (λ fault. fault) (value_at bytes)
 
 abbrev pub declaration_at : PrefixForm → NameForm → Reader AttributeShape NodeFault
-declaration_at prefix uri = prefix_at prefix >>= λ p bytes. seen (declares p) (λ fault. fault) (name_at uri bytes)
+declaration_at prefix uri =
+    prefix_at prefix >>= λ p bytes. seen (declares p) (λ fault. fault) (name_at uri bytes)
 
--- what is between an array's element and its values: a declaration or an attribute, or the end of these
+-- what is between an array's element and its values: a declaration or an attribute, or the end of
+-- these
 abbrev pub array_part : Option RecordKind → Reader (Turn AttributeShape (Unit {0})) NodeFault
 array_part None = refuse faults.UnknownNode
-array_part (Some (records.Attribute prefix name)) = λ bytes. seen more (λ fault. fault) (attribute_at prefix name bytes)
-array_part (Some (records.Declaration prefix uri)) = λ bytes. seen more (λ fault. fault) (declaration_at prefix uri bytes)
+array_part (Some (records.Attribute prefix name)) =
+    λ bytes. seen more (λ fault. fault) (attribute_at prefix name bytes)
+array_part (Some (records.Declaration prefix uri)) =
+    λ bytes. seen more (λ fault. fault) (declaration_at prefix uri bytes)
 array_part (Some records.EndElement) = given (stop tt)
 array_part (Some _) = refuse faults.BadArray
 
@@ -200,7 +211,8 @@ abbrev pub named_shape : List ℕ → NameRef → NamedShape
 named_shape p n = record { prefix = p; name = n }
 
 abbrev pub element_at : PrefixForm → NameForm → Reader NamedShape NodeFault
-element_at prefix name = prefix_at prefix >>= λ p bytes. seen (named_shape p) (λ fault. fault) (name_at name bytes)
+element_at prefix name =
+    prefix_at prefix >>= λ p bytes. seen (named_shape p) (λ fault. fault) (name_at name bytes)
 
 abbrev pub element_of : Option RecordKind → Reader NamedShape NodeFault
 element_of None = refuse faults.UnknownNode
@@ -212,14 +224,17 @@ array_element = a_byte >>= λ byte. element_of (record_kind byte)
 
 -- the bytes of so many values, of which there is one at least
 abbrev pub array_values : ArrayKind → ℕ → Reader (List ℕ) NodeFault
-array_values kind count = if count == 0 then refuse faults.BadArray else some_bytes (count * width_of kind)
+array_values kind count =
+    if count == 0 then refuse faults.BadArray else some_bytes (count * width_of kind)
 
 -- how many values there are, and then these
 abbrev pub cells_shape : ArrayKind → ℕ → List ℕ → CellsShape
 cells_shape kind count values = record { kind = kind; count = count; bytes = values }
 
 abbrev pub counted_cells : ArrayKind → Reader CellsShape NodeFault
-counted_cells kind = an_integer >>= λ count bytes. seen (cells_shape kind count) (λ fault. fault) (array_values kind count bytes)
+counted_cells kind =
+    an_integer >>= λ count bytes.
+    seen (cells_shape kind count) (λ fault. fault) (array_values kind count bytes)
 
 abbrev pub cells_of : Option ArrayKind → Reader CellsShape NodeFault
 cells_of None = refuse faults.BadArray
@@ -230,24 +245,41 @@ array_cells = a_byte >>= λ byte. cells_of (array_kind byte)
 
 -- what follows an array's type byte
 abbrev pub array_shape : NamedShape → List AttributeShape → CellsShape → ArrayShape
-array_shape it parts cells = record { prefix = it.prefix; name = it.name; attributes = parts; kind = cells.kind; count = cells.count; bytes = cells.bytes }
+array_shape it parts cells =
+    record {
+      prefix = it.prefix;
+      name = it.name;
+      attributes = parts;
+      kind = cells.kind;
+      count = cells.count;
+      bytes = cells.bytes;
+    }
 
 unfoldable pub array_at : Reader ArrayShape NodeFault
-array_at = array_element >>= λ it. array_parts >>= λ parts bytes. seen (array_shape it parts.items) (λ fault. fault) (array_cells bytes)
+array_at =
+    array_element >>= λ it. array_parts >>= λ parts bytes.
+    seen (array_shape it parts.items) (λ fault. fault) (array_cells bytes)
 
 -- what follows the type byte of a text, and whether it ends the element that holds it
 abbrev pub text_at : TextKind → Bool → Reader Shape NodeFault
-text_at texts.StartList ends bytes = seen (λ list. has_text (several list.items) list.last) (λ fault. fault) (list_at true bytes)
-text_at kind ends bytes = seen (λ scalar. has_text (one scalar) ends) (λ fault. fault) (scalar_at kind bytes)
+text_at texts.StartList ends bytes =
+    seen (λ list. has_text (several list.items) list.last) (λ fault. fault) (list_at true bytes)
+text_at kind ends bytes =
+    seen (λ scalar. has_text (one scalar) ends) (λ fault. fault) (scalar_at kind bytes)
 
 -- what follows the type byte of a record
 unfoldable pub record_at : RecordKind → Reader Shape NodeFault
 record_at records.EndElement = given ends_element
 record_at records.Comment = λ bytes. seen comments (λ fault. fault) (a_string bytes)
 record_at records.Array = λ bytes. seen repeats (λ fault. fault) (array_at bytes)
-record_at (records.Attribute prefix name) = λ bytes. seen adds (λ fault. fault) (attribute_at prefix name bytes)
-record_at (records.Declaration prefix uri) = λ bytes. seen adds (λ fault. fault) (declaration_at prefix uri bytes)
-record_at (records.Element prefix name) = λ bytes. seen (λ (it : NamedShape). begins_element it.prefix it.name) (λ fault. fault) (element_at prefix name bytes)
+record_at (records.Attribute prefix name) =
+    λ bytes. seen adds (λ fault. fault) (attribute_at prefix name bytes)
+record_at (records.Declaration prefix uri) =
+    λ bytes. seen adds (λ fault. fault) (declaration_at prefix uri bytes)
+record_at (records.Element prefix name) =
+    λ bytes.
+    seen (λ (it : NamedShape). begins_element it.prefix it.name) (λ fault. fault)
+    (element_at prefix name bytes)
 record_at (records.Text kind ends) = text_at kind ends
 
 -- a record that opens an element
@@ -271,7 +303,8 @@ abbrev pub is_element : RecordKind → Bool
 is_element (records.Element _ _) = true
 is_element _ = false
 
--- why a record may not come at a place, by its type byte; in an array's element the depth isn't judged again
+-- why a record may not come at a place, by its type byte; in an array's element the depth isn't
+-- judged again
 abbrev pub misplaced : NodePlace → RecordKind → Option NodeFault
 misplaced BeforeRoot kind = if is_element kind then None else Some faults.OutOfPlace
 misplaced (Within attribute_may deeper) kind =

@@ -40,13 +40,16 @@ abbrev pub are_valid_names : List ℕ → NameRef → Bool
 are_valid_names prefix name = is_utf8 prefix && is_valid_name name
 
 abbrev pub is_valid_part : AttrNode → Bool
-is_valid_part (attribute_nodes.Attribute prefix name value) = are_valid_names prefix name && is_valid_text value
+is_valid_part (attribute_nodes.Attribute prefix name value) =
+    are_valid_names prefix name && is_valid_text value
 is_valid_part (attribute_nodes.Xmlns prefix uri) = are_valid_names prefix uri
 
 -- one value or more, each of the kind
 abbrev pub is_valid_array : ArrayNode → Bool
 is_valid_array a =
-    are_valid_names a.prefix a.name && (list_all is_valid_part a.attrs && (nat_lt 0 (length a.values) && list_all (fits_kind a.kind) a.values))
+    are_valid_names a.prefix a.name
+    && (list_all is_valid_part a.attrs
+    && (nat_lt 0 (length a.values) && list_all (fits_kind a.kind) a.values))
 
 abbrev pub is_valid_node : Node → Bool
 is_valid_node EndElement = true
@@ -57,7 +60,8 @@ is_valid_node (Xmlns prefix uri) = are_valid_names prefix uri
 is_valid_node (Element prefix name) = are_valid_names prefix name
 is_valid_node (Text value ends) = is_valid_text value
 
--- Integers and lengths have 31 bits: which nodes have no greater identifier and no longer text, and no more values in an array.
+-- Integers and lengths have 31 bits: which nodes have no greater identifier and no longer text, and
+-- no more values in an array.
 abbrev pub is_short : List ℕ → Bool
 is_short s = is_unsigned 31 (length s)
 
@@ -87,7 +91,8 @@ fits_part (attribute_nodes.Attribute prefix name value) = fit_names prefix name 
 fits_part (attribute_nodes.Xmlns prefix uri) = fit_names prefix uri
 
 abbrev pub fits_array : ArrayNode → Bool
-fits_array a = fit_names a.prefix a.name && (list_all fits_part a.attrs && is_unsigned 31 (length a.values))
+fits_array a =
+    fit_names a.prefix a.name && (list_all fits_part a.attrs && is_unsigned 31 (length a.values))
 
 abbrev pub fits_node : Node → Bool
 fits_node EndElement = true

@@ -1,4 +1,5 @@
--- The parts of a record as a function has them, with slices of its bytes, seen as the shapes that they are.
+-- The parts of a record as a function has them, with slices of its bytes, seen as the shapes that
+-- they are.
 use Rattle.std.specs.Prelude.{◌≡◌, ◌*◌, ⊤, length, Bool, true, false, ℕ, List, [], ◌∷◌}
 use Rattle.nbfx_records.specs.declared.parts.PrefixPart.{PrefixPart}
 use Rattle.nbfx_records.specs.declared.parts.PrefixPart.TheVariants.{Letter, Text as TextOf}
@@ -64,7 +65,8 @@ value_seen (OneAt scalar) = one (scalar_seen scalar)
 value_seen (ListAt bytes) = several (listed bytes.now)
 
 abbrev pub attribute_seen : AttributePart → AttributeShape
-attribute_seen (AttributeAt prefix name value) = attributes (prefix_seen prefix) (name_seen name) (value_seen value)
+attribute_seen (AttributeAt prefix name value) =
+    attributes (prefix_seen prefix) (name_seen name) (value_seen value)
 attribute_seen (DeclarationAt prefix uri) = declares (prefix_seen prefix) (name_seen uri)
 
 abbrev pub named_seen : NamedPart → NamedShape
@@ -85,12 +87,14 @@ abbrev pub cells_seen : CellsPart → CellsShape
 cells_seen cells = cells_shape cells.kind cells.count cells.bytes.now
 
 abbrev pub array_seen : ArrayPart → ArrayShape
-array_seen array = array_shape (named_seen array.element) (parts_of array.attributes.now) (cells_seen array.cells)
+array_seen array =
+    array_shape (named_seen array.element) (parts_of array.attributes.now) (cells_seen array.cells)
 
 abbrev pub record_seen : RecordPart → Shape
 record_seen records.EndElement = ends_element
 record_seen (records.Comment text) = comments text.now
-record_seen (records.Element element) = let it = named_seen element in begins_element it.prefix it.name
+record_seen (records.Element element) =
+    let it = named_seen element in begins_element it.prefix it.name
 record_seen (records.Attribute attribute) = adds (attribute_seen attribute)
 record_seen (records.Text value ends) = has_text (value_seen value) ends
 record_seen (records.Array array) = repeats (array_seen array)

@@ -52,8 +52,8 @@ pub record IsDocument (items : List Item) : Type 0 where
 abbrev pub IsFront : List Item → Type 0
 IsFront items = (rest : List Item) × IsDocument (items ++ rest)
 
--- the items before the place are a front, and with the item at the place no front ends; or all the items are
--- a front, and the place is their end
+-- the items before the place are a front, and with the item at the place no front ends; or all the
+-- items are a front, and the place is their end
 pub record IsRefusedAt (items : List Item) (at : ℕ) : Type 0 where
   pub within : at ≤ length items
   pub front : IsFront (take at items)

@@ -38,7 +38,9 @@ is_valid_attribute (AttrOn prefix local value) = are_texts prefix local && is_va
 -- whether there is a value, and each is of the kind
 abbrev pub is_valid_array : ArrayItem → Bool
 is_valid_array a =
-    are_texts a.prefix a.local && (list_all is_valid_attribute a.attrs && (nat_lt 0 (length a.values) && list_all (fits_kind a.kind) a.values))
+    are_texts a.prefix a.local
+    && (list_all is_valid_attribute a.attrs
+    && (nat_lt 0 (length a.values) && list_all (fits_kind a.kind) a.values))
 
 abbrev pub is_valid_item : Item → Bool
 is_valid_item (Start prefix local) = are_texts prefix local

@@ -12,7 +12,8 @@ pub record AreMeasuresOf (items : List Item) (measures : Measures) : Type 0 wher
   pub content : measures.content ≡ capped (content_of items)
 
 -- a front's items, with its end and its measures
-pub record IsMeasuredFront (items : List Item) (position : Position) (measures : Measures) : Type 0 where
+pub record IsMeasuredFront (items : List Item) (position : Position)
+    (measures : Measures) : Type 0 where
   pub leads : position_of items ≡ Some position
   pub measured : AreMeasuresOf items measures
 

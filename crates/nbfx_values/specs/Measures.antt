@@ -54,7 +54,9 @@ attribute_content (DeclaresOn prefix uri) = length prefix + length uri
 attribute_content (AttrOn prefix local value) = length prefix + length local + value_content value
 
 abbrev pub array_content : ArrayItem → ℕ
-array_content a = length a.prefix + length a.local + sum_by attribute_content a.attrs + sum_by scalar_content a.values
+array_content a =
+    length a.prefix + length a.local
+    + sum_by attribute_content a.attrs + sum_by scalar_content a.values
 
 abbrev pub item_content : Item → ℕ
 item_content (Start prefix local) = length prefix + length local

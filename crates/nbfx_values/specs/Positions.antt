@@ -11,8 +11,10 @@ abbrev pub moved : Position → Item → Option Position
 moved Before (Start prefix local) = Some (Within 0 true)
 moved Before _ = None
 moved (Within inner attributes) (Start prefix local) = Some (Within (suc inner) true)
-moved (Within inner attributes) (Xmlns prefix uri) = if attributes then Some (Within inner true) else None
-moved (Within inner attributes) (Attr prefix local value) = if attributes then Some (Within inner true) else None
+moved (Within inner attributes) (Xmlns prefix uri) =
+    if attributes then Some (Within inner true) else None
+moved (Within inner attributes) (Attr prefix local value) =
+    if attributes then Some (Within inner true) else None
 moved (Within inner attributes) (Text value) = Some (Within inner false)
 moved (Within inner attributes) (Comment bytes) = Some (Within inner false)
 moved (Within inner attributes) (Array a) = Some (Within inner false)
@@ -46,8 +48,8 @@ takes_attributes Before = false
 takes_attributes (Within inner attributes) = attributes
 takes_attributes After = false
 
--- the items before the place may stand where they do, and that at the place may not; or all may, and they
--- end before the root does
+-- the items before the place may stand where they do, and that at the place may not; or all may,
+-- and they end before the root does
 pub record StopsAt (items : List Item) (at : ℕ) : Type 0 where
   pub within : at ≤ length items
   pub front : IsSome (position_of (take at items))

@@ -1,5 +1,5 @@
--- Which values a record of MC-NBFX can hold. Numbers have no greatest here, and a text is any list, so what
--- the types of a program keep anyway is said too.
+-- Which values a record of MC-NBFX can hold. Numbers have no greatest here, and a text is any list,
+-- so what the types of a program keep anyway is said too.
 use Rattle.std.specs.Prelude.{◌^◌, ◌-◌, ℤ, pos, negsuc, Bool, true, not, ◌&&◌, nat_le, nat_lt, int_lt, ◌==◌, length, List, ℕ}
 use Rattle.std.specs.List.{list_all}
 use Rattle.std.specs.Str.{is_utf8}

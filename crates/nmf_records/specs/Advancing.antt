@@ -1,4 +1,5 @@
--- What the parts of a reading say: where a byte, a size or a text led, and where the reader stands then.
+-- What the parts of a reading say: where a byte, a size or a text led, and where the reader stands
+-- then.
 use Rattle.std.specs.Prelude.{◌≡◌, ℕ, ◌<◌, List, [], length, Some}
 use Rattle.unit_streams.specs.Front.{begun, whole, wrong}
 use Rattle.multibyte_ints.specs.declared.integer.IntReader.{IntReader}
@@ -33,28 +34,40 @@ BeginsAnew mid _ = Unit {0}
 
 -- what a size's bytes so far led to
 abbrev pub SizeAnswers : SizeRecord → List ℕ → IntReader → Progress → Type 0
-SizeAnswers size q int (progress.Going stage) = (stage ≡ stages.Size size) × (int_at q ≡ begun) × IntStandsFor int q
-SizeAnswers size q int (progress.Done frame) = (n : ℕ) × (frame ≡ sized size n) × (int_at q ≡ whole n (length q)) × IntStandsFor int []
+SizeAnswers size q int (progress.Going stage) =
+    (stage ≡ stages.Size size) × (int_at q ≡ begun) × IntStandsFor int q
+SizeAnswers size q int (progress.Done frame) =
+    (n : ℕ) × (frame ≡ sized size n) × (int_at q ≡ whole n (length q)) × IntStandsFor int []
 SizeAnswers size q int (progress.Wrong fault) = (fault ≡ faults.BadInt) × (int_at q ≡ wrong tt 5)
 
 -- what the bytes of a string so far led to
 abbrev pub TextAnswers : ℕ → TextRecord → List ℕ → StringReader → Progress → Type 0
-TextAnswers limit text q reader (progress.Going stage) = (stage ≡ stages.Text text) × (string_at limit q ≡ begun) × StringStandsFor reader q
-TextAnswers limit text q reader (progress.Done frame) = (frame ≡ texted text) × (s : List ℕ) × (string_at limit q ≡ whole s (length q))
-TextAnswers limit text q reader (progress.Wrong fault) = (r : StringFault) × (fault ≡ fault_of r) × (string_at limit q ≡ wrong r (length q))
+TextAnswers limit text q reader (progress.Going stage) =
+    (stage ≡ stages.Text text) × (string_at limit q ≡ begun) × StringStandsFor reader q
+TextAnswers limit text q reader (progress.Done frame) =
+    (frame ≡ texted text) × (s : List ℕ) × (string_at limit q ≡ whole s (length q))
+TextAnswers limit text q reader (progress.Wrong fault) =
+    (r : StringFault) × (fault ≡ fault_of r) × (string_at limit q ≡ wrong r (length q))
 
 -- what the bytes p of a record led to, the readers of sizes and texts having gone on
 abbrev pub Progresses : ℕ → Expect → List ℕ → FrameReader → Progress → Type 0
 Progresses limit expect p mid (progress.Going stage) =
-    (frame_at limit expect p ≡ begun) × HasShape expect stage p × IntStandsFor mid.size (size_bytes stage p) × HoldsText stage mid.text p
-Progresses limit expect p mid (progress.Done frame) = (text : List ℕ) × (frame_at limit expect p ≡ whole (with_text frame text) (length p)) × IntStandsFor mid.size []
-Progresses limit expect p mid (progress.Wrong fault) = frame_at limit expect p ≡ wrong fault (length p)
+    (frame_at limit expect p ≡ begun) × HasShape expect stage p
+    × IntStandsFor mid.size (size_bytes stage p) × HoldsText stage mid.text p
+Progresses limit expect p mid (progress.Done frame) =
+    (text : List ℕ) × (frame_at limit expect p ≡ whole (with_text frame text) (length p))
+    × IntStandsFor mid.size []
+Progresses limit expect p mid (progress.Wrong fault) =
+    frame_at limit expect p ≡ wrong fault (length p)
 
 -- what they led to
 abbrev pub Steps : ℕ → Expect → List ℕ → FrameReader → Progress → Type 0
 Steps limit expect p new (progress.Going stage) = StandsFor new expect p
-Steps limit expect p new (progress.Done frame) = (text : List ℕ) × (frame_at limit expect p ≡ whole (with_text frame text) (length p)) × ((next : Expect) → StandsFor new next [])
-Steps limit expect p new (progress.Wrong fault) = (frame_at limit expect p ≡ wrong fault (length p)) × (pending_of new ≡ length p)
+Steps limit expect p new (progress.Done frame) =
+    (text : List ℕ) × (frame_at limit expect p ≡ whole (with_text frame text) (length p))
+    × ((next : Expect) → StandsFor new next [])
+Steps limit expect p new (progress.Wrong fault) =
+    (frame_at limit expect p ≡ wrong fault (length p)) × (pending_of new ≡ length p)
 
 -- a reader goes on only with a byte or more
 abbrev pub Moves : ℕ → Progress → Type 0
@@ -63,7 +76,8 @@ Moves n _ = Unit {0}
 
 -- a fault is kept, and how many bytes show it
 abbrev pub Keeps : FrameReader → Progress → Type 0
-Keeps new (progress.Wrong fault) = failure_of new ≡ Some (record { fault = fault; shown_by = pending_of new })
+Keeps new (progress.Wrong fault) =
+    failure_of new ≡ Some (record { fault = fault; shown_by = pending_of new })
 Keeps new _ = Unit {0}
 
 -- the stage behind what some bytes led to

@@ -20,22 +20,28 @@ use Rattle.nmf_records.specs.Script.{IsScript, IsLoneAck, LeadsToEnd}
 abbrev pub RecordsAreRead : Type 0
 RecordsAreRead = (limit : ℕ) (expect : Expect) (bytes : List ℕ) (read : Read) (n : ℕ)
     → (frame_at limit expect bytes ≡ whole read n)
-    ↔ ((n ≤ length bytes) × IsRecord read (take n bytes) × MayCome expect read.frame × (length read.text ≤ limit))
+    ↔ ((n ≤ length bytes) × IsRecord read (take n bytes)
+    × MayCome expect read.frame × (length read.text ≤ limit))
 
 -- no record goes on to a longer one that may come in its place, and none is two
 abbrev pub NoRecordGoesOn : Type 0
-NoRecordGoesOn = (expect : Expect) (one other : Read) (bytes more : List ℕ) → MayCome expect one.frame → MayCome expect other.frame
+NoRecordGoesOn = (expect : Expect) (one other : Read) (bytes more : List ℕ)
+    → MayCome expect one.frame → MayCome expect other.frame
     → IsRecord one bytes → IsRecord other (bytes ++ more) → (more ≡ []) × (one ≡ other)
 
--- a record that has begun has at most five bytes more than the limit, and what decides one at most six more
+-- a record that has begun has at most five bytes more than the limit, and what decides one at most
+-- six more
 abbrev pub BegunIsShort : Type 0
-BegunIsShort = (limit : ℕ) (expect : Expect) (bytes : List ℕ) → frame_at limit expect bytes ≡ begun → length bytes ≤ limit + 5
+BegunIsShort = (limit : ℕ) (expect : Expect) (bytes : List ℕ) → frame_at limit expect bytes ≡ begun
+    → length bytes ≤ limit + 5
 
 abbrev pub WholeIsShort : Type 0
-WholeIsShort = (limit : ℕ) (expect : Expect) (bytes : List ℕ) (read : Read) (n : ℕ) → frame_at limit expect bytes ≡ whole read n → n ≤ limit + 6
+WholeIsShort = (limit : ℕ) (expect : Expect) (bytes : List ℕ) (read : Read) (n : ℕ)
+    → frame_at limit expect bytes ≡ whole read n → n ≤ limit + 6
 
 abbrev pub WrongIsShort : Type 0
-WrongIsShort = (limit : ℕ) (expect : Expect) (bytes : List ℕ) (fault : FrameFault) (n : ℕ) → frame_at limit expect bytes ≡ wrong fault n → n ≤ limit + 6
+WrongIsShort = (limit : ℕ) (expect : Expect) (bytes : List ℕ) (fault : FrameFault) (n : ℕ)
+    → frame_at limit expect bytes ≡ wrong fault n → n ≤ limit + 6
 
 -- a type byte above the known ones comes first
 abbrev pub BeginsUnknown : Expect → List ℕ → Type 0
@@ -45,21 +51,26 @@ BeginsUnknown _ _ = ⊥
 -- that is what makes a record unknown, and nothing else
 abbrev pub UnknownByType : Type 0
 UnknownByType = (limit : ℕ) (expect : Expect) (bytes : List ℕ) (n : ℕ)
-    → (frame_at limit expect bytes ≡ wrong faults.UnknownRecord n) ↔ ((n ≡ 1) × BeginsUnknown expect bytes)
+    → (frame_at limit expect bytes ≡ wrong faults.UnknownRecord n)
+    ↔ ((n ≡ 1) × BeginsUnknown expect bytes)
 
--- the types of records that have no frame: Extensible Encoding, Upgrade Request and Upgrade Response
+-- the types of records that have no frame: Extensible Encoding, Upgrade Request and Upgrade
+-- Response
 abbrev pub has_no_frame : ℕ → Bool
-has_no_frame kind = (kind == EXTENSIBLE_ENCODING) || ((kind == UPGRADE_REQUEST) || (kind == UPGRADE_RESPONSE))
+has_no_frame kind =
+    (kind == EXTENSIBLE_ENCODING) || ((kind == UPGRADE_REQUEST) || (kind == UPGRADE_RESPONSE))
 
 -- this type byte comes first, which is a known one and may not come
 abbrev pub BeginsUnexpected : Expect → List ℕ → ℕ → Type 0
-BeginsUnexpected (Types types) (kind ∷ rest) t = (kind ≡ t) × (t ≤ GREATEST) × ((allows types t ≡ false) ⊎ (has_no_frame t ≡ true))
+BeginsUnexpected (Types types) (kind ∷ rest) t =
+    (kind ≡ t) × (t ≤ GREATEST) × ((allows types t ≡ false) ⊎ (has_no_frame t ≡ true))
 BeginsUnexpected _ _ t = ⊥
 
 -- that is what makes a record unexpected, and nothing else
 abbrev pub UnexpectedByType : Type 0
 UnexpectedByType = (limit : ℕ) (expect : Expect) (bytes : List ℕ) (t n : ℕ)
-    → (frame_at limit expect bytes ≡ wrong (faults.Unexpected t) n) ↔ ((n ≡ 1) × BeginsUnexpected expect bytes t)
+    → (frame_at limit expect bytes ≡ wrong (faults.Unexpected t) n)
+    ↔ ((n ≡ 1) × BeginsUnexpected expect bytes t)
 
 -- the types of records that have an integer, behind the type byte
 abbrev pub has_integer : ℕ → Bool
@@ -68,10 +79,12 @@ has_integer kind = (kind == VIA) || ((kind == SIZED_ENVELOPE) || (kind == FAULT)
 -- an integer comes behind k bytes: none for a chunk's size, else the type byte
 abbrev pub IntegerComes : Expect → List ℕ → ℕ → Type 0
 IntegerComes Chunk bytes k = k ≡ 0
-IntegerComes (Types types) (kind ∷ rest) k = (k ≡ 1) × (allows types kind ≡ true) × (has_integer kind ≡ true)
+IntegerComes (Types types) (kind ∷ rest) k =
+    (k ≡ 1) × (allows types kind ≡ true) × (has_integer kind ≡ true)
 IntegerComes (Types types) [] k = ⊥
 
--- four bytes of it say that another follows, and the fifth is above 7: nothing else makes an integer wrong
+-- four bytes of it say that another follows, and the fifth is above 7: nothing else makes an
+-- integer wrong
 abbrev pub BadByInteger : Type 0
 BadByInteger = (limit : ℕ) (expect : Expect) (bytes : List ℕ) (n : ℕ)
     → (frame_at limit expect bytes ≡ wrong faults.BadInt n)

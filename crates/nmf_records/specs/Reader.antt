@@ -1,4 +1,5 @@
--- What a reader of records stands for, and what it answers. It keeps of the bytes that it used no more than a text.
+-- What a reader of records stands for, and what it answers. It keeps of the bytes that it used no
+-- more than a text.
 use Rattle.std.specs.Prelude.{◌≡◌, ℕ, ◌+◌, List, [], ◌∷◌, ◌++◌, length, drop, if◌then◌else◌, Option, Some, None, Result, Ok, Err}
 use Rattle.unit_streams.specs.Front.{Front, begun, whole, wrong}
 use Rattle.multibyte_ints.specs.declared.text.StringReader.{StringReader}
@@ -108,11 +109,13 @@ abbrev pub shown_behind : ℕ → Expect → List ℕ → List ℕ → List ℕ
 shown_behind limit expect p s = text_after s expect p (frame_at limit expect p)
 
 -- what a piece behind p is answered with
-abbrev pub FrameAnswers : ℕ → Expect → List ℕ → List ℕ → Result (ℕ × FrameStep) FrameRefusal → Type 0
+abbrev pub FrameAnswers : ℕ → Expect → List ℕ → List ℕ → Result (ℕ × FrameStep) FrameRefusal
+    → Type 0
 FrameAnswers limit expect p piece (Ok (n, More)) =
     (n ≡ length piece) × (frame_at limit expect (p ++ piece) ≡ begun)
 FrameAnswers limit expect p piece (Ok (n, Done frame)) =
-    (text : List ℕ) × (frame_at limit expect (p ++ piece) ≡ whole (with_text frame text) (length p + n))
+    (text : List ℕ)
+    × (frame_at limit expect (p ++ piece) ≡ whole (with_text frame text) (length p + n))
 FrameAnswers limit expect p piece (Err refusal) =
     frame_at limit expect (p ++ piece) ≡ wrong refusal.fault refusal.shown_by
 

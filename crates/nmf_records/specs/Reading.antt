@@ -106,5 +106,6 @@ frame_at limit expects.Chunk bytes = size_at 0 frames.Chunk bytes
 -- a Via or a Fault has begun
 abbrev pub begins_text : Expect → List ℕ → Bool
 begins_text (expects.Types types) [] = false
-begins_text (expects.Types types) (kind ∷ rest) = allows types kind && ((kind == VIA) || (kind == FAULT))
+begins_text (expects.Types types) (kind ∷ rest) =
+    allows types kind && ((kind == VIA) || (kind == FAULT))
 begins_text expects.Chunk p = false

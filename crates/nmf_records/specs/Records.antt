@@ -34,10 +34,12 @@ abbrev pub IsRecordOf : Frame → List ℕ → List ℕ → Type 0
 IsRecordOf (Version major minor) text bytes = (text ≡ []) × (bytes ≡ VERSION ∷ major ∷ minor ∷ [])
 IsRecordOf (Mode mode) text bytes = (text ≡ []) × (bytes ≡ MODE ∷ mode ∷ [])
 IsRecordOf Via text bytes = IsTextRecord VIA text bytes
-IsRecordOf (KnownEncoding encoding) text bytes = (text ≡ []) × (bytes ≡ KNOWN_ENCODING ∷ encoding ∷ [])
+IsRecordOf (KnownEncoding encoding) text bytes =
+    (text ≡ []) × (bytes ≡ KNOWN_ENCODING ∷ encoding ∷ [])
 IsRecordOf UnsizedEnvelope text bytes = (text ≡ []) × (bytes ≡ UNSIZED_ENVELOPE ∷ [])
 IsRecordOf (Chunk size) text bytes = (text ≡ []) × Spells size bytes
-IsRecordOf (SizedEnvelope size) text bytes = (text ≡ []) × (spelling : List ℕ) × Spells size spelling × (bytes ≡ SIZED_ENVELOPE ∷ spelling)
+IsRecordOf (SizedEnvelope size) text bytes =
+    (text ≡ []) × (spelling : List ℕ) × Spells size spelling × (bytes ≡ SIZED_ENVELOPE ∷ spelling)
 IsRecordOf End text bytes = (text ≡ []) × (bytes ≡ END ∷ [])
 IsRecordOf Fault text bytes = IsTextRecord FAULT text bytes
 IsRecordOf PreambleAck text bytes = (text ≡ []) × (bytes ≡ PREAMBLE_ACK ∷ [])

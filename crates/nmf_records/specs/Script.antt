@@ -1,6 +1,7 @@
--- The script of a session (MC-NMF): what may come in the stream of each direction, where each record
--- leads, and the same as a grammar on lists of records and chunks' sizes. What a reader refuses in a
--- record, such as another version, is no matter of it, but that the Mode record names the mode.
+-- The script of a session (MC-NMF): what may come in the stream of each direction, where each
+-- record leads, and the same as a grammar on lists of records and chunks' sizes. What a reader
+-- refuses in a record, such as another version, is no matter of it, but that the Mode record names
+-- the mode.
 use Rattle.std.specs.Prelude.{◌≡◌, ℕ, ◌+◌, ◌^◌, ◌<◌, ◌⊎◌, List, [], ◌∷◌, ◌++◌, map, All, Bool, true, false, ◌==◌, if◌then◌else◌, bit_or, IsSome}
 use Rattle.nbfx_values.specs.declared.session.Mode.{Mode}
 use Rattle.nbfx_values.specs.declared.session.Mode.TheVariants.{Singleton, Duplex, Simplex}

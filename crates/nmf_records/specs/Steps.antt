@@ -51,7 +51,8 @@ HasNoText _ p = Unit {0}
 
 -- where a fixed byte at the end of p leads to
 abbrev pub GoesTo : Expect → List ℕ → Progress → Type 0
-GoesTo expect p (Going stage) = HasShape expect stage p × (size_bytes stage p ≡ []) × HasNoText stage p
+GoesTo expect p (Going stage) =
+    HasShape expect stage p × (size_bytes stage p ≡ []) × HasNoText stage p
 GoesTo expect p _ = Unit {0}
 
 -- a text comes next

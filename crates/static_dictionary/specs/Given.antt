@@ -8,14 +8,16 @@ use Rattle.static_dictionary.specs.Rows.{Row, rows_of}
 use denote.Ref.{Bor}
 
 -- a reader of bytes has given these rows of them
-pub record HasGiven (bytes : List ℕ) (rows : List Row) (reader : Reader (Bor (List ℕ))) : Type 0 where
+pub record HasGiven (bytes : List ℕ) (rows : List Row)
+    (reader : Reader (Bor (List ℕ))) : Type 0 where
   pub untrimmed : reader_trim reader ≡ trim.None
   pub any_length : is_flexible reader ≡ true
   pub ready : Ready reader
   pub plain : reader_config reader ≡ default_config
   pub rest : List ℕ
   pub unread : source_of (λ s. Some s.now) reader ≡ Some rest
-  pub reached : Reached default_config st.StartRecord (strip_bom bytes) rows (reader_state reader) rest
+  pub reached : Reached default_config st.StartRecord (strip_bom bytes) rows
+      (reader_state reader) rest
 
 -- a read after these rows gave one more, or there is none
 abbrev pub NextRow : List ℕ → List Row → Bool → Row → Reader (Bor (List ℕ)) → Type 0

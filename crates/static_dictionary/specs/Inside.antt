@@ -9,6 +9,7 @@ module _ {A : Type 0} where
   entries_in by_id = map (λ entry. (entry.0, string_bytes entry.1)) by_id.entries
 
   -- the first map is that of a static table, and the second has the least identifier of each text
-  pub record AreMapsOfTable (by_id : BTreeMap ℕ (String A)) (by_text : BTreeMap (String A) ℕ) : Type 0 where
+  pub record AreMapsOfTable (by_id : BTreeMap ℕ (String A))
+      (by_text : BTreeMap (String A) ℕ) : Type 0 where
     pub rises : IsStaticMap (entries_in by_id)
     pub least : (text : List ℕ) → get_by_text by_text text ≡ least_static_id (entries_in by_id) text

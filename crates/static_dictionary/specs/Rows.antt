@@ -1,4 +1,5 @@
--- What the rows of a static table's file say. A row is the list of its fields, and a field the list of its bytes.
+-- What the rows of a static table's file say. A row is the list of its fields, and a field the list
+-- of its bytes.
 use Rattle.std.specs.Prelude.{ℕ, ◌+◌, ◌-◌, ◌%◌, ◌^◌, ◌==◌, ◌&&◌, nat_lt, nat_le, if◌then◌else◌, Bool, false, List, [], ◌∷◌, ◌++◌, drop, Option, Some, None, Result, Ok, Err, is_some, codes}
 use Rattle.std.specs.Char.{is_ascii_digit}
 use Rattle.std.specs.List.{filter_map}
@@ -31,9 +32,13 @@ most_id = 2 ^ 31 - 1
 
 -- the identifier that a field writes
 abbrev pub id_of : List ℕ → Option ℕ
-id_of field = if is_plain_number field && nat_le (digits_value 10 field) most_id then Some (digits_value 10 field) else None
+id_of field =
+    if is_plain_number field && nat_le (digits_value 10 field) most_id
+    then Some (digits_value 10 field)
+    else None
 
--- the entry of an identifier, which may be missing, and a text: an identifier of a static table is even
+-- the entry of an identifier, which may be missing, and a text: an identifier of a static table is
+-- even
 abbrev pub even_entry : Option ℕ → List ℕ → Result Entry TableKind
 even_entry None text = Err kind.NotANumber
 even_entry (Some id) text = if id % 2 == 1 then Err kind.Odd else Ok (id, text)
@@ -49,7 +54,9 @@ two_of (id ∷ text ∷ more ∷ rest) = None
 abbrev pub two_entry : Option (List ℕ × List ℕ) → Result Entry TableKind
 two_entry None = Err kind.Fields
 two_entry (Some fields) =
-    if is_utf8 fields.0 && is_utf8 fields.1 then even_entry (id_of fields.0) fields.1 else Err kind.NotUtf8
+    if is_utf8 fields.0 && is_utf8 fields.1
+    then even_entry (id_of fields.0) fields.1
+    else Err kind.NotUtf8
 
 -- the entry that a row behind the first writes, or what is wrong with the row by itself
 abbrev pub entry_of : Row → Result Entry TableKind
@@ -57,17 +64,22 @@ entry_of row = two_entry (two_of row)
 
 -- whether a row is the first that a file must have
 abbrev pub is_header : Row → Bool
-is_header row = option_map_or (λ fields. bytes_eq fields.0 (codes "id") && bytes_eq fields.1 (codes "string")) (two_of row) false
+is_header row =
+    option_map_or (λ fields. bytes_eq fields.0 (codes "id") && bytes_eq fields.1 (codes "string"))
+    (two_of row) false
 
 -- a row that fails: its number, from 0, and what is wrong with it
 abbrev pub Fault : Type 0
 Fault = ℕ × TableKind
 
 -- the fault of row n behind these entries, or else what comes behind it
-abbrev pub fault_or : (ℕ → List Entry → Option Fault) → ℕ → List Entry → Result Entry TableKind → Option Fault
+abbrev pub fault_or : (ℕ → List Entry → Option Fault) → ℕ → List Entry → Result Entry TableKind
+    → Option Fault
 fault_or behind n before (Err wrong) = Some (n, wrong)
 fault_or behind n before (Ok entry) =
-    if is_some (static_text before entry.0) then Some (n, kind.Repeated) else behind (n + 1) (before ++ entry ∷ [])
+    if is_some (static_text before entry.0)
+    then Some (n, kind.Repeated)
+    else behind (n + 1) (before ++ entry ∷ [])
 
 -- the first fault of the rows from row n on, behind these entries
 abbrev pub fault_from : List Row → ℕ → List Entry → Option Fault

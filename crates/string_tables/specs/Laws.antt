@@ -20,24 +20,30 @@ FindsStrings = (strings : List (List ℕ)) (id : ℕ) (text : List ℕ)
     → (session_text strings id ≡ Some text) ↔ NamesString strings id text
 
 abbrev pub NamesOneText : Type 0
-NamesOneText = (table : StringTable) (id : ℕ) (text other : List ℕ) → Names table id text → Names table id other → text ≡ other
+NamesOneText = (table : StringTable) (id : ℕ) (text other : List ℕ)
+    → Names table id text → Names table id other → text ≡ other
 
 abbrev pub HasStaticIds : Type 0
-HasStaticIds = (entries : List Entry) (id : ℕ) (text : List ℕ) → IsStaticMap entries → static_text entries id ≡ Some text → IsStaticId id
+HasStaticIds = (entries : List Entry) (id : ℕ) (text : List ℕ) → IsStaticMap entries
+    → static_text entries id ≡ Some text → IsStaticId id
 
--- a function that gives the least identifier by which a look-up finds a text, and none where no identifier does
+-- a function that gives the least identifier by which a look-up finds a text, and none where no
+-- identifier does
 abbrev pub GivesLeast : (ℕ → Option (List ℕ)) → (List ℕ → Option ℕ) → Type 0
 GivesLeast text_of least_of = (text : List ℕ)
     → MatchOption (least_of text) ((id : ℕ) → text_of id ≢ Some text) (IsLeastName text_of text)
 
 abbrev pub FindsLeast : Type 0
-FindsLeast = (table : StringTable) → IsStaticMap table.statics → GivesLeast (named_text table) (least_id table)
+FindsLeast = (table : StringTable) → IsStaticMap table.statics
+    → GivesLeast (named_text table) (least_id table)
 
 abbrev pub FindsLeastStatic : Type 0
-FindsLeastStatic = (entries : List Entry) → IsStaticMap entries → GivesLeast (static_text entries) (least_static_id entries)
+FindsLeastStatic = (entries : List Entry) → IsStaticMap entries
+    → GivesLeast (static_text entries) (least_static_id entries)
 
 abbrev pub FindsLeastSession : Type 0
-FindsLeastSession = (strings : List (List ℕ)) → GivesLeast (session_text strings) (least_session_id strings)
+FindsLeastSession = (strings : List (List ℕ))
+    → GivesLeast (session_text strings) (least_session_id strings)
 
 abbrev pub KeepsNames : Type 0
 KeepsNames = (table : StringTable) (more : List (List ℕ)) (id : ℕ) (text : List ℕ)
@@ -58,7 +64,8 @@ NamesFirst = (strings : List (List ℕ)) (text : List ℕ) → least_session_id 
     → least_session_id (strings ++ text ∷ []) text ≡ Some (2 * length strings + 1)
 
 abbrev pub AddsCosts : Type 0
-AddsCosts = (strings more : List (List ℕ)) → used_cost (strings ++ more) ≡ used_cost strings + used_cost more
+AddsCosts = (strings more : List (List ℕ))
+    → used_cost (strings ++ more) ≡ used_cost strings + used_cost more
 
 abbrev pub CountsWithin : Type 0
 CountsWithin = (strings : List (List ℕ)) → length strings ≤ used_cost strings

@@ -1,4 +1,5 @@
--- The strings of one direction of a session, in the order in which they came, each the list of its UTF-8 bytes.
+-- The strings of one direction of a session, in the order in which they came, each the list of its
+-- UTF-8 bytes.
 use Rattle.std.specs.Prelude.{ℕ, ◌+◌, ◌/◌, ◌%◌, ◌==◌, if◌then◌else◌, List, [], ◌∷◌, length, max, Option, Some, None, option_map, slice_get, sum_by}
 use Rattle.std.specs.Str.{bytes_eq}
 
@@ -10,7 +11,9 @@ session_text strings id = if id % 2 == 1 then slice_get strings (id / 2) else No
 abbrev pub least_session_id : List (List ℕ) → List ℕ → Option ℕ
 least_session_id [] text = None
 least_session_id (string ∷ strings) text =
-    if bytes_eq string text then Some 1 else option_map (λ id. id + 2) (least_session_id strings text)
+    if bytes_eq string text
+    then Some 1
+    else option_map (λ id. id + 2) (least_session_id strings text)
 
 -- what a string costs: its length in bytes, and 1 for the empty string
 abbrev pub cost : List ℕ → ℕ

@@ -1,4 +1,5 @@
--- The static strings: a finite map from identifiers to texts, as the list of its entries. A text is the list of its UTF-8 bytes.
+-- The static strings: a finite map from identifiers to texts, as the list of its entries. A text is
+-- the list of its UTF-8 bytes.
 use Rattle.std.specs.Prelude.{◌≡◌, ℕ, ◌+◌, ◌%◌, ◌^◌, ◌<◌, ◌≤◌, ⊤, nat_eq, if◌then◌else◌, List, [], ◌∷◌, min, Option, Some, None, fold}
 use Rattle.std.specs.Str.{bytes_eq}
 use Rattle.std.specs.Ordering.{nat_cmp}
@@ -22,7 +23,9 @@ least_with id (Some other) = min id other
 abbrev pub least_static_id : List Entry → List ℕ → Option ℕ
 least_static_id [] text = None
 least_static_id (entry ∷ entries) text =
-    if bytes_eq entry.1 text then Some (least_with entry.0 (least_static_id entries text)) else least_static_id entries text
+    if bytes_eq entry.1 text
+    then Some (least_with entry.0 (least_static_id entries text))
+    else least_static_id entries text
 
 -- the entries with one more, at its place in the order of the identifiers
 abbrev pub with_entry : List Entry → Entry → List Entry
@@ -40,7 +43,8 @@ pub record IsStaticId (id : ℕ) : Type 0 where
 -- from an identifier on, each entry has a static identifier, which is above those before it
 abbrev pub RisesFrom : ℕ → List Entry → Type 0
 RisesFrom least [] = ⊤
-RisesFrom least (entry ∷ entries) = (least ≤ entry.0) × IsStaticId entry.0 × RisesFrom (entry.0 + 1) entries
+RisesFrom least (entry ∷ entries) =
+    (least ≤ entry.0) × IsStaticId entry.0 × RisesFrom (entry.0 + 1) entries
 
 -- the static strings of a table: a finite map on even numbers below 2^31, in rising order
 abbrev pub IsStaticMap : List Entry → Type 0

@@ -1,4 +1,5 @@
--- What identifiers name, in a table of static strings and the strings of one direction of a session.
+-- What identifiers name, in a table of static strings and the strings of one direction of a
+-- session.
 use Rattle.std.specs.Prelude.{◌≡◌, ℕ, ◌+◌, ◌*◌, ◌%◌, ◌≤◌, ◌==◌, ◌⊎◌, if◌then◌else◌, List, ◌++◌, Option, Some, None, slice_get}
 use Rattle.string_tables.specs.StaticStrings.{Entry, least_static_id, least_with, static_text}
 use Rattle.string_tables.specs.SessionStrings.{least_session_id, session_text}
@@ -25,7 +26,8 @@ Names table id text = NamesEntry table.statics id text ⊎ NamesString table.str
 
 -- the text that an identifier names
 abbrev pub named_text : StringTable → ℕ → Option (List ℕ)
-named_text table id = if id % 2 == 1 then session_text table.strings id else static_text table.statics id
+named_text table id =
+    if id % 2 == 1 then session_text table.strings id else static_text table.statics id
 
 -- the lesser of two identifiers that may be missing
 abbrev pub lesser_id : Option ℕ → Option ℕ → Option ℕ
@@ -34,7 +36,8 @@ lesser_id (Some id) other = Some (least_with id other)
 
 -- the least identifier of a text
 abbrev pub least_id : StringTable → List ℕ → Option ℕ
-least_id table text = lesser_id (least_static_id table.statics text) (least_session_id table.strings text)
+least_id table text =
+    lesser_id (least_static_id table.statics text) (least_session_id table.strings text)
 
 -- by this look-up an identifier names a text, and none below it does
 pub record IsLeastName (text_of : ℕ → Option (List ℕ)) (text : List ℕ) (id : ℕ) : Type 0 where

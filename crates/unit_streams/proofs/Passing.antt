@@ -154,10 +154,6 @@ module _ {Z U E R : Type 0} (g : Grammar Z U E R) (readable : IsReadable g) (p :
                 ];
           }
 
-          -- nor is what follows refused by more than its length, where the unit isn't
-          pub whole_going : g.refused here.situation here.from u ≡ None → IsGoing g closed
-          whole_going none = record { next = readable.nothing closed.situation closed.from; last = none }
-
         -- and show it to be wrong
         module _ (r : R) (k : ℕ) (e : front (here.begun ++ c) ≡ wrong r k) where
           pub wrong_standing : standing g (p ++ take n c) ≡ with_more here (take n c)

@@ -33,9 +33,15 @@ IsOpen (wrong r n) = Unit {0}
 pub record ReadsFront {A R : Type 0} (front : List ℕ → Front A R) : Type 0 where
   pub whole_within : (b : List ℕ) (a : A) (k : ℕ) → front b ≡ whole a k → k ≤ length b
   pub wrong_within : (b : List ℕ) (r : R) (k : ℕ) → front b ≡ wrong r k → k ≤ length b
-  pub whole_alone : (b : List ℕ) (a : A) (k : ℕ) → front b ≡ whole a k → front (take k b) ≡ whole a k
-  pub wrong_alone : (b : List ℕ) (r : R) (k : ℕ) → front b ≡ wrong r k → front (take k b) ≡ wrong r k
-  pub whole_stays : (b more : List ℕ) (a : A) (k : ℕ) → front b ≡ whole a k → front (b ++ more) ≡ whole a k
-  pub wrong_stays : (b more : List ℕ) (r : R) (k : ℕ) → front b ≡ wrong r k → front (b ++ more) ≡ wrong r k
-  pub whole_first : (b : List ℕ) (a : A) (k j : ℕ) → front b ≡ whole a k → j < k → front (take j b) ≡ begun
-  pub wrong_first : (b : List ℕ) (r : R) (k j : ℕ) → front b ≡ wrong r k → j < k → front (take j b) ≡ begun
+  pub whole_alone : (b : List ℕ) (a : A) (k : ℕ) → front b ≡ whole a k
+      → front (take k b) ≡ whole a k
+  pub wrong_alone : (b : List ℕ) (r : R) (k : ℕ) → front b ≡ wrong r k
+      → front (take k b) ≡ wrong r k
+  pub whole_stays : (b more : List ℕ) (a : A) (k : ℕ) → front b ≡ whole a k
+      → front (b ++ more) ≡ whole a k
+  pub wrong_stays : (b more : List ℕ) (r : R) (k : ℕ) → front b ≡ wrong r k
+      → front (b ++ more) ≡ wrong r k
+  pub whole_first : (b : List ℕ) (a : A) (k j : ℕ) → front b ≡ whole a k → j < k
+      → front (take j b) ≡ begun
+  pub wrong_first : (b : List ℕ) (r : R) (k j : ℕ) → front b ≡ wrong r k → j < k
+      → front (take j b) ≡ begun

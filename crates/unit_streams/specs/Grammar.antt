@@ -1,9 +1,10 @@
--- What a stream is read by: units, one behind the other, and what they mean. Where a stream stands: its whole units peeled off the front,
--- the situation behind them, and the bytes of the unit that is begun.
+-- What a stream is read by: units, one behind the other, and what they mean. Where a stream stands:
+-- its whole units peeled off the front, the situation behind them, and the bytes of the unit begun.
 use Rattle.std.specs.Prelude.{◌≡◌, ℕ, zero, suc, ◌+◌, List, [], ◌++◌, length, drop, Bool, true, false, Option, Some, None}
 use Rattle.unit_streams.specs.Front.{Front, begun, whole, on_whole, ReadsFront}
 
--- Situations are in Z, units in U, events in E and refusals in R. A unit is read at the offset at which it begins, since a refusal tells its place.
+-- Situations are in Z, units in U, events in E and refusals in R. A unit is read at the offset at
+-- which it begins, since a refusal tells its place.
 pub record Grammar (Z U E R : Type 0) : Type 0 where
   -- the situation before the first unit
   pub start : Z
@@ -61,7 +62,13 @@ module _ {Z U E R : Type 0} (g : Grammar Z U E R) where
 
   -- before the first unit, with these bytes
   abbrev pub at_start : List ℕ → Standing Z E R
-  at_start bytes = record { situation = g.start; from = 0; begun = bytes; event = None; refusal = None }
+  at_start bytes = record {
+    situation = g.start;
+    from = 0;
+    begun = bytes;
+    event = None;
+    refusal = None;
+  }
 
   -- where the stream p stands
   unfoldable pub standing : List ℕ → Standing Z E R
@@ -72,17 +79,20 @@ abbrev pub with_more : {Z E R : Type 0} → Standing Z E R → List ℕ → Stan
 with_more s bytes = record s { begun = s.begun ++ bytes }
 
 -- where a stream stands that stood so before these bytes
-unfoldable pub resumed : {Z U E R : Type 0} → Grammar Z U E R → Standing Z E R → List ℕ → Standing Z E R
+unfoldable pub resumed : {Z U E R : Type 0} → Grammar Z U E R → Standing Z E R → List ℕ
+    → Standing Z E R
 resumed g s bytes = peel g (with_more s bytes)
 
--- each unit is known by its own bytes, of which there is one at least, and where nothing is judged nothing is read
+-- each unit is known by its own bytes, of which there is one at least, and where nothing is judged
+-- nothing is read
 pub record IsReadable {Z U E R : Type 0} (g : Grammar Z U E R) : Type 0 where
   pub reads : (z : Z) (from : ℕ) → ReadsFront (g.unit_at z from)
   pub nothing : (z : Z) (from : ℕ) → g.unit_at z from [] ≡ begun
 
 -- where nothing is judged, no byte is read and nothing is refused
 pub record IsQuietWhenOver {Z U E R : Type 0} (g : Grammar Z U E R) : Type 0 where
-  pub unread : (z : Z) (from : ℕ) (bytes : List ℕ) → g.is_over z ≡ true → g.unit_at z from bytes ≡ begun
+  pub unread : (z : Z) (from : ℕ) (bytes : List ℕ) → g.is_over z ≡ true
+      → g.unit_at z from bytes ≡ begun
   pub any_length : (z : Z) (from n : ℕ) → g.is_over z ≡ true → g.at_length z from n ≡ None
   pub any_end : (z : Z) (from n : ℕ) → g.is_over z ≡ true → g.at_end z from n ≡ None
 
@@ -90,6 +100,8 @@ pub record IsQuietWhenOver {Z U E R : Type 0} (g : Grammar Z U E R) : Type 0 whe
 pub record TellsItsEnd {Z U E R : Type 0} (g : Grammar Z U E R) (ends : E → Bool) : Type 0 where
   pub start : g.is_over g.start ≡ false
   pub told : (z : Z) (from : ℕ) (b : List ℕ) (u : U) (k : ℕ) (e : E)
-      → g.unit_at z from b ≡ whole u k → g.is_over z ≡ false → g.completed z from u ≡ Some e → g.is_over (g.after z from u) ≡ ends e
+      → g.unit_at z from b ≡ whole u k → g.is_over z ≡ false → g.completed z from u ≡ Some e
+      → g.is_over (g.after z from u) ≡ ends e
   pub untold : (z : Z) (from : ℕ) (b : List ℕ) (u : U) (k : ℕ)
-      → g.unit_at z from b ≡ whole u k → g.is_over z ≡ false → g.completed z from u ≡ None → g.is_over (g.after z from u) ≡ false
+      → g.unit_at z from b ≡ whole u k → g.is_over z ≡ false → g.completed z from u ≡ None
+      → g.is_over (g.after z from u) ≡ false

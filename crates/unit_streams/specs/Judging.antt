@@ -1,5 +1,5 @@
--- What each prefix of a stream completes and what refuses it; the history of a stream, which is its events and then its offence; the
--- answer to a piece of one.
+-- What each prefix of a stream completes and what refuses it; the history of a stream, which is its
+-- events and then its offence; the answer to a piece of one.
 use Rattle.std.specs.Prelude.{ℕ, suc, List, [], ◌∷◌, ◌++◌, length, Bool, Option, Some, None}
 use Rattle.std.specs.Option.{option_or, option_to_list}
 use Rattle.unit_streams.specs.Front.{wrong_of}
@@ -15,9 +15,12 @@ module _ {Z U E R : Type 0} (g : Grammar Z U E R) where
   abbrev pub event_of : Standing Z E R → Option E
   event_of s = given_at s.begun s.event
 
-  -- what refuses a prefix of n bytes that stands so: what its last unit says, else the unit that is begun, else its length
+  -- what refuses a prefix of n bytes that stands so: what its last unit says, else the unit that is
+  -- begun, else its length
   abbrev pub refusal_of : Standing Z E R → ℕ → Option R
-  refusal_of s n = option_or (given_at s.begun s.refusal) (option_or (wrong_of (next_unit g s)) (g.at_length s.situation s.from n))
+  refusal_of s n =
+      option_or (given_at s.begun s.refusal)
+      (option_or (wrong_of (next_unit g s)) (g.at_length s.situation s.from n))
 
   -- the event that the prefix p completes
   unfoldable pub event_at : List ℕ → Option E
@@ -54,10 +57,13 @@ unless_refused (Some r) history = only (Some r)
 unless_refused None history = history
 
 module _ {Z U E R : Type 0} (g : Grammar Z U E R) where
-  -- what comes behind the prefix p as y goes on: the events of longer prefixes, up to the shortest that is refused, and that refusal, or the end's
+  -- what comes behind the prefix p as y goes on: the events of longer prefixes, up to the shortest
+  -- that is refused, and that refusal, or the end's
   unfoldable pub history_from : List ℕ → List ℕ → History E R
   history_from p [] = only (option_or (refusal_at g p) (ending_at g p))
-  history_from p (b ∷ y) = unless_refused (refusal_at g p) (led_by (option_to_list (event_at g (p ++ b ∷ []))) (history_from (p ++ b ∷ []) y))
+  history_from p (b ∷ y) =
+      unless_refused (refusal_at g p)
+      (led_by (option_to_list (event_at g (p ++ b ∷ []))) (history_from (p ++ b ∷ []) y))
 
   -- the history of a stream
   unfoldable pub history : List ℕ → History E R
@@ -106,10 +112,13 @@ used len (completes n e) = n
 used len (offends n r) = n
 
 module _ {Z U E R : Type 0} (g : Grammar Z U E R) where
-  -- the first decision as y goes on behind the prefix p, the last n bytes of which are the piece's: an event at its last byte, else a refusal
+  -- the first decision as y goes on behind the prefix p, the last n bytes of which are the piece's:
+  -- an event at its last byte, else a refusal
   unfoldable pub answer_from : List ℕ → ℕ → List ℕ → Answer E R
   answer_from p n [] = unless_offended n (refusal_at g p) goes_on
-  answer_from p n (b ∷ y) = unless_offended n (refusal_at g p) (unless_completed (suc n) (event_at g (p ++ b ∷ [])) (answer_from (p ++ b ∷ []) (suc n) y))
+  answer_from p n (b ∷ y) =
+      unless_offended n (refusal_at g p)
+      (unless_completed (suc n) (event_at g (p ++ b ∷ [])) (answer_from (p ++ b ∷ []) (suc n) y))
 
   -- the answer to the piece y behind p
   unfoldable pub answer : List ℕ → List ℕ → Answer E R

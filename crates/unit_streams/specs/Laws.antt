@@ -25,7 +25,9 @@ module _ {Z U E R : Type 0} (g : Grammar Z U E R) where
 
   -- the answer to two pieces as one is the first's, or else the second's
   abbrev pub CutsChangeNothing : Type 0
-  CutsChangeNothing = (p y z : List ℕ) → answer g p (y ++ z) ≡ unless_decided (answer g p y) (raised (length y) (answer g (p ++ y) z))
+  CutsChangeNothing = (p y z : List ℕ)
+      → answer g p (y ++ z)
+      ≡ unless_decided (answer g p y) (raised (length y) (answer g (p ++ y) z))
 
   -- an answer is the first decision, or that there is none
   abbrev pub AnswersAreFirst : Type 0
@@ -35,18 +37,22 @@ module _ {Z U E R : Type 0} (g : Grammar Z U E R) where
   abbrev pub HistoryIsAnswers : Type 0
   HistoryIsAnswers = (p y : List ℕ) → history_from g p y ≡ history_by g p y (answer g p y)
 
-  -- where nothing has refused or ended a stream yet, it has brought its prefixes' events, and has only its end left
+  -- where nothing has refused or ended a stream yet, it has brought its prefixes' events, and has
+  -- only its end left
   abbrev pub PendingHistories : Type 0
-  PendingHistories = (bytes : List ℕ) → IsPending g bytes → history g bytes ≡ led_by (events_of g bytes) (only (ending_at g bytes))
+  PendingHistories = (bytes : List ℕ) → IsPending g bytes
+      → history g bytes ≡ led_by (events_of g bytes) (only (ending_at g bytes))
 
   -- where a unit may come, none begins a longer one
   abbrev pub NoUnitGoesOn : Type 0
   NoUnitGoesOn = (z : Z) (from : ℕ) (b c : List ℕ) (u v : U)
-      → g.unit_at z from b ≡ whole u (length b) → g.unit_at z from (b ++ c) ≡ whole v (length (b ++ c)) → c ≡ []
+      → g.unit_at z from b ≡ whole u (length b)
+      → g.unit_at z from (b ++ c) ≡ whole v (length (b ++ c)) → c ≡ []
 
   -- behind a prefix that ends the stream and isn't refused, nothing comes
   abbrev pub EndsAreClosed : Type 0
-  EndsAreClosed = (p y : List ℕ) → is_over_at g p ≡ true → refusal_at g p ≡ None → history_from g p y ≡ only None
+  EndsAreClosed = (p y : List ℕ) → is_over_at g p ≡ true → refusal_at g p ≡ None
+      → history_from g p y ≡ only None
 
   -- a prefix of the stream is refused so, and no shorter one is refused
   pub record IsRefusedAt (bytes : List ℕ) (r : R) : Type 0 where

@@ -1,4 +1,5 @@
--- Things that are made of parts, one behind the other: what stands at the front of some bytes, by what stands there of each part.
+-- Things that are made of parts, one behind the other: what stands at the front of some bytes, by
+-- what stands there of each part.
 use Rattle.std.specs.Prelude.{◌≡◌, ℕ, zero, suc, ◌+◌, ◌≤◌, ◌↔◌, List, [], ◌∷◌, ◌++◌, length, take, drop, nat_lt, nat_le, if◌then◌else◌, Result, Ok, Err}
 use Rattle.unit_streams.specs.Front.{Front, begun, whole, wrong}
 
@@ -74,10 +75,12 @@ within limit r reader bytes = closed_at limit r (length bytes) (reader (take lim
 
 -- what is read at the front is what bytes there are
 abbrev pub ReadsJust : {A R : Type 0} → Reader A R → (A → List ℕ → Type 0) → Type 0
-ReadsJust {A} reader Is = (bytes : List ℕ) (a : A) (n : ℕ) → (reader bytes ≡ whole a n) ↔ ((n ≤ length bytes) × Is a (take n bytes))
+ReadsJust {A} reader Is = (bytes : List ℕ) (a : A) (n : ℕ)
+    → (reader bytes ≡ whole a n) ↔ ((n ≤ length bytes) × Is a (take n bytes))
 
 -- the bytes are two parts, one behind the other
-pub record Joined {A B : Type 0} (First : A → List ℕ → Type 0) (Next : A → B → List ℕ → Type 0) (b : B) (bytes : List ℕ) : Type 0 where
+pub record Joined {A B : Type 0} (First : A → List ℕ → Type 0) (Next : A → B → List ℕ → Type 0)
+    (b : B) (bytes : List ℕ) : Type 0 where
   pub part : A
   pub front : List ℕ
   pub rest : List ℕ
@@ -114,6 +117,9 @@ unfoldable pub many : {A B R : Type 0} → Reader (Turn A B) R → Reader (Many 
 many turn bytes = repeated (suc (length bytes)) turn bytes
 
 -- the bytes are such things, and then the end
-unfoldable pub AreMany : {A B : Type 0} → (Turn A B → List ℕ → Type 0) → List A → B → List ℕ → Type 0
+unfoldable pub AreMany : {A B : Type 0} → (Turn A B → List ℕ → Type 0) → List A → B → List ℕ
+    → Type 0
 AreMany Is [] last bytes = Is (stop last) bytes
-AreMany Is (a ∷ items) last bytes = (front : List ℕ) × (rest : List ℕ) × (bytes ≡ front ++ rest) × Is (more a) front × AreMany Is items last rest
+AreMany Is (a ∷ items) last bytes =
+    (front : List ℕ) × (rest : List ℕ) × (bytes ≡ front ++ rest)
+    × Is (more a) front × AreMany Is items last rest

@@ -10,11 +10,13 @@ pub record Counted (U : Type 0) : Type 0 where
   pub size : ℕ
 
 module _ {Z U E R : Type 0} (g : Grammar Z U E R) where
-  -- none of these units is refused, and they lead from one situation, at an offset, to another and leave the rest of the bytes
+  -- none of these units is refused, and they lead from one situation, at an offset, to another and
+  -- leave the rest of the bytes
   unfoldable pub UnitsLead : Z → ℕ → List (Counted U) → List ℕ → Z → List ℕ → Type 0
   UnitsLead z from [] bytes z' rest = (z ≡ z') × (bytes ≡ rest)
   UnitsLead z from (one ∷ units) bytes z' rest =
-      (g.unit_at z from bytes ≡ whole one.unit one.size) × (g.refused z from one.unit ≡ None) × UnitsLead (g.after z from one.unit) (from + one.size) units (drop one.size bytes) z' rest
+      (g.unit_at z from bytes ≡ whole one.unit one.size) × (g.refused z from one.unit ≡ None)
+      × UnitsLead (g.after z from one.unit) (from + one.size) units (drop one.size bytes) z' rest
 
   -- no number of bytes is too many that ends within one of them
   unfoldable pub AreShort : Z → ℕ → List (Counted U) → Type 0
@@ -26,15 +28,17 @@ module _ {Z U E R : Type 0} (g : Grammar Z U E R) where
   -- the events that they complete
   unfoldable pub events_along : Z → ℕ → List (Counted U) → List E
   events_along z from [] = []
-  events_along z from (one ∷ units) = option_to_list (g.completed z from one.unit) ++ events_along (g.after z from one.unit) (from + one.size) units
+  events_along z from (one ∷ units) =
+      option_to_list (g.completed z from one.unit)
+      ++ events_along (g.after z from one.unit) (from + one.size) units
 
 -- how many bytes they have
 unfoldable pub size_of : {U : Type 0} → List (Counted U) → ℕ
 size_of [] = 0
 size_of (one ∷ units) = one.size + size_of units
 
--- unrefused units lead to where the input may end, with bytes behind them of which no unit is whole nor wrong, and at no length on the
--- way there are too many bytes
+-- unrefused units lead to where the input may end, with bytes behind them of which no unit is whole
+-- nor wrong, and at no length on the way there are too many bytes
 pub record IsAccepted {Z U E R : Type 0} (g : Grammar Z U E R) (bytes : List ℕ) : Type 0 where
   pub units : List (Counted U)
   pub situation : Z

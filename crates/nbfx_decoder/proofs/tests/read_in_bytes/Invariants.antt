@@ -1,4 +1,4 @@
-use Rattle.std.proofs.Common.{length, ◌-◌, ◌≡◌, ℕ, ◌≤◌}
+use Rattle.std.proofs.Common.{length, ◌-◌, ◌≡◌, ◌≤◌}
 use Rattle.nbfx_decoder.specs.Standing.{settings_of}
 use Rattle.nbfx_decoder.proofs.Feeding.{HasFed}
 use Rattle.nbfx_decoder.proofs.tests.read_in_bytes.Given as goal

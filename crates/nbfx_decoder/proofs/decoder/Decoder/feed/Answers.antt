@@ -1,4 +1,5 @@
-use Rattle.std.proofs.Common.{◌∙◌, ap, Err}
+use Rattle.std.proofs.Common.{ap, Err}
+use Rattle.nbfx_decoder.proofs.Keeping.{keeps_settings, settings_through}
 use Rattle.nbfx_decoder.proofs.FeedSteps.{settings_kept, failure_is, unfailed_stands, unfailed_failure, same_failure, few_bytes, reached_of, answer_goes_on, stands_behind, answer_fault, failed_within}
 use Rattle.nbfx_decoder.proofs.decoder.Decoder.feed.Goals as goal
 
@@ -55,6 +56,4 @@ returns-in-Err-clause-unchanged c fault told = absurd (unfailed_failure c.args.s
 
 pub returns-in-Err-clause-settings : goal.returns-in-Err-clause-settings
 returns-in-Err-clause-settings c =
-    let kept = c.take_all.ensures.keeps.settings in
-    let same = c.fail.ensures.kept in
-    settings_kept c.args.self.now c.fail.new.self (record { statics = same.statics ∙ kept.statics; quotas = same.quotas ∙ kept.quotas; kind = same.kind ∙ kept.kind })
+    settings_kept c.args.self.now c.fail.new.self (settings_through c.take_all.ensures.keeps.settings (keeps_settings c.fail.ensures.kept))

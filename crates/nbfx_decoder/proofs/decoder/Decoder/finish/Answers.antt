@@ -1,4 +1,5 @@
 use Rattle.std.proofs.Common.{◌∙◌, Ok, Err, ap, refl}
+use Rattle.nbfx_decoder.proofs.Keeping.{keeps_settings, settings_through}
 use Rattle.nbfx_decoder.proofs.FeedSteps.{settings_kept, failure_is, unfailed_stands, unfailed_failure, same_failure, items_here, nothing_cut, stands_anew, finish_failed, finish_fault, finishes_whole, carries_on}
 use Rattle.nbfx_decoder.proofs.decoder.Decoder.finish.Goals as goal
 
@@ -32,8 +33,7 @@ returns-in-Some-finish-clause-unchanged c fault told = absurd (unfailed_failure 
 
 pub returns-in-Some-finish-clause-settings : goal.returns-in-Some-finish-clause-settings
 returns-in-Some-finish-clause-settings c =
-    let same = c.finish.ensures.kept in
-    settings_kept c.args.self.now _ (record { statics = same.statics; quotas = same.quotas; kind = same.kind })
+    settings_kept c.args.self.now _ (keeps_settings c.finish.ensures.kept)
 
 pub returns-clause-answers : goal.returns-clause-answers
 returns-clause-answers c strings p h =
@@ -58,9 +58,7 @@ returns-clause-unchanged c fault told = absurd (unfailed_failure c.args.self.now
 
 pub returns-clause-settings : goal.returns-clause-settings
 returns-clause-settings c =
-    let same = c.finish.ensures.kept in
-    let then = c.fail.ensures.kept in
-    settings_kept c.args.self.now c.fail.new.self (record { statics = then.statics ∙ same.statics; quotas = then.quotas ∙ same.quotas; kind = then.kind ∙ same.kind })
+    settings_kept c.args.self.now c.fail.new.self (settings_through (keeps_settings c.finish.ensures.kept) (keeps_settings c.fail.ensures.kept))
 
 pub returns-in-Some-clause-whole : goal.returns-in-Some-clause-whole
 returns-in-Some-clause-whole c strings p h items = absurd (unfailed_stands c.args.self.now c.in-Some.fault strings p c.in-Some.is h)

@@ -1,5 +1,6 @@
 use Rattle.std.proofs.Common.{◌++◌, ◌∙◌, ℕ, List, Ok, Err, length, take, ap, subst, arith, length-drop}
 use Rattle.nbfx_decoder.specs.Taking.{TakeAnswers}
+use Rattle.nbfx_decoder.proofs.Keeping.{settings_through}
 use Rattle.nbfx_decoder.proofs.AllSteps.{rest_of, taken_more, taken_fault}
 use Rattle.nbfx_decoder.proofs.decoder.Decoder.take_all.Goals as goal
 
@@ -17,13 +18,11 @@ loop-used-preserved c =
     let before = c.loop-used.invariant.taken in
     let more = c.in_ok-used.ensures.takes.taken in
     let within = c.loop-used.invariant.within in
-    let kept = c.loop-used.invariant.kept in
-    let still = c.take.ensures.keeps.settings in
     record {
       within = omega (arith, counts, size, within);
       taken = omega (arith, before, more);
       failure = c.take.ensures.keeps.failure ∙ c.loop-used.invariant.failure;
-      kept = record { statics = still.statics ∙ kept.statics; quotas = still.quotas ∙ kept.quotas; kind = still.kind ∙ kept.kind };
+      kept = settings_through c.loop-used.invariant.kept c.take.ensures.keeps.settings;
       far = λ x strings p h.
           let far = c.loop-used.invariant.far x strings p h in
           taken_more x strings p c.args.bytes.now c.loop-used.used far.quiet c.take.new.self c.in_ok-used.field-0

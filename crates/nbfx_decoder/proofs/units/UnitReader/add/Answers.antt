@@ -1,6 +1,7 @@
 use Rattle.std.proofs.Common.{Err, refl, ap, arith}
 use Rattle.nbfx_decoder.specs.Meant.{items_in}
-use Rattle.nbfx_decoder.proofs.UnitSteps.{set_kept, unnamed, too_much, unrefused, behind_node, leads_somewhere}
+use Rattle.nbfx_decoder.proofs.Keeping.{strings_kept}
+use Rattle.nbfx_decoder.proofs.UnitSteps.{unnamed, too_much, unrefused, behind_node, leads_somewhere}
 use Rattle.nbfx_decoder.proofs.units.UnitReader.add.Goals as goal
 
 pub returns-in-Err-UnknownString-clause-answers : goal.returns-in-Err-UnknownString-clause-answers
@@ -12,7 +13,7 @@ returns-in-Ok-push-clause-answers c x z from at =
     rw c.refused-in-Ok-push.ensures (
       too_much c.args.self.now x z from at c.args.node _ refl (items_in c.in-Ok.meant) c.in-Ok.ensures.found c.push.new.document c.in-Ok-push.ensures.pushed c.content.result c.content.ensures c.if-content-self.true,
       refl,
-      set_kept c.args.self.now x z from at _ from (record { statics = refl; quotas = refl; kind = refl; table = refl }) at.set.from_is,
+      strings_kept (record { statics = refl; quotas = refl; kind = refl; table = refl }) at.set at.set.from_is,
     )
 
 pub returns-in-Ok-2-clause-answers : goal.returns-in-Ok-2-clause-answers

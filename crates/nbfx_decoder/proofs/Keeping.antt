@@ -1,0 +1,24 @@
+-- What a reader of units has, another has that keeps it.
+use Rattle.std.proofs.Common.{◌≡◌, ℕ, List, ap, ◌∙◌}
+use Rattle.nbfx_values.specs.QuotasOf.{limits_of}
+use Rattle.nbfx_decoder.specs.declared.units.UnitReader.{UnitReader}
+use Rattle.nbfx_decoder.specs.Payload.{Settings}
+use Rattle.nbfx_decoder.specs.Units.{HasStrings, Keeps, KeepsSettings}
+
+-- what keeps all of it keeps its settings
+pub keeps_settings : {old new : UnitReader} → Keeps old new → KeepsSettings old new
+keeps_settings same = record { statics = same.statics; quotas = same.quotas; kind = same.kind }
+
+-- what keeps them twice keeps them
+pub settings_through : {old mid new : UnitReader} → KeepsSettings old mid → KeepsSettings mid new → KeepsSettings old new
+settings_through first then = record { statics = then.statics ∙ first.statics; quotas = then.quotas ∙ first.quotas; kind = then.kind ∙ first.kind }
+
+-- its strings stay, wherever its unit begins
+pub strings_kept : {old new : UnitReader} {x : Settings} {strings : List (List ℕ)} {at from : ℕ} → Keeps old new → HasStrings old x strings at → new.from ≡ from → HasStrings new x strings from
+strings_kept same set from = record {
+  statics = ap (λ s. s.now) same.statics ∙ set.statics;
+  kind = same.kind ∙ set.kind;
+  limits = ap limits_of same.quotas ∙ set.limits;
+  table = same.table ∙ set.table;
+  from_is = from;
+}
