@@ -1,0 +1,2 @@
+-- how a receiver says what its reader does
+pub mod Said

@@ -1,0 +1,3 @@
+-- Public contracts cite both.
+pub mod Saying
+pub mod Standing

@@ -1,0 +1,71 @@
+-- What a receiver stands for, and what it shows: what its reader of streams does.
+use Rattle.std.specs.Prelude.{◌≡◌, ℕ, ◌+◌, ◌≤◌, List, ◌++◌, length, take, Option}
+use Rattle.unit_streams.specs.Judging.{Answer, used}
+use Rattle.nbfx_values.specs.declared.refusals.Offence.{Offence}
+use Rattle.stream_reader.specs.declared.reader.ReadRefusal.{ReadRefusal}
+use Rattle.stream_reader.specs.declared.reader.ReadRefusal.TheVariants.{Offence as Refused, Memory}
+use Rattle.stream_reader.specs.Laws.{IsInitiators}
+use Rattle.stream_reader.specs.Standing as reader
+use Rattle.stream_reader.specs.Stream.{Settings, StreamEvent}
+use Rattle.receiver_machine.specs.declared.receiver.Receiver.{Receiver}
+
+-- what it is set to
+unfoldable pub settings_of : Receiver → Settings
+settings_of r = reader.settings_of r.reader
+
+-- it reads an initiator's stream
+pub reads_initiators : (r : Receiver) → IsInitiators (settings_of r)
+unfolding settings_of
+reads_initiators r = reader.reads_initiators r.reader
+
+-- how many bytes it has used, or that show its offence
+unfoldable pub taken_of : Receiver → ℕ
+taken_of r = reader.taken_of r.reader
+
+-- how many documents were whole
+unfoldable pub messages_of : Receiver → ℕ
+messages_of r = reader.messages_of r.reader
+
+-- the refusal that it answers from now on
+unfoldable pub failure_of : Receiver → Option ReadRefusal
+failure_of r = reader.failure_of r.reader
+
+-- the Via that it shows
+unfoldable pub ShowsVia : Receiver → List ℕ → Type 0
+ShowsVia r via = reader.ShowsVia r.reader via
+
+-- the strings that it shows
+unfoldable pub ShowsStrings : Receiver → List (List ℕ) → Type 0
+ShowsStrings r strings = reader.ShowsStrings r.reader strings
+
+-- the bytes used, of a stream that isn't refused
+unfoldable pub StandsFor : Receiver → List ℕ → Type 0
+StandsFor r p = reader.StandsFor r.reader p
+
+-- it has used the bytes that it stands for
+pub counts_taken : (r : Receiver) (p : List ℕ) → StandsFor r p → taken_of r ≡ length p
+unfolding StandsFor taken_of
+counts_taken r p stands = reader.counts_taken r.reader p stands
+
+-- what it shows that is refused, by the bytes p
+unfoldable pub FailedBehind : Receiver → ReadRefusal → ℕ → List ℕ → Type 0
+FailedBehind r refusal taken p = reader.FailedBehind r.reader refusal taken p
+
+-- what a piece y behind p leaves of a receiver that it makes fail: where the stream is refused, it is
+-- behind the bytes that show it; where there was no memory, behind some, and none of y counts as used
+abbrev pub FailsBy : Receiver → List ℕ → List ℕ → Answer StreamEvent Offence → ReadRefusal
+    → Type 0
+FailsBy r p y answer (Refused o) =
+    FailedBehind r (Refused o) (length p + used (length y) answer)
+    (p ++ take (used (length y) answer) y)
+FailsBy r p y answer Memory =
+    (k : ℕ) × (k ≤ length y) × FailedBehind r Memory (length p) (p ++ take k y)
+
+-- this holds wherever it stands
+abbrev pub WhereItStands : Receiver → (List ℕ → Type 0) → Type 0
+WhereItStands r Holds = (p : List ℕ) → StandsFor r p → Holds p
+
+-- this holds wherever it has failed
+abbrev pub WhereItFailed : Receiver → (ReadRefusal → ℕ → List ℕ → Type 0) → Type 0
+WhereItFailed r Holds = (refusal : ReadRefusal) (taken : ℕ) (p : List ℕ)
+    → FailedBehind r refusal taken p → Holds refusal taken p

@@ -1,0 +1,201 @@
+//! An initiator's stream, in any pieces.
+
+ghost use Rattle.std.specs.Prelude.{◌≡◌, ℕ, ◌+◌, ◌≤◌, List, [], ◌++◌, length, take, IfOk, IfErr, OnOk, IsErrOf, Ok, Err, Some, false, true};
+ghost use Rattle.unit_streams.specs.Grammar.{standing};
+ghost use Rattle.unit_streams.specs.Judging.{answer, is_over_at, ending_at};
+ghost use Rattle.nbfx_values.specs.Measures.{content_of};
+ghost use Rattle.nbfx_values.specs.QuotasOf.{limits_of};
+ghost use Rattle.string_tables.specs.SessionStrings.{used_cost};
+ghost use Rattle.receiver_machine.specs.Saying.{said_step};
+ghost use Rattle.stream_reader.specs.Stream.{initiators, stream, strings_in};
+
+use nbfx_values::{Doc, Kept, Kind, Mode, Offence, Quotas};
+use session_dictionary::SessionTable;
+use static_dictionary::StaticTable;
+use std::alloc::Global;
+use stream_reader::{ReadRefusal, StreamReader, StreamStep};
+use unit_streams::Memory;
+
+/// What the bytes that were fed have completed.
+#[derive(Debug, Drop)]
+pub enum Step {
+    /// Nothing yet.
+    More,
+    /// The preamble.
+    Opened { mode: Mode, kind: Kind },
+    /// An envelope with a payload of this many bytes, which is this document's.
+    Message { size: u32, doc: Doc },
+    /// The session.
+    Ended,
+}
+
+/// Reads an initiator's stream (MC-NMF, duplex mode), in whatever pieces its bytes come.
+#[derive(Drop)]
+pub struct Receiver<'s> {
+    reader: StreamReader<'s>,
+}
+
+impl<'s> Receiver<'s> {
+    ghost use Rattle.nbfx_values.specs.declared.refusals.Offence.{Offence as Refused};
+    ghost use Rattle.stream_reader.specs.declared.reader.ReadRefusal.{ReadRefusal as Failure};
+    ghost use Rattle.stream_reader.specs.Standing.{HasPayloads, begun_in, items_in};
+    ghost use Rattle.receiver_machine.specs.Saying.{Says, said_at_end};
+    ghost use Rattle.receiver_machine.specs.Standing.{settings_of, taken_of, messages_of, failure_of, StandsFor, FailedBehind, ShowsVia, ShowsStrings, WhereItStands, WhereItFailed, FailsBy};
+
+    /// A receiver before the first byte. It makes all the room that it needs up to the preamble's end.
+    pub fn new(
+        alloc: Global,
+        statics: &'s StaticTable,
+        quotas: Quotas,
+    ) -> Result<Receiver<'s>, Memory>
+        ensures stands { IfOk result (λ receiver. StandsFor receiver []) }
+        ensures settings { IfOk result
+            (λ receiver. settings_of receiver ≡ initiators statics.now (limits_of quotas)) }
+    {
+        let reader = StreamReader::new(alloc, statics, quotas)?;
+        Ok(Receiver { reader })
+    }
+
+    /// Uses the bytes of the piece up to and including the one that completes the next event, and
+    /// says how many they are. After a refusal it is refused the same way; after the end it uses
+    /// nothing.
+    pub fn feed(&mut self, piece: &[u8]) -> Result<(usize, Step), ReadRefusal>
+        ensures within { IfOk result (λ answer. answer.0 ≤ length piece.now) }
+        // The answer is decided at the first byte that completes an event or shows a refusal.
+        ensures answers { WhereItStands self.old (λ p.
+            is_over_at (stream (settings_of self.old)) p ≡ false
+            → Says (length piece.now) (answer (stream (settings_of self.old)) p piece.now)
+            result) }
+        // Up to the preamble's end it takes no memory.
+        ensures wanted { WhereItStands self.old (λ p. IsErrOf result ReadRefusal.Memory
+            → HasPayloads (standing (stream (settings_of self.old)) p).situation.stage) }
+        ensures ended { WhereItStands self.old (λ p.
+            is_over_at (stream (settings_of self.old)) p ≡ true
+            → result ≡ Ok (0, Step.Ended)) }
+        ensures repeated { (refusal : Failure) → failure_of self.old ≡ Some refusal
+            → result ≡ Err refusal }
+        ensures unchanged { (refusal : Failure) → failure_of self.old ≡ Some refusal
+            → self.new ≡ self.old }
+
+        // What it stands for then, or shows of what is refused.
+        ensures stands { WhereItStands self.old (λ p.
+            IfOk result (λ step. StandsFor self.new (p ++ take step.0 piece.now))) }
+        ensures failed { WhereItStands self.old (λ p.
+            is_over_at (stream (settings_of self.old)) p ≡ false
+            → IfErr result (FailsBy self.new p piece.now
+            (answer (stream (settings_of self.old)) p piece.now))) }
+        ensures refused { IfErr result (λ refusal. failure_of self.new ≡ Some refusal) }
+        ensures settings { settings_of self.new ≡ settings_of self.old }
+    {
+        let (used, step) = self.reader.feed(piece)?;
+        Ok((used, said(step)))
+    }
+
+    /// Says that the input is over, which is no offence exactly after the session's end.
+    pub fn end_of_input(&mut self) -> Result<(), Offence>
+        requires { failure_of self.old ≡ Some ReadRefusal.Memory → ⊥ }
+        ensures answers { WhereItStands self.old (λ p.
+            result ≡ said_at_end (ending_at (stream (settings_of self.old)) p)) }
+        ensures repeated { (o : Refused) → failure_of self.old ≡ Some (ReadRefusal.Offence o)
+            → result ≡ Err o }
+        ensures unchanged { (refusal : Failure) → failure_of self.old ≡ Some refusal
+            → self.new ≡ self.old }
+        ensures failed { WhereItStands self.old (λ p.
+            IfErr result (λ o. FailedBehind self.new (ReadRefusal.Offence o) (length p) p)) }
+        ensures refused { IfErr result (λ o. failure_of self.new ≡ Some (ReadRefusal.Offence o)) }
+        ensures kept { OnOk result (self.new ≡ self.old) }
+        ensures settings { settings_of self.new ≡ settings_of self.old }
+    {
+        match self.reader.end_of_input() {
+            Ok(()) => Ok(()),
+            Err(ReadRefusal::Offence(offence)) => Err(offence),
+            Err(ReadRefusal::Memory) => unreachable!(),
+        }
+    }
+
+    /// Hands back a document that is done with, whose room serves the next one.
+    pub fn reuse(&mut self, doc: Doc)
+        ensures stands { WhereItStands self.old (StandsFor self.new) }
+        ensures failed { WhereItFailed self.old (FailedBehind self.new) }
+        ensures settings { settings_of self.new ≡ settings_of self.old }
+    {
+        self.reader.reuse(doc);
+    }
+
+    /// The Via, once its record is whole, and else the empty text.
+    pub fn via(&self) -> &str
+        ensures shown { (via : List ℕ) → ShowsVia self.now via → result.now ≡ via }
+        ensures stands { WhereItStands self.now (λ p.
+            result.now ≡ (standing (stream (settings_of self.now)) p).situation.via) }
+        ensures failed { WhereItFailed self.now (λ refusal taken p.
+            result.now ≡ (standing (stream (settings_of self.now)) p).situation.via) }
+    {
+        self.reader.via()
+    }
+
+    /// How many bytes were used; after an offence of `feed`, how many show it; after want of memory,
+    /// how many the calls before used.
+    pub fn taken(&self) -> u64
+        ensures counted { result ≡ taken_of self.now }
+        ensures stands { WhereItStands self.now (λ p. result ≡ length p) }
+        ensures failed { WhereItFailed self.now (λ refusal taken p. result ≡ taken) }
+        ensures within { WhereItStands self.now (λ p.
+            length p ≤ (settings_of self.now).limits.session) }
+    {
+        self.reader.taken()
+    }
+
+    /// How many documents are whole.
+    pub fn messages(&self) -> u64
+        ensures counted { result ≡ messages_of self.now }
+        ensures stands { WhereItStands self.now (λ p.
+            result ≡ (standing (stream (settings_of self.now)) p).situation.messages) }
+        ensures failed { WhereItFailed self.now (λ refusal taken p.
+            result ≡ (standing (stream (settings_of self.now)) p).situation.messages) }
+    {
+        self.reader.messages()
+    }
+
+    /// The strings of the direction so far; after a refusal in a payload, those that were whole
+    /// before.
+    pub fn table(&self) -> &SessionTable
+        ensures shown { (strings : List (List ℕ)) → ShowsStrings self.now strings
+            → result.now.strings ≡ strings }
+        ensures stands { WhereItStands self.now (λ p. result.now.strings
+            ≡ strings_in (standing (stream (settings_of self.now)) p).situation) }
+        ensures failed { WhereItFailed self.now (λ refusal taken p. result.now.strings
+            ≡ strings_in (standing (stream (settings_of self.now)) p).situation) }
+        ensures within { (strings : List (List ℕ)) → ShowsStrings self.now strings
+            → used_cost result.now.strings ≤ (settings_of self.now).limits.dictionary }
+    {
+        self.reader.table()
+    }
+
+    /// What it holds of the input: in bytes, the framing's text and the unit of the payload that
+    /// isn't whole, and the content of the document so far.
+    pub fn kept(&self) -> Kept
+        ensures raw { WhereItStands self.now (λ p. result.raw
+            ≤ length (begun_in (standing (stream (settings_of self.now)) p).situation.stage)
+            + (settings_of self.now).limits.via) }
+        ensures content { WhereItStands self.now (λ p. result.content
+            ≡ content_of (items_in (standing (stream (settings_of self.now)) p).situation.stage)) }
+        ensures within { (strings : List (List ℕ)) → ShowsStrings self.now strings
+            → (result.raw ≤ (settings_of self.now).limits.payload
+            + (settings_of self.now).limits.via)
+            × (result.content ≤ (settings_of self.now).limits.content) }
+    {
+        self.reader.kept()
+    }
+}
+
+// How a receiver says what a reader does.
+fn said(step: StreamStep) -> Step
+    ensures { result ≡ said_step step }
+{
+    match step {
+        StreamStep::More => Step::More,
+        StreamStep::Opened { mode, kind } => Step::Opened { mode, kind },
+        StreamStep::Message { size, doc } => Step::Message { size, doc },
+        StreamStep::Ended => Step::Ended,
+    }
+}

@@ -1,0 +1,370 @@
+-- A reader takes bytes of a payload.
+use Rattle.std.proofs.Common.{◌≡◌, ℕ, zero, suc, ◌+◌, ◌-◌, ◌<◌, ◌≤◌, ◌^◌, ◌⊎◌, inl, inr, List, [], ◌∷◌, ◌++◌, length, take, get_or, Option, Some, None, Ok, Err, refl, sym, ap, ◌∙◌, subst, arith, append_assoc, length-append}
+use Rattle.std.specs.Option.{option_map, option_or}
+use Rattle.std.proofs.lemmas.List.{append-nil, length-take-le, take-take}
+use Rattle.std.proofs.Math.Nat.{eq-or-lt_of_le}
+use Rattle.std.proofs.Math.Seq.{take-suc}
+use Rattle.unit_streams.specs.Grammar.{standing}
+use Rattle.unit_streams.specs.Judging.{refusal_at, ending_at, event_at, goes_on, offends}
+use Rattle.unit_streams.specs.Going.{IsQuiet, IsQuietBefore}
+use Rattle.unit_streams.proofs.Answers.{answers_are_first}
+use Rattle.unit_streams.proofs.Pending.{pending_unrefused}
+use Rattle.string_tables.specs.SessionStrings.{used_cost}
+use Rattle.nmf_records.specs.declared.frame.Expect.{Expect}
+use Rattle.nmf_records.specs.declared.reader.FrameReader.{FrameReader}
+use Rattle.nmf_records.specs.Reader.{StandsFor as FrameStandsFor, ShowsText}
+use Rattle.nbfx_decoder.specs.Payload.{Refusal, refusal, payload, Settings as PayloadSettings}
+use Rattle.nbfx_decoder.specs.declared.decoder.Decoder.{Decoder}
+use Rattle.nbfx_decoder.specs.declared.faults.DecodeFault.{DecodeFault}
+use Rattle.nbfx_decoder.specs.declared.faults.DecodeFault.TheVariants as faults
+use Rattle.nbfx_decoder.specs.Standing.{settings_of as decoder_settings, situation_of, StandsFor as DecoderStandsFor, FailedBehind as DecoderFailedBehind, FailedWithin, FeedAnswers}
+use Rattle.nbfx_decoder.proofs.FeedSteps.{stands_as}
+use Rattle.stream_reader.specs.declared.awaited.Awaited.{Awaited}
+use Rattle.stream_reader.specs.declared.awaited.Awaited.TheVariants as awaits
+use Rattle.stream_reader.specs.declared.awaited.PayloadLeft.{PayloadLeft}
+use Rattle.stream_reader.specs.declared.reader.ReadRefusal.{ReadRefusal}
+use Rattle.stream_reader.specs.declared.reader.ReadRefusal.TheVariants.{Offence as Refused, Memory}
+use Rattle.stream_reader.specs.declared.reader.StreamReader.{StreamReader}
+use Rattle.stream_reader.specs.declared.reader.StreamStep.{StreamStep}
+use Rattle.stream_reader.specs.Stream.{OpenPayload, Settings, Situation, Stage, StreamEvent, opened, message, ended, record_due, payload_open, behind_payload, completed_payload, offence_in, payload_in, payloads, refusal_in, refused_payload, stream, strings_at, strings_in, PayloadStanding}
+use Rattle.stream_reader.specs.Standing.{Awaits, Failed, HasBegun, HasPayloads, IsIn, IsWithinPayload, Reached, ReadsPayload, Shows, ShowsStrings, ShowsVia, failure_of, messages_of, taken_of}
+use Rattle.stream_reader.specs.Stepping.{BehindAnswers, HasDecoded, UnitAnswers, more_shown, step_of, told_of}
+use Rattle.stream_reader.proofs.Outcomes.{goes_on as more_come, is_whole, is_refused, outcome, refused_eventless, refused_messages, strings_behind, via_behind}
+use Rattle.stream_reader.proofs.PayloadBytes.{IsWithin, bytes_event, bytes_going, bytes_refused, bytes_stand, more_refusal, last_refusal, payload_behind, payload_quiet, payload_quiet_before, stands_so, within_open}
+use Rattle.stream_reader.proofs.ReaderFacts.{cost_within}
+use Rattle.stream_reader.proofs.LastByte.{last_strings}
+
+-- without a refusal of its bytes
+ended_where_none : (v w : Option Refusal) → option_or v w ≡ None → w ≡ None
+ended_where_none None w e = e
+ended_where_none (Some why) w e = cc
+
+-- q shows what p does, but for the strings of these bytes of its payload
+pub record StaysWith (r : StreamReader) (x : Settings) (p q bytes : List ℕ) : Type 0 where
+  pub via : (standing (stream x) q).situation.via ≡ (standing (stream x) p).situation.via
+  pub messages : (standing (stream x) q).situation.messages ≡ (standing (stream x) p).situation.messages
+  pub strings : strings_in (standing (stream x) q).situation ≡ (situation_of (payloads x (standing (stream x) p).situation.kind) (standing (stream x) p).situation.strings bytes).strings
+
+-- a reader of records that has begun none
+pub none_begun : (a : Awaited) (frames : FrameReader) → ((next : Expect) → FrameStandsFor frames next []) → HasBegun a frames []
+none_begun (awaits.Record due) frames fresh = fresh _
+none_begun (awaits.Payload p) frames fresh = fresh
+
+module _ (r : StreamReader) (x : Settings) (p : List ℕ) (h : Reached r x p) (left : PayloadLeft) (is : r.awaited ≡ awaits.Payload left) where
+  abbrev z : Situation
+  z = (standing (stream x) p).situation
+
+  find_open : (stage : Stage) → Awaits (awaits.Payload left) stage → (o : OpenPayload) × (stage ≡ payload_open o) × Awaits (awaits.Payload left) (payload_open o)
+  find_open (record_due due) a = absurd a
+  find_open (payload_open o) a = (o, refl, a)
+
+  pub found : (o : OpenPayload) × ((standing (stream x) p).situation.stage ≡ payload_open o) × Awaits (awaits.Payload left) (payload_open o)
+  found = find_open (standing (stream x) p).situation.stage (subst (λ (a : Awaited). Awaits a (standing (stream x) p).situation.stage) is h.at.awaits)
+
+  abbrev o : OpenPayload
+  o = found.0
+
+  pub own : IsWithinPayload r.decoder x z o
+  own = subst (ReadsPayload r.decoder x z) found.1 h.at.payload
+
+  abbrev bytes : List ℕ
+  bytes = own.bytes
+
+  at : IsWithin x p z o.from o.size bytes
+  at = within_open x p o bytes found.1 (record { standing_is = own.standing_is; counted = own.counted }) own.more
+
+  left_is : left.left ≡ o.left
+  left_is = found.2.2
+
+  size_is : left.size ≡ o.size
+  size_is = found.2.1
+
+  pub has_payloads : HasPayloads (standing (stream x) p).situation.stage
+  has_payloads = subst HasPayloads (sym found.1) tt
+
+  no_record : (next : Expect) → FrameStandsFor r.frames next []
+  no_record = subst (λ (a : Awaited). HasBegun a r.frames (standing (stream x) p).begun) is h.frames
+
+  same_grammar : (A : PayloadSettings → Type 0) → A (decoder_settings r.decoder) → A (payloads x (standing (stream x) p).situation.kind)
+  same_grammar A a = subst A h.at.decodes a
+
+  -- some bytes of the piece, of those that are to come
+  module _ (c : List ℕ) (n : ℕ) (within : n ≤ length c) (few : n ≤ left.left) (short : length p + n ≤ x.limits.session) where
+    abbrev there : ℕ → OpenPayload
+    there k = payload_behind x z o.from o.size (bytes ++ take k c)
+
+    in_size : length bytes + n ≤ o.size
+    in_size = omega (arith, own.counted, left_is, few)
+
+    taken : (k : ℕ) → k ≤ n → length (take k c) ≡ k
+    taken k le = length-take-le k c (omega (arith, le, within))
+
+    further : (k : ℕ) → k ≤ n → length (p ++ take k c) ≡ length p + k
+    further k le = let m = taken k le in length-append p (take k c) ∙ omega (arith, m)
+
+    -- the decoder that has taken them
+    pub has_decoded : (mid : StreamReader) (now : PayloadLeft) → now.from ≡ left.from → now.size ≡ left.size → now.left ≡ left.left - n → mid.kind ≡ r.kind → mid.messages ≡ r.messages → decoder_settings mid.decoder ≡ decoder_settings r.decoder
+        → DecoderStandsFor mid.decoder (standing (stream x) p).situation.strings (own.bytes ++ take n c) → (standing (stream x) p).situation.messages + 1 < 2 ^ 64
+        → HasDecoded mid x (standing (stream x) p).situation now (payload_behind x (standing (stream x) p).situation found.0.from found.0.size (own.bytes ++ take n c))
+    has_decoded mid now from size rest kind messages same stands small =
+        let m : length (bytes ++ take n c) ≡ length bytes + n = let k = taken n (omega arith) in length-append bytes (take n c) ∙ omega (arith, k) in
+        record {
+          awaits = (from ∙ found.2.0, size ∙ found.2.1, omega (arith, rest, left_is, own.counted, m));
+          kind = kind ∙ h.at.kind;
+          messages = messages ∙ h.at.messages;
+          few = small;
+          decodes = same ∙ h.at.decodes;
+          bytes = bytes ++ take n c;
+          stands_for = stands;
+          standing_is = refl;
+          counted = omega (arith, m, in_size);
+          within = own.within;
+        }
+
+    -- of which none before so many is refused by the payload
+    module _ (k : ℕ) (some : 0 < k) (le : k ≤ n) (none : (i : ℕ) → i < k → refusal_at (payload_in x (standing (stream x) p).situation) (own.bytes ++ take i c) ≡ None) where
+      some_taken : 0 < length (take k c)
+      some_taken = let m = taken k le in omega (arith, m, some)
+
+      fits : length bytes + length (take k c) ≤ o.size
+      fits = let m = taken k le in omega (arith, m, le, in_size)
+
+      stands : standing (stream x) (p ++ take k c) ≡ stands_so x z (there k) (length (p ++ take k c))
+      stands = bytes_stand x (take k c) p z o.from o.size bytes at some_taken fits
+
+      situation_there : (standing (stream x) (p ++ take k c)).situation ≡ behind_payload x z (there k)
+      situation_there = ap (λ s. s.situation) stands
+
+      via_there : (standing (stream x) (p ++ take k c)).situation.via ≡ z.via
+      via_there = ap (λ (s : Situation). s.via) situation_there ∙ via_behind x z (there k)
+
+      strings_there : strings_in (standing (stream x) (p ++ take k c)).situation ≡ (situation_of (payloads x z.kind) z.strings (bytes ++ take k c)).strings
+      strings_there = ap strings_in situation_there ∙ strings_behind x z (there k)
+
+      event_there : event_at (stream x) (p ++ take k c) ≡ completed_payload x z (there k)
+      event_there = bytes_event x p z o.from o.size bytes at (take k c) some_taken fits
+
+      before_there : IsQuietBefore (stream x) p c k
+      before_there = payload_quiet_before x p z o.from o.size bytes at c k (omega (arith, le, within)) (omega (arith, le, in_size)) (omega (arith, le, short)) h.going none
+
+      quiet_there : event_at (stream x) (p ++ take k c) ≡ None → IsQuiet (stream x) p c k
+      quiet_there = payload_quiet x p z o.from o.size bytes at c k (omega (arith, le, within)) (omega (arith, le, in_size)) (omega (arith, le, short)) h.going none
+
+      -- where the payload refuses them
+      refusal_is : (why : Refusal) → refusal_at (payload_in x (standing (stream x) p).situation) (own.bytes ++ take k c) ≡ Some why → refusal_in x z (there k) ≡ Some why
+      refusal_is why e =
+          let m = taken k le in
+          elim (eq-or-lt_of_le fits) [
+            | inl all ↦ last_refusal x p z o.from o.size bytes at (take k c) some_taken fits all ∙ ap (λ v. option_or v (ending_at (payload_in x z) (bytes ++ take k c))) e
+            | inr more ↦ more_refusal x p z o.from o.size bytes at (take k c) some_taken fits more ∙ e
+          ]
+
+      -- they bring no document
+      stays_by : (behind_payload x z (there k)).messages ≡ z.messages → StaysWith r x p (p ++ take k c) (bytes ++ take k c)
+      stays_by e = record { via = via_there; messages = ap (λ (s : Situation). s.messages) situation_there ∙ e; strings = strings_there }
+
+      -- or they are the whole payload
+      stays_or_whole : StaysWith r x p (p ++ take k c) (bytes ++ take k c) ⊎ ((length bytes + length (take k c) ≡ o.size) × (ending_at (payload_in x z) (bytes ++ take k c) ≡ None))
+      stays_or_whole =
+          elim (outcome x z (there k)) [
+            | more_come more b e ↦ inl (stays_by (ap (λ (s : Situation). s.messages) b))
+            | is_whole all none b e ↦ inr (by_all all none)
+            | is_refused all why is b e ↦ inl (stays_by (ap (λ (s : Situation). s.messages) b))
+          ]
+        where
+          by_all : (there k).left ≡ 0 → refusal_in x z (there k) ≡ None → (length bytes + length (take k c) ≡ o.size) × (ending_at (payload_in x z) (bytes ++ take k c) ≡ None)
+          by_all none_left none =
+              let m = length-append bytes (take k c) in
+              let all : length bytes + length (take k c) ≡ o.size = omega (arith, none_left, m, fits) in
+              (all, ended_where_none (refusal_at (payload_in x z) (bytes ++ take k c)) (ending_at (payload_in x z) (bytes ++ take k c)) (sym (last_refusal x p z o.from o.size bytes at (take k c) some_taken fits all) ∙ none))
+
+      -- they are refused
+      refused_so : (new : StreamReader) (told : ReadRefusal) (why : Refusal) → refusal_in x z (there k) ≡ Some why → told ≡ Refused (offence_in z.messages why) → Failed new x told (length p + k) (p ++ take k c) → UnitAnswers x p c new (Err told)
+      refused_so new told why refuses is failed =
+          subst (λ (t : ReadRefusal). UnitAnswers x p c new (Err t)) (sym is) (
+            k,
+            quiet_there (event_there ∙ refused_eventless x z (there k) why refuses),
+            bytes_refused x p z o.from o.size bytes at (take k c) some_taken fits why refuses,
+            subst (λ (t : ReadRefusal). Failed new x t (length p + k) (p ++ take k c)) is failed,
+          )
+
+      -- or not
+      module _ (new : StreamReader) (refuses : refusal_in x z (there k) ≡ None) (is_in : IsIn new x (behind_payload x z (there k))) (frames : new.frames ≡ r.frames) (taken_is : new.taken ≡ r.taken + k) (unit_from : new.unit_from ≡ r.taken + k) (failure : new.failure ≡ r.failure) where
+        reached : Reached new x (p ++ take k c)
+        reached =
+            let long = further k le in
+            let begun_there : (standing (stream x) (p ++ take k c)).begun ≡ [] = ap (λ s. s.begun) stands in
+            let from_there : (standing (stream x) (p ++ take k c)).from ≡ length (p ++ take k c) = ap (λ s. s.from) stands in
+            record {
+              at = subst (IsIn new x) (sym situation_there) is_in;
+              frames = subst (HasBegun new.awaited new.frames) (sym begun_there) (none_begun new.awaited new.frames (λ next. subst (λ (f : FrameReader). FrameStandsFor f next []) (sym frames) (no_record next)));
+              text = subst (λ (f : FrameReader). ShowsText f (standing (stream x) (p ++ take k c)).situation.via) (sym frames) (subst (ShowsText r.frames) (sym via_there) h.text);
+              unit_from = omega (arith, unit_from, h.taken, from_there, long);
+              taken = omega (arith, taken_is, h.taken, long);
+              within = omega (arith, long, le, short);
+              going = bytes_going x p z o.from o.size bytes at (take k c) some_taken fits refuses;
+              unfailed = failure ∙ h.unfailed;
+            }
+
+        by_event : (v : Option StreamEvent) → completed_payload x z (there k) ≡ v → UnitAnswers x p c new (Ok (k, step_of v))
+        by_event None e = (some, quiet_there (event_there ∙ e), reached, λ payloads. has_payloads)
+        by_event (Some (opened mode kind via)) e = (opened mode kind via, some, before_there, event_there ∙ e, refl, reached)
+        by_event (Some (message envelope)) e = (message envelope, some, before_there, event_there ∙ e, refl, reached)
+        by_event (Some (ended size)) e = (ended size, some, before_there, event_there ∙ e, refl, reached)
+
+      -- by what a reader is behind them
+      took_by : (v : Option Refusal) → refusal_in x z (there k) ≡ v → (new : StreamReader) (step : StreamStep) → BehindAnswers x (behind_payload x z (there k)) (completed_payload x z (there k)) (option_map (offence_in z.messages) v) new (Ok step)
+          → new.frames ≡ r.frames → new.taken ≡ r.taken + k → new.unit_from ≡ r.taken + k → new.failure ≡ r.failure → UnitAnswers x p c new (Ok (k, step))
+      took_by None refuses new step a frames taken_is unit_from failure = rw a.1 (by_event new refuses a.0 frames taken_is unit_from failure (completed_payload x z (there k)) refl)
+      took_by (Some why) refuses new step a frames taken_is unit_from failure = absurd a
+
+      failed_by : (v : Option Refusal) → refusal_in x z (there k) ≡ v → (new : StreamReader) (told : ReadRefusal) → BehindAnswers x (behind_payload x z (there k)) (completed_payload x z (there k)) (option_map (offence_in z.messages) v) new (Err told)
+          → new.frames ≡ r.frames → new.taken ≡ r.taken + k → new.failure ≡ Some told → UnitAnswers x p c new (Err told)
+      unfolding failure_of taken_of messages_of ShowsVia ShowsStrings
+      failed_by None refuses new (Refused offence) a frames taken_is failure = absurd a
+      failed_by v refuses new Memory a frames taken_is failure = absurd a
+      failed_by (Some why) refuses new (Refused offence) a frames taken_is failure =
+          refused_so new (Refused offence) why refuses (ap Refused a.0) (record {
+            failure = failure;
+            taken_is = omega (arith, taken_is, h.taken);
+            via = subst (λ (f : FrameReader). ShowsText f (standing (stream x) (p ++ take k c)).situation.via) (sym frames) (subst (ShowsText r.frames) (sym via_there) h.text);
+            messages = subst (λ (s : Situation). new.messages ≡ s.messages) (sym situation_there) a.1.messages;
+            strings = subst (λ (s : Situation). Shows new.decoder (strings_in s)) (sym situation_there) a.1.strings;
+          })
+
+    -- no byte more
+    stays_none : StaysWith r x p (p ++ take 0 c) (bytes ++ take 0 c)
+    stays_none =
+        let none : p ≡ p ++ take 0 c = sym (append-nil p) in
+        let none_own : bytes ≡ bytes ++ take 0 c = sym (append-nil bytes) in
+        subst (λ (q : List ℕ). StaysWith r x p q (bytes ++ take 0 c)) none
+        (subst (λ (b : List ℕ). StaysWith r x p p b) none_own (record {
+          via = refl;
+          messages = refl;
+          strings = ap (strings_at z) found.1 ∙ ap (λ (s : PayloadStanding). s.situation.strings) own.standing_is;
+        }))
+
+    -- fewer than are to come
+    stays_below : (j : ℕ) → j ≤ n → length bytes + j < o.size → ((i : ℕ) → i < j → refusal_at (payload_in x (standing (stream x) p).situation) (own.bytes ++ take i c) ≡ None) → StaysWith r x p (p ++ take j c) (bytes ++ take j c)
+    stays_below zero le more none = stays_none
+    stays_below (suc j) le more none =
+        elim (stays_or_whole (suc j) (omega arith) le none) [
+          | inl stays ↦ stays
+          | inr all ↦ absurd (let m = taken (suc j) le in let whole = all.0 in omega (arith, whole, m, more))
+        ]
+
+    -- some of them that are all: the last of them has brought no string
+    stays_before : (j : ℕ) → suc j ≤ n → length bytes + suc j ≡ o.size → ((i : ℕ) → i < suc j → refusal_at (payload_in x (standing (stream x) p).situation) (own.bytes ++ take i c) ≡ None) → ending_at (payload_in x z) (bytes ++ take (suc j) c) ≡ None
+        → StaysWith r x p (p ++ take j c) (bytes ++ take (suc j) c)
+    stays_before j le all none ends =
+        let below = stays_below j (omega arith) (omega (arith, all)) (λ i lt. none i (omega arith)) in
+        let one_more : bytes ++ take (suc j) c ≡ (bytes ++ take j c) ++ get_or c j 0 ∷ [] = ap (λ d. bytes ++ d) (take-suc c j 0 (omega (arith, le, within))) ∙ sym (append_assoc bytes (take j c) (get_or c j 0 ∷ [])) in
+        let same = last_strings (payloads x z.kind) z.strings (bytes ++ take j c) (get_or c j 0) (none j (omega arith)) (ap (ending_at (payload_in x z)) (sym one_more) ∙ ends) in
+        record {
+          via = below.via;
+          messages = below.messages;
+          strings = below.strings ∙ sym same ∙ ap (λ b. (situation_of (payloads x z.kind) z.strings b).strings) (sym one_more);
+        }
+
+    -- what a decoder shows that has failed behind some
+    shows_failed : (d : Decoder) (fault : DecodeFault) (b : List ℕ) → decoder_settings d ≡ decoder_settings r.decoder → DecoderFailedBehind d fault z.strings b → Shows d (situation_of (payloads x z.kind) z.strings b).strings
+    shows_failed d fault b same failed =
+        let is_set : decoder_settings d ≡ payloads x z.kind = same ∙ h.at.decodes in
+        record {
+          before = z.strings;
+          bytes = b;
+          there = inr (fault, failed);
+          same = ap (λ (s : PayloadSettings). (situation_of s z.strings b).strings) is_set;
+          within =
+              subst (λ (s : PayloadSettings). used_cost (situation_of (payloads x z.kind) z.strings b).strings ≤ s.limits.dictionary) (sym is_set)
+              (cost_within (payloads x z.kind) z.strings b (same_grammar (λ s. used_cost z.strings ≤ s.limits.dictionary) (stands_as r.decoder z.strings bytes own.stands_for).before));
+        }
+
+    -- what is read from the bytes that are fed
+    same_bytes : (k : ℕ) → k ≤ n → take k (take n c) ≡ take k c
+    same_bytes k le = take-take k n c le
+
+    size_fed : length (take n c) ≡ n
+    size_fed = taken n (omega arith)
+
+    none_in : (g : PayloadSettings) → g ≡ decoder_settings r.decoder → (k : ℕ) → k ≤ n → ((i : ℕ) → i < k → refusal_at (payload g z.strings) (bytes ++ take i (take n c)) ≡ None) → (i : ℕ) → i < k
+        → refusal_at (payload_in x (standing (stream x) p).situation) (own.bytes ++ take i c) ≡ None
+    none_in g is k le none i lt =
+        same_grammar (λ s. refusal_at (payload s z.strings) (bytes ++ take i c) ≡ None) (subst (λ (s : PayloadSettings). refusal_at (payload s z.strings) (bytes ++ take i c) ≡ None) is (ap (λ d. refusal_at (payload g z.strings) (bytes ++ d)) (sym (same_bytes i (omega (arith, lt, le)))) ∙ none i lt))
+
+    -- all of them are taken
+    all_unrefused : FeedAnswers (decoder_settings r.decoder) (standing (stream x) p).situation.strings own.bytes (take n c) (Ok tt) → (i : ℕ) → i < n → refusal_at (payload_in x (standing (stream x) p).situation) (own.bytes ++ take i c) ≡ None
+    all_unrefused goes =
+        let means = (answers_are_first (payload (decoder_settings r.decoder) z.strings) bytes (take n c) goes_on).0 goes in
+        none_in (decoder_settings r.decoder) refl n (omega arith) (λ i lt. means.0.unrefused i (omega (arith, lt, size_fed)))
+
+    module _ (some : 0 < n) (goes : FeedAnswers (decoder_settings r.decoder) (standing (stream x) p).situation.strings own.bytes (take n c) (Ok tt)) (new : StreamReader) where
+      abbrev pub behind_fed : OpenPayload
+      behind_fed = payload_behind x (standing (stream x) p).situation found.0.from found.0.size (own.bytes ++ take n c)
+
+      pub feed_took : (step : StreamStep) → BehindAnswers x (behind_payload x (standing (stream x) p).situation behind_fed) (completed_payload x (standing (stream x) p).situation behind_fed) (refused_payload x (standing (stream x) p).situation behind_fed) new (Ok step)
+          → new.frames ≡ r.frames → new.taken ≡ r.taken + n → new.unit_from ≡ r.taken + n → new.failure ≡ r.failure → UnitAnswers x p c new (Ok (n, step))
+      feed_took step = took_by n some (omega arith) (all_unrefused goes) (refusal_in x z (there n)) refl new step
+
+      pub feed_behind : (told : ReadRefusal) → BehindAnswers x (behind_payload x (standing (stream x) p).situation behind_fed) (completed_payload x (standing (stream x) p).situation behind_fed) (refused_payload x (standing (stream x) p).situation behind_fed) new (Err told)
+          → new.frames ≡ r.frames → new.taken ≡ r.taken + n → new.failure ≡ Some told → UnitAnswers x p c new (Err told)
+      feed_behind told = failed_by n some (omega arith) (all_unrefused goes) (refusal_in x z (there n)) refl new told
+
+    module _ (new : StreamReader) (told : ReadRefusal) (same : decoder_settings new.decoder ≡ decoder_settings r.decoder) (failure : new.failure ≡ Some told) (frames : new.frames ≡ r.frames) (messages : new.messages ≡ r.messages) where
+      failed_with : (fault : DecodeFault) (count : ℕ) (q b : List ℕ) → new.taken ≡ count → StaysWith r x p q b → DecoderFailedBehind new.decoder fault z.strings b → Failed new x told count q
+      unfolding failure_of taken_of messages_of ShowsVia ShowsStrings
+      failed_with fault count q b taken stays failed = record {
+        failure = failure;
+        taken_is = taken;
+        via = subst (λ (f : FrameReader). ShowsText f (standing (stream x) q).situation.via) (sym frames) (subst (ShowsText r.frames) (sym stays.via) h.text);
+        messages = messages ∙ h.at.messages ∙ sym stays.messages;
+        strings = subst (Shows new.decoder) (sym stays.strings) (shows_failed new.decoder fault b same failed);
+      }
+
+      -- of these bytes some are refused
+      some_refused : (g : PayloadSettings) → refusal_at (payload g z.strings) bytes ≡ None → (k : ℕ) (why : Refusal) → refusal_at (payload g z.strings) (bytes ++ take k (take n c)) ≡ Some why → 0 < k
+      some_refused g none zero why e = let same = ap (refusal_at (payload g z.strings)) (append-nil bytes) in let bad = sym none ∙ sym same ∙ e in cc
+      some_refused g none (suc k) why e = omega arith
+
+      pub feed_fails : (fault : DecodeFault) → FeedAnswers (decoder_settings r.decoder) (standing (stream x) p).situation.strings own.bytes (take n c) (Err fault) → FailedWithin new.decoder fault (standing (stream x) p).situation.strings own.bytes (take n c) → told ≡ told_of r.messages fault
+          → new.taken ≡ r.taken + more_shown left fault → UnitAnswers x p c new (Err told)
+      feed_fails (faults.Payload at reason shown_by) answers failed is taken_is =
+          let g : PayloadSettings = decoder_settings r.decoder in
+          let k : ℕ = answers.0 in
+          let means = (answers_are_first (payload g z.strings) bytes (take n c) (offends k (refusal at reason))).0 answers.1 in
+          let le : k ≤ n = let w = means.0.within in omega (arith, w, size_fed) in
+          let same_count : failed.count ≡ k = let shown = failed.shown in omega (arith, shown, answers.2) in
+          let some = some_refused g (pending_unrefused (payload g z.strings) bytes (stands_as r.decoder z.strings bytes own.stands_for).pending) k (refusal at reason) means.1 in
+          let none = none_in g refl k le means.0.unrefused in
+          let refused = same_grammar (λ s. refusal_at (payload s z.strings) (bytes ++ take k c) ≡ Some (refusal at reason)) (ap (λ d. refusal_at (payload g z.strings) (bytes ++ d)) (sym (same_bytes k le)) ∙ means.1) in
+          let refuses = refusal_is k some le none (refusal at reason) refused in
+          let behind = subst (λ (b : List ℕ). DecoderFailedBehind new.decoder (faults.Payload at reason shown_by) z.strings (bytes ++ b)) (ap (λ m. take m (take n c)) same_count ∙ same_bytes k le) failed.behind in
+          refused_so k some le none new told (refusal at reason) refuses (is ∙ ap (λ m. Refused (offence_in m (refusal at reason))) h.at.messages)
+          (failed_with (faults.Payload at reason shown_by) (length p + k) (p ++ take k c) (bytes ++ take k c) (omega (arith, taken_is, h.taken, answers.2, own.counted, left_is, size_is))
+          (stays_by k some le none (refused_messages x z (there k) (refusal at reason) refuses)) behind)
+      feed_fails faults.Memory answers failed is taken_is = subst (λ (t : ReadRefusal). UnitAnswers x p c new (Err t)) (sym is) (by_count failed.count refl)
+        where
+          le : failed.count ≤ n
+          le = let w = failed.within in omega (arith, w, size_fed)
+
+          none : (i : ℕ) → i < failed.count → refusal_at (payload_in x (standing (stream x) p).situation) (own.bytes ++ take i c) ≡ None
+          none = none_in (decoder_settings new.decoder) same failed.count le failed.before
+
+          lost : (k j : ℕ) → failed.count ≡ k → j ≤ n → StaysWith r x p (p ++ take j c) (bytes ++ take k c) → UnitAnswers x p c new (Err Memory)
+          lost k j e below stays = (
+            j,
+            omega (arith, below, within),
+            has_payloads,
+            subst (λ (t : ReadRefusal). Failed new x t new.taken (p ++ take j c)) is
+                (failed_with faults.Memory new.taken (p ++ take j c) (bytes ++ take k c) refl stays (subst (λ (b : List ℕ). DecoderFailedBehind new.decoder faults.Memory z.strings (bytes ++ b)) (same_bytes failed.count le ∙ ap (λ m. take m c) e) failed.behind)),
+          )
+
+          by_count : (k : ℕ) → failed.count ≡ k → UnitAnswers x p c new (Err Memory)
+          by_count zero e = lost zero zero e (omega arith) stays_none
+          by_count (suc j) e =
+              let few_of : suc j ≤ n = omega (arith, le, e) in
+              let none_of : (i : ℕ) → i < suc j → refusal_at (payload_in x (standing (stream x) p).situation) (own.bytes ++ take i c) ≡ None = λ i lt. none i (omega (arith, lt, e)) in
+              elim (stays_or_whole (suc j) (omega arith) few_of none_of) [
+                | inl stays ↦ lost (suc j) (suc j) e few_of stays
+                | inr all ↦ lost (suc j) j e (omega (arith, few_of)) (stays_before j few_of (let m = taken (suc j) few_of in let whole = all.0 in omega (arith, whole, m)) none_of all.1)
+              ]

@@ -1,0 +1,161 @@
+-- Which streams are too long, and which are cut off.
+use Rattle.std.proofs.Common.{◌≡◌, ℕ, ◌+◌, ◌-◌, ◌<◌, ◌≤◌, inl, inr, List, ◌++◌, length, take, drop, Bool, true, false, Some, None, refl, sym, ap, ◌∙◌, arith, ◌↔◌}
+use Rattle.std.specs.Prelude.{if◌then◌else◌}
+use Rattle.std.proofs.Math.Seq.{take-add}
+use Rattle.std.proofs.lemmas.Bool.{cases_lt, cases_Bool}
+use Rattle.std.proofs.lemmas.List.{length-take-le}
+use Rattle.unit_streams.specs.Grammar.{Standing, standing}
+use Rattle.unit_streams.specs.Judging.{refusal_at, is_over_at, ending_at, answer, offends}
+use Rattle.unit_streams.proofs.Answers.{answers_are_first}
+use Rattle.unit_streams.proofs.Offences.{offences_are_first}
+use Rattle.unit_streams.proofs.Ends.{after_end}
+use Rattle.unit_streams.proofs.Passing.{going_at}
+use Rattle.nbfx_values.specs.Limits.{Limits}
+use Rattle.nbfx_values.specs.declared.refusals.Offence.{Offence}
+use Rattle.nbfx_values.specs.declared.refusals.Reason.{Reason}
+use Rattle.nbfx_values.specs.declared.refusals.Reason.TheVariants as reasons
+use Rattle.nmf_records.specs.declared.script.Due.TheVariants as dues
+use Rattle.nmf_records.specs.Script.{may_end}
+use Rattle.string_tables.specs.StaticStrings.{Entry}
+use Rattle.nbfx_decoder.specs.Payload.{refusal}
+use Rattle.stream_reader.specs.Stream.{Settings, initiators, Situation, Stage, record_due, payload_open, offence_in, StreamEvent, offence_at, is_over_in, open_from, cut_off, stream}
+use Rattle.stream_reader.specs.Judging.{offence}
+use Rattle.stream_reader.specs.Reasons.{ShowsFrom, ShowsInPayload, ShowsUnbuilt, IsTooLong, IsCutOff}
+use Rattle.stream_reader.specs.Laws.{Begins, IsInitiators}
+use Rattle.stream_reader.proofs.Initiators.{by_set}
+use Rattle.stream_reader.proofs.Grammar.{readable, quiet_over}
+use Rattle.stream_reader.proofs.Reasons.{apart, in_payload_is, unbuilt_is, too_large_is, too_long_is, never_cut_off, same_place}
+
+-- the end refuses a stream that isn't over, at what is open
+end_is : (x : Settings) (stage : Stage) (from : ℕ) (o : Offence) → cut_off x stage from ≡ Some o → (is_over_in stage ≡ false) × (o ≡ offence_at (open_from stage from) reasons.Truncated)
+unfolding cut_off
+end_is x (record_due dues.Over) from o e = cc
+end_is x (record_due due) from o e = (refl, told (may_end x.direction x.mode due) e) where
+  told : (b : Bool) → (if b then None else Some (offence_at from reasons.Truncated)) ≡ Some o → o ≡ offence_at from reasons.Truncated
+  told true e = cc
+  told false e = cc
+end_is x (payload_open payload) from o e = (refl, cc)
+
+-- and each that isn't over, of an initiator
+cut_within : (statics : List Entry) (l : Limits) (stage : Stage) (from : ℕ) → is_over_in stage ≡ false → cut_off (initiators statics l) stage from ≡ Some (offence_at (open_from stage from) reasons.Truncated)
+unfolding cut_off
+cut_within statics l (record_due dues.Over) from o = cc
+cut_within statics l (record_due _) from o = refl
+cut_within statics l (payload_open payload) from o = refl
+
+pub cut_is : (x : Settings) → IsInitiators x → (stage : Stage) (from : ℕ) → is_over_in stage ≡ false → cut_off x stage from ≡ Some (offence_at (open_from stage from) reasons.Truncated)
+cut_is x set stage from on = by_set (λ (s : Settings). cut_off s stage from ≡ Some (offence_at (open_from stage from) reasons.Truncated)) (λ statics l. cut_within statics l stage from on) x set
+
+module _ (x : Settings) (p : List ℕ) where
+  ended_so : (o : Offence) → ending_at (stream x) p ≡ Some o → (is_over_at (stream x) p ≡ false) × (o ≡ offence_at (open_from (standing (stream x) p).situation.stage (standing (stream x) p).from) reasons.Truncated)
+  unfolding is_over_at ending_at
+  ended_so o e = end_is x (standing (stream x) p).situation.stage (standing (stream x) p).from o e
+
+  cut_at : (from : ℕ) → ending_at (stream x) p ≡ Some (offence_at from reasons.Truncated) → IsCutOff x p from
+  cut_at from e =
+      let told = ended_so (offence_at from reasons.Truncated) e in
+      record { going_on = told.0; place = same_place from (open_from (standing (stream x) p).situation.stage (standing (stream x) p).from) reasons.Truncated reasons.Truncated told.1 }
+
+  module _ (set : IsInitiators x) where
+    at_cut : (from : ℕ) → IsCutOff x p from → ending_at (stream x) p ≡ Some (offence_at from reasons.Truncated)
+    unfolding is_over_at ending_at
+    at_cut from h = cut_is x set (standing (stream x) p).situation.stage (standing (stream x) p).from h.going_on ∙ ap (λ n. Some (offence_at n reasons.Truncated)) (sym h.place)
+
+    pub cut_off_is : (from : ℕ) → (ending_at (stream x) p ≡ Some (offence_at from reasons.Truncated)) ↔ IsCutOff x p from
+    cut_off_is from = (cut_at from, at_cut from)
+
+  pub end_cuts_off : (o : Offence) → ending_at (stream x) p ≡ Some o → (o.reason ≡ reasons.Truncated) × (is_over_at (stream x) p ≡ false)
+  end_cuts_off o e = let told = ended_so o e in (ap (λ (o : Offence). o.reason) told.1, told.0)
+
+  pub no_piece_cuts_off : (y : List ℕ) (n : ℕ) (o : Offence) → answer (stream x) p y ≡ offends n o → o.reason ≡ reasons.Truncated → ⊥
+  no_piece_cuts_off y n o e cut = never_cut_off x (p ++ take n y) o ((answers_are_first (stream x) p y (offends n o)).0 e).1 cut
+
+module _ (x : Settings) (bytes : List ℕ) where
+  -- a stream that isn't refused by its bytes
+  module _ (set : IsInitiators x) where
+    cut_for : (from : ℕ) → offence x bytes ≡ Some (offence_at from reasons.Truncated) → ((i : ℕ) → i ≤ length bytes → refusal_at (stream x) (take i bytes) ≡ None) × IsCutOff x bytes from
+    cut_for from e =
+        elim ((offences_are_first (stream x) bytes (offence_at from reasons.Truncated)).0 e) [
+          | inl h ↦ absurd (never_cut_off x (take h.place bytes) (offence_at from reasons.Truncated) h.refused refl)
+          | inr h ↦ (h.unrefused, (cut_off_is x bytes set from).0 h.ended)
+        ]
+
+    pub cut_off_unrefused : (from : ℕ) → (offence x bytes ≡ Some (offence_at from reasons.Truncated)) ↔ (((i : ℕ) → i ≤ length bytes → refusal_at (stream x) (take i bytes) ≡ None) × IsCutOff x bytes from)
+    cut_off_unrefused from =
+        (cut_for from, λ h. (offences_are_first (stream x) bytes (offence_at from reasons.Truncated)).1 (inr (record { unrefused = h.0; ended = (cut_off_is x bytes set from).1 h.1 })))
+
+  -- an offence other than the end's is that of the first prefix that is refused
+  module _ (o : Offence) (isnt : ending_at (stream x) bytes ≡ Some o → ⊥) (Holds : List ℕ → Type 0) (law : (p : List ℕ) → (refusal_at (stream x) p ≡ Some o) ↔ Holds p) where
+    first_for : offence x bytes ≡ Some o → Begins x bytes Holds
+    first_for e =
+        elim ((offences_are_first (stream x) bytes o).0 e) [
+          | inl h ↦ (h.place, h.within, h.before, (law (take h.place bytes)).0 h.refused)
+          | inr h ↦ absurd (isnt h.ended)
+        ]
+
+    for_first : Begins x bytes Holds → offence x bytes ≡ Some o
+    for_first (n, within, before, holds) = (offences_are_first (stream x) bytes o).1 (inl (record { place = n; within = within; before = before; refused = (law (take n bytes)).1 holds }))
+
+    first_is : (offence x bytes ≡ Some o) ↔ Begins x bytes Holds
+    first_is = (first_for, for_first)
+
+  -- whose reason is none of these
+  other_end : (from : ℕ) (reason : Reason) → (reason ≡ reasons.Truncated → ⊥) → ending_at (stream x) bytes ≡ Some (offence_at from reason) → ⊥
+  other_end from reason isnt e = isnt (end_cuts_off x bytes (offence_at from reason) e).0
+
+  pub unbuilt_first : (from : ℕ) → (offence x bytes ≡ Some (offence_at from reasons.Unbuilt)) ↔ Begins x bytes (λ p. ShowsUnbuilt x p from)
+  unbuilt_first from = first_is (offence_at from reasons.Unbuilt) (other_end from reasons.Unbuilt (λ e. cc)) (λ p. ShowsUnbuilt x p from) (λ p. unbuilt_is x p from)
+
+  pub too_large_first : (from : ℕ) → (offence x bytes ≡ Some (offence_at from reasons.MessageTooLarge)) ↔ Begins x bytes (λ p. ShowsFrom x p from reasons.MessageTooLarge)
+  too_large_first from =
+      first_is (offence_at from reasons.MessageTooLarge) (other_end from reasons.MessageTooLarge (λ e. cc)) (λ p. ShowsFrom x p from reasons.MessageTooLarge) (λ p. too_large_is x p from)
+
+  pub in_payload_first : (number at : ℕ) (reason : Reason) → (offence x bytes ≡ Some (offence_in number (refusal at reason))) ↔ Begins x bytes (λ p. ShowsInPayload x p number at reason)
+  in_payload_first number at reason =
+      first_is (offence_in number (refusal at reason)) (λ e. apart _ reasons.Truncated number (refusal at reason) (sym (ended_so x bytes (offence_in number (refusal at reason)) e).1))
+      (λ p. ShowsInPayload x p number at reason) (λ p. in_payload_is x p number at reason)
+
+  -- what is over stays so
+  over_longer : (p c : List ℕ) → is_over_at (stream x) p ≡ true → is_over_at (stream x) (p ++ c) ≡ true
+  unfolding is_over_at
+  over_longer p c o = ap (λ (s : Standing Situation StreamEvent Offence). is_over_in s.situation.stage) (after_end (stream x) (readable x) (quiet_over x) p c o) ∙ o
+
+  -- a part that isn't refused and has the session quota is over
+  full_over : (p : List ℕ) → refusal_at (stream x) p ≡ None → x.limits.session ≤ length p → is_over_at (stream x) p ≡ true
+  full_over p none le =
+      elim (cases_Bool (is_over_at (stream x) p)) [
+        | inl over ↦ over
+        | inr on ↦
+            let refused = (too_long_is x p (open_from (standing (stream x) p).situation.stage (standing (stream x) p).from)).1 (record { reached = le; going_on = on; going = going_at (stream x) (readable x) p none; place = refl }) in
+            cc
+      ]
+
+  longer : (m n : ℕ) → m ≤ n → take n bytes ≡ take m bytes ++ take (n - m) (drop m bytes)
+  longer m n le = let sum : n ≡ m + (n - m) = omega arith in ap (λ k. take k bytes) sum ∙ take-add m (n - m) bytes
+
+  at_quota : (place from : ℕ) → place ≤ length bytes → ((i : ℕ) → i < place → refusal_at (stream x) (take i bytes) ≡ None) → IsTooLong x (take place bytes) from → place ≡ x.limits.session
+  at_quota place from within before h =
+      let size = length-take-le place bytes within in
+      let reached = h.reached in
+      elim (cases_lt x.limits.session place) [
+        | inl lt ↦ absurd (
+            let part = length-take-le x.limits.session bytes (omega arith) in
+            let over = full_over (take x.limits.session bytes) (before x.limits.session lt) (omega (arith, part)) in
+            let over' : is_over_at (stream x) (take place bytes) ≡ true = ap (is_over_at (stream x)) (longer x.limits.session place (omega arith)) ∙ over_longer (take x.limits.session bytes) (take (place - x.limits.session) (drop x.limits.session bytes)) over in
+            let on = h.going_on in
+            cc)
+        | inr le ↦ omega (arith, size, reached)
+      ]
+
+  abbrev IsTooLongAtQuota : ℕ → Type 0
+  IsTooLongAtQuota from = (x.limits.session ≤ length bytes) × ((i : ℕ) → i < x.limits.session → refusal_at (stream x) (take i bytes) ≡ None) × IsTooLong x (take x.limits.session bytes) from
+
+  long_for : (from : ℕ) → Begins x bytes (λ p. IsTooLong x p from) → IsTooLongAtQuota from
+  long_for from (place, within, before, h) =
+      let same = at_quota place from within before h in
+      (omega (arith, same), (λ i lt. before i (omega (arith, same))), rw same at h)
+
+  pub too_long_at_quota : (from : ℕ) → (offence x bytes ≡ Some (offence_at from reasons.SessionTooLong)) ↔ IsTooLongAtQuota from
+  too_long_at_quota from =
+      let first = first_is (offence_at from reasons.SessionTooLong) (other_end from reasons.SessionTooLong (λ e. cc)) (λ p. IsTooLong x p from) (λ p. too_long_is x p from) in
+      ((λ e. long_for from (first.0 e)), (λ h. first.1 (x.limits.session, h.0, h.1, h.2)))

@@ -1,0 +1,10 @@
+use Rattle.stream_reader.proofs.ReasonsOfStreams.{no_piece_cuts_off, cut_off_is, end_cuts_off, cut_off_unrefused}
+use Rattle.stream_reader.proofs.laws.cut_off.Goals as goal
+
+pub returns : goal.returns
+returns c = record {
+  no_piece = no_piece_cuts_off;
+  by_end = λ x set p from. cut_off_is x p set from;
+  end_alone = end_cuts_off;
+  unrefused = λ x set bytes from. cut_off_unrefused x bytes set from;
+}

@@ -1,0 +1,48 @@
+use Rattle.std.proofs.Common.{◌≡◌, ℕ, ◌≤◌, ◌⊎◌, inl, inr, List, length, ap, ◌∙◌, arith}
+use Rattle.std.proofs.Math.Bridge.{le_prop}
+use Rattle.std.proofs.Math.Logic.{∥∥₁_elim}
+use Rattle.nbfx_values.specs.Limits.{Limits}
+use Rattle.nbfx_values.specs.Measures.{content_of}
+use Rattle.nbfx_values.specs.declared.limits.Kept.{Kept}
+use Rattle.nbfx_decoder.specs.declared.decoder.Decoder.{Decoder}
+use Rattle.nbfx_decoder.specs.declared.faults.DecodeFault.{DecodeFault}
+use Rattle.nbfx_decoder.specs.Standing.{settings_of as decoder_settings, StandsFor as DecoderStandsFor, FailedBehind as DecoderFailedBehind, WhereItStands as WhereDecoderStands, WhereItFailed as WhereDecoderFailed}
+use Rattle.stream_reader.specs.Bounds.{IsBounded}
+use Rattle.stream_reader.specs.Standing.{Shows, ShowsStrings, StandsFor, settings_of}
+use Rattle.stream_reader.proofs.ReaderFacts.{comes_in}
+use Rattle.stream_reader.proofs.reader.StreamReader.kept.Goals as goal
+
+pub returns-clause-raw : goal.returns-clause-raw
+unfolding StandsFor settings_of
+returns-clause-raw c = λ p h.
+    let come = comes_in c.args.self.now _ _ h.at in
+    let raw = c.kept-payload.ensures.raw come.before come.bytes come.stands_for in
+    omega (arith, raw, ap length come.begun, c.saturating_add.ensures, c.held.ensures.within, c.args.self.now.limit)
+
+pub returns-clause-content : goal.returns-clause-content
+unfolding StandsFor
+returns-clause-content c = λ p h.
+    let come = comes_in c.args.self.now _ _ h.at in
+    c.kept-payload.ensures.content come.before come.bytes come.stands_for ∙ ap content_of come.items
+
+-- what a decoder keeps
+kept_within : (d : Decoder) (kept : Kept) → WhereDecoderStands d (λ before bytes. (kept.raw ≤ (decoder_settings d).limits.payload) × (kept.content ≤ (decoder_settings d).limits.content))
+    → WhereDecoderFailed d (λ fault before bytes. kept ≡ record { raw = 0; content = 0 }) → (strings : List (List ℕ)) → Shows d strings
+    → (kept.raw ≤ (decoder_settings d).limits.payload) × (kept.content ≤ (decoder_settings d).limits.content)
+kept_within d kept stands failed strings h = by_there h.there where
+  by_there : DecoderStandsFor d h.before h.bytes ⊎ ((fault : DecodeFault) × DecoderFailedBehind d fault h.before h.bytes) → (kept.raw ≤ (decoder_settings d).limits.payload) × (kept.content ≤ (decoder_settings d).limits.content)
+  by_there (inl s) = stands h.before h.bytes s
+  by_there (inr f) =
+      let none = failed f.0 h.before h.bytes f.1 in
+      let raw = ap (λ (k : Kept). k.raw) none in
+      let content = ap (λ (k : Kept). k.content) none in
+      (omega (arith, raw), omega (arith, content))
+
+pub returns-clause-within : goal.returns-clause-within
+unfolding ShowsStrings settings_of
+returns-clause-within c = λ strings h.
+    let within = kept_within c.args.self.now.decoder c.kept-payload.result c.kept-payload.ensures.within c.kept-payload.ensures.failed strings h in (
+      ∥∥₁_elim c.args.self.now.bounded le_prop
+          (λ (b : IsBounded _ _ _). let payload = ap (λ (l : Limits). l.payload) b.limits in omega (arith, within.0, payload, c.saturating_add.ensures, c.held.ensures.within, c.args.self.now.limit)),
+      ∥∥₁_elim c.args.self.now.bounded le_prop (λ (b : IsBounded _ _ _). let content = ap (λ (l : Limits). l.content) b.limits in omega (arith, within.1, content)),
+    )

@@ -1,0 +1,12 @@
+-- cited by public contracts
+pub mod Stream
+pub mod Judging
+pub mod Sessions
+pub mod Events
+pub mod Reasons
+pub mod Laws
+pub mod Saying
+pub mod Standing
+-- cited by a reader's own state and by private calls
+pub mod Bounds
+pub mod Stepping

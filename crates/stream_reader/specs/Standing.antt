@@ -1,0 +1,169 @@
+-- What a reader of a stream stands for, and what it shows. Of the bytes that it used it keeps the
+-- framing's text, and of an open payload what a decoder does.
+use Rattle.std.specs.Prelude.{◌≡◌, ⊤, ℕ, ◌+◌, ◌<◌, ◌≤◌, ◌⊎◌, List, [], ◌++◌, length, take, Option, Some, None, refl}
+use Rattle.unit_streams.specs.Grammar.{standing}
+use Rattle.unit_streams.specs.Judging.{Answer, used}
+use Rattle.unit_streams.specs.Going.{IsGoing}
+use Rattle.nbfx_values.specs.QuotasOf.{limits_of}
+use Rattle.nbfx_values.specs.declared.refusals.Offence.{Offence}
+use Rattle.nbfx_values.specs.declared.content.Item.{Item}
+use Rattle.string_tables.specs.SessionStrings.{used_cost}
+use Rattle.nbfx_decoder.specs.declared.decoder.Decoder.{Decoder}
+use Rattle.nbfx_decoder.specs.declared.faults.DecodeFault.{DecodeFault}
+use Rattle.nbfx_decoder.specs.Standing.{settings_of as decoder_settings, situation_of, StandsFor as DecoderStandsFor, FailedBehind as DecoderFailedBehind}
+use Rattle.nmf_records.specs.declared.frame.Expect.{Expect}
+use Rattle.nmf_records.specs.declared.reader.FrameReader.{FrameReader}
+use Rattle.nmf_records.specs.declared.script.Direction.TheVariants.{FromInitiator}
+use Rattle.nmf_records.specs.declared.script.Due.TheVariants as dues
+use Rattle.nmf_records.specs.Reader.{StandsFor as FrameStandsFor, ShowsText}
+use Rattle.nmf_records.specs.Script.{may_come}
+use Rattle.stream_reader.specs.declared.awaited.Awaited.{Awaited}
+use Rattle.stream_reader.specs.declared.awaited.Awaited.TheVariants as awaits
+use Rattle.stream_reader.specs.declared.reader.ReadRefusal.{ReadRefusal}
+use Rattle.stream_reader.specs.declared.reader.ReadRefusal.TheVariants.{Offence as Refused, Memory}
+use Rattle.stream_reader.specs.declared.reader.StreamReader.{StreamReader}
+use Rattle.stream_reader.specs.Laws.{IsInitiators}
+use Rattle.stream_reader.specs.Stream.{Settings, Situation, Stage, OpenPayload, StreamEvent, record_due, payload_open, initiators, payload_in, payloads, stream, strings_in}
+
+-- what the reader is set to
+unfoldable pub settings_of : StreamReader → Settings
+settings_of r = initiators r.statics.now (limits_of r.quotas)
+
+-- it reads an initiator's stream
+pub reads_initiators : (r : StreamReader) → IsInitiators (settings_of r)
+unfolding settings_of
+reads_initiators r = record { direction = refl; mode = refl; good = r.quotas.good }
+
+-- how many bytes it has used, or that show its offence
+unfoldable pub taken_of : StreamReader → ℕ
+taken_of r = r.taken
+
+-- how many documents were whole
+unfoldable pub messages_of : StreamReader → ℕ
+messages_of r = r.messages
+
+-- the refusal that it answers from now on
+unfoldable pub failure_of : StreamReader → Option ReadRefusal
+failure_of r = r.failure
+
+-- the Via that it shows
+unfoldable pub ShowsVia : StreamReader → List ℕ → Type 0
+ShowsVia r via = ShowsText r.frames via
+
+-- what comes next of the stream comes next of the reader
+abbrev pub Awaits : Awaited → Stage → Type 0
+Awaits (awaits.Record due) (record_due other) = due ≡ other
+Awaits (awaits.Payload p) (payload_open q) =
+    (p.from ≡ q.from) × (p.size ≡ q.size) × (p.left ≡ q.left)
+Awaits _ _ = ⊥
+
+-- the reader of records has these bytes of one, or, within a payload, of none
+abbrev pub HasBegun : Awaited → FrameReader → List ℕ → Type 0
+HasBegun (awaits.Payload p) frames begun = (next : Expect) → FrameStandsFor frames next []
+HasBegun (awaits.Record due) frames begun =
+    FrameStandsFor frames (may_come FromInitiator due) begun
+
+-- the bytes so far of the payload that stands so, of which it has more
+pub record IsWithinPayload (d : Decoder) (x : Settings) (z : Situation) (p : OpenPayload)
+    : Type 0 where
+  pub bytes : List ℕ
+  pub stands_for : DecoderStandsFor d z.strings bytes
+  pub standing_is : p.standing ≡ standing (payload_in x z) bytes
+  pub counted : length bytes + p.left ≡ p.size
+  pub more : 0 < p.left
+  pub within : p.size ≤ x.limits.payload
+
+-- the decoder has come as far as the payload that is open, or is before the next one
+abbrev pub ReadsPayload : Decoder → Settings → Situation → Stage → Type 0
+ReadsPayload d x z (record_due due) = DecoderStandsFor d z.strings []
+ReadsPayload d x z (payload_open p) = IsWithinPayload d x z p
+
+-- it is in this situation
+pub record IsIn (r : StreamReader) (x : Settings) (z : Situation) : Type 0 where
+  pub awaits : Awaits r.awaited z.stage
+  pub kind : r.kind ≡ z.kind
+  pub messages : r.messages ≡ z.messages
+  pub decodes : decoder_settings r.decoder ≡ payloads x z.kind
+  pub payload : ReadsPayload r.decoder x z z.stage
+
+-- it has come as far as p, and isn't refused
+pub record Reached (r : StreamReader) (x : Settings) (p : List ℕ) : Type 0 where
+  pub at : IsIn r x (standing (stream x) p).situation
+  pub frames : HasBegun r.awaited r.frames (standing (stream x) p).begun
+  pub text : ShowsText r.frames (standing (stream x) p).situation.via
+  pub unit_from : r.unit_from ≡ (standing (stream x) p).from
+  pub taken : r.taken ≡ length p
+  pub within : length p ≤ x.limits.session
+  pub going : IsGoing (stream x) (standing (stream x) p)
+  pub unfailed : r.failure ≡ None
+
+-- the bytes used, of a stream that isn't refused
+unfoldable pub StandsFor : StreamReader → List ℕ → Type 0
+StandsFor r p = Reached r (settings_of r) p
+
+-- it has used the bytes that it stands for
+pub counts_taken : (r : StreamReader) (p : List ℕ) → StandsFor r p → taken_of r ≡ length p
+unfolding StandsFor taken_of
+counts_taken r p stands = stands.taken
+
+-- this holds wherever it stands
+abbrev pub WhereItStands : StreamReader → (List ℕ → Type 0) → Type 0
+WhereItStands r Holds = (p : List ℕ) → StandsFor r p → Holds p
+
+-- what a decoder shows: these strings, of payload bytes that it stands for or has failed behind
+pub record Shows (d : Decoder) (strings : List (List ℕ)) : Type 0 where
+  pub before : List (List ℕ)
+  pub bytes : List ℕ
+  pub there : DecoderStandsFor d before bytes
+      ⊎ ((fault : DecodeFault) × DecoderFailedBehind d fault before bytes)
+  pub same : (situation_of (decoder_settings d) before bytes).strings ≡ strings
+  pub within : used_cost strings ≤ (decoder_settings d).limits.dictionary
+
+-- the strings that it shows
+unfoldable pub ShowsStrings : StreamReader → List (List ℕ) → Type 0
+ShowsStrings r strings = Shows r.decoder strings
+
+-- what a refused reader shows: the refusal, how many bytes were used or show it, and behind the
+-- bytes p the Via, how many documents were whole, and the strings
+pub record Failed (r : StreamReader) (x : Settings) (refusal : ReadRefusal) (taken : ℕ)
+    (p : List ℕ) : Type 0 where
+  pub failure : failure_of r ≡ Some refusal
+  pub taken_is : taken_of r ≡ taken
+  pub via : ShowsVia r (standing (stream x) p).situation.via
+  pub messages : messages_of r ≡ (standing (stream x) p).situation.messages
+  pub strings : ShowsStrings r (strings_in (standing (stream x) p).situation)
+
+unfoldable pub FailedBehind : StreamReader → ReadRefusal → ℕ → List ℕ → Type 0
+FailedBehind r refusal taken p = Failed r (settings_of r) refusal taken p
+
+-- this holds wherever it has failed
+abbrev pub WhereItFailed : StreamReader → (ReadRefusal → ℕ → List ℕ → Type 0) → Type 0
+WhereItFailed r Holds = (refusal : ReadRefusal) (taken : ℕ) (p : List ℕ)
+    → FailedBehind r refusal taken p → Holds refusal taken p
+
+-- what a piece y behind p leaves of a reader that it makes fail: where the stream is refused, it is
+-- behind the bytes that show it; where there was no memory, behind some, and none of y counts as
+-- used
+abbrev pub FailsBy : StreamReader → List ℕ → List ℕ → Answer StreamEvent Offence → ReadRefusal
+    → Type 0
+FailsBy r p y answer (Refused o) =
+    FailedBehind r (Refused o) (length p + used (length y) answer)
+    (p ++ take (used (length y) answer) y)
+FailsBy r p y answer Memory =
+    (k : ℕ) × (k ≤ length y) × FailedBehind r Memory (length p) (p ++ take k y)
+
+-- payloads may come
+abbrev pub HasPayloads : Stage → Type 0
+HasPayloads (record_due dues.Messages) = ⊤
+HasPayloads (payload_open p) = ⊤
+HasPayloads _ = ⊥
+
+-- the bytes of the payload's unit that isn't whole
+abbrev pub begun_in : Stage → List ℕ
+begun_in (record_due due) = []
+begun_in (payload_open p) = p.standing.begun
+
+-- the items of the payload so far
+abbrev pub items_in : Stage → List Item
+items_in (record_due due) = []
+items_in (payload_open p) = p.standing.situation.items
