@@ -250,10 +250,10 @@ module _ (d mid : Decoder) (strings : List (List ℕ)) (p y : List ℕ) (h : Sta
               }
 
 -- before the nodes there are no items
-abbrev NodesOrNone : Situation → Type 0
+abbrev pub NodesOrNone : Situation → Type 0
 NodesOrNone z = (z.section ≡ Nodes) ⊎ (z.items ≡ [])
 
-not_nodes : (z : Situation) (section : Section) → z.section ≡ section → (section ≡ Nodes → ⊥) → NodesOrNone z → z.items ≡ []
+pub not_nodes : (z : Situation) (section : Section) → z.section ≡ section → (section ≡ Nodes → ⊥) → NodesOrNone z → z.items ≡ []
 not_nodes z section here not (inl e) = absurd (not (sym here ∙ e))
 not_nodes z section here not (inr e) = e
 
@@ -263,7 +263,7 @@ keeps_none x z b u k (a_size n is here e) h = rw is (inr (not_nodes z TableSize 
 keeps_none x z b u k (a_string left s is here e) h = rw is (inr (not_nodes z (Strings (suc left)) here (λ e. cc) h))
 keeps_none x z b u k (a_node n is here e) h = rw is (inl here)
 
-nodes_or_none : (x : Settings) (strings : List (List ℕ)) (p : List ℕ) → NodesOrNone (situation_of x strings p)
+pub nodes_or_none : (x : Settings) (strings : List (List ℕ)) (p : List ℕ) → NodesOrNone (situation_of x strings p)
 nodes_or_none x strings p =
     standing_keeps (payload x strings) (readable x strings) (λ z from. NodesOrNone z) (inr refl) (λ z from b u k e some h. keeps_none x z b u k (unit_case x z b u k from e) h) p
 

@@ -143,7 +143,7 @@ impl<'s> Decoder<'s> {
         }
     }
 
-    /// How many bytes of the payload it has taken; 0 before the first one.
+    /// How many bytes of the payload it has taken, of one that isn't refused; 0 before the first one.
     pub fn taken(&self) -> u32
         ensures counted { result < 2 ^ 32 - 1 → result ≡ taken_of self.now }
         ensures stands { WhereItStands self.now (λ strings p. result ≡ length p) }

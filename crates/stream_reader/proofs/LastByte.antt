@@ -1,44 +1,26 @@
 -- The last byte of a payload brings no string, where the payload is whole.
-use Rattle.std.proofs.Common.{◌≡◌, ℕ, suc, ◌⊎◌, inl, inr, List, [], ◌∷◌, ◌++◌, take, None, refl, sym, ap, ◌∙◌, subst, arith}
+use Rattle.std.proofs.Common.{◌≡◌, ℕ, suc, inl, inr, List, [], ◌∷◌, ◌++◌, take, None, refl, sym, ap, ◌∙◌, subst, arith}
 use Rattle.unit_streams.specs.Front.{Front, begun, whole, wrong}
 use Rattle.unit_streams.specs.Grammar.{Standing, standing}
 use Rattle.unit_streams.specs.Judging.{ending_at, refusal_at}
 use Rattle.unit_streams.proofs.Fronts.{leaves_or_decides}
 use Rattle.unit_streams.proofs.Passing.{going_at, leaves_standing, whole_standing, wrong_standing}
 use Rattle.unit_streams.proofs.Peeling.{Decides, extent}
-use Rattle.unit_streams.proofs.Standing.{standing_keeps}
 use Rattle.nbfx_values.specs.Positions.{position_of}
-use Rattle.nbfx_decoder.specs.declared.section.Section.{Section}
-use Rattle.nbfx_decoder.specs.declared.section.Section.TheVariants.{TableSize, Strings, Nodes}
+use Rattle.nbfx_decoder.specs.declared.section.Section.TheVariants.{Strings}
 use Rattle.nbfx_decoder.specs.Payload.{NoEvent, PayloadUnit, Refusal, Settings, Situation, after, cut_at, payload}
 use Rattle.nbfx_decoder.specs.Standing.{situation_of}
+use Rattle.nbfx_decoder.proofs.FeedSteps.{NodesOrNone, nodes_or_none, not_nodes}
 use Rattle.nbfx_decoder.proofs.Readable.{readable}
 use Rattle.nbfx_decoder.proofs.UnitCases.{UnitCase, a_size, a_string, a_node, unit_case}
 
--- before the nodes there are no items
-abbrev NodesOrNone : Situation → Type 0
-NodesOrNone z = (z.section ≡ Nodes) ⊎ (z.items ≡ [])
-
-none_before : (z : Situation) (section : Section) → z.section ≡ section → (section ≡ Nodes → ⊥) → NodesOrNone z → z.items ≡ []
-none_before z section here not (inl e) = absurd (not (sym here ∙ e))
-none_before z section here not (inr e) = e
-
-keeps_none : (x : Settings) (z : Situation) (b : List ℕ) (u : PayloadUnit) (k : ℕ) → UnitCase x z b u k → NodesOrNone z → NodesOrNone (after x z u)
-unfolding after
-keeps_none x z b u k (a_size n is here e) h = rw is (inr (none_before z TableSize here (λ e. cc) h))
-keeps_none x z b u k (a_string left s is here e) h = rw is (inr (none_before z (Strings (suc left)) here (λ e. cc) h))
-keeps_none x z b u k (a_node n is here e) h = rw is (inl here)
-
 module _ (x : Settings) (strings : List (List ℕ)) where
-  nodes_or_none : (q : List ℕ) → NodesOrNone (situation_of x strings q)
-  nodes_or_none q = standing_keeps (payload x strings) (readable x strings) (λ z from. NodesOrNone z) (inr refl) (λ z from b u k e some h. keeps_none x z b u k (unit_case x z b u k from e) h) q
-
   -- a unit behind which the root has ended
   same_strings : (z : Situation) (b : List ℕ) (u : PayloadUnit) (k n : ℕ) → UnitCase x z b u k → NodesOrNone z → cut_at (position_of (after x z u).items) n ≡ None → (after x z u).strings ≡ z.strings
   unfolding after
   same_strings z b u k n (a_size size is here e) h ends = rw is refl
   same_strings z b u k n (a_string left s is here e) h ends =
-      let none : z.items ≡ [] = none_before z (Strings (suc left)) here (λ e. cc) h in
+      let none : z.items ≡ [] = not_nodes z (Strings (suc left)) here (λ e. cc) h in
       let bad = rw (is, none) at ends in
       cc
   same_strings z b u k n (a_node node is here e) h ends = rw is refl
@@ -57,7 +39,7 @@ module _ (x : Settings) (strings : List (List ℕ)) where
     by_front n one d (whole u k) e =
         let there = ap (λ m. standing (payload x strings) (q ++ take m (byte ∷ []))) (sym one) ∙ whole_standing (payload x strings) (readable x strings) q (byte ∷ []) (going_at (payload x strings) (readable x strings) q none) n d (λ i lt. refl) u k e in
         ap (λ (s : Standing Situation NoEvent Refusal). s.situation.strings) there
-        ∙ same_strings here.situation (here.begun ++ byte ∷ []) u k _ (unit_case x here.situation (here.begun ++ byte ∷ []) u k here.from e) (nodes_or_none q)
+        ∙ same_strings here.situation (here.begun ++ byte ∷ []) u k _ (unit_case x here.situation (here.begun ++ byte ∷ []) u k here.from e) (nodes_or_none x strings q)
         (subst (λ (s : Standing Situation NoEvent Refusal). cut_at (position_of s.situation.items) s.from ≡ None) there ends)
     by_front n one d (wrong r k) e =
         let there = ap (λ m. standing (payload x strings) (q ++ take m (byte ∷ []))) (sym one) ∙ wrong_standing (payload x strings) (readable x strings) q (byte ∷ []) (going_at (payload x strings) (readable x strings) q none) n d (λ i lt. refl) r k e in
