@@ -1,10 +1,13 @@
 -- What a check that reads a stream piece by piece knows between two pieces, and where it ends.
-use Rattle.std.proofs.Common.{◌≡◌, ℕ, ◌-◌, ◌≤◌, ◌<◌, ◌⊎◌, inl, inr, List, [], ◌++◌, length, take, drop, Option, Some, None, Result, Ok, Err, IfOk, IfErr, OnOk, OnErr, ◌↔◌, lit<, refl, sym, ap, ◌∙◌, subst, arith, append_assoc, length-append}
+use Rattle.std.proofs.Common.{IsErrOf, Bool, true, ◌≡◌, ℕ, ◌-◌, ◌≤◌, ◌<◌, ◌⊎◌, inl, inr, List, [], ◌++◌, length, take, drop, Option, Some, None, Result, Ok, Err, IfOk, OnOk, OnErr, ◌↔◌, lit≤, refl, sym, ap, ◌∙◌, subst, arith, append_assoc, length-append}
 use Rattle.std.specs.Option.{option_or}
+use Rattle.std.specs.Prelude.{⊤}
 use Rattle.std.proofs.Math.Seq.{take-nil}
 use Rattle.std.proofs.lemmas.List.{append-nil, length-take-le, take-append-le, take-append-drop, take_all}
 use Rattle.io_edges.specs.Faults.{CountsFaults}
-use Rattle.io_edges.specs.Flow.{Told, Moves, GrowsByPrefix}
+use Rattle.io_edges.specs.Flow.{Told, Moves, GrowsByPrefix, Passes}
+use Rattle.io_edges.specs.Puts.{PutsAll}
+use Rattle.io_edges.proofs.Putting.{PutsAll-then, flush_puts}
 use Rattle.io_edges.specs.declared.SinkFault.{SinkFault}
 use Rattle.io_edges.specs.declared.SinkFault.TheVariants as faults
 use Rattle.unit_streams.specs.Front.{wrong_of}
@@ -14,24 +17,23 @@ use Rattle.unit_streams.specs.Going.{IsGoing, IsPending, IsOpenAt}
 use Rattle.unit_streams.proofs.Standing.{standing_nothing}
 use Rattle.unit_streams.proofs.Passing.{refusal_from, going_refusal}
 use Rattle.unit_streams.proofs.Pending.{pending_open, pending_unrefused, open_going_on, open_first}
-use Rattle.nbfx_values.specs.Limits.{usual_limits}
-use Rattle.nbfx_values.specs.QuotasOf.{limits_of}
-use Rattle.nbfx_values.specs.declared.limits.Quotas.{Quotas}
 use Rattle.nbfx_values.specs.declared.refusals.Offence.{Offence}
+use Rattle.string_tables.specs.StaticStrings.{Entry}
+use Rattle.stream_reader.specs.Judging.{offence}
+use Rattle.stream_reader.specs.Laws.{IsInitiators}
+use Rattle.stream_reader.specs.Stream.{Settings, beginning, ends, too_long, stream}
+use Rattle.stream_reader.proofs.Ending.{tells}
+use Rattle.stream_reader.proofs.Grammar.{within_quota, readable, short_enough}
 use Rattle.dump_replay.specs.declared.check.TheConstants.{ROOM}
 use Rattle.dump_replay.specs.declared.check.Progress.{Progress}
 use Rattle.dump_replay.specs.declared.check.Ending.{Ending}
 use Rattle.dump_replay.specs.declared.check.Ending.TheVariants as endings
-use Rattle.dump_replay.specs.Stream.{Settings, initiators, IsInitiators, usual, beginning, ends, too_long, stream}
-use Rattle.dump_replay.specs.Judging.{offence}
+use Rattle.dump_replay.specs.Checking.{Grows, Reaches, Writes}
+use Rattle.dump_replay.specs.Reading.{AreDue, HasChecked, HasRead, HasReported, ReadsOf, ReportsAs}
 use Rattle.dump_replay.specs.Report.{history_lines, report, event_lines}
-use Rattle.dump_replay.specs.Checking.{Decides, Breaks, Grows, Reaches}
-use Rattle.dump_replay.specs.Reading.{HasRead, SaysOf, WritesOf, stopped_by, Judges, Reports}
-use Rattle.dump_replay.proofs.Initiators.{set_so}
-use Rattle.dump_replay.proofs.Grammar.{within_quota, readable, short_enough}
-use Rattle.dump_replay.proofs.Ending.{tells}
-use Rattle.dump_replay.proofs.Lines.{nothing_lines, open_report}
-use Rattle.dump_replay.proofs.Writing.{told_some, grown_within}
+use Rattle.dump_replay.specs.Statics.{with_statics}
+use Rattle.dump_replay.proofs.Lines.{open_report}
+use Rattle.dump_replay.proofs.Writing.{told_some}
 
 -- what is told afterwards wherever it was told before
 pub known_told : (P : List ℕ → List ℕ → Type 0) (old new : Option (List ℕ)) → ((l : List ℕ) → old ≡ Some l → (l' : List ℕ) × (new ≡ Some l') × P l l') → Told old new P
@@ -104,99 +106,6 @@ module _ (left before after : Option (List ℕ)) (p : List ℕ)
       let k = told_some (λ l l'. (n ≡ 0) ↔ (l ≡ [])) before after h.0 h.1 told in
       h.2 ∙ ap (λ l. p ++ l) (k.2.0 none) ∙ append-nil p
 
-module _ (x : Settings) (left left' taken taken' written mid written' : Option (List ℕ)) where
-  -- what was read, a piece behind it, and what was written then
-  pub piece_reaches : (p y : List ℕ) → IsPending (stream x) p → length y ≤ ROOM
-      → ((bytes : List ℕ) → left ≡ Some bytes → (rest : List ℕ) × (left' ≡ Some rest) × (bytes ≡ p ++ y ++ rest))
-      → ((t : List ℕ) → taken ≡ Some t → taken' ≡ Some (t ++ (p ++ y)))
-      → ((w : List ℕ) → written ≡ Some w → mid ≡ Some (w ++ event_lines x p))
-      → Told mid written' Grows → Reaches x left left' taken taken' written written'
-  piece_reaches p y pending short moved took lines grows = record {
-    before = p;
-    piece = y;
-    pending = pending;
-    short = short;
-    stream = known_told (λ all rest. all ≡ p ++ y ++ rest) left left' moved;
-    took = known_told (λ t t'. t' ≡ t ++ p ++ y) taken taken' (λ t e. (t ++ (p ++ y), took t e, sym (append_assoc t p y)));
-    wrote = known_told (λ w w'. Grows (w ++ event_lines x p) w') written written' (λ w e. told_some Grows mid written' (w ++ event_lines x p) (lines w e) grows);
-  }
-
-module _ (x : Settings) (left left' taken taken' written written' : Option (List ℕ)) where
-  -- a piece that decides the session
-  pub piece_decides : (p y : List ℕ) (o : Option Offence)
-      → ((bytes : List ℕ) → left ≡ Some bytes → (rest : List ℕ) × (left' ≡ Some rest) × (bytes ≡ p ++ y ++ rest))
-      → ((t : List ℕ) → taken ≡ Some t → taken' ≡ Some (t ++ (p ++ y)))
-      → ((more : List ℕ) → offence x (p ++ y ++ more) ≡ o)
-      → ((w : List ℕ) → written ≡ Some w → (w' : List ℕ) × (written' ≡ Some w') × ((more : List ℕ) → w' ≡ w ++ report x (p ++ y ++ more)))
-      → Decides x o left left' taken taken' written written'
-  piece_decides p y o moved took says wrote =
-      let all : (p ++ y) ++ [] ≡ p ++ y = append-nil (p ++ y) in
-      record {
-        bytes = p ++ y;
-        offence_is = ap (offence x) (sym all) ∙ says [];
-        settled = inr says;
-        stream = known_told (λ all rest. (all ≡ p ++ y ++ rest) × ((rest ≡ []) ⊎ ((more : List ℕ) → offence x (p ++ y ++ more) ≡ o))) left left' (λ bytes e. let k = moved bytes e in (k.0, k.1, (k.2, inr says)));
-        took = known_told (λ t t'. t' ≡ t ++ (p ++ y)) taken taken' (λ t e. (t ++ (p ++ y), took t e, refl));
-        wrote = known_told (λ w w'. w' ≡ w ++ report x (p ++ y)) written written' (λ w e. let k = wrote w e in (k.0, k.1, k.2 [] ∙ ap (λ l. w ++ report x l) all));
-      }
-
-  -- the input is over
-  pub end_decides : (mid mid' : Option (List ℕ)) (p room : List ℕ) (n : ℕ) (o : Option Offence) → n ≡ 0 → IsPending (stream x) p
-      → ((bytes : List ℕ) → left ≡ Some bytes → (rest : List ℕ) × (mid ≡ Some rest) × (bytes ≡ p ++ rest))
-      → Told mid left' (λ l l'. Moves l l' room n)
-      → Told mid left' (λ l l'. (n ≡ 0) ↔ (l ≡ []))
-      → ((t : List ℕ) → taken ≡ Some t → mid' ≡ Some (t ++ p))
-      → Told mid' taken' (λ t t'. t' ≡ t ++ take n room)
-      → offence x p ≡ o
-      → ((w : List ℕ) → written ≡ Some w → (w' : List ℕ) × (written' ≡ Some w') × (w' ≡ w ++ report x p))
-      → Decides x o left left' taken taken' written written'
-  end_decides mid mid' p room n o zero pending known moved ended took handed says wrote = record {
-    bytes = p;
-    offence_is = says;
-    settled = inl pending;
-    stream = known_told (λ all rest. (all ≡ p ++ rest) × ((rest ≡ []) ⊎ ((more : List ℕ) → offence x (p ++ more) ≡ o))) left left' (λ all e.
-        let h = known all e in
-        let k = told_some (λ l l'. Moves l l' room n) mid left' h.0 h.1 moved in
-        let over = told_some (λ l l'. (n ≡ 0) ↔ (l ≡ [])) mid left' h.0 h.1 ended in
-        let none : h.0 ≡ [] = over.2.0 zero in
-        let same : k.0 ≡ h.0 = k.2.rest ∙ ap (λ m. drop m h.0) zero in
-        (k.0, k.1, (h.2 ∙ ap (λ l. p ++ l) (sym same), inl (same ∙ none))));
-    took = known_told (λ t t'. t' ≡ t ++ p) taken taken' (λ t e.
-        let k = told_some (λ u u'. u' ≡ u ++ take n room) mid' taken' (t ++ p) (took t e) handed in
-        (k.0, k.1, k.2 ∙ ap (λ m. (t ++ p) ++ take m room) zero ∙ append-nil (t ++ p)));
-    wrote = known_told (λ w w'. w' ≡ w ++ report x p) written written' wrote;
-  }
-
-  -- what was read where reading failed
-  pub read_breaks : (mid mid' : Option (List ℕ)) (p : List ℕ) → IsPending (stream x) p
-      → ((bytes : List ℕ) → left ≡ Some bytes → (rest : List ℕ) × (mid ≡ Some rest) × (bytes ≡ p ++ rest))
-      → Told mid left' (λ l l'. l' ≡ l)
-      → ((t : List ℕ) → taken ≡ Some t → mid' ≡ Some (t ++ p))
-      → Told mid' taken' (λ t t'. t' ≡ t)
-      → ((w : List ℕ) → written ≡ Some w → written' ≡ Some (w ++ event_lines x p)) → Breaks x left left' taken taken' written written'
-  read_breaks mid mid' p pending known kept took kept' lines = record {
-    bytes = p;
-    pending = pending;
-    stream = known_told (λ all rest. all ≡ p ++ rest) left left' (λ all e.
-        let h = known all e in
-        let k = told_some (λ l l'. l' ≡ l) mid left' h.0 h.1 kept in
-        (k.0, k.1, h.2 ∙ ap (λ l. p ++ l) (sym k.2)));
-    took = known_told (λ t t'. t' ≡ t ++ p) taken taken' (λ t e. told_some (λ u u'. u' ≡ u) mid' taken' (t ++ p) (took t e) kept');
-    wrote = known_told (λ w w'. w' ≡ w ++ event_lines x p) written written' (λ w e. (w ++ event_lines x p, lines w e, refl));
-  }
-
-  -- it has read these bytes, and no piece behind them
-  pub breaks_reach : Breaks x left left' taken taken' written written' → Reaches x left left' taken taken' written written'
-  breaks_reach b = record {
-    before = b.bytes;
-    piece = [];
-    pending = b.pending;
-    short = omega arith;
-    stream = told_as (λ all rest. all ≡ b.bytes ++ rest) (λ all rest. all ≡ b.bytes ++ [] ++ rest) left left' b.stream (λ all rest e. e ∙ ap (λ l. l ++ rest) (sym (append-nil b.bytes)));
-    took = told_as (λ t t'. t' ≡ t ++ b.bytes) (λ t t'. t' ≡ t ++ b.bytes ++ []) taken taken' b.took (λ t t' e. e ∙ sym (append-nil (t ++ b.bytes)));
-    wrote = told_as (λ w w'. w' ≡ w ++ event_lines x b.bytes) (λ w w'. Grows (w ++ event_lines x b.bytes) w') written written' b.wrote (λ w w' e. record { more = []; grown = e ∙ sym (append-nil (w ++ event_lines x b.bytes)) });
-  }
-
 module _ (x : Settings) (set : IsInitiators x) (room : 0 < x.limits.session) where
   -- a stream of which nothing is read may still go on
   pub first_pending : IsPending (stream x) []
@@ -212,28 +121,6 @@ module _ (x : Settings) (set : IsInitiators x) (room : 0 < x.limits.session) whe
         refusal_from (stream x) [] (standing (stream x) []) refl
         ∙ going_refusal (stream x) (standing (stream x) []) 0 first_going
         ∙ short_enough x (standing (stream x) []).situation.stage (standing (stream x) []).from 0 room
-
-  -- nothing was read
-  pub none_reaches : (left taken written : Option (List ℕ)) → Reaches x left left taken taken written written
-  none_reaches left taken written = breaks_reach x left left taken taken written written record {
-    bytes = [];
-    pending = first_pending;
-    stream = known_told (λ all rest. all ≡ rest) left left (λ all e. (all, e, refl));
-    took = known_told (λ t t'. t' ≡ t ++ []) taken taken (λ t e. (t, e, sym (append-nil t)));
-    wrote = known_told (λ w w'. w' ≡ w ++ event_lines x []) written written (λ w e. (w, e, sym (ap (λ l. w ++ l) (nothing_lines x) ∙ append-nil w)));
-  }
-
-module _ (x : Settings) where
-  -- the lines so far are the first bytes of the report
-  pub lines_front : (p rest bytes w : List ℕ) → IsPending (stream x) p → bytes ≡ p ++ rest → GrowsByPrefix w (w ++ event_lines x p) (report x bytes)
-  lines_front p rest bytes w pending split =
-      let behind : List ℕ = history_lines (history_from (stream x) p rest) in
-      let lines : event_lines x p ++ behind ≡ report x bytes = sym (open_report x p (pending_open (stream x) p pending) rest) ∙ ap (report x) (sym split) in
-      let all : GrowsByPrefix w (w ++ event_lines x p) (event_lines x p) = record {
-        kept = length (event_lines x p);
-        grown = ap (λ l. w ++ l) (sym (take_all (length (event_lines x p)) (event_lines x p) (omega arith)));
-      } in
-      subst (GrowsByPrefix w (w ++ event_lines x p)) lines (grown_within w (w ++ event_lines x p) (event_lines x p) behind all)
 
 -- what was handed out with a piece more
 taken_grows : (taken before after : Option (List ℕ)) (p room y : List ℕ) (n : ℕ) → ((t : List ℕ) → taken ≡ Some t → before ≡ Some (t ++ p)) → Told before after (λ t t'. t' ≡ t ++ take n room)
@@ -269,68 +156,6 @@ piece_came left before left' taken handed taken' items new room len n usual e fu
       handed = taken_grows taken handed taken' p new (take n room) n so_far told piece;
     }
 
-module _ (x : Settings) where
-  -- a fault of the output judges nothing
-  pub stopped_judges : (bytes : List ℕ) (fault : SinkFault) → Judges x bytes (stopped_by fault)
-  stopped_judges bytes faults.Failed = tt
-  stopped_judges bytes faults.Memory = tt
-
-  -- the first bytes of the report are written then
-  pub stopped_reports : (bytes w w' : List ℕ) (fault : SinkFault) → GrowsByPrefix w w' (report x bytes) → Reports x bytes w w' (stopped_by fault)
-  stopped_reports bytes w w' faults.Failed grows = grows
-  stopped_reports bytes w w' faults.Memory grows = grows
-
-  module _ (r : Ending) where
-    -- the end of the input judges the bytes
-    pub ended_judges : (bytes : List ℕ) (v : Result (Option Offence) SinkFault) → IfOk v (λ o. r ≡ endings.Judged o) → IfErr v (λ f. r ≡ stopped_by f) → IfOk v (λ o. offence x bytes ≡ o) → Judges x bytes r
-    ended_judges bytes (Ok o) judged stopped says = rw judged says
-    ended_judges bytes (Err fault) judged stopped says = rw stopped (stopped_judges bytes fault)
-
-    -- its report is written then, or the first bytes of it
-    pub ended_reports : (bytes w w' : List ℕ) (v : Result (Option Offence) SinkFault) → IfOk v (λ o. r ≡ endings.Judged o) → IfErr v (λ f. r ≡ stopped_by f)
-        → OnOk v (w' ≡ w ++ report x bytes) → OnErr v (GrowsByPrefix w w' (report x bytes)) → Reports x bytes w w' r
-    ended_reports bytes w w' (Ok o) judged stopped all some = rw judged all
-    ended_reports bytes w w' (Err fault) judged stopped all some = rw stopped (stopped_reports bytes w w' fault some)
-
--- a fault of the output is none of the input
-pub stopped_not_read : (fault : SinkFault) → stopped_by fault ≡ endings.ReadFault → ⊥
-stopped_not_read faults.Failed e = cc
-stopped_not_read faults.Memory e = cc
-
--- and no judgement
-pub stopped_not_judged : (fault : SinkFault) (o : Option Offence) → stopped_by fault ≡ endings.Judged o → ⊥
-stopped_not_judged faults.Failed o e = cc
-stopped_not_judged faults.Memory o e = cc
-
--- only a fault of the outside is one of writing
-pub stopped_write : (fault : SinkFault) → stopped_by fault ≡ endings.WriteFault → fault ≡ faults.Failed
-stopped_write faults.Failed e = refl
-stopped_write faults.Memory e = cc
-
--- what holds where a fault of the output isn't one of writing
-pub write_stopped : (fault : SinkFault) → fault ≡ faults.Failed → stopped_by fault ≡ endings.WriteFault
-write_stopped fault e = ap stopped_by e
-
--- a judgement there is of what was read
-pub ended_judged : (r : Ending) (v : Result (Option Offence) SinkFault) (o : Option Offence) → IfOk v (λ o. r ≡ endings.Judged o) → IfErr v (λ f. r ≡ stopped_by f) → r ≡ endings.Judged o → v ≡ Ok o
-ended_judged r (Ok given) o judged stopped e = let same : endings.Judged given ≡ endings.Judged o = sym judged ∙ e in let told : given ≡ o = cc in ap Ok told
-ended_judged r (Err fault) o judged stopped e = absurd (stopped_not_judged fault o (sym stopped ∙ e))
-
--- the end of the input is no fault of reading
-pub ended_not_read : (r : Ending) (v : Result (Option Offence) SinkFault) → IfOk v (λ o. r ≡ endings.Judged o) → IfErr v (λ f. r ≡ stopped_by f) → r ≡ endings.ReadFault → ⊥
-ended_not_read r (Ok o) judged stopped e = cc
-ended_not_read r (Err fault) judged stopped e = stopped_not_read fault (sym stopped ∙ e)
-
--- there too only a fault of the outside is one of writing
-pub ended_write : (r : Ending) (v : Result (Option Offence) SinkFault) → IfOk v (λ o. r ≡ endings.Judged o) → IfErr v (λ f. r ≡ stopped_by f) → r ≡ endings.WriteFault → v ≡ Err faults.Failed
-ended_write r (Ok o) judged stopped e = cc
-ended_write r (Err fault) judged stopped e = ap Err (stopped_write fault (sym stopped ∙ e))
-
--- what holds there where none is one of writing
-pub write_ended : (r : Ending) (v : Result (Option Offence) SinkFault) → IfErr v (λ f. r ≡ stopped_by f) → v ≡ Err faults.Failed → r ≡ endings.WriteFault
-write_ended r (Ok o) stopped e = cc
-write_ended r (Err fault) stopped e = let same : fault ≡ faults.Failed = cc in stopped ∙ write_stopped fault same
-
 -- what has come so far, and isn't refused, is read
 pub read_at : (x : Settings) (stands : List ℕ → Type 0) (p : List ℕ) → stands p → IsPending (stream x) p → HasRead stands x p
 read_at x stands p here pending = record { stands_for = here; on = pending_open (stream x) p pending }
@@ -339,48 +164,201 @@ read_at x stands p here pending = record { stands_for = here; on = pending_open 
 pub first_read : (x : Settings) → IsInitiators x → (stands : List ℕ → Type 0) → 0 < x.limits.session → stands [] → HasRead stands x []
 first_read x set stands room here = read_at x stands [] here (first_pending x set room)
 
+-- so many bytes are read, of which a piece is the last, and lines are put for them
+module _ (x : Settings) (left left' taken taken' written written' : Option (List ℕ)) (held held' : List ℕ) (p y : List ℕ) (pending : IsPending (stream x) p) where
+  -- by what is known of the input
+  pub has_reported : (result : Result Ending SinkFault) (lines : List ℕ) → length y ≤ ROOM
+      → ((bytes : List ℕ) → left ≡ Some bytes → (rest : List ℕ) × (left' ≡ Some rest) × (bytes ≡ p ++ y ++ rest))
+      → ((t : List ℕ) → taken ≡ Some t → taken' ≡ Some (t ++ (p ++ y)))
+      → Told written written' (Writes x held p) → ReportsAs x p y left left' held' result lines → HasReported x left left' taken taken' written written' held held' result lines
+  has_reported result lines short moved took wrote ends = record {
+    before = p;
+    piece = y;
+    pending = pending;
+    short = short;
+    stream = known_told (λ all rest. all ≡ p ++ y ++ rest) left left' moved;
+    took = known_told (λ t t'. t' ≡ t ++ p ++ y) taken taken' (λ t e. (t ++ (p ++ y), took t e, sym (append_assoc t p y)));
+    wrote = wrote;
+    ends = ends;
+  }
+
+-- bytes are cut in some of which no prefix is refused or ends the session, and one piece behind them
+pub record IsCut (x : Settings) (p : List ℕ) (Holds : List ℕ → Type 0) : Type 0 where
+  pub before : List ℕ
+  pub piece : List ℕ
+  pub all : p ≡ before ++ piece
+  pub pending : IsPending (stream x) before
+  pub short : length piece ≤ ROOM
+  pub holds : Holds before
+
+-- the lines of these bytes' events are written, and maybe more
+abbrev pub WritesLines : Settings → (held bytes : List ℕ) → (w w' : List ℕ) → Type 0
+WritesLines x held bytes w w' = Grows (w ++ held ++ event_lines x bytes) w'
+
+-- what is written where p is read: nothing, where p has no bytes, or at least the lines of all but its last piece
+abbrev pub WritesSoFar : Settings → (written written' : Option (List ℕ)) → (held held' p : List ℕ) → Type 0
+WritesSoFar x written written' held held' p =
+    ((p ≡ []) × (written' ≡ written) × (held' ≡ held)) ⊎ IsCut x p (λ before. Told written written' (WritesLines x held before))
+
+module _ (x : Settings) (held : List ℕ) where
+  -- nothing is written
+  pub writes_none : (w : Option (List ℕ)) → Told w w (Writes x held [])
+  writes_none None = tt
+  writes_none (Some w) = inr (refl, record { kept = 0; grown = sym (append-nil w) })
+
+  -- all lines are
+  pub writes_lines : (p : List ℕ) (w w' : Option (List ℕ)) (held' : List ℕ) → Told w w' (λ w w'. Passes w w' held held' (event_lines x p)) → held' ≡ [] → Told w w' (WritesLines x held p)
+  writes_lines p None w' held' h none = tt
+  writes_lines p (Some w) None held' h none = absurd h
+  writes_lines p (Some w) (Some w') held' h none =
+      let put : h.put ≡ held ++ event_lines x p = sym (append-nil h.put) ∙ ap (λ l. h.put ++ l) (sym none) ∙ sym h.split in
+      record { more = []; grown = h.grown ∙ ap (λ l. w ++ l) put ∙ sym (append_assoc w held (event_lines x p)) ∙ sym (append-nil (w ++ held ++ event_lines x p)) }
+
+  -- and more behind them
+  pub writes_more : (p : List ℕ) (w w1 w2 : Option (List ℕ)) → Told w w1 (WritesLines x held p) → Told w1 w2 Grows → Told w w2 (WritesLines x held p)
+  writes_more p None w1 w2 h more = tt
+  writes_more p (Some w) None w2 h more = absurd h
+  writes_more p (Some w) (Some w1) None h more = absurd more
+  writes_more p (Some w) (Some w1) (Some w2) h more = record { more = h.more ++ more.more; grown = more.grown ∙ ap (λ l. l ++ more.more) h.grown ∙ append_assoc (w ++ held ++ event_lines x p) h.more more.more }
+
+  pub writes_some : (p : List ℕ) (w w' : Option (List ℕ)) → Told w w' (WritesLines x held p) → Told w w' (Writes x held p)
+  writes_some p w w' h = told_as (WritesLines x held p) (Writes x held p) w w' h (λ l l' k. inl k)
+
+-- what a put adds to what is written
+prefix_grows : (b : List ℕ) (w w' : Option (List ℕ)) → Told w w' (λ w w'. GrowsByPrefix w w' b) → Told w w' Grows
+prefix_grows b w w' h = told_as (λ l l'. GrowsByPrefix l l' b) Grows w w' h (λ l l' k. record { more = take k.kept b; grown = k.grown })
+
+pub puts_grow : {lines : List ℕ} (r : Result ⊤ SinkFault) {w w' : Option (List ℕ)} {h h' : List ℕ} {f f' : ℕ} {m m' : Bool} → PutsAll lines r w w' h h' f f' m m' → Told w w' Grows
+puts_grow {lines = lines} (Ok u) {w = w} {w' = w'} {h = h} {h' = h'} p = told_as (λ l l'. Passes l l' h h' lines) Grows w w' p.written (λ l l' k. record { more = k.put; grown = k.grown })
+puts_grow {lines = lines} (Err fault) {w = w} {w' = w'} {h = h} p = prefix_grows (h ++ lines) w w' p.refused
+
+-- where the lines are cut off that were to be written before more is taken
+pub flush_cut : (x : Settings) (p : List ℕ) → IsPending (stream x) [] → (w w1 w2 : Option (List ℕ)) (held held1 : List ℕ) → WritesSoFar x w w1 held held1 p → Told w1 w2 (λ w w'. GrowsByPrefix w w' held1)
+    → IsCut x p (λ before. Told w w2 (Writes x held before))
+flush_cut x p none w w1 w2 held held1 (inl first) cut =
+    let first_cut : Told w w2 (λ w w'. GrowsByPrefix w w' held) = rw (first.1, first.2) at cut in
+    record { before = []; piece = []; all = first.0; pending = none; short = omega arith; holds = told_as (λ l l'. GrowsByPrefix l l' held) (Writes x held []) w w2 first_cut (λ l l' k. inr (refl, k)) }
+flush_cut x p none w w1 w2 held held1 (inr so_far) cut =
+    record {
+      before = so_far.before;
+      piece = so_far.piece;
+      all = so_far.all;
+      pending = so_far.pending;
+      short = so_far.short;
+      holds = writes_some x held so_far.before w w2 (writes_more x held so_far.before w w1 w2 so_far.holds (prefix_grows held1 w1 w2 cut));
+    }
+
+-- the lines of what was read are due, whatever follows
+pub lines_due : (x : Settings) (p : List ℕ) → IsPending (stream x) p → AreDue x (p ++ []) [] (event_lines x p)
+lines_due x p pending more =
+    (history_lines (history_from (stream x) p more), ap (λ l. report x (l ++ more)) (append-nil p) ∙ open_report x p (pending_open (stream x) p pending) more)
+
+-- what was known of the input with no piece more
+pub left_still : (left mid left' : Option (List ℕ)) (p : List ℕ) → ((bytes : List ℕ) → left ≡ Some bytes → (rest : List ℕ) × (mid ≡ Some rest) × (bytes ≡ p ++ rest)) → Told mid left' (λ l l'. l' ≡ l)
+    → (bytes : List ℕ) → left ≡ Some bytes → (rest : List ℕ) × (left' ≡ Some rest) × (bytes ≡ p ++ [] ++ rest)
+left_still left mid left' p known kept bytes e =
+    let h = known bytes e in
+    let k = told_some (λ l l'. l' ≡ l) mid left' h.0 h.1 kept in
+    (k.0, k.1, h.2 ∙ ap (λ l. p ++ l) (sym k.2) ∙ ap (λ l. l ++ k.0) (sym (append-nil p)))
+
+pub taken_still : (taken mid taken' : Option (List ℕ)) (p : List ℕ) → ((t : List ℕ) → taken ≡ Some t → mid ≡ Some (t ++ p)) → Told mid taken' (λ t t'. t' ≡ t) → (t : List ℕ) → taken ≡ Some t → taken' ≡ Some (t ++ (p ++ []))
+taken_still taken mid taken' p took kept t e =
+    let k = told_some (λ u u'. u' ≡ u) mid taken' (t ++ p) (took t e) kept in
+    k.1 ∙ ap Some (k.2 ∙ ap (λ l. t ++ l) (sym (append-nil p)))
+
+-- what is known of the input behind some bytes, which are these
+pub left_as : (left left' : Option (List ℕ)) (p q : List ℕ) → p ≡ q → ((bytes : List ℕ) → left ≡ Some bytes → (rest : List ℕ) × (left' ≡ Some rest) × (bytes ≡ p ++ rest))
+    → (bytes : List ℕ) → left ≡ Some bytes → (rest : List ℕ) × (left' ≡ Some rest) × (bytes ≡ q ++ rest)
+left_as left left' p q same known bytes e = let h = known bytes e in (h.0, h.1, h.2 ∙ ap (λ l. l ++ h.0) same)
+
+pub taken_as : (taken taken' : Option (List ℕ)) (p q : List ℕ) → p ≡ q → ((t : List ℕ) → taken ≡ Some t → taken' ≡ Some (t ++ p)) → (t : List ℕ) → taken ≡ Some t → taken' ≡ Some (t ++ q)
+taken_as taken taken' p q same known t e = known t e ∙ ap (λ l. Some (t ++ l)) same
+
+-- nothing moved
+pub still : (l : Option (List ℕ)) → Told l l (λ a b. b ≡ a)
+still None = tt
+still (Some l) = refl
+
+-- where no bytes came nothing is left
+module _ (first mid last : Option (List ℕ)) (p room : List ℕ) (n : ℕ) (zero : n ≡ 0) where
+  pub end_left : ((bytes : List ℕ) → first ≡ Some bytes → (rest : List ℕ) × (mid ≡ Some rest) × (bytes ≡ p ++ rest)) → Told mid last (λ l l'. Moves l l' room n)
+      → (bytes : List ℕ) → first ≡ Some bytes → (rest : List ℕ) × (last ≡ Some rest) × (bytes ≡ p ++ [] ++ rest)
+  end_left known moved =
+      left_still first mid last p known (told_as (λ l l'. Moves l l' room n) (λ l l'. l' ≡ l) mid last moved (λ l l' m. m.rest ∙ ap (λ k. drop k l) zero))
+
+  pub end_taken : ((t : List ℕ) → first ≡ Some t → mid ≡ Some (t ++ p)) → Told mid last (λ t t'. t' ≡ t ++ take n room) → (t : List ℕ) → first ≡ Some t → last ≡ Some (t ++ (p ++ []))
+  end_taken took handed =
+      taken_still first mid last p took (told_as (λ t t'. t' ≡ t ++ take n room) (λ t t'. t' ≡ t) mid last handed (λ t t' e. e ∙ ap (λ k. t ++ take k room) zero ∙ append-nil t))
+
+  pub end_over : ((bytes : List ℕ) → first ≡ Some bytes → (rest : List ℕ) × (mid ≡ Some rest) × (bytes ≡ p ++ rest)) → Told mid last (λ l l'. Moves l l' room n)
+      → Told mid last (λ l l'. (n ≡ 0) ↔ (l ≡ [])) → Told first last (λ all rest. rest ≡ [])
+  end_over known moved ended = known_told (λ all rest. rest ≡ []) first last (λ all e.
+      let h = known all e in
+      let k = told_some (λ l l'. Moves l l' room n) mid last h.0 h.1 moved in
+      let over = told_some (λ l l'. (n ≡ 0) ↔ (l ≡ [])) mid last h.0 h.1 ended in
+      (k.0, k.1, k.2.rest ∙ ap (λ m. drop m h.0) zero ∙ over.2.0 zero))
+
 -- what is answered by the settings that an end has now, said by those that it had at first
-module _ (now x : Settings) (same : now ≡ x) (stands : List ℕ → Type 0) (p : List ℕ) (read : HasRead stands x p) where
-  read_now : HasRead stands now p
-  read_now = subst (λ s. HasRead stands s p) (sym same) read
+pub reads_at : (now x : Settings) → now ≡ x → (stands stands' : List ℕ → Type 0) (p y : List ℕ) (P : Result Progress SinkFault → List ℕ → Type 0) (r : Result Progress SinkFault) → HasRead stands x p
+    → ((p : List ℕ) → HasRead stands now p → (lines : List ℕ) × P r lines × ReadsOf stands' now p y r lines) → (lines : List ℕ) × P r lines × ReadsOf stands' x p y r lines
+reads_at now x same stands stands' p y P r read reads =
+    let k = reads p (subst (λ s. HasRead stands s p) (sym same) read) in
+    (k.0, k.1, subst (λ s. ReadsOf stands' s p y r k.0) same k.2)
 
-  pub says_at : (stands' : List ℕ → Type 0) (y : List ℕ) (r : Result Progress SinkFault) → ((p : List ℕ) → HasRead stands now p → SaysOf stands' now p y r) → SaysOf stands' x p y r
-  says_at stands' y r says = subst (λ s. SaysOf stands' s p y r) same (says p read_now)
+pub ends_at : (now x : Settings) → now ≡ x → (stands : List ℕ → Type 0) (p : List ℕ) (P : List ℕ → Type 0) (v : Result (Option Offence) SinkFault) → HasRead stands x p → IsPending (stream x) p
+    → ((p : List ℕ) → HasRead stands now p → IsPending (stream now) p → (lines : List ℕ) × P lines × (report now p ≡ event_lines now p ++ lines) × IfOk v (λ o. offence now p ≡ o))
+    → (lines : List ℕ) × P lines × (report x p ≡ event_lines x p ++ lines) × IfOk v (λ o. offence x p ≡ o)
+ends_at now x same stands p P v read pending ends =
+    let k = ends p (subst (λ s. HasRead stands s p) (sym same) read) (subst (λ s. IsPending (stream s) p) (sym same) pending) in
+    (k.0, k.1, subst (λ s. report s p ≡ event_lines s p ++ k.0) same k.2, subst (λ s. IfOk v (λ o. offence s p ≡ o)) same k.3)
 
-  written_now : (written : Option (List ℕ)) (w : List ℕ) → written ≡ Some (w ++ event_lines x p) → written ≡ Some (w ++ event_lines now p)
-  written_now written w e = e ∙ ap (λ s. Some (w ++ event_lines s p)) (sym same)
+-- what was put, and then written
+pub after_flush : {lines : List ℕ} (r : Result ⊤ SinkFault) {w w1 w2 : Option (List ℕ)} {h h1 h2 : List ℕ} {f f1 f2 : ℕ} {m m1 m2 : Bool} → PutsAll lines (Ok tt) w w1 h h1 f f1 m m1
+    → OnOk r (Told w1 w2 (λ w w'. w' ≡ w ++ h1)) → OnErr r (Told w1 w2 (λ w w'. GrowsByPrefix w w' h1)) → h2 ≡ []
+    → CountsFaults f1 f2 (IsErrOf r faults.Failed) → (IsErrOf r faults.Memory → m1 ≡ true) → m2 ≡ m1 → PutsAll lines r w w2 h h2 f f2 m m2
+after_flush r p written refused emptied counted wanted settled = rw append-nil at (PutsAll-then r p (flush_puts r written refused emptied counted wanted settled))
 
-  pub writes_at : (y : List ℕ) (written written' : Option (List ℕ)) (r : Result Progress SinkFault)
-      → ((p w : List ℕ) → HasRead stands now p → written ≡ Some (w ++ event_lines now p) → (w' : List ℕ) × (written' ≡ Some w') × WritesOf now p y w w' r)
-      → (w : List ℕ) → written ≡ Some (w ++ event_lines x p) → (w' : List ℕ) × (written' ≡ Some w') × WritesOf x p y w w' r
-  writes_at y written written' r writes w e =
-      let k = writes p w read_now (written_now written w e) in
-      (k.0, k.1, subst (λ s. WritesOf s p y w k.0 r) same k.2)
+-- the settings of a check are an initiator's
+pub with_statics_set : (entries : List Entry) → IsInitiators (with_statics entries)
+with_statics_set entries = record {
+  direction = refl;
+  mode = refl;
+  good = record {
+    payload_least = lit≤ tt;
+    payload_most = lit≤ tt;
+    depth_least = lit≤ tt;
+    depth_most = lit≤ tt;
+    dictionary_most = lit≤ tt;
+    content_least = lit≤ tt;
+    content_most = lit≤ tt;
+    via_least = lit≤ tt;
+    via_most = lit≤ tt;
+    session_least = lit≤ tt;
+    session_most = lit≤ tt;
+  };
+}
 
-  -- and at the end of the input
-  pub ends_at : IsPending (stream x) p → (written written' : Option (List ℕ)) (v : Result (Option Offence) SinkFault)
-      → ((p : List ℕ) → HasRead stands now p → IsPending (stream now) p → IfOk v (λ o. offence now p ≡ o))
-      → ((p w : List ℕ) → HasRead stands now p → IsPending (stream now) p → written ≡ Some (w ++ event_lines now p)
-      → (w' : List ℕ) × (written' ≡ Some w') × OnOk v (w' ≡ w ++ report now p) × OnErr v (GrowsByPrefix w w' (report now p)))
-      → IfOk v (λ o. offence x p ≡ o)
-      × ((w : List ℕ) → written ≡ Some (w ++ event_lines x p) → (w' : List ℕ) × (written' ≡ Some w') × OnOk v (w' ≡ w ++ report x p) × OnErr v (GrowsByPrefix w w' (report x p)))
-  ends_at pending written written' v says writes =
-      let pending_now : IsPending (stream now) p = subst (λ s. IsPending (stream s) p) (sym same) pending in (
-        subst (λ s. IfOk v (λ o. offence s p ≡ o)) same (says p read_now pending_now),
-        λ w e.
-            let k = writes p w read_now pending_now (written_now written w e) in
-            (k.0, k.1, subst (λ s. OnOk v (k.0 ≡ w ++ report s p)) same k.2, subst (λ s. OnErr v (GrowsByPrefix w k.0 (report s p))) same k.3),
-      )
+-- before anything is read or put
+pub first_reaches : (x : Settings) → IsInitiators x → 0 < x.limits.session → (left taken written : Option (List ℕ)) (held : List ℕ) → Reaches x left left taken taken written written held
+first_reaches x set room left taken written held = record {
+  before = [];
+  piece = [];
+  pending = first_pending x set room;
+  short = omega arith;
+  stream = known_told (λ all rest. all ≡ rest) left left (λ all e. (all, e, refl));
+  took = known_told (λ t t'. t' ≡ t ++ [] ++ []) taken taken (λ t e. (t, e, sym (append-nil (t ++ []) ∙ append-nil t)));
+  wrote = writes_none x held written;
+}
 
--- an end for an initiator's stream within the usual limits is set as where nothing is said
-pub usual_is : (x : Settings) (q : Quotas) → IsInitiators x → x.limits ≡ limits_of q → limits_of q ≡ usual_limits → x ≡ usual
-unfolding usual
-usual_is x q set is h = set_so x set ∙ ap initiators (is ∙ h)
-
-pub usual_set : IsInitiators usual
-unfolding usual
-usual_set = record { direction = refl; mode = refl }
-
-pub usual_room : 0 < usual.limits.session
-unfolding usual
-usual_room = lit< tt
+-- where there was no memory to begin with
+pub not_checked : (x : Settings) → IsInitiators x → 0 < x.limits.session → (left taken written : Option (List ℕ)) (held : List ℕ) (reads writes : ℕ)
+    → HasChecked x left left taken taken written written held reads reads writes writes endings.Memory
+not_checked x set room left taken written held reads writes = record {
+  judges = λ bytes e. tt;
+  reports = λ bytes w e before. (w, before, record { kept = 0; grown = sym (append-nil w) });
+  decides = λ o e. cc;
+  breaks = λ e. cc;
+  reaches = first_reaches x set room left taken written held;
+  reads_counted = counted_none _ _ _ refl (λ e. cc);
+  writes_counted = counted_none _ _ _ refl (λ e. cc);
+}

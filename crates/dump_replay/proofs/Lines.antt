@@ -11,12 +11,13 @@ use Rattle.unit_streams.proofs.Cuts.{cuts_change_nothing}
 use Rattle.unit_streams.proofs.Histories.{events_in_none, completed_events, history_is_answers}
 use Rattle.unit_streams.proofs.Pending.{open_history, pending_history, events_of_append, open_goes_on, open_completes, over_behind}
 use Rattle.nbfx_values.specs.declared.refusals.Offence.{Offence}
-use Rattle.dump_replay.specs.Stream.{Settings, IsInitiators, StreamEvent, ends, stream}
-use Rattle.dump_replay.specs.Judging.{offence}
+use Rattle.stream_reader.specs.Laws.{IsInitiators}
+use Rattle.stream_reader.specs.Stream.{Settings, StreamEvent, ends, stream}
+use Rattle.stream_reader.specs.Judging.{offence}
 use Rattle.dump_replay.specs.Report.{offence_line, offence_line_of, event_line, history_lines, report, event_lines}
-use Rattle.dump_replay.proofs.Grammar.{readable}
-use Rattle.dump_replay.proofs.Ending.{tells}
-use Rattle.dump_replay.proofs.Closing.{closed_behind}
+use Rattle.stream_reader.proofs.Grammar.{readable}
+use Rattle.stream_reader.proofs.Ending.{tells}
+use Rattle.stream_reader.proofs.Closing.{closed_behind}
 
 -- the lines of events before others
 led_lines : (before : List StreamEvent) (h : History StreamEvent Offence) → history_lines (led_by before h) ≡ flat_map event_line before ++ history_lines h

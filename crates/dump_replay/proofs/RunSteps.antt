@@ -1,26 +1,25 @@
 -- What a status tells of how a check ended.
-use Rattle.std.proofs.Common.{◌≡◌, ℕ, ◌⊎◌, inl, inr, List, [], ◌∷◌, ◌++◌, length, map, false, Option, Some, None, String, Global, slice_index_or, refl, sym, ap, ◌∙◌, arith}
-use Rattle.std.specs.Prelude.{codes}
-use Rattle.std.specs.String.{string_bytes}
+use Rattle.std.proofs.Common.{◌≡◌, ℕ, ◌⊎◌, inl, inr, List, ◌++◌, length, true, false, Option, Some, None, refl, sym, ap, ◌∙◌, subst, arith, append_assoc}
+use Rattle.std.proofs.lemmas.List.{take_all}
 use Rattle.std.proofs.lemmas.Bool.{cases_Bool}
 use Rattle.io_edges.specs.Flow.{GrowsByPrefix}
+use Rattle.io_edges.specs.Store.{Store}
 use Rattle.nbfx_values.specs.declared.refusals.Offence.{Offence}
 use Rattle.dump_replay.specs.declared.check.Ending.{Ending}
 use Rattle.dump_replay.specs.declared.check.Ending.TheVariants as endings
-use Rattle.dump_replay.specs.Stream.{Settings, IsInitiators}
-use Rattle.dump_replay.specs.Judging.{offence}
-use Rattle.dump_replay.specs.Laws.{ClosedOrRefused}
-use Rattle.dump_replay.specs.Sessions.{IsClosed}
+use Rattle.stream_reader.specs.Stream.{Settings}
+use Rattle.string_tables.specs.StaticStrings.{Entry}
+use Rattle.stream_reader.specs.Judging.{offence}
+use Rattle.stream_reader.specs.Laws.{ClosedOrRefused, IsInitiators}
+use Rattle.stream_reader.specs.Sessions.{IsClosed}
 use Rattle.dump_replay.specs.Report.{report}
-use Rattle.dump_replay.specs.Running.{IsCheck, status_of, is_session_too_long}
+use Rattle.dump_replay.specs.Running.{IsJudged, IsNoTable, status_of, is_session_too_long}
+use Rattle.dump_replay.specs.Statics.{Has, static_file, table}
 use Rattle.dump_replay.specs.Reading.{Judges, Reports, status_at}
 
--- a status that is one of three is another, where that is the same whichever it is
-pub same_of : (status other : ℕ) {a b d : ℕ} → (status ≡ a) ⊎ (status ≡ b) ⊎ (status ≡ d)
-    → (status ≡ a → other ≡ a) → (status ≡ b → other ≡ b) → (status ≡ d → other ≡ d) → other ≡ status
-same_of status other (inl e) one two three = one e ∙ sym e
-same_of status other (inr (inl e)) one two three = two e ∙ sym e
-same_of status other (inr (inr e)) one two three = three e ∙ sym e
+-- a status that is a number is one that this number is
+pub status_as : (n m k k' : ℕ) → n ≡ m → k ≡ k' → (m ≡ k) ⊎ (m ≡ 3) ⊎ (m ≡ 4) ⊎ (m ≡ 5) → (n ≡ k') ⊎ (n ≡ 3) ⊎ (n ≡ 4) ⊎ (n ≡ 5)
+status_as n m k k' e f h = rw (e, ← f) h
 
 -- a refusal has one of two statuses
 refused_status : (o : Offence) (n : ℕ) → status_of (Some o) ≡ n → (n ≡ 10) ⊎ (n ≡ 1)
@@ -75,25 +74,42 @@ module _ (x : Settings) (bytes : List ℕ) where
   status_offended endings.WriteFault s h = cc
   status_offended endings.Memory s h = cc
 
-  module _ (w w' : List ℕ) where
+  -- status 10
+  pub status_too_long : (e : Ending) → status_at e ≡ 10 → Judges x bytes e → (o : Offence) × (offence x bytes ≡ Some o) × (is_session_too_long o.reason ≡ true)
+  status_too_long (endings.Judged None) s h = cc
+  status_too_long (endings.Judged (Some o)) s h =
+      elim (cases_Bool (is_session_too_long o.reason)) [
+        | inl t ↦ (o, h, t)
+        | inr f ↦ let one : 1 ≡ 10 = rw f at s in absurd (omega (arith, one))
+      ]
+  status_too_long endings.ReadFault s h = cc
+  status_too_long endings.WriteFault s h = cc
+  status_too_long endings.Memory s h = cc
+
+  -- a judgement's status is that of the offence, and there are three others
+  pub status_complete : (e : Ending) → Judges x bytes e → (status_at e ≡ status_of (offence x bytes)) ⊎ (status_at e ≡ 3) ⊎ (status_at e ≡ 4) ⊎ (status_at e ≡ 5)
+  status_complete (endings.Judged o) h = inl (ap status_of (sym h))
+  status_complete endings.ReadFault h = inr (inl refl)
+  status_complete endings.WriteFault h = inr (inr (inl refl))
+  status_complete endings.Memory h = inr (inr (inr refl))
+
+  module _ (w held w' : List ℕ) where
     -- a judgement's status
-    pub status_reported : (e : Ending) → (status_at e ≡ 0) ⊎ (status_at e ≡ 1) ⊎ (status_at e ≡ 10) → Reports x bytes w w' e → w' ≡ w ++ report x bytes
+    pub status_reported : (e : Ending) → IsJudged (status_at e) → Reports x bytes w held w' e → w' ≡ w ++ held ++ report x bytes
     status_reported (endings.Judged o) s h = h
     status_reported endings.ReadFault s h = absurd (no_judgement 3 (λ e. cc) (λ e. cc) (λ e. cc) s)
     status_reported endings.WriteFault s h = absurd (no_judgement 4 (λ e. cc) (λ e. cc) (λ e. cc) s)
     status_reported endings.Memory s h = absurd (no_judgement 5 (λ e. cc) (λ e. cc) (λ e. cc) s)
 
-    -- statuses 3, 4 and 5
-    pub status_cut : (e : Ending) → (status_at e ≡ 3) ⊎ (status_at e ≡ 4) ⊎ (status_at e ≡ 5) → Reports x bytes w w' e → GrowsByPrefix w w' (report x bytes)
-    status_cut (endings.Judged o) (inl s) h = absurd (other_status o 3 s (λ e. cc) (λ e. cc) (λ e. cc))
-    status_cut (endings.Judged o) (inr (inl s)) h = absurd (other_status o 4 s (λ e. cc) (λ e. cc) (λ e. cc))
-    status_cut (endings.Judged o) (inr (inr s)) h = absurd (other_status o 5 s (λ e. cc) (λ e. cc) (λ e. cc))
-    status_cut endings.ReadFault s h = h
-    status_cut endings.WriteFault s h = h
-    status_cut endings.Memory s h = h
+    -- whatever the status
+    pub status_cut : (e : Ending) → Reports x bytes w held w' e → GrowsByPrefix w w' (held ++ report x bytes)
+    status_cut (endings.Judged o) h = record { kept = length (held ++ report x bytes); grown = h ∙ append_assoc w held (report x bytes) ∙ ap (λ l. w ++ l) (sym (take_all (length (held ++ report x bytes)) (held ++ report x bytes) (omega arith))) }
+    status_cut endings.ReadFault h = h
+    status_cut endings.WriteFault h = h
+    status_cut endings.Memory h = h
 
 -- statuses 0, 1 and 10
-pub status_judged : (e : Ending) → (status_at e ≡ 0) ⊎ (status_at e ≡ 1) ⊎ (status_at e ≡ 10) → (o : Option Offence) × (e ≡ endings.Judged o)
+pub status_judged : (e : Ending) → IsJudged (status_at e) → (o : Option Offence) × (e ≡ endings.Judged o)
 status_judged (endings.Judged o) s = (o, refl)
 status_judged endings.ReadFault s = absurd (no_judgement 3 (λ e. cc) (λ e. cc) (λ e. cc) s)
 status_judged endings.WriteFault s = absurd (no_judgement 4 (λ e. cc) (λ e. cc) (λ e. cc) s)
@@ -106,16 +122,20 @@ status_broken endings.ReadFault s = refl
 status_broken endings.WriteFault s = cc
 status_broken endings.Memory s = cc
 
--- two words, the second of which is the command
-pub check_words : (words : List (String Global)) (other : String Global) → length words ≡ 2 → string_bytes (slice_index_or words 1 other) ≡ codes "check" → IsCheck (map string_bytes words)
-check_words [] other two e = cc
-check_words (a ∷ []) other two e = cc
-check_words (a ∷ b ∷ []) other two e = e
-check_words (a ∷ b ∷ d ∷ rest) other two e = cc
-
 -- a session's status, where no read and no write failed
 pub status_closed : ClosedOrRefused → (x : Settings) → IsInitiators x → (bytes : List ℕ) (e : Ending) → IsClosed x bytes → Judges x bytes e → (e ≡ endings.ReadFault → ⊥) → (e ≡ endings.WriteFault → ⊥) → (status_at e ≡ 0) ⊎ (status_at e ≡ 5)
 status_closed law x set bytes (endings.Judged o) closed h read written = inl (ap status_of (sym h ∙ (law x set bytes).1 closed))
 status_closed law x set bytes endings.ReadFault closed h read written = absurd (read refl)
 status_closed law x set bytes endings.WriteFault closed h read written = absurd (written refl)
 status_closed law x set bytes endings.Memory closed h read written = inr refl
+
+-- what a shelf that tells has under a name
+module _ (files : Option Store) (store : Store) (name : List ℕ) (entries : List Entry) (told : files ≡ Some store) (has : Has files name (table entries)) where
+  pub file_is : static_file store name ≡ table entries
+  file_is = rw told at has
+
+  pub has_table : IsNoTable (static_file store name) → ⊥
+  has_table none = subst IsNoTable file_is none
+
+  pub same_entries : (others : List Entry) → static_file store name ≡ table others → entries ≡ others
+  same_entries others is = let same = sym file_is ∙ is in cc

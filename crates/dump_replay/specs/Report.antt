@@ -1,60 +1,61 @@
 -- The lines that a report of an initiator's stream has.
-use Rattle.std.specs.Prelude.{ℕ, ◌+◌, ◌/◌, ◌%◌, List, [], ◌∷◌, ◌++◌, length, Bool, false, Option, Some, None, nat_lt, nat_le, ◌==◌, ◌&&◌, not, if◌then◌else◌, codes}
+use Rattle.std.specs.Prelude.{ℕ, List, [], ◌∷◌, ◌++◌, length, Option, Some, None, codes}
 use Rattle.std.specs.List.{flat_map}
-use Rattle.std.specs.Fmt.{decimal, digit_glyph}
-use Rattle.nbfx_values.specs.declared.session.Mode.{Mode}
-use Rattle.nbfx_values.specs.declared.session.Mode.TheVariants.{Singleton, Duplex, Simplex}
-use Rattle.nbfx_values.specs.declared.session.Kind.{Kind}
-use Rattle.nbfx_values.specs.Session.{kind_number}
+use Rattle.std.specs.Fmt.{decimal}
+use Rattle.line_notation.specs.Quoted.{quoted}
+use Rattle.line_notation.specs.Lines.{with_line_feed}
+use Rattle.line_notation.specs.Words.{spaced}
+use Rattle.nbfx_values.specs.Measures.{content_of, depth_of}
 use Rattle.nbfx_values.specs.Refusals.{reason_number, reason_name}
+use Rattle.nbfx_values.specs.Session.{kind_number}
+use Rattle.nbfx_values.specs.declared.refusals.Offence.{Offence}
 use Rattle.nbfx_values.specs.declared.refusals.Place.{Place}
 use Rattle.nbfx_values.specs.declared.refusals.Place.TheVariants.{Frame, Payload}
-use Rattle.nbfx_values.specs.declared.refusals.Offence.{Offence}
+use Rattle.nbfx_values.specs.declared.session.Kind.{Kind}
+use Rattle.nbfx_values.specs.declared.session.Mode.{Mode}
+use Rattle.nbfx_values.specs.declared.session.Mode.TheVariants.{Singleton, Duplex, Simplex}
+use Rattle.string_tables.specs.SessionStrings.{used_cost}
 use Rattle.unit_streams.specs.Judging.{History, history, events_of}
-use Rattle.dump_replay.specs.Stream.{Settings, StreamEvent, opened, message, ended, stream}
+use Rattle.stream_reader.specs.Stream.{Settings, Envelope, StreamEvent, opened, message, ended, stream}
 
--- a byte that a quoted text shows as it is: a printable one of ASCII other than the quote and the backslash
-abbrev pub is_plain : ℕ → Bool
-is_plain b = nat_le 32 b && nat_lt b 127 && not (b == 34) && not (b == 92)
-
--- a byte in a quoted text; other than plain it is a backslash and two hexadecimal digits
-abbrev pub quoted_byte : ℕ → List ℕ
-quoted_byte b = if is_plain b then b ∷ [] else 92 ∷ digit_glyph false (b / 16) ∷ digit_glyph false (b % 16) ∷ []
-
--- a text in double quotes
-unfoldable pub quoted : List ℕ → List ℕ
-quoted text = 34 ∷ flat_map quoted_byte text ++ 34 ∷ []
+-- a line: a word that says what it tells of, other words, each behind a space, and a line feed
+abbrev pub line : List ℕ → List (List ℕ) → List ℕ
+line keyword words = with_line_feed (spaced (keyword ∷ words))
 
 abbrev pub mode_name : Mode → List ℕ
 mode_name Singleton = codes "singleton"
 mode_name Duplex = codes "duplex"
 mode_name Simplex = codes "simplex"
 
--- the texts, one behind the other
-abbrev pub joined : List (List ℕ) → List ℕ
-joined [] = []
-joined (text ∷ texts) = text ++ joined texts
-
 abbrev pub open_line : Mode → Kind → List ℕ → List ℕ
-open_line mode kind via = joined (codes "open " ∷ mode_name mode ∷ codes " " ∷ decimal (kind_number kind) ∷ codes " " ∷ quoted via ∷ codes "\n" ∷ [])
+open_line mode kind via =
+    line (codes "open") (mode_name mode ∷ decimal (kind_number kind) ∷ quoted via ∷ [])
 
-abbrev pub message_line : ℕ → ℕ → List ℕ
-message_line number size = joined (codes "message " ∷ decimal number ∷ codes " payload " ∷ decimal size ∷ codes "\n" ∷ [])
+-- what is told of an envelope, the strings of the direction behind it among it
+abbrev pub message_line : Envelope → List ℕ
+message_line e = line (codes "message") (decimal e.number
+    ∷ codes "payload" ∷ decimal e.size
+    ∷ codes "items" ∷ decimal (length e.items)
+    ∷ codes "depth" ∷ decimal (depth_of e.items)
+    ∷ codes "content" ∷ decimal (content_of e.items)
+    ∷ codes "strings" ∷ decimal (length e.strings)
+    ∷ codes "used" ∷ decimal (used_cost e.strings) ∷ [])
 
 abbrev pub ended_line : ℕ → List ℕ
-ended_line n = joined (codes "ended " ∷ decimal n ∷ codes "\n" ∷ [])
+ended_line n = line (codes "ended") (decimal n ∷ [])
 
 abbrev pub place_words : Place → List (List ℕ)
-place_words (Frame offset) = codes "frame " ∷ decimal offset ∷ []
-place_words (Payload number at) = codes "payload " ∷ decimal number ∷ codes " " ∷ decimal at ∷ []
+place_words (Frame offset) = codes "frame" ∷ decimal offset ∷ []
+place_words (Payload number at) = codes "payload" ∷ decimal number ∷ decimal at ∷ []
 
 unfoldable pub offence_line : Offence → List ℕ
-offence_line o = joined (codes "offence " ∷ place_words o.place ++ codes " " ∷ decimal (reason_number o.reason) ∷ codes " " ∷ reason_name o.reason ∷ codes "\n" ∷ [])
+offence_line o = line (codes "offence")
+    (place_words o.place ++ decimal (reason_number o.reason) ∷ reason_name o.reason ∷ [])
 
 -- the line of an event
 abbrev pub event_line : StreamEvent → List ℕ
 event_line (opened mode kind via) = open_line mode kind via
-event_line (message number size) = message_line number size
+event_line (message envelope) = message_line envelope
 event_line (ended n) = ended_line n
 
 abbrev pub offence_line_of : Option Offence → List ℕ
@@ -72,12 +73,3 @@ report x bytes = history_lines (history (stream x) bytes)
 -- the lines for the events of bytes so far
 unfoldable pub event_lines : Settings → List ℕ → List ℕ
 event_lines x bytes = flat_map event_line (events_of (stream x) bytes)
-
--- a line for each payload, numbered from here on
-abbrev pub message_lines : ℕ → List (List ℕ) → List ℕ
-message_lines number [] = []
-message_lines number (payload ∷ payloads) = message_line number (length payload) ++ message_lines (number + 1) payloads
-
--- the lines of a session of so many bytes, which is a Via, a known encoding and payloads
-unfoldable pub session_report : List ℕ → Kind → List (List ℕ) → ℕ → List ℕ
-session_report via kind payloads n = open_line Duplex kind via ++ message_lines 0 payloads ++ ended_line n

@@ -1,13 +1,22 @@
 -- The words, statuses and notes of a run.
-use Rattle.std.specs.Prelude.{◌≡◌, ℕ, ◌⊎◌, List, [], ◌∷◌, Bool, true, false, Option, Some, None, ◌==◌, if◌then◌else◌, codes}
+use Rattle.std.specs.Prelude.{◌≡◌, ◌≢◌, ℕ, ◌⊎◌, List, [], ◌∷◌, ◌++◌, Bool, true, false, Option, Some, None, ◌==◌, if◌then◌else◌, codes}
+use Rattle.std.specs.Fmt.{decimal}
+use Rattle.io_edges.specs.Store.{Store}
 use Rattle.nbfx_values.specs.declared.refusals.Offence.{Offence}
 use Rattle.nbfx_values.specs.declared.refusals.Reason.{Reason}
 use Rattle.nbfx_values.specs.declared.refusals.Reason.TheVariants.{SessionTooLong}
+use Rattle.dump_replay.specs.Statics.{Has, StaticFile, bad, kind_name, missing, table}
 
--- the program's name, whatever it is, and the command
-abbrev pub IsCheck : List (List ℕ) → Type 0
-IsCheck (program ∷ command ∷ []) = command ≡ codes "check"
-IsCheck _ = ⊥
+-- a value isn't empty, and doesn't begin as an option does
+abbrev pub IsValue : List ℕ → Type 0
+IsValue [] = ⊥
+IsValue (byte ∷ rest) = byte ≢ 45
+
+-- the program's name, whatever it is, the command `check`, and the name of the static strings' file
+abbrev pub IsCheck : List (List ℕ) → List ℕ → Type 0
+IsCheck (program ∷ command ∷ option ∷ value ∷ []) name =
+    (command ≡ codes "check") × (option ≡ codes "--static") × IsValue value × (value ≡ name)
+IsCheck _ name = ⊥
 
 abbrev pub is_session_too_long : Reason → Bool
 is_session_too_long SessionTooLong = true
@@ -17,11 +26,42 @@ abbrev pub status_of : Option Offence → ℕ
 status_of None = 0
 status_of (Some o) = if is_session_too_long o.reason then 10 else 1
 
+-- the status tells of a stream that was read to its end, or to what decides it
+abbrev pub IsJudged : ℕ → Type 0
+IsJudged n = (n ≡ 0) ⊎ (n ≡ 1) ⊎ (n ≡ 10)
+
 -- the statuses that there are
 abbrev pub IsStatus : ℕ → Type 0
-IsStatus n = (n ≡ 0) ⊎ (n ≡ 1) ⊎ (n ≡ 2) ⊎ (n ≡ 3) ⊎ (n ≡ 4) ⊎ (n ≡ 5) ⊎ (n ≡ 10)
+IsStatus n = IsJudged n ⊎ (n ≡ 2) ⊎ (n ≡ 3) ⊎ (n ≡ 4) ⊎ (n ≡ 5) ⊎ (n ≡ 6)
 
--- the note that goes with a status
+-- the note that goes with a status by itself
 abbrev pub note_of : ℕ → List ℕ
 note_of n =
-    if n == 2 then codes "words not understood\n" else if n == 3 then codes "read fault\n" else if n == 4 then codes "write fault\n" else if n == 5 then codes "out of memory\n" else []
+    if n == 2 then codes "words not understood\n" else if n == 3 then codes "read fault\n"
+    else if n == 4 then codes "write fault\n" else if n == 5 then codes "out of memory\n" else []
+
+-- a file of this name gives no table
+abbrev pub file_note : List ℕ → StaticFile → List ℕ
+file_note name (table entries) = []
+file_note name (bad row kind) =
+    name ++ codes ": row " ++ decimal row ++ codes " " ++ kind_name kind ++ codes "\n"
+file_note name missing = name ++ codes ": not found\n"
+
+-- the file gives no table
+abbrev pub IsNoTable : StaticFile → Type 0
+IsNoTable (table entries) = ⊥
+IsNoTable _ = Unit {0}
+
+-- the words name a file that gives no table, of which this is the note
+pub record NotesFile (words : List (List ℕ)) (files : Option Store) (text : List ℕ) : Type 0 where
+  pub name : List ℕ
+  pub file : StaticFile
+  pub is_check : IsCheck words name
+  pub has : Has files name file
+  pub no_table : IsNoTable file
+  pub says : text ≡ file_note name file
+
+-- the note that goes with a status
+abbrev pub IsNote : List (List ℕ) → Option Store → ℕ → List ℕ → Type 0
+IsNote words files status text =
+    ((status ≡ 6) × NotesFile words files text) ⊎ ((status ≢ 6) × (text ≡ note_of status))

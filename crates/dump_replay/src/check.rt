@@ -1,24 +1,24 @@
-//! The command that reads a stream and prints its framing.
+//! The command that reads a stream and reports what comes in it.
 
-ghost use Rattle.std.specs.Prelude.{◌≡◌, ℕ, ◌≤◌, ◌<◌, List, [], ◌++◌, Option, Some, None, Err, IfOk, IfErr, OnOk, OnErr, IsErrOf};
+ghost use Rattle.std.specs.Prelude.{◌≡◌, ⊤, Result, ℕ, ◌≤◌, ◌<◌, List, [], ◌++◌, Option, Some, None, Err, IfOk, IfErr, OnOk, OnErr, IsErrOf};
 ghost use Rattle.io_edges.specs.Faults.{CountsFaults};
-ghost use Rattle.io_edges.specs.Flow.{Told, GrowsByPrefix};
-ghost use Rattle.unit_streams.specs.Judging.{event_at};
+ghost use Rattle.io_edges.specs.Puts.{Puts};
+ghost use Rattle.io_edges.specs.declared.SinkFault.{SinkFault as Fault};
 ghost use Rattle.unit_streams.specs.Going.{IsPending};
 ghost use Rattle.nbfx_values.specs.declared.refusals.Offence.{Offence as Refusal};
-ghost use Rattle.dump_replay.specs.Stream.{usual, StreamEvent, stream};
-ghost use Rattle.dump_replay.specs.Judging.{offence};
-ghost use Rattle.dump_replay.specs.Report.{event_line, event_lines, report};
-ghost use Rattle.dump_replay.specs.Saying.{step_for};
-ghost use Rattle.dump_replay.specs.Checking.{Decides, Breaks, Reaches, Grows};
-ghost use Rattle.dump_replay.specs.Reading.{HasRead, SaysOf, WritesOf, stopped_by, Judges, Reports};
+ghost use Rattle.stream_reader.specs.Judging.{offence};
+ghost use Rattle.stream_reader.specs.Stream.{stream};
+ghost use Rattle.dump_replay.specs.Checking.{Decides, Breaks, Reaches};
+ghost use Rattle.dump_replay.specs.Reading.{HasChecked, HasRead, ReadsOf, HasReported, done, stopped_by};
+ghost use Rattle.dump_replay.specs.Report.{event_lines, report};
+ghost use Rattle.dump_replay.specs.Statics.{with_statics};
 
-use crate::output::put_line;
 use crate::reading::ReadingEnd;
-use crate::receiver::{Receiver, Step};
 use crate::report;
 use io_edges::{Sink, SinkFault, Source};
 use nbfx_values::{Offence, Quotas};
+use receiver_machine::{ReadRefusal, Receiver, Step};
+use static_dictionary::StaticTable;
 use std::alloc::Global;
 
 /// How many bytes are read at a time.
@@ -40,66 +40,42 @@ enum Progress {
     Going,
     /// The session ended, or the stream is refused so.
     Judged(Option<Offence>),
-}
-
-// Puts the line of an event that is just completed.
-fn put_event<E: ReadingEnd, O: Sink>(
-    alloc: Global,
-    end: &E,
-    step: Step,
-    output: &mut O,
-) -> Result<(), SinkFault>
-    ensures written { (p : List ℕ) (event : StreamEvent) → E.stands end.now p
-        → event_at (stream (E.settings end.now)) p ≡ Some event → step ≡ step_for event
-        → OnOk result (Told (O.written output.old) (O.written output.new)
-        (λ w w'. w' ≡ w ++ event_line event)) }
-    ensures refused { (p : List ℕ) (event : StreamEvent) → E.stands end.now p
-        → event_at (stream (E.settings end.now)) p ≡ Some event → step ≡ step_for event
-        → OnErr result (Told (O.written output.old) (O.written output.new)
-        (λ w w'. GrowsByPrefix w w' (event_line event))) }
-    ensures grows { Told (O.written output.old) (O.written output.new) Grows }
-    ensures counted { CountsFaults (O.faults output.old) (O.faults output.new)
-        (IsErrOf result SinkFault.Failed) }
-{
-    put_line(output, end.line(alloc, step))
+    /// There was no memory to read on.
+    Starved,
 }
 
 // Reads a piece, and puts a line for each event and for an offence.
 fn read<E: ReadingEnd, O: Sink>(
-    alloc: Global,
     end: &mut E,
     piece: &[u8],
     output: &mut O,
 ) -> Result<Progress, SinkFault>
     requires going { (p : List ℕ) × HasRead (E.stands end.old) (E.settings end.old) p }
-    ensures says { (p : List ℕ) → HasRead (E.stands end.old) (E.settings end.old) p
-        → SaysOf (E.stands end.new) (E.settings end.old) p piece.now result }
-    ensures writes { (p w : List ℕ) → HasRead (E.stands end.old) (E.settings end.old) p
-        → O.written output.old ≡ Some (w ++ event_lines (E.settings end.old) p)
-        → (w' : List ℕ) × (O.written output.new ≡ Some w')
-        × WritesOf (E.settings end.old) p piece.now w w' result }
+    ensures reads { (p : List ℕ) → HasRead (E.stands end.old) (E.settings end.old) p
+        → (lines : List ℕ)
+        × Puts O.written O.held O.faults O.may_want output.old output.new lines (done result)
+        × ReadsOf (E.stands end.new) (E.settings end.old) p piece.now result lines }
     ensures settings { E.settings end.new ≡ E.settings end.old }
-    ensures grows { Told (O.written output.old) (O.written output.new) Grows }
-    ensures counted { CountsFaults (O.faults output.old) (O.faults output.new)
-        (IsErrOf result SinkFault.Failed) }
 {
     let mut used = 0;
     loop {
         let (n, step) = match end.feed(&piece[used..]) {
             Ok(answer) => answer,
-            Err(offence) => {
-                put_line(output, report::offence_line(alloc, offence))?;
+            Err(ReadRefusal::Memory) => return Ok(Progress::Starved),
+            Err(ReadRefusal::Offence(offence)) => {
+                report::put_offence(offence, output)?;
                 return Ok(Progress::Judged(Some(offence)));
             }
         };
         match step {
             Step::More => return Ok(Progress::Going),
             Step::Ended => {
-                put_event(alloc, end, step, output)?;
+                end.put_line(&step, output)?;
                 return Ok(Progress::Judged(None));
             }
             _ => {
-                put_event(alloc, end, step, output)?;
+                end.put_line(&step, output)?;
+                end.hand_back(step);
                 used += n;
             }
         }
@@ -107,118 +83,100 @@ fn read<E: ReadingEnd, O: Sink>(
 }
 
 // Says that the input is over, and puts the line of what was cut off.
-fn finish<E: ReadingEnd, O: Sink>(
-    alloc: Global,
-    end: &mut E,
-    output: &mut O,
-) -> Result<Option<Offence>, SinkFault>
-    ensures says { (p : List ℕ) → HasRead (E.stands end.old) (E.settings end.old) p
+fn finish<E: ReadingEnd, O: Sink>(end: &mut E, output: &mut O) -> Result<Option<Offence>, SinkFault>
+    requires going { (p : List ℕ) × HasRead (E.stands end.old) (E.settings end.old) p }
+    ensures { (p : List ℕ) → HasRead (E.stands end.old) (E.settings end.old) p
         → IsPending (stream (E.settings end.old)) p
-        → IfOk result (λ o. offence (E.settings end.old) p ≡ o) }
-    ensures writes { (p w : List ℕ) → HasRead (E.stands end.old) (E.settings end.old) p
-        → IsPending (stream (E.settings end.old)) p
-        → O.written output.old ≡ Some (w ++ event_lines (E.settings end.old) p)
-        → (w' : List ℕ) × (O.written output.new ≡ Some w')
-        × OnOk result (w' ≡ w ++ report (E.settings end.old) p)
-        × OnErr result (GrowsByPrefix w w' (report (E.settings end.old) p)) }
-    ensures grows { Told (O.written output.old) (O.written output.new) Grows }
-    ensures counted { CountsFaults (O.faults output.old) (O.faults output.new)
-        (IsErrOf result SinkFault.Failed) }
+        → (lines : List ℕ)
+        × Puts O.written O.held O.faults O.may_want output.old output.new lines (done result)
+        × (report (E.settings end.old) p ≡ event_lines (E.settings end.old) p ++ lines)
+        × IfOk result (λ o. offence (E.settings end.old) p ≡ o) }
 {
     match end.end_of_input() {
         Ok(()) => Ok(None),
         Err(offence) => {
-            put_line(output, report::offence_line(alloc, offence))?;
+            report::put_offence(offence, output)?;
             Ok(Some(offence))
         }
     }
 }
 
-// Reads the stream that the input gives by an end that has read nothing of it, and puts its report.
-fn report_stream<I: Source, O: Sink, E: ReadingEnd + Drop>(
+// Reads the stream that the input gives by an end that has read nothing of it, and puts its report. The
+// lines of what came are written before more is taken.
+fn put_report<I: Source, O: Sink, E: ReadingEnd + Drop>(
     alloc: Global,
     end: E,
     input: &mut I,
     output: &mut O,
-) -> Ending
+) -> Result<Ending, SinkFault>
     requires fresh { E.stands end [] }
     requires room { 0 < (E.settings end).limits.session }
-    ensures judges { (bytes : List ℕ) → I.left input.old ≡ Some bytes
-        → Judges (E.settings end) bytes result }
-    ensures reports { (bytes w : List ℕ) → I.left input.old ≡ Some bytes
-        → O.written output.old ≡ Some w
-        → (w' : List ℕ) × (O.written output.new ≡ Some w')
-        × Reports (E.settings end) bytes w w' result }
-    ensures decides { (o : Option Refusal) → result ≡ Ending.Judged o
-        → Decides (E.settings end) o (I.left input.old) (I.left input.new) (I.taken input.old)
-        (I.taken input.new)
-        (O.written output.old) (O.written output.new) }
-    ensures breaks { result ≡ Ending.ReadFault
-        → Breaks (E.settings end) (I.left input.old) (I.left input.new) (I.taken input.old)
-        (I.taken input.new)
-        (O.written output.old) (O.written output.new) }
-    ensures reaches { Reaches (E.settings end) (I.left input.old) (I.left input.new)
-        (I.taken input.old) (I.taken input.new)
-        (O.written output.old) (O.written output.new) }
-    ensures reads_counted { CountsFaults (I.faults input.old) (I.faults input.new)
-        (result ≡ Ending.ReadFault) }
-    ensures writes_counted { CountsFaults (O.faults output.old) (O.faults output.new)
-        (result ≡ Ending.WriteFault) }
+    ensures reports { (lines : List ℕ)
+        × Puts O.written O.held O.faults O.may_want output.old output.new lines (done result)
+        × HasReported (E.settings end) (I.left input.old) (I.left input.new)
+        (I.taken input.old) (I.taken input.new) (O.written output.old) (O.written output.new)
+        (O.held output.old) (O.held output.new) result lines }
+    ensures counted { CountsFaults (I.faults input.old) (I.faults input.new)
+        (result ≡ Ok Ending.ReadFault) }
 {
     let Ok(mut room) = vec![in alloc; 0u8; ROOM] else {
-        return Ending::Memory;
+        return Ok(Ending::Memory);
     };
     let mut end = end;
     loop {
+        output.flush()?;
         let Ok(n) = input.take(&mut room) else {
-            return Ending::ReadFault;
+            return Ok(Ending::ReadFault);
         };
         if n == 0 {
-            return ended(finish(alloc, &mut end, output));
+            return Ok(Ending::Judged(finish(&mut end, output)?));
         }
-        match read(alloc, &mut end, &room[..n], output) {
-            Ok(Progress::Going) => {}
-            Ok(Progress::Judged(offence)) => return Ending::Judged(offence),
-            Err(fault) => return stopped(fault),
+        match read(&mut end, &room[..n], output)? {
+            Progress::Going => {}
+            Progress::Judged(offence) => return Ok(Ending::Judged(offence)),
+            Progress::Starved => return Ok(Ending::Memory),
         }
     }
 }
 
-/// Reads the initiator's stream that the input gives, and puts its report.
-pub fn check<I: Source, O: Sink>(alloc: Global, input: &mut I, output: &mut O) -> Ending
-    ensures judges { (bytes : List ℕ) → I.left input.old ≡ Some bytes → Judges usual bytes result }
-    ensures reports { (bytes w : List ℕ) → I.left input.old ≡ Some bytes
-        → O.written output.old ≡ Some w
-        → (w' : List ℕ) × (O.written output.new ≡ Some w') × Reports usual bytes w w' result }
-    ensures decides { (o : Option Refusal) → result ≡ Ending.Judged o
-        → Decides usual o (I.left input.old) (I.left input.new) (I.taken input.old)
-        (I.taken input.new)
-        (O.written output.old) (O.written output.new) }
-    ensures breaks { result ≡ Ending.ReadFault
-        → Breaks usual (I.left input.old) (I.left input.new) (I.taken input.old) (I.taken input.new)
-        (O.written output.old) (O.written output.new) }
-    ensures reaches { Reaches usual (I.left input.old) (I.left input.new) (I.taken input.old)
-        (I.taken input.new)
-        (O.written output.old) (O.written output.new) }
-    ensures reads_counted { CountsFaults (I.faults input.old) (I.faults input.new)
-        (result ≡ Ending.ReadFault) }
-    ensures writes_counted { CountsFaults (O.faults output.old) (O.faults output.new)
-        (result ≡ Ending.WriteFault) }
+// Writes what the output holds, unless it has failed. Where a read failed it holds nothing.
+fn written<O: Sink>(ending: Result<Ending, SinkFault>, output: &mut O) -> Ending
+    ensures kept { ending ≡ Ok Ending.ReadFault → (result ≡ Ending.ReadFault)
+        × (output.new ≡ output.old) }
+    ensures failed { IfErr ending (λ fault. (result ≡ stopped_by fault)
+        × (output.new ≡ output.old)) }
+    ensures flushed { IfOk ending (λ e. (e ≡ Ending.ReadFault → ⊥) → (flush : Result ⊤ Fault)
+        × Puts O.written O.held O.faults O.may_want output.old output.new [] flush
+        × OnOk flush ((result ≡ e) × (O.held output.new ≡ []))
+        × IfErr flush (λ fault. result ≡ stopped_by fault)) }
 {
-    let Ok(receiver) = Receiver::new(alloc, Quotas::usual()) else {
+    match ending {
+        Err(fault) => stopped(fault),
+        Ok(Ending::ReadFault) => Ending::ReadFault,
+        Ok(ending) => match output.flush() {
+            Ok(()) => ending,
+            Err(fault) => stopped(fault),
+        },
+    }
+}
+
+/// Reads the initiator's stream that the input gives, under these static strings, and writes its
+/// report.
+pub fn check<I: Source, O: Sink>(
+    alloc: Global,
+    statics: &StaticTable,
+    input: &mut I,
+    output: &mut O,
+) -> Ending
+    ensures { HasChecked (with_statics statics.now) (I.left input.old) (I.left input.new)
+        (I.taken input.old) (I.taken input.new) (O.written output.old) (O.written output.new)
+        (O.held output.old) (I.faults input.old) (I.faults input.new)
+        (O.faults output.old) (O.faults output.new) result }
+{
+    let Ok(receiver) = Receiver::new(alloc, statics, Quotas::usual()) else {
         return Ending::Memory;
     };
-    report_stream(alloc, receiver, input, output)
-}
-
-fn ended(judged: Result<Option<Offence>, SinkFault>) -> Ending
-    ensures judged { IfOk judged (λ o. result ≡ Ending.Judged o) }
-    ensures stopped { IfErr judged (λ fault. result ≡ stopped_by fault) }
-{
-    match judged {
-        Ok(offence) => Ending::Judged(offence),
-        Err(fault) => stopped(fault),
-    }
+    written(put_report(alloc, receiver, input, output), output)
 }
 
 fn stopped(fault: SinkFault) -> Ending

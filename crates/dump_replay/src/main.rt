@@ -1,17 +1,15 @@
 //! All that the program does, in one call that is proved: [`run::run`]. Its command `check` reads an
-//! initiator's net.tcp stream (MC-NMF, duplex mode) and prints a line for each event, and what refuses
-//! the stream or that the session ended.
+//! initiator's net.tcp stream (MC-NMF, duplex mode) with the documents that its envelopes carry, and
+//! prints a line for each event, and what refuses the stream or that the session ended.
 //!
-//! The one idea: what a stream is judged by are its prefixes. [`receiver::Receiver`] reads pieces and
-//! keeps no byte of a payload, and its contract says each answer of the bytes so far, whatever pieces
-//! they came in. The main contract is the one of `run`: what each status means, when it comes, and what
-//! the output holds then.
+//! The one idea: what a stream is judged by are its prefixes, which `stream_reader` defines and a
+//! `Receiver` answers by. Here are the lines for that (`report`), the loop that feeds a reading end
+//! and writes what is told before it reads more (`check`), and the words, the file of static strings,
+//! the statuses and the notes of a run. The main contract is the one of `run`: what each status means,
+//! when it comes, and what the output holds then.
 //!
-//! The definitions are in `specs/`: `Stream` has the units of a stream and where each leads, `Judging`
-//! the refusal and the event of a prefix and the offence of a stream, `Sessions` the grammar that they
-//! are tied to, `Report` the lines, `Receiving` what a receiver stands for, `Running` and `Checking` what
-//! a run leaves, `Reasons` which bytes give each reason for refusing a stream, `Laws` what holds of
-//! streams alone.
+//! The definitions are in `specs/`: `Report` has the lines, `Statics` what the file gives, `Running` the
+//! words, statuses and notes, `Checking` what a check leaves, `Laws` what holds of reports alone.
 #![tactic(auto)]
 
 ghost use Rattle.std.specs.Prelude.{◌≡◌, ◌≢◌, [], IfOk, IfErr, IsErr, IsOkAnd};
@@ -21,14 +19,14 @@ ghost use Rattle.std.specs.Vec.Iter.{into_iter_items};
 
 mod check;
 pub mod laws;
-mod output;
+mod notes;
 pub mod reading;
-pub mod receiver;
-mod report;
+pub mod report;
 pub mod run;
-mod stage;
+mod statics;
+mod words;
 
-use io_edges::{ReadSource, WriteSink};
+use io_edges::{FileShelf, ReadSource, WriteSink};
 use std::alloc::{AllocError, Global};
 use std::env::{self, Args};
 use std::io::{self, ErrorKind};
@@ -69,7 +67,8 @@ fn main(rt: HostRuntime) -> ExitCode {
     let input = ReadSource::new(rt.stdin());
     let output = WriteSink::new(rt.stdout());
     let mut notes = WriteSink::new(rt.stderr());
-    exit(run::run(rt.alloc(), &words, input, output, &mut notes).status)
+    let mut shelf = FileShelf::new(rt);
+    exit(run::run(rt.alloc(), &words, &mut shelf, input, output, &mut notes).status)
 }
 
 #[cfg(test)]

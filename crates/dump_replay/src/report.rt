@@ -1,42 +1,14 @@
-//! The lines of a report.
+//! The lines of a report, put to a sink.
 
-ghost use Rattle.std.specs.Prelude.{◌≡◌, ℕ, ◌++◌, OnOk, IfOk, ◌≢◌};
-ghost use Rattle.std.specs.String.{string_bytes};
-ghost use Rattle.nbfx_values.specs.Refusals.{reason_number, reason_name};
-ghost use Rattle.dump_replay.specs.Report.{quoted, quoted_byte, is_plain, mode_name, open_line, message_line, ended_line, offence_line};
+ghost use Rattle.std.specs.Prelude.{◌≡◌, ℕ, ◌<◌, ◌^◌, List};
+ghost use Rattle.io_edges.specs.Puts.{Puts};
+ghost use Rattle.nbfx_values.specs.Measures.{content_of};
+ghost use Rattle.dump_replay.specs.Report.{mode_name, open_line, message_line, ended_line, offence_line};
 
-use nbfx_values::{Kind, Mode, Offence, Place};
-use std::alloc::{AllocError, Global};
-
-/// Whether a quoted text shows the byte as it is.
-fn is_plain(byte: u8) -> bool
-    ensures { result ≡ is_plain byte }
-{
-    32 <= byte && byte < 127 && byte != b'"' && byte != b'\\'
-}
-
-#[tactic(auto, using(std::proofs::lemmas::Fmt::hex_byte))]
-fn push_quoted_byte(line: &mut String, byte: u8) -> Result<(), AllocError>
-    ensures { OnOk result (string_bytes line.new ≡ string_bytes line.old ++ quoted_byte byte) }
-{
-    if is_plain(byte) {
-        line.push(byte as char)
-    } else {
-        write!(line, "\\{byte:02x}")
-    }
-}
-
-/// Appends a text in double quotes.
-#[tactic(auto, unfolding(crate::specs::Report::quoted))]
-fn push_quoted(line: &mut String, text: &str) -> Result<(), AllocError>
-    ensures { OnOk result (string_bytes line.new ≡ string_bytes line.old ++ quoted text.now) }
-{
-    line.push('"')?;
-    for byte in text.as_bytes() {
-        push_quoted_byte(line, *byte)?;
-    }
-    line.push('"')
-}
+use io_edges::{Sink, SinkFault};
+use line_notation::{Word, put_words};
+use nbfx_values::{Doc, Kind, Mode, Offence, Place};
+use session_dictionary::SessionTable;
 
 fn mode_name(mode: Mode) -> &'static str
     ensures { result.now ≡ mode_name mode }
@@ -48,43 +20,85 @@ fn mode_name(mode: Mode) -> &'static str
     }
 }
 
-/// The line of a preamble.
-pub fn open_line(alloc: Global, mode: Mode, kind: Kind, via: &str) -> Result<String, AllocError>
-    ensures { IfOk result (λ line. string_bytes line ≡ open_line mode kind via.now) }
+/// Puts the line of a preamble.
+pub fn put_open<K: Sink>(mode: Mode, kind: Kind, via: &str, output: &mut K) -> Result<(), SinkFault>
+    ensures { Puts K.written K.held K.faults K.may_want output.old output.new
+        (open_line mode kind via.now) result }
 {
-    let name = mode_name(mode);
-    let number = kind.number();
-    let mut line = format!(in alloc; "open {name} {number} ")?;
-    push_quoted(&mut line, via)?;
-    line.push('\n')?;
-    Ok(line)
+    let words = [
+        Word::Plain(mode_name(mode)),
+        Word::Natural(u128::from(kind.number())),
+        Word::Quoted(via),
+    ];
+    put_words("open", &words, output)
 }
 
-/// The line of an envelope with this number and a payload of this many bytes.
-pub fn message_line(alloc: Global, number: u64, size: u32) -> Result<String, AllocError>
-    ensures { IfOk result (λ line. string_bytes line ≡ message_line number size) }
-{
-    format!(in alloc; "message {number} payload {size}\n")
+/// What is told of an envelope.
+#[derive(Clone, Copy)]
+pub struct Told<'a> {
+    pub number: u64,
+    /// Bytes of its payload.
+    pub size: u32,
+    pub doc: &'a Doc,
+    /// The strings of the direction behind it.
+    pub table: &'a SessionTable,
 }
 
-/// The line of the end behind this many bytes.
-pub fn ended_line(alloc: Global, taken: u64) -> Result<String, AllocError>
-    ensures { IfOk result (λ line. string_bytes line ≡ ended_line taken) }
+/// Puts the line of an envelope.
+pub fn put_message<K: Sink>(told: Told, output: &mut K) -> Result<(), SinkFault>
+    ensures { content_of told.entry.doc.now < 2 ^ 64
+        → Puts K.written K.held K.faults K.may_want output.old output.new
+        (message_line (record { number = told.entry.number; size = told.entry.size; items = told.entry.doc.now; strings = told.entry.table.now.strings }))
+        result }
 {
-    format!(in alloc; "ended {taken}\n")
+    let words = [
+        Word::Natural(u128::from(told.number)),
+        Word::Plain("payload"),
+        Word::Natural(u128::from(told.size)),
+        Word::Plain("items"),
+        Word::Natural(told.doc.items().len() as u128),
+        Word::Plain("depth"),
+        Word::Natural(u128::from(told.doc.depth())),
+        Word::Plain("content"),
+        Word::Natural(u128::from(told.doc.content())),
+        Word::Plain("strings"),
+        Word::Natural(u128::from(told.table.len())),
+        Word::Plain("used"),
+        Word::Natural(u128::from(told.table.used())),
+    ];
+    put_words("message", &words, output)
 }
 
-/// The line of a refusal.
+/// Puts the line of the end behind this many bytes.
+pub fn put_ended<K: Sink>(taken: u64, output: &mut K) -> Result<(), SinkFault>
+    ensures { Puts K.written K.held K.faults K.may_want output.old output.new
+        (ended_line taken) result }
+{
+    put_words("ended", &[Word::Natural(u128::from(taken))], output)
+}
+
+/// Puts the line of a refusal.
 #[tactic(auto, unfolding(crate::specs::Report::offence_line))]
-pub fn offence_line(alloc: Global, offence: Offence) -> Result<String, AllocError>
-    ensures { IfOk result (λ line. string_bytes line ≡ offence_line offence) }
+pub fn put_offence<K: Sink>(offence: Offence, output: &mut K) -> Result<(), SinkFault>
+    ensures { Puts K.written K.held K.faults K.may_want output.old output.new
+        (offence_line offence) result }
 {
-    let number = offence.reason.number();
-    let name = offence.reason.name();
+    let number = Word::Natural(u128::from(offence.reason.number()));
+    let name = Word::Plain(offence.reason.name());
     match offence.place {
-        Place::Frame(offset) => format!(in alloc; "offence frame {offset} {number} {name}\n"),
+        Place::Frame(offset) => {
+            let offset = Word::Natural(u128::from(offset));
+            put_words(
+                "offence",
+                &[Word::Plain("frame"), offset, number, name],
+                output,
+            )
+        }
         Place::Payload { message, at } => {
-            format!(in alloc; "offence payload {message} {at} {number} {name}\n")
+            let message = Word::Natural(u128::from(message));
+            let at = Word::Natural(u128::from(at));
+            let words = [Word::Plain("payload"), message, at, number, name];
+            put_words("offence", &words, output)
         }
     }
 }

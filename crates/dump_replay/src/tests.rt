@@ -1,9 +1,8 @@
 use super::*;
-use crate::receiver::{Receiver, Step};
 use crate::run::{Ran, run};
-use io_edges::{MemorySink, MemorySource};
-use nbfx_values::{Kind, Mode, Offence, Place, Quotas, Reason};
+use io_edges::{MemoryShelf, MemorySink, MemorySource};
 use std::alloc::{AllocError, Global};
+use std::collections::BTreeMap;
 use std::process::Abort;
 use std::test::Fail;
 
@@ -11,14 +10,21 @@ const SESSION: &[u8] = b"\x00\x01\x00\x01\x02\x02\x0Dnet.tcp://h/e\x03\x08\x0C\x
 
 const PREAMBLE: &[u8] = b"\x00\x01\x00\x01\x02\x02\x0Dnet.tcp://h/e\x03\x08\x0C";
 
+// An element `x`, whose name is a string of the session.
 const ONE_ENVELOPE: &[u8] =
-    b"\x00\x01\x00\x01\x02\x02\x0Dnet.tcp://h/e\x03\x08\x0C\x06\x03\xAA\xBB\xCC\x07";
+    b"\x00\x01\x00\x01\x02\x02\x0Dnet.tcp://h/e\x03\x08\x0C\x06\x06\x02\x01x\x42\x01\x01\x07";
 
 const TOO_LARGE: &[u8] = b"\x00\x01\x00\x01\x02\x02\x0Dnet.tcp://h/e\x03\x08\x0C\x06\x81\x80\x04";
 
 const SIMPLEX: &[u8] = b"\x00\x01\x00\x01\x03";
 
 const OPEN: &str = "open duplex 8 \"net.tcp://h/e\"\n";
+
+const MESSAGE: &str = "message 0 payload 6 items 2 depth 1 content 1 strings 1 used 1\n";
+
+// Static strings of an addressed envelope.
+const STATICS: &[u8] =
+    b"id,string\n0,mustUnderstand\n2,Envelope\n4,http://www.w3.org/2003/05/soap-envelope\n6,http://www.w3.org/2005/08/addressing\n8,Header\n10,Action\n12,To\n14,Body\n26,MessageID\n";
 
 // What the fakes give and take: at most so many bytes a take, the takes and the puts that fail, and
 // how many bytes of its piece a failing put keeps.
@@ -29,6 +35,19 @@ struct Outside {
     puts: &'static [u64],
     kept: usize,
 }
+
+// A shelf with one file, S, of which these fetches fail.
+fn shelf_of(
+    alloc: Global,
+    file: &[u8],
+    failing: &'static [u64],
+) -> Result<MemoryShelf, AllocError> {
+    let mut files = BTreeMap::new(alloc);
+    files.insert(String::from_str(alloc, "S")?, file.to_vec(alloc)?)?;
+    Ok(MemoryShelf::new(files, failing.to_vec(alloc)?))
+}
+
+const CHECK: [&str; 4] = ["nettcp", "check", "--static", "S"];
 
 const SURE: Outside = Outside {
     most: 65_536,
@@ -59,7 +78,8 @@ fn run_on_fakes(
     let puts = outside.puts.to_vec(alloc)?;
     let input = MemorySource::new(bytes, outside.most.max(1), takes);
     let output = MemorySink::new(alloc, puts, outside.kept);
-    Ok(run(alloc, &words, input, output, notes))
+    let mut shelf = shelf_of(alloc, STATICS, &[])?;
+    Ok(run(alloc, &words, &mut shelf, input, output, notes))
 }
 
 fn sure_sink(alloc: Global) -> MemorySink {
@@ -87,13 +107,7 @@ fn assert_left(
     rest: &[u8],
 ) -> Result<(), Fail> {
     let mut notes = sure_sink(rt.alloc());
-    let ran = run_on_fakes(
-        rt.alloc(),
-        &["nettcp", "check"],
-        stream,
-        outside,
-        &mut notes,
-    )?;
+    let ran = run_on_fakes(rt.alloc(), &CHECK, stream, outside, &mut notes)?;
     assert_eq!(rt; ran.status, status, "{output}");
     assert_eq!(rt; ran.output.bytes(), output.as_bytes(), "{output}");
     assert_eq!(rt; ran.input.rest(), rest, "{output}");
@@ -101,15 +115,46 @@ fn assert_left(
     Ok(())
 }
 
+const DOCUMENT: &[u8] =
+    b"V\x02\x0B\x01s\x04\x0B\x01a\x06V\x08D\x0A\x1E\x00\x82\x99\x08urn:echoD\x1A\xAD3\x22\x11\x00UDwf\x88\x99\xAA\xBB\xCC\xDD\xEE\xFF\x01V\x0EB\x01\x99\x02hi\x01\x01";
+
+// Appends an envelope of an addressed document, with these bytes before it.
+fn push_call(stream: &mut Vec<u8>, size: u8, strings: &[u8]) -> Result<(), AllocError> {
+    stream.extend_from_slice(&[6, size])?;
+    stream.extend_from_slice(strings)?;
+    stream.extend_from_slice(DOCUMENT)
+}
+
+// A session of two calls; the second names the string of the first.
+fn two_calls(alloc: Global) -> Result<Vec<u8>, AllocError> {
+    let mut stream = PREAMBLE.to_vec(alloc)?;
+    push_call(&mut stream, 60, b"\x02\x01x")?;
+    push_call(&mut stream, 58, b"\x00")?;
+    stream.push(7)?;
+    Ok(stream)
+}
+
+#[test]
+fn calls_are_reported_in_any_pieces(rt: HostRuntime) -> Result<(), Fail> {
+    let stream = two_calls(rt.alloc())?;
+    let want =
+        "open duplex 8 \"net.tcp://h/e\"\nmessage 0 payload 60 items 18 depth 3 content 165 strings 1 used 1\nmessage 1 payload 58 items 18 depth 3 content 165 strings 1 used 1\nended 146\n";
+    for most in [65_536, 61, 7, 1] {
+        let outside = Outside { most, ..SURE };
+        assert_left(&rt, &stream, outside, 0, want, b"")?;
+    }
+    Ok(())
+}
+
 #[test]
 fn streams_are_reported_in_any_pieces(rt: HostRuntime) -> Result<(), Fail> {
-    let table: [(&[u8], u8, &str); 8] = [
+    let table: [(&[u8], u8, &str); 10] = [
         (SESSION, 0, "open duplex 8 \"net.tcp://h/e\"\nended 24\n"),
         (b"", 1, "offence frame 0 24 Truncated\n"),
         (
             ONE_ENVELOPE,
             0,
-            "open duplex 8 \"net.tcp://h/e\"\nmessage 0 payload 3\nended 29\n",
+            "open duplex 8 \"net.tcp://h/e\"\nmessage 0 payload 6 items 2 depth 1 content 1 strings 1 used 1\nended 32\n",
         ),
         (
             TOO_LARGE,
@@ -117,11 +162,6 @@ fn streams_are_reported_in_any_pieces(rt: HostRuntime) -> Result<(), Fail> {
             "open duplex 8 \"net.tcp://h/e\"\noffence frame 23 11 MessageTooLarge\n",
         ),
         (SIMPLEX, 1, "offence frame 3 0 Unbuilt\n"),
-        (
-            b"\x00\x01\x00\x01\x02\x02\x0Dnet.tcp://h/e\x03\x08\x0C\x06\x03\xAA\xBB\xCC\x06\x02\x07\x07\x07",
-            0,
-            "open duplex 8 \"net.tcp://h/e\"\nmessage 0 payload 3\nmessage 1 payload 2\nended 33\n",
-        ),
         (
             PREAMBLE,
             1,
@@ -131,6 +171,22 @@ fn streams_are_reported_in_any_pieces(rt: HostRuntime) -> Result<(), Fail> {
             b"\x00\x01\x00\x01\x02\x02\x05a\"\\\xC3\xA9\x03\x07\x0C\x07",
             0,
             "open duplex 7 \"a\\22\\5c\\c3\\a9\"\nended 16\n",
+        ),
+        // A node that is none; the input's end within a payload; a payload of no bytes.
+        (
+            b"\x00\x01\x00\x01\x02\x02\x0Dnet.tcp://h/e\x03\x08\x0C\x06\x10\x00\x40\x01x\x7F",
+            1,
+            "open duplex 8 \"net.tcp://h/e\"\noffence payload 0 4 15 UnknownNode\n",
+        ),
+        (
+            b"\x00\x01\x00\x01\x02\x02\x0Dnet.tcp://h/e\x03\x08\x0C\x06\x10\x00\x40\x01x",
+            1,
+            "open duplex 8 \"net.tcp://h/e\"\noffence frame 23 24 Truncated\n",
+        ),
+        (
+            b"\x00\x01\x00\x01\x02\x02\x0Dnet.tcp://h/e\x03\x08\x0C\x06\x00",
+            1,
+            "open duplex 8 \"net.tcp://h/e\"\noffence payload 0 0 22 DocumentCut\n",
         ),
     ];
     for (bytes, status, want) in table {
@@ -144,14 +200,16 @@ fn streams_are_reported_in_any_pieces(rt: HostRuntime) -> Result<(), Fail> {
 
 #[test]
 fn a_take_that_fails_leaves_the_lines_before(rt: HostRuntime) -> Result<(), Fail> {
-    let both = "open duplex 8 \"net.tcp://h/e\"\nmessage 0 payload 3\n";
-    let all = "open duplex 8 \"net.tcp://h/e\"\nmessage 0 payload 3\nended 29\n";
+    let both =
+        "open duplex 8 \"net.tcp://h/e\"\nmessage 0 payload 6 items 2 depth 1 content 1 strings 1 used 1\n";
+    let all =
+        "open duplex 8 \"net.tcp://h/e\"\nmessage 0 payload 6 items 2 depth 1 content 1 strings 1 used 1\nended 32\n";
     // First; in the envelope; behind it, in large pieces and in small ones; behind the session's end.
     let table: [(usize, &'static [u64], u8, &str, &[u8]); 5] = [
         (65_536, &[0], 3, "", ONE_ENVELOPE),
-        (26, &[1], 3, OPEN, b"\xBB\xCC\x07"),
-        (28, &[1], 3, both, b"\x07"),
-        (1, &[28], 3, both, b"\x07"),
+        (29, &[1], 3, OPEN, b"\x01\x01\x07"),
+        (31, &[1], 3, both, b"\x07"),
+        (1, &[31], 3, both, b"\x07"),
         (65_536, &[1], 0, all, b""),
     ];
     for (most, takes, status, want, rest) in table {
@@ -192,17 +250,18 @@ fn a_put_that_fails_ends_the_run(rt: HostRuntime) -> Result<(), Fail> {
     let all = "open duplex 8 \"net.tcp://h/e\"\nended 24\n";
     let message = "open duplex 8 \"net.tcp://h/e\"\nmessage 0";
     let refusal = "open duplex 8 \"net.tcp://h/e\"\noffence frame 23";
-    let table: [(&[u8], &'static [u64], usize, &str); 8] = [
-        (SESSION, &[0], 0, ""),
-        (SESSION, &[0], 4, "open"),
-        (SESSION, &[1], 0, OPEN),
-        (SESSION, &[0], 99, OPEN),
-        (SESSION, &[1], 99, all),
-        (ONE_ENVELOPE, &[1], 9, message),
-        (TOO_LARGE, &[1], 16, refusal),
-        (b"", &[0], 7, "offence"),
+    let table: [(&[u8], usize, &str); 7] = [
+        (SESSION, 0, ""),
+        (SESSION, 4, "open"),
+        (SESSION, 30, OPEN),
+        (SESSION, 99, all),
+        (ONE_ENVELOPE, 39, message),
+        (TOO_LARGE, 46, refusal),
+        (b"", 7, "offence"),
     ];
-    for (stream, puts, kept, want) in table {
+    // The lines of what came in one piece go by one put.
+    for (stream, kept, want) in table {
+        let puts = &[0];
         let outside = Outside { puts, kept, ..SURE };
         assert_left(&rt, stream, outside, 4, want, b"")?;
     }
@@ -216,24 +275,27 @@ fn a_put_comes_before_the_next_take(rt: HostRuntime) -> Result<(), Fail> {
         puts: &[0],
         ..SURE
     };
-    let rest = b"\x06\x03\xAA\xBB\xCC\x07";
+    let rest = b"\x06\x06\x02\x01x\x42\x01\x01\x07";
     assert_left(&rt, ONE_ENVELOPE, outside, 4, "", rest)
 }
 
 #[test]
 fn other_words_take_nothing(rt: HostRuntime) -> Result<(), Fail> {
-    let table: [&[&str]; 13] = [
+    let table: [&[&str]; 16] = [
         &[],
         &["nettcp"],
         &["check"],
         &["nettcp", ""],
         &["nettcp", "dump"],
-        &["nettcp", "Check"],
-        &["nettcp", "check", ""],
-        &["nettcp", "check", "--depth"],
-        &["nettcp", "check", "check"],
-        &["nettcp", "check", "--static", "S"],
+        &["nettcp", "check"],
+        &["nettcp", "check", "S"],
+        &["nettcp", "check", "--static"],
+        &["nettcp", "check", "--static=S"],
+        &["nettcp", "check", "--static", ""],
+        &["nettcp", "check", "--static", "-S"],
+        &["nettcp", "dump", "--static", "S"],
         &["nettcp", "Check", "--static", "S"],
+        &["nettcp", "check", "--Static", "S"],
         &["nettcp", "check", "--static", "S", "--depth", "3"],
         &["nettcp", "check", "--static", "S", "--static", "S"],
     ];
@@ -251,7 +313,8 @@ fn other_words_take_nothing(rt: HostRuntime) -> Result<(), Fail> {
 #[test]
 fn the_first_word_is_not_judged(rt: HostRuntime) -> Result<(), Fail> {
     let mut notes = sure_sink(rt.alloc());
-    let ran = run_on_fakes(rt.alloc(), &["", "check"], SESSION, SURE, &mut notes)?;
+    let words = ["", "check", "--static", "S"];
+    let ran = run_on_fakes(rt.alloc(), &words, SESSION, SURE, &mut notes)?;
     assert_eq!(rt; ran.status, 0);
     Ok(())
 }
@@ -275,7 +338,7 @@ fn a_note_that_fails_changes_no_status(rt: HostRuntime) -> Result<(), Fail> {
                 puts,
                 ..SURE
             };
-            let words = ["nettcp", command];
+            let words = ["nettcp", command, "--static", "S"];
             let ran = run_on_fakes(rt.alloc(), &words, SESSION, outside, &mut notes)?;
             let note = note(status).as_bytes();
             assert_eq!(rt; ran.status, status);
@@ -285,64 +348,65 @@ fn a_note_that_fails_changes_no_status(rt: HostRuntime) -> Result<(), Fail> {
     Ok(())
 }
 
-const OPENED: Step = Step::Opened {
-    mode: Mode::Duplex,
-    kind: Kind::Session,
-};
+// Runs `check` of the file of that name, with a shelf that has this file under S.
+fn run_with_file(
+    alloc: Global,
+    name: &str,
+    file: &[u8],
+    failing: &'static [u64],
+    notes: &mut MemorySink,
+) -> Result<Ran<MemorySource, MemorySink>, AllocError> {
+    let words = listed(alloc, &["nettcp", "check", "--static", name])?;
+    let input = MemorySource::new(SESSION.to_vec(alloc)?, 65_536, Vec::new(alloc));
+    let mut shelf = shelf_of(alloc, file, failing)?;
+    Ok(run(alloc, &words, &mut shelf, input, sure_sink(alloc), notes))
+}
 
-// Of the session behind the preamble.
-const TOO_LONG: Offence = Offence {
-    place: Place::Frame(23),
-    reason: Reason::SessionTooLong,
-};
+// What is run so, and what it is to leave.
+#[derive(Clone, Copy)]
+struct RefusedFile {
+    name: &'static str,
+    file: &'static [u8],
+    failing: &'static [u64],
+    status: u8,
+    note: &'static str,
+}
 
-// Feeds the bytes in pieces of so many, and answers the last event, or the refusal.
-fn last_step(receiver: &mut Receiver, bytes: &[u8], size: usize) -> Result<Step, Offence> {
-    let mut last = Step::More;
-    let mut rest = bytes;
-    for _ in 0..bytes.len() {
-        if rest.is_empty() {
-            break;
-        }
-        let piece = rest.get(..size).unwrap_or(rest);
-        let (used, step) = receiver.feed(piece)?;
-        rest = rest.get(used..).unwrap_or_default();
-        if step != Step::More {
-            last = step;
-        }
+fn refused(name: &'static str, file: &'static [u8], status: u8, note: &'static str) -> RefusedFile {
+    RefusedFile {
+        name,
+        file,
+        failing: &[],
+        status,
+        note,
     }
-    Ok(last)
 }
 
 #[test]
-fn a_session_ends_within_its_quota(rt: HostRuntime) -> Result<(), Fail> {
+fn a_file_without_a_table_takes_nothing(rt: HostRuntime) -> Result<(), Fail> {
+    let failed = RefusedFile {
+        failing: &[0],
+        ..refused("S", STATICS, 3, "read fault\n")
+    };
     let cases = [
-        (23, Err(TOO_LONG), Err(TOO_LONG)),
-        (24, Ok(Step::Ended), Ok(())),
+        refused("T", STATICS, 6, "T: not found\n"),
+        refused("s", STATICS, 6, "s: not found\n"),
+        refused("S", b"", 6, "S: row 0 Header\n"),
+        refused("S", b"id,text\n0,a\n", 6, "S: row 0 Header\n"),
+        refused("S", b"id,string\n0,a,b\n", 6, "S: row 1 Fields\n"),
+        refused("S", b"id,string\n0,\xFF\n", 6, "S: row 1 NotUtf8\n"),
+        refused("S", b"id,string\n0,a\n02,b\n", 6, "S: row 2 NotANumber\n"),
+        refused("S", b"id,string\n1,x\n", 6, "S: row 1 Odd\n"),
+        refused("S", b"id,string\n0,a\n2,b\n0,c\n", 6, "S: row 3 Repeated\n"),
+        failed,
     ];
-    for (session, want, at_end) in cases {
-        for size in [24, 1] {
-            let quotas = Quotas::of(65_536, 32, 2_048, 262_144, 2_048, session);
-            let quotas = quotas.ok_or("good quotas")?;
-            let mut receiver = Receiver::new(rt.alloc(), quotas).map_err(|_| "no memory")?;
-            assert_eq!(rt; last_step(&mut receiver, PREAMBLE, size), Ok(OPENED));
-            assert_eq!(rt; receiver.via(), "net.tcp://h/e");
-            assert_eq!(rt; last_step(&mut receiver, b"\x07", size), want);
-            assert_eq!(rt; last_step(&mut receiver, b"\x07", size), want);
-            assert_eq!(rt; receiver.end_of_input(), at_end);
-            assert_eq!(rt; receiver.taken(), session);
-            assert_eq!(rt; receiver.kept().raw, 13);
-            assert_eq!(rt; receiver.kept().content, 0);
-        }
+    for case in cases {
+        let mut notes = sure_sink(rt.alloc());
+        let ran = run_with_file(rt.alloc(), case.name, case.file, case.failing, &mut notes)?;
+        assert_eq!(rt; ran.status, case.status);
+        assert_eq!(rt; notes.bytes(), case.note.as_bytes());
+        assert_eq!(rt; ran.input.rest(), SESSION);
+        assert_eq!(rt; ran.output.bytes().len(), 0);
     }
-    Ok(())
-}
-
-#[test]
-fn an_event_comes_before_the_session_quota(rt: HostRuntime) -> Result<(), Fail> {
-    let quotas = Quotas::of(65_536, 32, 2_048, 262_144, 2_048, 23).ok_or("good quotas")?;
-    let mut receiver = Receiver::new(rt.alloc(), quotas).map_err(|_| "no memory")?;
-    assert_eq!(rt; receiver.feed(SESSION), Ok((23, OPENED)));
-    assert_eq!(rt; receiver.feed(b""), Err(TOO_LONG));
     Ok(())
 }

@@ -1,33 +1,51 @@
-use Rattle.std.proofs.Common.{subst}
-use Rattle.dump_replay.specs.Checking.{Decides, Breaks, Reaches}
-use Rattle.dump_replay.specs.Reading.{Judges, Reports}
-use Rattle.dump_replay.proofs.CheckSteps.{usual_is, usual_set, usual_room, none_reaches}
+use Rattle.std.proofs.Common.{◌≡◌, ℕ, List, ap, ◌∙◌, subst, lit<}
+use Rattle.receiver_machine.specs.Standing.{settings_of}
+use Rattle.stream_reader.specs.Stream.{Settings, initiators}
+use Rattle.dump_replay.specs.Reading.{HasReported}
+use Rattle.dump_replay.specs.Statics.{with_statics}
+use Rattle.dump_replay.proofs.CheckSteps.{not_checked, with_statics_set}
+use Rattle.dump_replay.proofs.Finishing.{Finishes, finished_by, judges, reports, decides, breaks, reaches, writes_counted, reads_counted}
+use Rattle.dump_replay.proofs.check.check.Given.{Over}
 use Rattle.dump_replay.proofs.check.check.Goals as goal
+use Rattle.dump_replay.proofs.check.check.Goals.{After-written}
 
 -- there was no memory for a reader
-pub returns-in_default-clause-reaches : goal.returns-in_default-clause-reaches
-returns-in_default-clause-reaches g c = none_reaches _ usual_set usual_room (g.I.Source.left c.args.input.now) (g.I.Source.taken c.args.input.now) (g.O.Sink.written c.args.output.now)
+pub returns-in_default : goal.returns-in_default
+returns-in_default g c =
+    not_checked (with_statics c.args.statics.now) (with_statics_set c.args.statics.now) (lit< tt) (g.I.Source.left c.args.input.now) (g.I.Source.taken c.args.input.now) (g.O.Sink.written c.args.output.now)
+    (g.O.Sink.held c.args.output.now) (g.I.Source.faults c.args.input.now) (g.O.Sink.faults c.args.output.now)
 
--- what holds of the settings of the reader holds of the usual ones
-pub returns-clause-judges : goal.returns-clause-judges
-returns-clause-judges g c = λ bytes left. subst (λ x. Judges x bytes c.report_stream.result) (usual_is _ c.usual.result c.in-Ok.ensures.settings c.in-Ok.ensures.limits c.usual.ensures) (c.report_stream.ensures.judges bytes left)
+module _ (g : Over) (c : After-written g) where
+  abbrev x : Settings
+  x = with_statics c.args.statics.now
 
-pub returns-clause-reports : goal.returns-clause-reports
-returns-clause-reports g c = λ bytes w left written.
-    let k = c.report_stream.ensures.reports bytes w left written in
-    (k.0, k.1, subst (λ x. Reports x bytes w k.0 c.report_stream.result) (usual_is _ c.usual.result c.in-Ok.ensures.settings c.in-Ok.ensures.limits c.usual.ensures) k.2)
+  -- the reader is set so
+  set_so : settings_of c.in-Ok.receiver ≡ x
+  set_so = c.in-Ok.ensures.settings ∙ ap (initiators c.args.statics.now) c.usual.ensures
 
-pub returns-clause-decides : goal.returns-clause-decides
-returns-clause-decides g c = λ o e.
-    subst (λ x. Decides x o (g.I.Source.left c.args.input.now) (g.I.Source.left c.report_stream.new.input) (g.I.Source.taken c.args.input.now) (g.I.Source.taken c.report_stream.new.input) (g.O.Sink.written c.args.output.now) (g.O.Sink.written c.report_stream.new.output))
-    (usual_is _ c.usual.result c.in-Ok.ensures.settings c.in-Ok.ensures.limits c.usual.ensures) (c.report_stream.ensures.decides o e)
+  abbrev lines : List ℕ
+  lines = c.put_report.ensures.reports.0
 
-pub returns-clause-breaks : goal.returns-clause-breaks
-returns-clause-breaks g c = λ e.
-    subst (λ x. Breaks x (g.I.Source.left c.args.input.now) (g.I.Source.left c.report_stream.new.input) (g.I.Source.taken c.args.input.now) (g.I.Source.taken c.report_stream.new.input) (g.O.Sink.written c.args.output.now) (g.O.Sink.written c.report_stream.new.output))
-    (usual_is _ c.usual.result c.in-Ok.ensures.settings c.in-Ok.ensures.limits c.usual.ensures) (c.report_stream.ensures.breaks e)
+  reported : HasReported x (g.I.Source.left c.args.input.now) (g.I.Source.left c.put_report.new.input) (g.I.Source.taken c.args.input.now) (g.I.Source.taken c.put_report.new.input)
+      (g.O.Sink.written c.args.output.now) (g.O.Sink.written c.put_report.new.output) (g.O.Sink.held c.args.output.now) (g.O.Sink.held c.put_report.new.output) c.put_report.result lines
+  reported =
+      subst (λ (s : Settings). HasReported s (g.I.Source.left c.args.input.now) (g.I.Source.left c.put_report.new.input) (g.I.Source.taken c.args.input.now) (g.I.Source.taken c.put_report.new.input)
+      (g.O.Sink.written c.args.output.now) (g.O.Sink.written c.put_report.new.output) (g.O.Sink.held c.args.output.now) (g.O.Sink.held c.put_report.new.output) c.put_report.result lines)
+      set_so c.put_report.ensures.reports.2
 
-pub returns-clause-reaches : goal.returns-clause-reaches
-returns-clause-reaches g c =
-    subst (λ x. Reaches x (g.I.Source.left c.args.input.now) (g.I.Source.left c.report_stream.new.input) (g.I.Source.taken c.args.input.now) (g.I.Source.taken c.report_stream.new.input) (g.O.Sink.written c.args.output.now) (g.O.Sink.written c.report_stream.new.output))
-    (usual_is _ c.usual.result c.in-Ok.ensures.settings c.in-Ok.ensures.limits c.usual.ensures) c.report_stream.ensures.reaches
+  finished : Finishes x _ g.O.Sink.written g.O.Sink.held g.O.Sink.faults g.O.Sink.may_want c.args.output.now c.put_report.new.output c.written.new.output
+      (g.I.Source.left c.args.input.now) (g.I.Source.left c.put_report.new.input) (g.I.Source.taken c.args.input.now) (g.I.Source.taken c.put_report.new.input) lines c.written.result c.put_report.result
+  finished =
+      finished_by x _ g.O.Sink.written g.O.Sink.held g.O.Sink.faults g.O.Sink.may_want c.args.output.now c.put_report.new.output c.written.new.output _ _ _ _ lines c.written.result c.put_report.result
+      c.put_report.ensures.reports.1 reported c.written.ensures.kept c.written.ensures.failed c.written.ensures.flushed
+
+pub returns : goal.returns
+returns g c = record {
+  judges = λ bytes left. judges (x g c) _ _ _ _ _ _ _ _ _ _ _ _ _ _ _ (lines g c) _ (reported g c) (finished g c) bytes left;
+  reports = λ bytes w left before. reports (x g c) _ _ _ _ _ _ _ _ _ _ _ _ _ _ _ (lines g c) _ (reported g c) (finished g c) bytes left w before;
+  decides = λ o ended. decides (x g c) _ _ _ _ _ _ _ _ _ _ _ _ _ _ _ (lines g c) _ (reported g c) (finished g c) o ended;
+  breaks = λ ended. breaks (x g c) _ _ _ _ _ _ _ _ _ _ _ _ _ _ _ (lines g c) _ (reported g c) (finished g c) ended;
+  reaches = reaches (x g c) _ _ _ _ _ _ _ _ _ _ _ _ _ _ _ (lines g c) _ (reported g c) (finished g c);
+  reads_counted = reads_counted (x g c) _ _ _ _ _ _ _ _ _ _ _ _ _ _ _ (lines g c) _ (reported g c) (finished g c) _ _ c.put_report.ensures.counted;
+  writes_counted = writes_counted (x g c) _ _ _ _ _ _ _ _ _ _ _ _ _ _ _ (lines g c) _ (reported g c) (finished g c);
+}

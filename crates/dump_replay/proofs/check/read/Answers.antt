@@ -1,18 +1,19 @@
-use Rattle.std.proofs.Common.{◌≡◌, ℕ, ◌-◌, List, ◌++◌, length, take, false, Option, Some, Result, Ok, Err, sym, ap, ◌∙◌, subst, arith, length-drop}
-use Rattle.std.proofs.lemmas.List.{take_rest}
+use Rattle.std.proofs.Common.{◌≡◌, ℕ, ◌-◌, List, [], ◌++◌, length, take, ◌+◌, false, Bool, Option, Some, Result, Ok, Err, sym, ap, ◌∙◌, subst, arith, length-drop}
+use Rattle.std.proofs.lemmas.List.{append-nil, take_rest}
 use Rattle.std.proofs.lemmas.Result.{err_from_is_err_and}
-use Rattle.io_edges.specs.Flow.{Told, GrowsByPrefix}
+use Rattle.io_edges.specs.Puts.{PutsAll}
+use Rattle.io_edges.specs.declared.SinkFault.{SinkFault}
+use Rattle.io_edges.proofs.Putting.{PutsAll-then}
 use Rattle.unit_streams.specs.Judging.{event_at, is_over_at, answer}
-use Rattle.unit_streams.specs.Going.{IsOpenAt}
-use Rattle.nbfx_values.specs.declared.refusals.Offence.{Offence}
-use Rattle.dump_replay.specs.declared.receiver.Step.{Step}
-use Rattle.dump_replay.specs.declared.receiver.Step.TheVariants.{More}
-use Rattle.dump_replay.specs.Stream.{Settings, IsInitiators, StreamEvent, stream}
+use Rattle.receiver_machine.specs.Saying.{Says, step_for}
+use Rattle.receiver_machine.specs.declared.receiver.Step.{Step}
+use Rattle.receiver_machine.specs.declared.receiver.Step.TheVariants.{More}
+use Rattle.stream_reader.specs.Laws.{IsInitiators}
+use Rattle.stream_reader.specs.Stream.{Settings, StreamEvent, stream}
+use Rattle.stream_reader.specs.declared.reader.ReadRefusal.{ReadRefusal}
 use Rattle.dump_replay.specs.Report.{event_line, event_lines, offence_line}
 use Rattle.dump_replay.specs.Reading.{HasRead}
-use Rattle.dump_replay.specs.Saying.{step_for, said}
-use Rattle.dump_replay.proofs.Writing.{told_some, put_behind, cut_behind, grows_further}
-use Rattle.dump_replay.proofs.ReadSteps.{rest_of, ReadsEvent, further, read_more, event_answered, offence_read, told_at}
+use Rattle.dump_replay.proofs.ReadSteps.{rest_of, ReadsEvent, further, none_due, read_more, event_answered, offence_read, told_at, due_behind, last_due, joined}
 use Rattle.dump_replay.proofs.check.read.Given.{Over}
 use Rattle.dump_replay.proofs.check.read.Goals as goal
 use Rattle.dump_replay.proofs.check.read.Goals.{After-feed}
@@ -41,80 +42,117 @@ module _ (g : Over) (f : After-feed g) (p : List ℕ) (read : HasRead (g.E.Readi
   rest = rest_of piece used
 
   so_far : HasRead (g.E.ReadingEnd.stands f.loop-answer.end) x q
-  so_far = f.loop-answer.invariant.reads p read
+  so_far = (f.loop-answer.invariant.reads p read).0
+
+  -- the lines that were put
+  abbrev lines : List ℕ
+  lines = (f.loop-answer.invariant.reads p read).1
+
+  lines_are : event_lines x q ≡ event_lines x p ++ lines
+  lines_are = (f.loop-answer.invariant.reads p read).2
 
   -- what the end said
-  abbrev Said : Result (ℕ × Step) Offence → Type 0
-  Said r = (b : List ℕ) → g.E.ReadingEnd.stands f.loop-answer.end b → is_over_at (stream (g.E.ReadingEnd.settings f.loop-answer.end)) b ≡ false → r ≡ said (length rest) (answer (stream (g.E.ReadingEnd.settings f.loop-answer.end)) b rest)
+  abbrev Said : Result (ℕ × Step) ReadRefusal → Type 0
+  Said r = (b : List ℕ) → g.E.ReadingEnd.stands f.loop-answer.end b → is_over_at (stream (g.E.ReadingEnd.settings f.loop-answer.end)) b ≡ false → Says (length rest) (answer (stream (g.E.ReadingEnd.settings f.loop-answer.end)) b rest) r
 
-  told : (r : Result (ℕ × Step) Offence) → Said r → r ≡ said (length rest) (answer (stream x) q rest)
+  told : (r : Result (ℕ × Step) ReadRefusal) → Said r → Says (length rest) (answer (stream x) q rest) r
   told r answers = told_at (g.E.ReadingEnd.settings f.loop-answer.end) x f.loop-answer.invariant.settings q rest r so_far.on (answers q so_far.stands_for)
 
   event : (n : ℕ) (step : Step) → (step ≡ More → ⊥) → Said (Ok (n, step)) → ReadsEvent x p piece used n step
   event n step not_more answers = event_answered (g.E.ReadingEnd.settings f.loop-answer.end) x f.loop-answer.invariant.settings set (g.E.ReadingEnd.stands f.loop-answer.end) p piece used so_far n step not_more answers
 
-  -- what is put behind the lines before
-  module _ (w : List ℕ) (e : g.O.Sink.written f.args.output.now ≡ Some (w ++ event_lines x p)) where
-    lines : g.O.Sink.written f.loop-answer.output ≡ Some (w ++ event_lines x q)
-    lines = f.loop-answer.invariant.writes p w read e
+  -- what was put since the call
+  abbrev PutsSince : List ℕ → Result (Unit {0}) SinkFault → Option (List ℕ) → List ℕ → ℕ → Bool → Type 0
+  PutsSince bytes r w h n m = PutsAll bytes r (g.O.Sink.written f.args.output.now) w (g.O.Sink.held f.args.output.now) h (g.O.Sink.faults f.args.output.now) n (g.O.Sink.may_want f.args.output.now) m
 
-    put : (P : List ℕ → List ℕ → Type 0) (new : Option (List ℕ)) → Told (g.O.Sink.written f.loop-answer.output) new P → (w' : List ℕ) × (new ≡ Some w') × P (w ++ event_lines x q) w'
-    put P new told = told_some P (g.O.Sink.written f.loop-answer.output) new (w ++ event_lines x q) lines told
+  before : PutsSince lines (Ok tt) (g.O.Sink.written f.loop-answer.output) (g.O.Sink.held f.loop-answer.output) (g.O.Sink.faults f.loop-answer.output) (g.O.Sink.may_want f.loop-answer.output)
+  before = (f.loop-answer.invariant.reads p read).3
 
-    put_event : (n : ℕ) (step : Step) (b : ReadsEvent x p piece used n step) → g.E.ReadingEnd.settings f.feed.new.self ≡ g.E.ReadingEnd.settings f.loop-answer.end
-        → ((b : List ℕ) → g.E.ReadingEnd.stands f.loop-answer.end b → g.E.ReadingEnd.stands f.feed.new.self (b ++ take n rest))
-        → (P : StreamEvent → List ℕ → List ℕ → Type 0) (new : Option (List ℕ))
-        → ((b : List ℕ) (event : StreamEvent) → g.E.ReadingEnd.stands f.feed.new.self b → event_at (stream (g.E.ReadingEnd.settings f.feed.new.self)) b ≡ Some event → step ≡ step_for event
-        → Told (g.O.Sink.written f.loop-answer.output) new (P event))
-        → (w' : List ℕ) × (new ≡ Some w') × P b.event (w ++ event_lines x q) w'
-    put_event n step b settings stands P new told =
-        let here = subst (λ s. event_at (stream s) (q ++ take n rest) ≡ Some b.event) (sym (settings ∙ f.loop-answer.invariant.settings)) b.here in
-        put (P b.event) new (told (q ++ take n rest) b.event (stands q so_far.stands_for) here b.is)
+  -- the line of an event that n bytes more complete
+  module _ (n : ℕ) (step : Step) (b : ReadsEvent x p piece used n step) (settings : g.E.ReadingEnd.settings f.feed.new.self ≡ g.E.ReadingEnd.settings f.loop-answer.end)
+      (stands : (b : List ℕ) → g.E.ReadingEnd.stands f.loop-answer.end b → g.E.ReadingEnd.stands f.feed.new.self (b ++ take n rest)) where
+    here : event_at (stream (g.E.ReadingEnd.settings f.feed.new.self)) (q ++ take n rest) ≡ Some b.event
+    here = subst (λ s. event_at (stream s) (q ++ take n rest) ≡ Some b.event) (sym (settings ∙ f.loop-answer.invariant.settings)) b.here
 
-pub returns-in-More-clause-says : goal.returns-in-More-clause-says
-returns-in-More-clause-says g c = λ p read.
-    let f : After-feed g = (goal.at-returns-in-More-clause-says g c).After-feed in
+    line_put : (r : Result (Unit {0}) SinkFault) (w : Option (List ℕ)) (h : List ℕ) (k : ℕ) (m : Bool)
+        → ((a : List ℕ) (event : StreamEvent) → g.E.ReadingEnd.stands f.feed.new.self a → event_at (stream (g.E.ReadingEnd.settings f.feed.new.self)) a ≡ Some event → step ≡ step_for event
+        → PutsAll (event_line event) r (g.O.Sink.written f.loop-answer.output) w (g.O.Sink.held f.loop-answer.output) h (g.O.Sink.faults f.loop-answer.output) k (g.O.Sink.may_want f.loop-answer.output) m)
+        → PutsSince (lines ++ event_line b.event) r w h k m
+    line_put r w h k m puts = PutsAll-then r before (puts (q ++ take n rest) b.event (stands q so_far.stands_for) here b.is)
+
+pub returns-in-Err-Memory-clause-reads : goal.returns-in-Err-Memory-clause-reads
+returns-in-Err-Memory-clause-reads g c = λ p read.
+    let f : After-feed g = (goal.at-returns-in-Err-Memory-clause-reads g c).After-feed in
+    let due = due_behind (x g f p read) (p ++ piece g f p read) (event_lines (x g f p read) p) (lines g f p read) [] _ (lines_are g f p read) (none_due (x g f p read) p (piece g f p read) (used g f p read) (so_far g f p read).on) in
+    (lines g f p read, before g f p read, rw append-nil at due)
+
+-- an offence
+pub returns-in_err-put_offence-in-Err-Offence-clause-reads : goal.returns-in_err-put_offence-in-Err-Offence-clause-reads
+returns-in_err-put_offence-in-Err-Offence-clause-reads g c = λ p read.
+    let f : After-feed g = (goal.at-returns-in_err-put_offence-in-Err-Offence-clause-reads g c).After-feed in
+    let o = c.in-Err-Offence.offence in
+    let r = err_from_is_err_and c.from_residual.result c.from_residual.ensures.1 in
+    let all = offence_read (x g f p read) p (piece g f p read) (used g f p read) (set g f p read) (so_far g f p read).on o (rw c.in-Err-Offence.field-0-is at (told g f p read (Err c.in-Err-Offence.field-0) c.in-Err-Offence.ensures.answers)) in
+    rw (r.1, r.2) (
+      lines g f p read ++ offence_line o,
+      PutsAll-then _ (before g f p read) c.in_err-put_offence-in-Err-Offence.ensures,
+      last_due (x g f p read) (p ++ piece g f p read) (event_lines (x g f p read) p) (lines g f p read ++ offence_line o) (λ more. joined _ _ _ (lines g f p read) (offence_line o) (all more).0 (lines_are g f p read)),
+    )
+
+pub returns-in-Err-Offence-clause-reads : goal.returns-in-Err-Offence-clause-reads
+returns-in-Err-Offence-clause-reads g c = λ p read.
+    let f : After-feed g = (goal.at-returns-in-Err-Offence-clause-reads g c).After-feed in
+    let o = c.in-Err-Offence.offence in
+    let all = offence_read (x g f p read) p (piece g f p read) (used g f p read) (set g f p read) (so_far g f p read).on o (rw c.in-Err-Offence.field-0-is at (told g f p read (Err c.in-Err-Offence.field-0) c.in-Err-Offence.ensures.answers)) in (
+      lines g f p read ++ offence_line o,
+      PutsAll-then _ (before g f p read) c.in_ok-put_offence-in-Err-Offence.ensures,
+      λ more. ((all more).1, joined _ _ _ (lines g f p read) (offence_line o) (all more).0 (lines_are g f p read)),
+    )
+
+-- nothing more
+pub returns-in-More-clause-reads : goal.returns-in-More-clause-reads
+returns-in-More-clause-reads g c = λ p read.
+    let f : After-feed g = (goal.at-returns-in-More-clause-reads g c).After-feed in
     let h = so_far g f p read in
-    let m = read_more (x g f p read) p (piece g f p read) (used g f p read) (set g f p read) h.on c.in-Ok.answer.0 (rw c.in-More.is at (told g f p read (Ok c.in-Ok.answer) c.in-Ok.ensures.answers)) in
-    (subst (g.E.ReadingEnd.stands c.feed.new.self) m.0 (c.in-Ok.ensures.stands _ h.stands_for), m.1)
-
-pub returns-in-More-clause-writes : goal.returns-in-More-clause-writes
-returns-in-More-clause-writes g c = λ p w read e.
-    let f : After-feed g = (goal.at-returns-in-More-clause-writes g c).After-feed in
-    let h = so_far g f p read in
-    let m = read_more (x g f p read) p (piece g f p read) (used g f p read) (set g f p read) h.on c.in-Ok.answer.0 (rw c.in-More.is at (told g f p read (Ok c.in-Ok.answer) c.in-Ok.ensures.answers)) in
-    (w ++ event_lines (x g f p read) (q g f p read), lines g f p read w e, ap (λ l. w ++ l) (sym m.2))
+    let m = read_more (x g f p read) p (piece g f p read) (used g f p read) (set g f p read) h.on c.in-Ok.answer.0 (rw c.in-More.is at (told g f p read (Ok c.in-Ok.answer) c.in-Ok.ensures.answers)) in (
+      lines g f p read,
+      before g f p read,
+      (subst (g.E.ReadingEnd.stands c.feed.new.self) m.0 (c.in-Ok.ensures.stands _ h.stands_for), m.1, m.2 ∙ lines_are g f p read),
+    )
 
 -- an end
-pub returns-in-Ended-clause-says : goal.returns-in-Ended-clause-says
-returns-in-Ended-clause-says g c = λ p read more.
-    let f : After-feed g = (goal.at-returns-in-Ended-clause-says g c).After-feed in
+pub returns-in_err-put_line-in-Ended-clause-reads : goal.returns-in_err-put_line-in-Ended-clause-reads
+returns-in_err-put_line-in-Ended-clause-reads g c = λ p read.
+    let f : After-feed g = (goal.at-returns-in_err-put_line-in-Ended-clause-reads g c).After-feed in
     let b = event g f p read c.in-Ok.answer.0 c.in-Ok.answer.1 (λ m. let is_end = c.in-Ended.is in cc) c.in-Ok.ensures.answers in
-    (b.last c.in-Ended.is more).1
+    let r = err_from_is_err_and c.from_residual-in_err-put_line-in-Ended.result c.from_residual-in_err-put_line-in-Ended.ensures.1 in
+    rw (r.1, r.2) (
+      lines g f p read ++ event_line b.event,
+      line_put g f p read _ _ b c.in-Ok.ensures.settings c.in-Ok.ensures.stands _ _ _ _ _ (λ a event at here is. c.in_err-put_line-in-Ended.ensures a event at here (sym c.in-Ended.is ∙ is)),
+      last_due (x g f p read) (p ++ piece g f p read) (event_lines (x g f p read) p) (lines g f p read ++ event_line b.event)
+          (λ more. joined _ _ _ (lines g f p read) (event_line b.event) (b.last c.in-Ended.is more).0 (lines_are g f p read)),
+    )
 
-pub returns-in-Ended-clause-writes : goal.returns-in-Ended-clause-writes
-returns-in-Ended-clause-writes g c = λ p w read e.
-    let f : After-feed g = (goal.at-returns-in-Ended-clause-writes g c).After-feed in
-    let b = event g f p read c.in-Ok.answer.0 c.in-Ok.answer.1 (λ m. let is_end = c.in-Ended.is in cc) c.in-Ok.ensures.answers in
-    let put = put_event g f p read w e _ _ b c.in-Ok.ensures.settings c.in-Ok.ensures.stands (λ event v v'. v' ≡ v ++ event_line event) (g.O.Sink.written c.put_event.new.output) c.in_ok-put_event-in-Ended.ensures.written in
-    (put.0, put.1, λ more. put_behind w put.0 _ (event_line b.event) _ put.2 (b.last c.in-Ended.is more).0)
-
-pub returns-in_err-put_event-in-Ended-clause-writes : goal.returns-in_err-put_event-in-Ended-clause-writes
-returns-in_err-put_event-in-Ended-clause-writes g c = λ p w read e.
-    let f : After-feed g = (goal.at-returns-in_err-put_event-in-Ended-clause-writes g c).After-feed in
-    let b = event g f p read c.in-Ok.answer.0 c.in-Ok.answer.1 (λ m. let is_end = c.in-Ended.is in cc) c.in-Ok.ensures.answers in
-    let put = put_event g f p read w e _ _ b c.in-Ok.ensures.settings c.in-Ok.ensures.stands (λ event v v'. GrowsByPrefix v v' (event_line event)) (g.O.Sink.written c.put_event.new.output) c.in_err-put_event-in-Ended.ensures.refused in
-    let r = err_from_is_err_and c.from_residual-in_err-put_event-in-Ended.result c.from_residual-in_err-put_event-in-Ended.ensures.1 in
-    rw r.1 (put.0, put.1, λ more. cut_behind w put.0 _ (event_line b.event) _ put.2 (b.last c.in-Ended.is more).0)
+pub returns-in-Ended-clause-reads : goal.returns-in-Ended-clause-reads
+returns-in-Ended-clause-reads g c = λ p read.
+    let f : After-feed g = (goal.at-returns-in-Ended-clause-reads g c).After-feed in
+    let b = event g f p read c.in-Ok.answer.0 c.in-Ok.answer.1 (λ m. let is_end = c.in-Ended.is in cc) c.in-Ok.ensures.answers in (
+      lines g f p read ++ event_line b.event,
+      line_put g f p read _ _ b c.in-Ok.ensures.settings c.in-Ok.ensures.stands _ _ _ _ _ (λ a event at here is. c.in_ok-put_line-in-Ended.ensures a event at here (sym c.in-Ended.is ∙ is)),
+      λ more. ((b.last c.in-Ended.is more).1, joined _ _ _ (lines g f p read) (event_line b.event) (b.last c.in-Ended.is more).0 (lines_are g f p read)),
+    )
 
 -- an event
-pub returns-in_err-put_event-in_default-clause-writes : goal.returns-in_err-put_event-in_default-clause-writes
-returns-in_err-put_event-in_default-clause-writes g c = λ p w read e.
-    let f : After-feed g = (goal.at-returns-in_err-put_event-in_default-clause-writes g c).After-feed in
+pub returns-in_err-put_line-in_default-clause-reads : goal.returns-in_err-put_line-in_default-clause-reads
+returns-in_err-put_line-in_default-clause-reads g c = λ p read.
+    let f : After-feed g = (goal.at-returns-in_err-put_line-in_default-clause-reads g c).After-feed in
     let b = event g f p read c.in-Ok.answer.0 c.in-Ok.answer.1 c.in_default.not-More c.in-Ok.ensures.answers in
-    let put = put_event g f p read w e _ _ b c.in-Ok.ensures.settings c.in-Ok.ensures.stands (λ event v v'. GrowsByPrefix v v' (event_line event)) (g.O.Sink.written c.put_event-in_default.new.output) c.in_err-put_event-in_default.ensures.refused in
-    let r = err_from_is_err_and c.from_residual-in_err-put_event-in_default.result c.from_residual-in_err-put_event-in_default.ensures.1 in
-    rw r.1 (put.0, put.1, λ more. b.cut c.in_default.not-Ended w put.0 more put.2)
+    let r = err_from_is_err_and c.from_residual-in_err-put_line-in_default.result c.from_residual-in_err-put_line-in_default.ensures.1 in
+    rw (r.1, r.2) (
+      lines g f p read ++ event_line b.event,
+      line_put g f p read _ _ b c.in-Ok.ensures.settings c.in-Ok.ensures.stands _ _ _ _ _ c.in_err-put_line-in_default.ensures,
+      due_behind (x g f p read) (p ++ piece g f p read) (event_lines (x g f p read) p) (lines g f p read) (event_line b.event) _ (lines_are g f p read) (b.due c.in_default.not-Ended),
+    )
 
 pub loop-answer-smaller : goal.loop-answer-smaller
 loop-answer-smaller g c =
@@ -125,57 +163,25 @@ loop-answer-smaller g c =
 pub loop-answer-preserved : goal.loop-answer-preserved
 loop-answer-preserved g c =
     let f : After-feed g = (goal.at-loop-answer-preserved g c).After-feed in
-    let s : Settings = g.E.ReadingEnd.settings c.args.end.now in
     let n : ℕ = c.in-Ok.answer.0 in
-    let inv = c.loop-answer.invariant in
-    let read_event : (p : List ℕ) → HasRead (g.E.ReadingEnd.stands c.args.end.now) s p → ReadsEvent s p c.args.piece.now c.loop-answer.used n c.in-Ok.answer.1
+    let read_on : (p : List ℕ) → HasRead (g.E.ReadingEnd.stands c.args.end.now) (g.E.ReadingEnd.settings c.args.end.now) p → ReadsEvent (g.E.ReadingEnd.settings c.args.end.now) p c.args.piece.now c.loop-answer.used n c.in-Ok.answer.1
     = λ p read. event g f p read n c.in-Ok.answer.1 c.in_default.not-More c.in-Ok.ensures.answers in
+    let first = read_on c.requires.going.0 c.requires.going.1 in
     record {
-      within = let b = read_event c.requires.going.0 c.requires.going.1 in omega (arith, b.within, rest_length c.args.piece.now c.loop-answer.used, inv.within);
-      settings = c.in-Ok.ensures.settings ∙ inv.settings;
-      faults = c.in_ok-put_event-in_default.ensures.counted.same (λ e. cc) ∙ inv.faults;
-      grows = grows_further (g.O.Sink.written c.args.output.now) (g.O.Sink.written c.loop-answer.output) (g.O.Sink.written c.put_event-in_default.new.output) inv.grows c.in_ok-put_event-in_default.ensures.grows;
+      within = omega (arith, first.within, rest_length c.args.piece.now c.loop-answer.used, c.loop-answer.invariant.within);
+      settings = c.hand_back.ensures.settings ∙ c.in-Ok.ensures.settings ∙ c.loop-answer.invariant.settings;
       reads = λ p read.
-          let b = read_event p read in
-          let next = further s p c.args.piece.now c.loop-answer.used n b.within in
-          record {
-            stands_for = subst (g.E.ReadingEnd.stands c.feed.new.self) next (c.in-Ok.ensures.stands _ (so_far g f p read).stands_for);
-            on = subst (IsOpenAt (stream s)) next (b.stays_open c.in_default.not-Ended);
-          };
-      writes = λ p w read e.
-          let b = read_event p read in
-          let put = put_event g f p read w e n c.in-Ok.answer.1 b c.in-Ok.ensures.settings c.in-Ok.ensures.stands (λ event v v'. v' ≡ v ++ event_line event) (g.O.Sink.written c.put_event-in_default.new.output) c.in_ok-put_event-in_default.ensures.written in
-          put.1 ∙ ap Some (put_behind w put.0 _ (event_line b.event) _ put.2 b.lines ∙ ap (λ l. w ++ event_lines s l) (further s p c.args.piece.now c.loop-answer.used n b.within));
+          let b = read_on p read in
+          let h = so_far g f p read in
+          let on : (q g f p read) ++ take n (rest g f p read) ≡ p ++ take (c.loop-answer.used + n) c.args.piece.now = further (x g f p read) p (piece g f p read) (used g f p read) n b.within in
+          subst
+          (λ (a : List ℕ). HasRead (g.E.ReadingEnd.stands c.hand_back.new.self) (g.E.ReadingEnd.settings c.args.end.now) a × (lines : List ℕ) × (event_lines (g.E.ReadingEnd.settings c.args.end.now) a ≡ event_lines (g.E.ReadingEnd.settings c.args.end.now) p ++ lines)
+          × PutsAll lines (Ok tt) (g.O.Sink.written c.args.output.now) (g.O.Sink.written c.put_line-in_default.new.output) (g.O.Sink.held c.args.output.now) (g.O.Sink.held c.put_line-in_default.new.output)
+          (g.O.Sink.faults c.args.output.now) (g.O.Sink.faults c.put_line-in_default.new.output) (g.O.Sink.may_want c.args.output.now) (g.O.Sink.may_want c.put_line-in_default.new.output))
+          on (
+            record { stands_for = c.hand_back.ensures.stands _ (c.in-Ok.ensures.stands _ h.stands_for); on = b.stays_open c.in_default.not-Ended },
+            lines g f p read ++ event_line b.event,
+            joined _ _ _ (lines g f p read) (event_line b.event) b.lines (lines_are g f p read),
+            line_put g f p read _ _ b c.in-Ok.ensures.settings c.in-Ok.ensures.stands _ _ _ _ _ c.in_ok-put_line-in_default.ensures,
+          );
     }
-
--- an offence
-pub returns-in-Err-clause-says : goal.returns-in-Err-clause-says
-returns-in-Err-clause-says g c = λ p read more.
-    let f : After-feed g = (goal.at-returns-in-Err-clause-says g c).After-feed in
-    (offence_read (x g f p read) p c.args.piece.now c.loop-answer.used (set g f p read) (so_far g f p read).on c.in-Err.offence (told g f p read (Err c.in-Err.offence) c.in-Err.ensures.answers) more).1
-
-pub returns-in-Err-clause-writes : goal.returns-in-Err-clause-writes
-returns-in-Err-clause-writes g c = λ p w read e.
-    let f : After-feed g = (goal.at-returns-in-Err-clause-writes g c).After-feed in
-    let line : List ℕ = offence_line c.in-Err.offence in
-    let put = put g f p read w e (λ v v'. v' ≡ v ++ line) (g.O.Sink.written c.put_line.new.output) (c.in_ok-put_line-in-Err.ensures.written line c.offence_line.ensures) in (
-      put.0,
-      put.1,
-      λ more.
-          put_behind w put.0 _ line _ put.2
-          (offence_read (x g f p read) p c.args.piece.now c.loop-answer.used (set g f p read) (so_far g f p read).on c.in-Err.offence (told g f p read (Err c.in-Err.offence) c.in-Err.ensures.answers) more).0,
-    )
-
-pub returns-in_err-put_line-in-Err-clause-writes : goal.returns-in_err-put_line-in-Err-clause-writes
-returns-in_err-put_line-in-Err-clause-writes g c = λ p w read e.
-    let f : After-feed g = (goal.at-returns-in_err-put_line-in-Err-clause-writes g c).After-feed in
-    let line : List ℕ = offence_line c.in-Err.offence in
-    let put = put g f p read w e (λ v v'. GrowsByPrefix v v' line) (g.O.Sink.written c.put_line.new.output) (c.in_err-put_line-in-Err.ensures.refused line c.offence_line.ensures) in
-    let r = err_from_is_err_and c.from_residual.result c.from_residual.ensures.1 in
-    rw r.1 (
-      put.0,
-      put.1,
-      λ more.
-          cut_behind w put.0 _ line _ put.2
-          (offence_read (x g f p read) p c.args.piece.now c.loop-answer.used (set g f p read) (so_far g f p read).on c.in-Err.offence (told g f p read (Err c.in-Err.offence) c.in-Err.ensures.answers) more).0,
-    )

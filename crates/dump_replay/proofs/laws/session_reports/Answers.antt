@@ -1,12 +1,13 @@
-use Rattle.std.proofs.Common.{◌≡◌, ◌++◌, length}
-use Rattle.dump_replay.specs.Stream.{Settings}
-use Rattle.dump_replay.specs.Sessions.{IsSession}
-use Rattle.dump_replay.specs.Report.{report, session_report}
-use Rattle.dump_replay.proofs.Initiators.{by_set}
-use Rattle.dump_replay.proofs.FromSession.{session_lines}
+use Rattle.std.proofs.Common.{length, ap, ◌∙◌}
+use Rattle.std.proofs.lemmas.List.{append-nil}
+use Rattle.std.specs.List.{flat_map}
+use Rattle.stream_reader.specs.Events.{session_events}
+use Rattle.stream_reader.proofs.Closed.{sessions_are_told}
+use Rattle.dump_replay.specs.Report.{event_line, history_lines, report}
 use Rattle.dump_replay.proofs.laws.session_reports.Goals as goal
 
 pub returns : goal.returns
-returns c = λ x set via kind payloads session rest.
-    by_set (λ (s : Settings). IsSession s via kind payloads session → report s (session ++ rest) ≡ session_report via kind payloads (length session))
-    (λ l. session_lines l via kind payloads session rest) x set
+unfolding report
+returns c = λ x set via kind carried session rest is.
+    ap history_lines (sessions_are_told x set via kind carried session rest is)
+    ∙ append-nil (flat_map event_line (session_events via kind carried (length session)))

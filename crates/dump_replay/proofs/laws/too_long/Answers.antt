@@ -1,6 +1,0 @@
-use Rattle.dump_replay.proofs.Reasons.{too_long_is}
-use Rattle.dump_replay.proofs.ReasonsOfStreams.{too_long_at_quota}
-use Rattle.dump_replay.proofs.laws.too_long.Goals as goal
-
-pub returns : goal.returns
-returns c = record { by_length = too_long_is; at_quota = too_long_at_quota }
