@@ -1,0 +1,10 @@
+pub mod ClapFacts
+pub mod LawFacts
+pub mod NumberFacts
+pub mod OptionFacts
+pub mod ParsedFacts
+pub mod ReadingFacts
+pub mod RuleFacts
+pub mod StepFacts
+pub mod WalkFacts
+pub mod WordFacts

@@ -1,0 +1,9 @@
+-- What holds of words by their definitions alone.
+use Rattle.std.specs.Prelude.{◌≡◌, List}
+use Rattle.command_words.specs.Options.{Text}
+use Rattle.command_words.specs.Requests.{Asked, IsRequest}
+
+-- words are of one request at most
+abbrev pub AskForOne : Type 0
+AskForOne = (words : List Text) (one other : Asked) → IsRequest words one → IsRequest words other
+    → one ≡ other
