@@ -1,12 +1,11 @@
 -- What a parse of clap tells of the words.
-use Rattle.std.proofs.Common.{◌≡◌, ◌⊎◌, ◌∙◌, true, false, List, [], map, Option, Result, Ok, Err, refl, subst, sym, ap, ap₂, inl, inr}
-use Rattle.std.specs.Prelude.{IsTrue}
+use Rattle.std.proofs.Common.{◌≡◌, ◌∙◌, true, false, List, [], refl, subst, sym, ap, ap₂, inl, inr}
 use Rattle.std.specs.List.{AllByRecursion}
-use Rattle.clap.specs.Kinds.{FailsBy, HasKind, or_else}
+use Rattle.clap.specs.Kinds.{HasKind, or_else}
 use Rattle.clap.specs.Matches.{found_of}
 use Rattle.clap.specs.Walk.{first_of, nothing_held, rows_after}
 use Rattle.clap.specs.Simple.{App, HasMatchesOf, argument_words, is_simple, matches_of, names_of}
-use Rattle.clap.specs.Faults.{built_fault, check_fault, defaults_fault, fault_of, is_simple_and_free, level_fault, settle_fault, walk_fault}
+use Rattle.clap.specs.Faults.{built_fault, fault_of, is_simple_and_free, settle_fault, walk_fault}
 use Rattle.clap.specs.declared.parser.matches.ArgMatches.{ArgMatches}
 use Rattle.clap.proofs.FaultLemmas.{leaf_fault}
 use Rattle.clap.proofs.WalkLemmas.{both, first_value-rows}
@@ -19,9 +18,9 @@ use Rattle.command_words.specs.Options.{Given, IsOnce, Spells, Text, text_of, va
 use Rattle.command_words.specs.Commands.{options_of, word_of}
 use Rattle.command_words.specs.Reading.{HasFound, IsReadable, app_for, app_with, found_values}
 use Rattle.command_words.specs.Requests.{GiveOptions}
-use Rattle.command_words.proofs.OptionFacts.{IsNew, new-from_once, once-from_new}
-use Rattle.command_words.proofs.ReadingFacts.{Passes, Told, are_known, held_behind, reading-complete, reading-sound, rows_behind}
-use Rattle.command_words.proofs.RuleFacts.{app_with-is, built-app_with, built_app, check-none, defaults-none, first_of-given, is_simple_and_free-app_with, row_for, rules, shape, with_default-none}
+use Rattle.command_words.proofs.OptionFacts.{new-from_once, once-from_new}
+use Rattle.command_words.proofs.ReadingFacts.{Passes, are_known, held_behind, reading-complete, reading-sound, rows_behind}
+use Rattle.command_words.proofs.RuleFacts.{app_with-is, built-app_with, built_app, check-none, defaults-none, first_of-given, is_simple_and_free-app_with, rules, shape, with_default-none}
 use Rattle.command_words.proofs.WalkFacts.{or_else-empty, or_else-nil, resting, walk_at}
 
 module _ (name : Text) (options : List OptionName) (words : List Text) where
@@ -54,14 +53,13 @@ module _ (name : Text) (options : List OptionName) (words : List Text) where
       × ((option : OptionName) → found_values matches option ≡ value_of given option)
   parse-takes matches readable none has =
       let told = reading-sound name options words [] resting tt readable (passes-from_fault none) in
-      let simple = (both (is_simple (app_with name options)) _ (is_simple_and_free-app_with name options)).0 in
-      (
+      let simple = (both (is_simple (app_with name options)) _ (is_simple_and_free-app_with name options)).0 in (
         told.given,
         told.spelled,
         told.known,
         once-from_new told.given told.new,
         λ option. first_value-rows (found_of matches) (text_of option)
-        ∙ ap (first_of (text_of option)) ((has simple).0 ∙ matches_of-is ∙ told.leads) ∙ first_of-given told.given option,
+            ∙ ap (first_of (text_of option)) ((has simple).0 ∙ matches_of-is ∙ told.leads) ∙ first_of-given told.given option,
       )
 
   -- words that spell options, none of them twice, have no fault

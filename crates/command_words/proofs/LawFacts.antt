@@ -1,17 +1,22 @@
 -- Words are of one request at most.
-use Rattle.std.proofs.Common.{◌≡◌, ◌∙◌, ◌⊎◌, ◌<◌, ◌^◌, ℕ, Bool, true, false, List, [], ◌∷◌, ◌++◌, Option, Some, None, refl, sym, ap, ap₂, subst, inl, inr, codes, arith}
-use Rattle.std.specs.Prelude.{if◌then◌else◌}
+use Rattle.std.proofs.Common.{◌≡◌, ◌≢◌, ◌∙◌, ◌⊎◌, ◌<◌, ◌^◌, ℕ, zero, suc, length, slice_index_or, List, [], ◌∷◌, ◌++◌, Option, Some, None, refl, sym, ap, ap₂, subst, inl, inr, codes, arith}
+use Rattle.std.specs.Prelude.{All, if◌then◌else◌}
+use Rattle.std.specs.Fmt.{decimal}
 use Rattle.std.specs.Str.{bytes_eq}
+use Rattle.std.proofs.lemmas.Bool.{cases_Bool}
+use Rattle.std.proofs.lemmas.Fmt.{decimal_is_IsNumeral}
+use Rattle.std.proofs.lemmas.List.{get_or_default}
 use Rattle.clap.specs.Lexer.{long_of}
-use Rattle.nbfx_values.specs.Limits.{IsGood, Limits, limits, usual_limits}
+use Rattle.nbfx_values.specs.Limits.{Limits, limits, usual_limits}
 use Rattle.command_words.specs.declared.action.Action.{Action}
 use Rattle.command_words.specs.declared.action.Action.TheVariants.{Check, Dump}
 use Rattle.command_words.specs.declared.option_name.OptionName.{OptionName}
+use Rattle.command_words.specs.declared.option_name.OptionName.TheVariants.{Static, Payload, Depth, Dictionary, Content, Session}
 use Rattle.command_words.specs.Commands.{word_of}
-use Rattle.command_words.specs.Options.{BeginsApart, BeginsJoined, Given, Spells, Text, dashed, text_of, value_of}
-use Rattle.command_words.specs.Requests.{AreLimits, AskToRead, Asked, IsRequest}
+use Rattle.command_words.specs.Options.{BeginsApart, BeginsJoined, Given, IsOnce, Spells, Text, dashed, is_option, text_of, value_of}
+use Rattle.command_words.specs.Requests.{AskToRead, Asked, IsNumber, IsRequest, usual_content}
 use Rattle.command_words.proofs.NumberFacts.{limits-same}
-use Rattle.command_words.proofs.OptionFacts.{text_of-injective}
+use Rattle.command_words.proofs.OptionFacts.{is_option-same, same-is_option, text_of-injective}
 use Rattle.command_words.proofs.WordFacts.{long_of-dashed, long_of-joined}
 
 -- ---- options
@@ -90,13 +95,12 @@ ask-one : (value : OptionName → Option Text) (one other : Text) (first second 
 ask-one value one other first second asks asks_other =
     let same : Some one ≡ Some other = sym asks.named ∙ asks_other.named in
     let n = asks.numbers in
-    let g = asks.good in
-    (
+    let g = asks.good in (
       cc same,
       ap (λ via. limits first.payload first.depth first.dictionary first.content via first.session) n.via
-      ∙ limits-same value second first.payload first.depth first.dictionary first.content first.session asks_other.numbers asks_other.good
-      (omega (arith, g.payload_most)) (omega (arith, g.depth_most)) (omega (arith, g.dictionary_most, g.payload_most)) (omega (arith, g.content_most))
-      (omega (arith, g.session_most)) n.payload n.depth n.dictionary n.content n.session,
+          ∙ limits-same value second first.payload first.depth first.dictionary first.content first.session asks_other.numbers asks_other.good
+          (omega (arith, g.payload_most)) (omega (arith, g.depth_most)) (omega (arith, g.dictionary_most, g.payload_most)) (omega (arith, g.content_most))
+          (omega (arith, g.session_most)) n.payload n.depth n.dictionary n.content n.session,
     )
 
 -- the command that has a word
@@ -120,3 +124,48 @@ request-one words one other is is_other =
     let rest = ask-one (value_of is_other.given) one.statics other.statics one.limits other.limits
     (subst (λ g. AskToRead (value_of g) one.statics one.limits) given is.meant) is_other.meant in
     λ i. record { action = action i; statics = rest.0 i; limits = rest.1 i }
+
+-- ---- values
+
+-- the value of an option that is given once
+value_of-given : (given : List Given) (k : ℕ) (one : Given) → IsOnce given → k < length given → slice_index_or given k one ≡ one → value_of given one.0 ≡ Some one.1
+value_of-given [] k one once lt at = absurd (omega arith)
+value_of-given (first ∷ given) zero one once lt at = rw (ap (λ (g : Given). g.0) at, is_option-same one.0) (ap (λ (g : Given). Some g.1) at)
+value_of-given (first ∷ given) (suc k) one once lt at =
+    let behind = value_of-given given k one once.1 (omega arith) at in
+    elim (cases_Bool (is_option first.0 one.0)) [
+      | inl same ↦
+          let is : first.0 ≡ one.0 = same-is_option first.0 one.0 same in
+          absurd (none≢some one.1 (sym once.0 ∙ ap (value_of given) is ∙ behind))
+      | inr other ↦ rw other behind
+    ]
+
+number-some : (text : Text) (usual n : ℕ) → n < 2 ^ 64 → IsNumber (Some text) usual n → text ≢ []
+number-some text usual n small is empty =
+    let some = (decimal_is_IsNumeral n small).0.0 in
+    let none : 0 < length (decimal n) = some in
+    absurd (subst (λ t. 0 < length t → ⊥) (sym empty ∙ is) (λ lt. omega arith) none)
+
+-- a value that is asked for isn't empty
+value-some : (value : OptionName → Option Text) (statics : Text) (l : Limits) → AskToRead value statics l → (option : OptionName) (text : Text) → value option ≡ Some text → text ≢ []
+value-some value statics l asks Static text is empty =
+    let named : Some statics ≡ Some text = sym asks.named ∙ is in
+    let same : statics ≡ text = cc named in
+    asks.not_empty (same ∙ empty)
+value-some value statics l asks Payload text is empty =
+    number-some text usual_limits.payload l.payload (omega (arith, asks.good.payload_most)) (subst (λ v. IsNumber v usual_limits.payload l.payload) is asks.numbers.payload) empty
+value-some value statics l asks Depth text is empty =
+    number-some text usual_limits.depth l.depth (omega (arith, asks.good.depth_most)) (subst (λ v. IsNumber v usual_limits.depth l.depth) is asks.numbers.depth) empty
+value-some value statics l asks Dictionary text is empty =
+    number-some text usual_limits.dictionary l.dictionary (omega (arith, asks.good.dictionary_most, asks.good.payload_most))
+    (subst (λ v. IsNumber v usual_limits.dictionary l.dictionary) is asks.numbers.dictionary) empty
+value-some value statics l asks Content text is empty =
+    number-some text (usual_content l.payload) l.content (omega (arith, asks.good.content_most)) (subst (λ v. IsNumber v (usual_content l.payload) l.content) is asks.numbers.content) empty
+value-some value statics l asks Session text is empty =
+    number-some text usual_limits.session l.session (omega (arith, asks.good.session_most)) (subst (λ v. IsNumber v usual_limits.session l.session) is asks.numbers.session) empty
+
+pub request-values : (words : List Text) (asked : Asked) (request : IsRequest words asked) → All (λ given. given.1 ≢ []) request.given
+request-values words asked request k d lt =
+    let one = slice_index_or request.given k d in
+    let at : slice_index_or request.given k one ≡ one = get_or_default request.given k one d lt in
+    value-some (value_of request.given) asked.statics asked.limits request.meant one.0 one.1 (value_of-given request.given k one request.gives.once lt at)

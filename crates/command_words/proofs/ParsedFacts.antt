@@ -1,5 +1,5 @@
 -- Words that may be given to clap, and what it makes of them.
-use Rattle.std.proofs.Common.{◌≡◌, ◌⊎◌, ◌∙◌, ◌<◌, ℕ, zero, suc, true, false, List, [], ◌∷◌, ◌++◌, ◌+◌, ◌-◌, ◌≤◌, drop, length, map, take, Option, Some, None, String, refl, sym, ap, subst, inl, inr, codes, arith, slice_index_or, string_bytes}
+use Rattle.std.proofs.Common.{◌≡◌, ◌∙◌, ◌<◌, ℕ, zero, suc, false, List, [], ◌∷◌, ◌++◌, ◌+◌, ◌-◌, ◌≤◌, drop, length, map, take, Option, Some, String, sym, ap, subst, inl, inr, codes, arith, slice_index_or, string_bytes}
 use Rattle.std.specs.Prelude.{All, Any}
 use Rattle.std.specs.List.{AllByRecursion}
 use Rattle.clap.specs.Lexer.{long_of}
@@ -8,8 +8,9 @@ use Rattle.std.proofs.lemmas.Bool.{cases_lt}
 use Rattle.std.proofs.lemmas.List.{get_or_default, take_all}
 use Rattle.clap.specs.declared.parser.matches.ArgMatches.{ArgMatches}
 use Rattle.command_words.specs.declared.action.Action.{Action}
+use Rattle.command_words.specs.declared.words.WordsFault.TheVariants.{Memory, NotUnderstood}
 use Rattle.command_words.specs.Commands.{word_of}
-use Rattle.command_words.specs.Options.{BeginsApart, BeginsJoined, Given, Spells, Text, begins_with_hyphen, dashed, value_of}
+use Rattle.command_words.specs.Options.{Given, Spells, Text, begins_with_hyphen, dashed, value_of}
 use Rattle.command_words.specs.Reading.{HasFound, IsBare, IsReadable, found_values}
 use Rattle.command_words.specs.Requests.{AskToRead, Asked, IsRequest}
 use Rattle.command_words.proofs.LawFacts.{spells-one}
@@ -61,6 +62,9 @@ spelled-not_bare (one ∷ given) words (rest, inr is, spelled) =
 -- words among which one is bare spell no options
 pub bare-refused : {A : Type 0} (words : List (String A)) (given : List Given) → Any (λ word. IsBare (string_bytes word)) words → Spells (map string_bytes words) given → ⊥
 bare-refused words given (k, word, lt, at, bare) spelled = none-of words k word lt at bare (spelled-not_bare given (map string_bytes words) spelled)
+
+pub memory≢not_understood : Memory ≡ NotUnderstood → ⊥
+memory≢not_understood e = cc e
 
 -- ---- the command and its options
 

@@ -1,5 +1,5 @@
 -- The options that clap takes are those that the words spell, none of them twice.
-use Rattle.std.proofs.Common.{◌≡◌, ◌⊎◌, ◌∙◌, ℕ, Bool, true, false, ◌&&◌, List, [], ◌∷◌, ◌++◌, map, Option, Some, None, refl, sym, ap, subst, inl, inr, append-nil, append_assoc, codes}
+use Rattle.std.proofs.Common.{◌≡◌, ◌⊎◌, ◌∙◌, Bool, true, false, List, [], ◌∷◌, ◌++◌, map, Option, Some, None, refl, sym, ap, subst, inl, inr, append-nil, append_assoc, codes}
 use Rattle.std.specs.Prelude.{IsUtf8, fold}
 use Rattle.std.specs.List.{AllByRecursion, list_all, list_any}
 use Rattle.std.specs.Str.{bytes_eq}
@@ -15,8 +15,8 @@ use Rattle.command_words.specs.Reading.{IsReadable}
 use Rattle.command_words.proofs.OptionFacts.{IsNew, IsNew-cons, IsNew-head, IsNew-nil, IsNew-tail}
 use Rattle.command_words.proofs.RuleFacts.{arg_by_long-is, row_for, rules, shape}
 use Rattle.command_words.proofs.StepFacts.{joined-passes, joined-tells, joined-walks, named-fault, named-walks, plain-refused, plain-refused_behind, short-refused, unknown-refused, value-passes, value-walks}
-use Rattle.command_words.proofs.WalkFacts.{Fits, Rests, State, held_at, holding, naming, or_else-empty, pending_of, resting, rests-settle, settle-rests, settled_rows-whole, walk_at, whole}
-use Rattle.command_words.proofs.WordFacts.{IsLong, Look, first_flag, long, long_of-dashed, long_of-joined, look, plain, plain-looks, short}
+use Rattle.command_words.proofs.WalkFacts.{Fits, Rests, State, holding, naming, or_else-empty, resting, rests-settle, settle-rests, settled_rows-whole, walk_at, whole}
+use Rattle.command_words.proofs.WordFacts.{IsLong, first_flag, long, long_of-dashed, long_of-joined, look, plain, plain-looks, short}
 
 -- each option that is given is known
 abbrev pub are_known : List OptionName → List Given → Bool

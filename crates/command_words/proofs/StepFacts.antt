@@ -1,15 +1,15 @@
 -- What clap makes of one word more.
-use Rattle.std.proofs.Common.{◌≡◌, ◌⊎◌, ◌∙◌, ◌<◌, ℕ, zero, suc, Bool, true, false, ◌&&◌, List, [], ◌∷◌, ◌++◌, map, length, Option, Some, None, refl, sym, ap, inl, inr, arith, codes}
-use Rattle.std.specs.Prelude.{is_some, slice_get}
+use Rattle.std.proofs.Common.{◌≡◌, ◌∙◌, ◌<◌, ℕ, true, false, List, [], ◌∷◌, ◌++◌, map, length, Option, Some, None, refl, sym, ap, inl, inr, arith, codes}
+use Rattle.std.specs.Prelude.{slice_get}
 use Rattle.std.specs.List.{list_any}
 use Rattle.std.specs.Str.{bytes_eq, chars}
 use Rattle.std.proofs.lemmas.Bool.{cases_Bool}
-use Rattle.clap.specs.Kinds.{Kinds, or_else}
+use Rattle.clap.specs.Kinds.{or_else}
 use Rattle.clap.specs.Lexer.{long_of, short_of}
-use Rattle.clap.specs.Walk.{Held, Row, Waiting, Walk, arg_by_index, arg_by_long, arg_by_short, has_row, idle, option, positional, settled_rows, subcommand_met, used, walked}
+use Rattle.clap.specs.Walk.{Held, Waiting, arg_by_long, has_row, idle, option, positional, settled_rows, subcommand_met, used, walked}
 use Rattle.clap.specs.Faults.{flags_fault, settle_fault, turn_fault, use_fault}
 use Rattle.command_words.specs.declared.option_name.OptionName.{OptionName}
-use Rattle.command_words.specs.Options.{Given, Text, begins_with_hyphen, is_option, text_of, value_of}
+use Rattle.command_words.specs.Options.{Given, Text, is_option, text_of, value_of}
 use Rattle.command_words.proofs.OptionFacts.{bytes_eq-same}
 use Rattle.command_words.proofs.RuleFacts.{arg_by_id-known, arg_by_index-none, arg_by_long-known, arg_by_short-none, built_rule, has_row-given, row_for, rules, shape, used-new}
 use Rattle.command_words.proofs.WalkFacts.{Fits, Rests, State, held_at, held_with, holding, missing_row, naming, none-from_is_some, or_else-empty, or_else-nil, pending_of, resting, rests-settle, settle-rests, settled_rows-whole, waiting_of, walk_at, walk_with, whole}

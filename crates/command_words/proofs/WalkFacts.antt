@@ -1,20 +1,14 @@
 -- How clap goes over the words of options.
-use Rattle.std.proofs.Common.{◌≡◌, ◌⊎◌, ◌∙◌, ◌<◌, ℕ, zero, suc, Bool, true, false, ◌&&◌, List, [], ◌∷◌, ◌++◌, map, length, Option, Some, None, refl, sym, ap, inl, inr, arith, codes}
-use Rattle.std.specs.Prelude.{is_some, slice_get}
+use Rattle.std.proofs.Common.{◌≡◌, ◌∙◌, true, false, List, [], ◌∷◌, ◌++◌, map, Option, Some, None, refl, sym, ap, inl, inr}
+use Rattle.std.specs.Prelude.{is_some}
 use Rattle.std.specs.List.{list_any}
-use Rattle.std.specs.Str.{bytes_eq, chars}
 use Rattle.std.proofs.lemmas.Bool.{cases_Bool}
 use Rattle.clap.specs.Kinds.{Kinds, or_else}
-use Rattle.clap.specs.Lexer.{long_of, short_of}
-use Rattle.clap.specs.Walk.{Held, Row, Waiting, Walk, arg_by_id, arg_by_index, arg_by_long, arg_by_short, has_row, idle, option, positional, settled_rows, subcommand_met, walked}
-use Rattle.clap.specs.Simple.{Shape}
-use Rattle.clap.specs.Faults.{flags_fault, settle_fault, turn_fault}
-use Rattle.clap.specs.declared.error.kind.ErrorKind.{ErrorKind}
+use Rattle.clap.specs.Walk.{Held, Row, Waiting, Walk, has_row, idle, option, settled_rows}
+use Rattle.clap.specs.Faults.{settle_fault}
 use Rattle.command_words.specs.declared.option_name.OptionName.{OptionName}
 use Rattle.command_words.specs.Options.{Given, Text, begins_with_hyphen, is_option, text_of, value_of}
-use Rattle.command_words.proofs.OptionFacts.{bytes_eq-same}
-use Rattle.command_words.proofs.RuleFacts.{arg_by_id-known, arg_by_index-none, arg_by_long-known, arg_by_short-none, built_rule, has_row-given, row_for, rules, shape, used-new}
-use Rattle.command_words.proofs.WordFacts.{long-not_bare}
+use Rattle.command_words.proofs.RuleFacts.{arg_by_id-known, has_row-given, row_for, rules, used-new}
 
 -- ---- kinds of errors
 

@@ -1,6 +1,7 @@
 // The options of a command, as clap reads them.
-ghost use Rattle.std.specs.Prelude.{◌↔◌, All, Any, IfOk, IsErrOf, IsTrue, List, map, string_bytes};
+ghost use Rattle.std.specs.Prelude.{◌≡◌, ◌↔◌, All, Any, IfOk, IsErrOf, IsTrue, List, map, string_bytes};
 ghost use Rattle.std.specs.Bool.{OnFalse, OnTrue};
+ghost use Rattle.clap.specs.Values.{kind_of};
 ghost use Rattle.command_words.specs.Options.{Given};
 ghost use Rattle.command_words.specs.Reading.{HasFound, IsBare, IsReadable};
 ghost use Rattle.command_words.specs.Requests.{GiveOptions};
@@ -8,8 +9,8 @@ ghost use Rattle.command_words.specs.Requests.{GiveOptions};
 use crate::action::Action;
 use crate::described::described;
 use crate::words::WordsFault;
-use clap::ArgMatches;
 use clap::error::ErrorKind;
+use clap::{ArgMatches, Error};
 use std::alloc::Global;
 
 // Whether a word is a hyphen or two alone, of which clap has a use of its own.
@@ -32,6 +33,16 @@ fn are_readable(words: &[String]) -> bool
     true
 }
 
+// What an error of clap means.
+fn fault_of(error: &Error) -> WordsFault
+    ensures { (result ≡ WordsFault.Memory) ↔ (kind_of error.now ≡ ErrorKind.OutOfMemory) }
+{
+    match error.kind() {
+        ErrorKind::OutOfMemory => WordsFault::Memory,
+        _ => WordsFault::NotUnderstood,
+    }
+}
+
 /// The options of a command, with their values.
 pub fn parsed<'w>(
     alloc: Global,
@@ -50,7 +61,6 @@ pub fn parsed<'w>(
     };
     match command.try_get_matches_from(words) {
         Ok(matches) => Ok(matches),
-        Err(error) if error.kind() == ErrorKind::OutOfMemory => Err(WordsFault::Memory),
-        Err(_) => Err(WordsFault::NotUnderstood),
+        Err(error) => Err(fault_of(&error)),
     }
 }

@@ -207,3 +207,26 @@ fn usual_contents(rt: HostRuntime) -> Result<(), Fail> {
     }
     Ok(())
 }
+
+// Wherever one allocation fails, the answer is want of memory or as with ample memory.
+#[test]
+fn with_little_memory(rt: HostRuntime) {
+    let alloc = rt.alloc();
+    for (texts, is_taken) in [
+        (["nettcp", "check", "--static", "a", "--depth=8"], true),
+        (["nettcp", "dump", "--depth=8", "--static", "a"], true),
+        (["nettcp", "dump", "--depth=8", "--static", "-a"], false),
+        (["nettcp", "check", "--static=a", "--static", "a"], false),
+        (["nettcp", "check", "--static=a", "--depth", "3"], false),
+        (["nettcp", "check", "--help", "--static", "a"], false),
+    ] {
+        let Ok(words) = words_of(alloc, texts.as_slice()) else {
+            continue;
+        };
+        match read(alloc, words.as_slice()) {
+            Ok(request) => assert!(rt; is_taken && request.quotas.depth == 8),
+            Err(WordsFault::NotUnderstood) => assert!(rt; !is_taken),
+            Err(WordsFault::Memory) => (),
+        }
+    }
+}

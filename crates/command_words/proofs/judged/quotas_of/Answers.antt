@@ -2,7 +2,7 @@ use Rattle.std.proofs.Common.{◌≡◌, ◌∙◌, ◌<◌, ◌^◌, ◌*◌, a
 use Rattle.std.specs.Prelude.{max}
 use Rattle.nbfx_values.specs.Limits.{Limits, limits}
 use Rattle.command_words.specs.declared.option_name.OptionName.TheVariants.{Content}
-use Rattle.command_words.specs.Reading.{found_values, text_behind}
+use Rattle.command_words.specs.Reading.{found_values}
 use Rattle.command_words.specs.Requests.{IsNumber, usual_content}
 use Rattle.command_words.proofs.NumberFacts.{IsGood-content, limits-same, none-good, payload-same}
 use Rattle.command_words.proofs.judged.quotas_of.Goals as goal

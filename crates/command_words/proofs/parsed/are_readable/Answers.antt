@@ -1,5 +1,4 @@
-use Rattle.std.proofs.Common.{◌≡◌, ◌∙◌, inl, inr, string_bytes, subst, sym, true≢false}
-use Rattle.std.specs.Prelude.{IsUtf8}
+use Rattle.std.proofs.Common.{◌∙◌, inl, inr, string_bytes, subst, sym, true≢false}
 use Rattle.command_words.specs.Reading.{IsBare, IsReadable}
 use Rattle.command_words.proofs.ParsedFacts.{readable-more}
 use Rattle.command_words.proofs.parsed.are_readable.Goals as goal

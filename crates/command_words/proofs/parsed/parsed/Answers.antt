@@ -1,7 +1,8 @@
-use Rattle.std.proofs.Common.{◌∙◌, map, string_bytes, sym, true≢false}
-use Rattle.command_words.proofs.ClapFacts.{found-from_parse, refused-by_parse}
-use Rattle.command_words.proofs.ParsedFacts.{bare-refused, readable-words}
+use Rattle.std.proofs.Common.{◌≡◌, ◌∙◌, map, string_bytes, sym}
 use Rattle.clap.specs.Simple.{app_of}
+use Rattle.command_words.specs.declared.words.WordsFault.TheVariants.{NotUnderstood}
+use Rattle.command_words.proofs.ClapFacts.{found-from_parse, refused-by_parse}
+use Rattle.command_words.proofs.ParsedFacts.{bare-refused, memory≢not_understood, readable-words}
 use Rattle.command_words.proofs.parsed.parsed.Goals as goal
 
 pub returns-then-not-are_readable-clause-refused : goal.returns-then-not-are_readable-clause-refused
@@ -13,10 +14,8 @@ returns-in-Ok-try_get_matches_from-clause-found c =
     found-from_parse c.args.action (map string_bytes c.args.words.now) (app_of c.in-Ok.command) c.in-Ok.ensures parse.matches
     (readable-words c.args.words.now c.if-not-are_readable.ensures.readable) parse.ensures.kinds parse.ensures.matches
 
-pub returns-clause-refused : goal.returns-clause-refused
-returns-clause-refused c is given gives =
+pub returns-in-Err-clause-refused : goal.returns-in-Err-clause-refused
+returns-in-Err-clause-refused c is given gives =
+    let same : c.fault_of.result ≡ NotUnderstood = cc is in
     refused-by_parse c.args.action (map string_bytes c.args.words.now) (app_of c.in-Ok.command) c.in-Ok.ensures c.in-Err.error c.in-Err.ensures.kinds
-    (λ memory.
-    let same = rw (c.kind.ensures ∙ memory) at c.eq.ensures in
-    true≢false (sym same ∙ c.if-eq.false))
-    given gives
+    (λ memory. memory≢not_understood (sym (c.fault_of.ensures.1 memory) ∙ same)) given gives
