@@ -20,7 +20,7 @@ use Rattle.command_words.specs.Reading.{HasFound, IsReadable, app_for, app_with,
 use Rattle.command_words.specs.Requests.{GiveOptions}
 use Rattle.command_words.proofs.OptionFacts.{new-from_once, once-from_new}
 use Rattle.command_words.proofs.ReadingFacts.{Passes, are_known, held_behind, reading-complete, reading-sound, rows_behind}
-use Rattle.command_words.proofs.RuleFacts.{app_with-is, built-app_with, built_app, check-none, defaults-none, first_of-given, is_simple_and_free-app_with, rules, shape, with_default-none}
+use Rattle.command_words.proofs.RuleFacts.{app_with-is, built-app_with, built_app, check-none, defaults-none, first_of-given, is_simple_and_free-app_with, built_rules, shape, with_default-none}
 use Rattle.command_words.proofs.WalkFacts.{or_else-empty, or_else-nil, resting, walk_at}
 
 module _ (name : Text) (options : List OptionName) (words : List Text) where
@@ -29,7 +29,7 @@ module _ (name : Text) (options : List OptionName) (words : List Text) where
 
   -- the faults of the walk, and of what is held at its end
   fault_of-is : fault_of (app_with name options) words ≡ or_else (walk_fault (shape name options) [] (walk_at [] resting) words)
-      (settle_fault (rules options) false (held_behind options (walk_at [] resting) words))
+      (settle_fault (built_rules options) false (held_behind options (walk_at [] resting) words))
   fault_of-is =
       ap₂ (λ app given. built_fault app nothing_held given) (built-app_with name options) words-given
       ∙ leaf_fault (built_app name options) nothing_held words refl

@@ -13,7 +13,7 @@ use Rattle.command_words.specs.declared.option_name.OptionName.{OptionName}
 use Rattle.command_words.specs.Options.{BeginsApart, BeginsJoined, Given, Spells, Text, begins_with_hyphen, dashed, is_option, text_of, value_of}
 use Rattle.command_words.specs.Reading.{IsReadable}
 use Rattle.command_words.proofs.OptionFacts.{IsNew, IsNew-cons, IsNew-head, IsNew-nil, IsNew-tail}
-use Rattle.command_words.proofs.RuleFacts.{arg_by_long-is, row_for, rules, shape}
+use Rattle.command_words.proofs.RuleFacts.{arg_by_long-is, row_for, built_rules, shape}
 use Rattle.command_words.proofs.StepFacts.{joined-passes, joined-tells, joined-walks, named-fault, named-walks, plain-refused, plain-refused_behind, short-refused, unknown-refused, value-passes, value-walks}
 use Rattle.command_words.proofs.WalkFacts.{Fits, Rests, State, holding, naming, or_else-empty, resting, rests-settle, settle-rests, settled_rows-whole, walk_at, whole}
 use Rattle.command_words.proofs.WordFacts.{IsLong, first_flag, long, long_of-dashed, long_of-joined, look, plain, plain-looks, short}
@@ -38,13 +38,13 @@ pub record Told (options : List OptionName) (seen : List Given) (state : State) 
 
 -- what is held behind words
 abbrev pub held_behind : List OptionName → Walk → List Text → Held
-held_behind options walk words = (fold (walked (rules options) []) walk words).held
+held_behind options walk words = (fold (walked (built_rules options) []) walk words).held
 
 abbrev pub rows_behind : List OptionName → Walk → List Text → List Row
-rows_behind options walk words = settled_rows (rules options) (held_behind options walk words).pending (held_behind options walk words).rows
+rows_behind options walk words = settled_rows (built_rules options) (held_behind options walk words).pending (held_behind options walk words).rows
 
 abbrev pub Passes : Text → List OptionName → Walk → List Text → Type 0
-Passes name options walk words = (walk_fault (shape name options) [] walk words ≡ []) × (settle_fault (rules options) false (held_behind options walk words) ≡ [])
+Passes name options walk words = (walk_fault (shape name options) [] walk words ≡ []) × (settle_fault (built_rules options) false (held_behind options walk words) ≡ [])
 
 -- words that pass are options
 abbrev pub Sound : Text → List OptionName → List Text → Type 0
@@ -71,8 +71,8 @@ told-behind options seen (holding one) words rows given fits rests spelled known
 }
 told-behind options seen (naming name) words rows given fits rests spelled known new leads = absurd rests
 
-bare-refused : (word : Text) → IsReadable word → bytes_eq word (codes "--") ≡ false
-bare-refused word readable = false_from_ne_true (bytes_eq word (codes "--")) (λ same. readable.not_two ((bytes_eq-Decides word (codes "--")).0 same))
+readable-not_pair : (word : Text) → IsReadable word → bytes_eq word (codes "--") ≡ false
+readable-not_pair word readable = false_from_ne_true (bytes_eq word (codes "--")) (λ same. readable.not_two ((bytes_eq-Decides word (codes "--")).0 same))
 
 module _ (name : Text) (options : List OptionName) where
   -- the state after a word
@@ -82,12 +82,12 @@ module _ (name : Text) (options : List OptionName) where
       subst (λ (w : Walk). Passes name options w words → Told options seen state words (rows_behind options w words)) (sym at) (sound seen state fits readable)
 
   module _ (word : Text) (words : List Text) (sound : Sound name options words) (readable : AllByRecursion IsReadable words) (seen : List Given) (state : State) (fits : Fits options state)
-      (turned : turn_fault (shape name options) [] (walk_at seen state) word ≡ []) (passes : Passes name options (walked (rules options) [] (walk_at seen state) word) words) where
+      (turned : turn_fault (shape name options) [] (walk_at seen state) word ≡ []) (passes : Passes name options (walked (built_rules options) [] (walk_at seen state) word) words) where
     sound-named : (option : OptionName) → list_any (is_option option) options ≡ true → long_of word ≡ Some (text_of option, None) → word ≡ dashed option
         → Told options seen state (word ∷ words) (rows_behind options (walk_at seen state) (word ∷ words))
     sound-named option known is_long is =
         let rests = settle-rests options seen state fits (sym (named-fault name options seen state word option known is_long) ∙ turned) in
-        let told = go_on words sound (walked (rules options) [] (walk_at seen state) word) (whole seen state) (naming option)
+        let told = go_on words sound (walked (built_rules options) [] (walk_at seen state) word) (whole seen state) (naming option)
         (named-walks name options seen state word option known is_long fits rests) known readable passes in
         told-behind options seen state (word ∷ words) _ told.given fits rests (subst (λ w. Spells (w ∷ words) told.given) (sym is) told.spelled) told.known told.new told.leads
 
@@ -96,7 +96,7 @@ module _ (name : Text) (options : List OptionName) where
     sound-joined option value known is_long is =
         let given : Given = (option, value) in
         let rests = joined-tells name options seen state word given known is_long fits turned in
-        let told = go_on words sound (walked (rules options) [] (walk_at seen state) word) (whole seen state ++ given ∷ []) resting
+        let told = go_on words sound (walked (built_rules options) [] (walk_at seen state) word) (whole seen state ++ given ∷ []) resting
         (joined-walks name options seen state word given known is_long fits rests.0 rests.1) tt readable passes in
         told-behind options seen state (word ∷ words) _ (given ∷ told.given) fits rests.0 (words, inr (ap (λ w. w ∷ words) is), told.spelled)
         (rw (known, told.known) refl) (IsNew-cons (whole seen state) given told.given rests.1 told.new)
@@ -116,16 +116,16 @@ module _ (name : Text) (options : List OptionName) where
         ]
 
   sound-plain : (word : Text) (words : List Text) → Sound name options words → IsReadable word → AllByRecursion IsReadable words → (seen : List Given) (state : State) → Fits options state
-      → turn_fault (shape name options) [] (walk_at seen state) word ≡ [] → Passes name options (walked (rules options) [] (walk_at seen state) word) words
+      → turn_fault (shape name options) [] (walk_at seen state) word ≡ [] → Passes name options (walked (built_rules options) [] (walk_at seen state) word) words
       → long_of word ≡ None → short_of word ≡ None → begins_with_hyphen word ≡ false
       → Told options seen state (word ∷ words) (rows_behind options (walk_at seen state) (word ∷ words))
   sound-plain word words sound read readable seen resting fits turned passes no_long no_short no_hyphen =
-      absurd (plain-refused name options seen word no_long no_short (bare-refused word read) turned)
+      absurd (plain-refused name options seen word no_long no_short (readable-not_pair word read) turned)
   sound-plain word words sound read readable seen (holding given) fits turned passes no_long no_short no_hyphen =
-      absurd (plain-refused_behind name options seen word no_long no_short (bare-refused word read) given turned)
+      absurd (plain-refused_behind name options seen word no_long no_short (readable-not_pair word read) given turned)
   sound-plain word words sound read readable seen (naming option) fits turned passes no_long no_short no_hyphen =
-      let told = go_on words sound (walked (rules options) [] (walk_at seen (naming option)) word) seen (holding (option, word))
-      (value-walks name options seen word no_long no_short (bare-refused word read) option fits) (fits, no_hyphen) readable passes in
+      let told = go_on words sound (walked (built_rules options) [] (walk_at seen (naming option)) word) seen (holding (option, word))
+      (value-walks name options seen word no_long no_short (readable-not_pair word read) option fits) (fits, no_hyphen) readable passes in
       record { given = told.given; spelled = told.spelled; known = told.known; new = told.new; leads = told.leads }
 
   sound-word : (word : Text) (words : List Text) → Sound name options words → Sound name options (word ∷ words)
@@ -136,7 +136,7 @@ module _ (name : Text) (options : List OptionName) where
         | long text value is_long is ↦ sound-long word words sound readable.1 seen state fits parts.0 (parts.1, passes.1) text value is_long is
         | short flags no_long is_short is some ↦
             let first = first_flag flags (subst IsUtf8 is readable.0.utf8) some in
-            absurd (short-refused name options seen state word flags no_long is_short (bare-refused word readable.0) first.0 first.1 some parts.0)
+            absurd (short-refused name options seen state word flags no_long is_short (readable-not_pair word readable.0) first.0 first.1 some parts.0)
         | plain no_long no_short no_hyphen ↦ sound-plain word words sound readable.0 readable.1 seen state fits parts.0 (parts.1, passes.1) no_long no_short no_hyphen
       ]
 
@@ -159,11 +159,11 @@ module _ (name : Text) (options : List OptionName) where
 
   -- ---- words that spell options pass
 
-  passes-cons : (walk after : Walk) (word : Text) (words : List Text) → turn_fault (shape name options) [] walk word ≡ [] → walked (rules options) [] walk word ≡ after
+  passes-cons : (walk after : Walk) (word : Text) (words : List Text) → turn_fault (shape name options) [] walk word ≡ [] → walked (built_rules options) [] walk word ≡ after
       → Passes name options after words → Passes name options walk (word ∷ words)
   unfolding walk_fault
   passes-cons walk after word words turned walks passes =
-      let behind : Passes name options (walked (rules options) [] walk word) words = subst (λ (w : Walk). Passes name options w words) (sym walks) passes in
+      let behind : Passes name options (walked (built_rules options) [] walk word) words = subst (λ (w : Walk). Passes name options w words) (sym walks) passes in
       (rw turned behind.0, behind.1)
 
   passes-nil : (seen : List Given) (state : State) → Fits options state → Rests seen state → Passes name options (walk_at seen state) []

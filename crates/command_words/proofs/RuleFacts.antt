@@ -13,7 +13,7 @@ use Rattle.clap.specs.declared.builder.value_parser.Reading.TheVariants as readi
 use Rattle.clap.specs.declared.parser.matches.ValueSource.TheVariants.{CommandLine}
 use Rattle.command_words.specs.declared.option_name.OptionName.{OptionName}
 use Rattle.command_words.specs.Options.{Given, Text, is_option, text_of, value_of}
-use Rattle.command_words.specs.Reading.{app_with, bare_app, option_rule, with_option}
+use Rattle.command_words.specs.Reading.{app_with, app_without_options, option_rule, with_option}
 use Rattle.command_words.proofs.OptionFacts.{is_option-flips, is_option-same, same-is_option}
 
 -- ---- the command as clap builds it
@@ -22,12 +22,12 @@ use Rattle.command_words.proofs.OptionFacts.{is_option-flips, is_option-same, sa
 abbrev pub built_rule : OptionName → Rule
 built_rule option = filled (option_rule option)
 
-abbrev pub rules : List OptionName → List Rule
-rules options = map built_rule options
+abbrev pub built_rules : List OptionName → List Rule
+built_rules options = map built_rule options
 
 abbrev pub shape : Text → List OptionName → Shape
-shape name options = record (bare_app name).top {
-  rules = rules options;
+shape name options = record (app_without_options name).top {
+  rules = built_rules options;
   disable_help_subcommand = true;
   is_built = true;
 }
@@ -42,13 +42,13 @@ app_with-rules app (option ∷ options) =
     app_with-rules (with_option app option) options
     ∙ ap (λ rs. on_top (λ (s : Shape). record s { rules = rs }) app) (append_assoc app.top.rules (option_rule option ∷ []) (map option_rule options))
 
-filled_from-options : (i : ℕ) (options : List OptionName) → filled_from i (map option_rule options) ≡ rules options
+filled_from-options : (i : ℕ) (options : List OptionName) → filled_from i (map option_rule options) ≡ built_rules options
 filled_from-options i [] = refl
 filled_from-options i (option ∷ options) = ap (λ rest. built_rule option ∷ rest) (filled_from-options i options)
 
 pub app_with-is : (name : Text) (options : List OptionName)
-    → app_with name options ≡ on_top (λ (s : Shape). record s { rules = map option_rule options }) (bare_app name)
-app_with-is name options = app_with-rules (bare_app name) options
+    → app_with name options ≡ on_top (λ (s : Shape). record s { rules = map option_rule options }) (app_without_options name)
+app_with-is name options = app_with-rules (app_without_options name) options
 
 pub built-app_with : (name : Text) (options : List OptionName) → built (app_with name options) ≡ built_app name options
 built-app_with name options =
@@ -60,14 +60,14 @@ each_passes : (p : Rule → Bool) (rule : OptionName → Rule) (options : List O
 each_passes p rule [] passes = refl
 each_passes p rule (option ∷ options) passes = rw (passes option) (each_passes p rule options passes)
 
-none_passes : (p : Rule → Bool) (options : List OptionName) → ((option : OptionName) → p (built_rule option) ≡ false) → list_any p (rules options) ≡ false
+none_passes : (p : Rule → Bool) (options : List OptionName) → ((option : OptionName) → p (built_rule option) ≡ false) → list_any p (built_rules options) ≡ false
 none_passes p [] fails = refl
 none_passes p (option ∷ options) fails = rw (fails option) (none_passes p options fails)
 
 -- ---- looking options up
 
 pub arg_by_id-known : (options : List OptionName) (option : OptionName) → list_any (is_option option) options ≡ true
-    → arg_by_id (rules options) (text_of option) ≡ Some (built_rule option)
+    → arg_by_id (built_rules options) (text_of option) ≡ Some (built_rule option)
 arg_by_id-known [] option known = cc known
 arg_by_id-known (one ∷ options) option known =
     elim (cases_Bool (is_option one option)) [
@@ -76,7 +76,7 @@ arg_by_id-known (one ∷ options) option known =
     ]
 
 pub arg_by_long-known : (options : List OptionName) (option : OptionName) → list_any (is_option option) options ≡ true
-    → arg_by_long (rules options) (text_of option) ≡ Some (built_rule option)
+    → arg_by_long (built_rules options) (text_of option) ≡ Some (built_rule option)
 arg_by_long-known [] option known = cc known
 arg_by_long-known (one ∷ options) option known =
     elim (cases_Bool (is_option one option)) [
@@ -90,7 +90,7 @@ or_right false b e = e
 
 -- the name is one of the options, or clap knows none by it
 pub arg_by_long-is : (options : List OptionName) (name : Text)
-    → (arg_by_long (rules options) name ≡ None) ⊎ ((option : OptionName) × (name ≡ text_of option) × (list_any (is_option option) options ≡ true))
+    → (arg_by_long (built_rules options) name ≡ None) ⊎ ((option : OptionName) × (name ≡ text_of option) × (list_any (is_option option) options ≡ true))
 arg_by_long-is [] name = inl refl
 arg_by_long-is (one ∷ options) name =
     elim (cases_Bool (bytes_eq (text_of one) name)) [
@@ -101,11 +101,11 @@ arg_by_long-is (one ∷ options) name =
       ]
     ]
 
-pub arg_by_short-none : (options : List OptionName) (flag : ℕ) → arg_by_short (rules options) flag ≡ None
+pub arg_by_short-none : (options : List OptionName) (flag : ℕ) → arg_by_short (built_rules options) flag ≡ None
 arg_by_short-none [] flag = refl
 arg_by_short-none (one ∷ options) flag = arg_by_short-none options flag
 
-pub arg_by_index-none : (options : List OptionName) (i : ℕ) → arg_by_index (rules options) i ≡ None
+pub arg_by_index-none : (options : List OptionName) (i : ℕ) → arg_by_index (built_rules options) i ≡ None
 arg_by_index-none [] i = refl
 arg_by_index-none (one ∷ options) i = arg_by_index-none options i
 
@@ -159,7 +159,7 @@ used-new seen given new =
 -- ---- after the words
 
 -- no option has a default, and none is required
-pub defaults-none : (seen : List Row) (options : List OptionName) → defaults_fault seen (rules options) ≡ []
+pub defaults-none : (seen : List Row) (options : List OptionName) → defaults_fault seen (built_rules options) ≡ []
 unfolding defaults_fault
 defaults-none seen [] = refl
 defaults-none seen (option ∷ options) =
@@ -175,10 +175,10 @@ without_default rows option =
       | inr missing ↦ rw missing refl
     ]
 
-pub with_default-none : (rows : List Row) (options : List OptionName) → fold with_default rows (rules options) ≡ rows
+pub with_default-none : (rows : List Row) (options : List OptionName) → fold with_default rows (built_rules options) ≡ rows
 with_default-none rows [] = refl
 with_default-none rows (option ∷ options) =
-    ap (λ left. fold with_default left (rules options)) (without_default rows option) ∙ with_default-none rows options
+    ap (λ left. fold with_default left (built_rules options)) (without_default rows option) ∙ with_default-none rows options
 
 pub check-none : (name : Text) (options : List OptionName) (rows : List Row) → check_fault (shape name options) rows false ≡ []
 check-none name options rows = rw (none_passes _ options (λ option. refl)) refl
@@ -194,6 +194,6 @@ is_buildable-app_with name options =
 pub is_simple_and_free-app_with : (name : Text) (options : List OptionName) → is_simple_and_free (app_with name options) ≡ true
 is_simple_and_free-app_with name options =
     let ready : is_ready (shape name options) ≡ true =
-    rw (each_passes (λ rule. rule.is_simple) built_rule options (λ option. refl), none_passes (is_early_multiple (count_by (λ rule. is_some rule.index) (rules options))) options (λ option. refl)) refl in
+    rw (each_passes (λ rule. rule.is_simple) built_rule options (λ option. refl), none_passes (is_early_multiple (count_by (λ rule. is_some rule.index) (built_rules options))) options (λ option. refl)) refl in
     let free : is_free_app (built_app name options) ≡ true = rw (each_passes (λ rule. rule.is_free) built_rule options (λ option. refl)) refl in
     free_by_parts (app_with name options) (built_app name options) (built-app_with name options) (is_buildable-app_with name options) ready refl free

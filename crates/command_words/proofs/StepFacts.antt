@@ -11,9 +11,9 @@ use Rattle.clap.specs.Faults.{flags_fault, settle_fault, turn_fault, use_fault}
 use Rattle.command_words.specs.declared.option_name.OptionName.{OptionName}
 use Rattle.command_words.specs.Options.{Given, Text, is_option, text_of, value_of}
 use Rattle.command_words.proofs.OptionFacts.{bytes_eq-same}
-use Rattle.command_words.proofs.RuleFacts.{arg_by_id-known, arg_by_index-none, arg_by_long-known, arg_by_short-none, built_rule, has_row-given, row_for, rules, shape, used-new}
+use Rattle.command_words.proofs.RuleFacts.{arg_by_id-known, arg_by_index-none, arg_by_long-known, arg_by_short-none, built_rule, has_row-given, row_for, built_rules, shape, used-new}
 use Rattle.command_words.proofs.WalkFacts.{Fits, Rests, State, held_at, held_with, holding, missing_row, naming, none-from_is_some, or_else-empty, or_else-nil, pending_of, resting, rests-settle, settle-rests, settled_rows-whole, waiting_of, walk_at, walk_with, whole}
-use Rattle.command_words.proofs.WordFacts.{long-not_bare}
+use Rattle.command_words.proofs.WordFacts.{long-not_pair}
 
 no_subcommand : (waiting : Waiting) (word : Text) → subcommand_met [] waiting word ≡ None
 no_subcommand idle word = refl
@@ -22,7 +22,7 @@ no_subcommand positional word = refl
 
 -- a letter behind a hyphen is no option
 flags-refused : (options : List OptionName) (flags : Text) (x : ℕ) → slice_get (chars flags) 0 ≡ Some x → 0 < length flags → (held : Held)
-    → flags_fault (rules options) false (length flags) flags 0 held ≡ [] → ⊥
+    → flags_fault (built_rules options) false (length flags) flags 0 held ≡ [] → ⊥
 unfolding flags_fault
 flags-refused options [] x first some held e = absurd (omega arith)
 flags-refused options (flag ∷ rest) x first some held e = cc (rw (first, arg_by_short-none options x) at e)
@@ -31,47 +31,47 @@ module _ (name : Text) (options : List OptionName) (seen : List Given) (state : 
   -- ---- a word with two hyphens in front
 
   module _ (text : Text) (value : Option Text) (is_long : long_of word ≡ Some (text, value)) where
-    not_bare : bytes_eq word (codes "--") ≡ false
-    not_bare = long-not_bare word (text, value) is_long
+    not_pair : bytes_eq word (codes "--") ≡ false
+    not_pair = long-not_pair word (text, value) is_long
 
-    pub unknown-refused : arg_by_long (rules options) text ≡ None → turn_fault (shape name options) [] (walk_at seen state) word ≡ [] → ⊥
-    unknown-refused unknown e = cc (rw (no_subcommand (waiting_of state) word, not_bare, is_long, unknown) at e)
+    pub unknown-refused : arg_by_long (built_rules options) text ≡ None → turn_fault (shape name options) [] (walk_at seen state) word ≡ [] → ⊥
+    unknown-refused unknown e = cc (rw (no_subcommand (waiting_of state) word, not_pair, is_long, unknown) at e)
 
   module _ (name_is : OptionName) (known : list_any (is_option name_is) options ≡ true) where
     -- `--name`
     pub named-fault : long_of word ≡ Some (text_of name_is, None)
-        → turn_fault (shape name options) [] (walk_at seen state) word ≡ settle_fault (rules options) false (held_at seen state)
+        → turn_fault (shape name options) [] (walk_at seen state) word ≡ settle_fault (built_rules options) false (held_at seen state)
     named-fault is_long =
-        rw (no_subcommand (waiting_of state) word, not_bare (text_of name_is) None is_long, is_long, arg_by_long-known options name_is known)
-        (or_else-nil (settle_fault (rules options) false (held_at seen state)))
+        rw (no_subcommand (waiting_of state) word, not_pair (text_of name_is) None is_long, is_long, arg_by_long-known options name_is known)
+        (or_else-nil (settle_fault (built_rules options) false (held_at seen state)))
 
-    named-walked : long_of word ≡ Some (text_of name_is, None) → walked (rules options) [] (walk_at seen state) word
-        ≡ walk_with (held_with (settled_rows (rules options) (pending_of state) (map row_for seen)) (Some (text_of name_is, []))) (option (text_of name_is))
+    named-walked : long_of word ≡ Some (text_of name_is, None) → walked (built_rules options) [] (walk_at seen state) word
+        ≡ walk_with (held_with (settled_rows (built_rules options) (pending_of state) (map row_for seen)) (Some (text_of name_is, []))) (option (text_of name_is))
     unfolding walked
     named-walked is_long =
-        rw (no_subcommand (waiting_of state) word, not_bare (text_of name_is) None is_long, is_long, arg_by_long-known options name_is known) refl
+        rw (no_subcommand (waiting_of state) word, not_pair (text_of name_is) None is_long, is_long, arg_by_long-known options name_is known) refl
 
     pub named-walks : long_of word ≡ Some (text_of name_is, None) → Fits options state → Rests seen state
-        → walked (rules options) [] (walk_at seen state) word ≡ walk_at (whole seen state) (naming name_is)
+        → walked (built_rules options) [] (walk_at seen state) word ≡ walk_at (whole seen state) (naming name_is)
     named-walks is_long fits rests =
         named-walked is_long
         ∙ ap (λ rows. walk_with (held_with rows (Some (text_of name_is, []))) (option (text_of name_is))) (settled_rows-whole options seen state fits rests)
 
   module _ (given : Given) (known : list_any (is_option given.0) options ≡ true) (is_long : long_of word ≡ Some (text_of given.0, Some given.1)) where
     -- `--name=value`
-    joined-fault : turn_fault (shape name options) [] (walk_at seen state) word ≡ or_else (settle_fault (rules options) false (held_at seen state))
-        (use_fault false (built_rule given.0) (given.1 ∷ []) (settled_rows (rules options) (pending_of state) (map row_for seen)))
-    joined-fault = rw (no_subcommand (waiting_of state) word, not_bare (text_of given.0) (Some given.1) is_long, is_long, arg_by_long-known options given.0 known) (or_else-nil _)
+    joined-fault : turn_fault (shape name options) [] (walk_at seen state) word ≡ or_else (settle_fault (built_rules options) false (held_at seen state))
+        (use_fault false (built_rule given.0) (given.1 ∷ []) (settled_rows (built_rules options) (pending_of state) (map row_for seen)))
+    joined-fault = rw (no_subcommand (waiting_of state) word, not_pair (text_of given.0) (Some given.1) is_long, is_long, arg_by_long-known options given.0 known) (or_else-nil _)
 
     settled-use : Fits options state → Rests seen state
-        → use_fault false (built_rule given.0) (given.1 ∷ []) (settled_rows (rules options) (pending_of state) (map row_for seen))
+        → use_fault false (built_rule given.0) (given.1 ∷ []) (settled_rows (built_rules options) (pending_of state) (map row_for seen))
         ≡ use_fault false (built_rule given.0) (given.1 ∷ []) (map row_for (whole seen state))
     settled-use fits rests = ap (use_fault false (built_rule given.0) (given.1 ∷ [])) (settled_rows-whole options seen state fits rests)
 
     pub joined-tells : Fits options state → turn_fault (shape name options) [] (walk_at seen state) word ≡ []
         → Rests seen state × (value_of (whole seen state) given.0 ≡ None)
     joined-tells fits e =
-        let parts = or_else-empty (settle_fault (rules options) false (held_at seen state)) _ (sym joined-fault ∙ e) in
+        let parts = or_else-empty (settle_fault (built_rules options) false (held_at seen state)) _ (sym joined-fault ∙ e) in
         let rests = settle-rests options seen state fits parts.0 in
         let once = sym (settled-use fits rests) ∙ parts.1 in
         elim (cases_Bool (has_row (text_of given.0) (map row_for (whole seen state)))) [
@@ -83,18 +83,18 @@ module _ (name : Text) (options : List OptionName) (seen : List Given) (state : 
         → turn_fault (shape name options) [] (walk_at seen state) word ≡ []
     joined-passes fits rests new =
         joined-fault
-        ∙ ap (λ kinds. or_else kinds (use_fault false (built_rule given.0) (given.1 ∷ []) (settled_rows (rules options) (pending_of state) (map row_for seen))))
+        ∙ ap (λ kinds. or_else kinds (use_fault false (built_rule given.0) (given.1 ∷ []) (settled_rows (built_rules options) (pending_of state) (map row_for seen))))
         (rests-settle options seen state fits rests)
         ∙ settled-use fits rests
         ∙ rw (missing_row options (whole seen state) given.0 new) refl
 
-    joined-walked : walked (rules options) [] (walk_at seen state) word
-        ≡ walk_with (held_with (used (built_rule given.0) (given.1 ∷ []) (settled_rows (rules options) (pending_of state) (map row_for seen))) None) idle
+    joined-walked : walked (built_rules options) [] (walk_at seen state) word
+        ≡ walk_with (held_with (used (built_rule given.0) (given.1 ∷ []) (settled_rows (built_rules options) (pending_of state) (map row_for seen))) None) idle
     unfolding walked
-    joined-walked = rw (no_subcommand (waiting_of state) word, not_bare (text_of given.0) (Some given.1) is_long, is_long, arg_by_long-known options given.0 known) refl
+    joined-walked = rw (no_subcommand (waiting_of state) word, not_pair (text_of given.0) (Some given.1) is_long, is_long, arg_by_long-known options given.0 known) refl
 
     pub joined-walks : Fits options state → Rests seen state → value_of (whole seen state) given.0 ≡ None
-        → walked (rules options) [] (walk_at seen state) word ≡ walk_at (whole seen state ++ given ∷ []) resting
+        → walked (built_rules options) [] (walk_at seen state) word ≡ walk_at (whole seen state ++ given ∷ []) resting
     joined-walks fits rests new =
         joined-walked
         ∙ ap (λ rows. walk_with (held_with (used (built_rule given.0) (given.1 ∷ []) rows) None) idle) (settled_rows-whole options seen state fits rests)
@@ -102,26 +102,26 @@ module _ (name : Text) (options : List OptionName) (seen : List Given) (state : 
 
   -- ---- a word with one hyphen in front
 
-  module _ (flags : Text) (no_long : long_of word ≡ None) (is_short : short_of word ≡ Some flags) (bare : bytes_eq word (codes "--") ≡ false) where
+  module _ (flags : Text) (no_long : long_of word ≡ None) (is_short : short_of word ≡ Some flags) (not_pair : bytes_eq word (codes "--") ≡ false) where
     pub short-refused : (x : ℕ) → slice_get (chars flags) 0 ≡ Some x → 0 < length flags → turn_fault (shape name options) [] (walk_at seen state) word ≡ [] → ⊥
     short-refused x first some e =
-        let parts = or_else-empty (flags_fault (rules options) false (length flags) flags 0 (held_at seen state)) _
-        (rw (no_subcommand (waiting_of state) word, bare, no_long, is_short) at e) in
+        let parts = or_else-empty (flags_fault (built_rules options) false (length flags) flags 0 (held_at seen state)) _
+        (rw (no_subcommand (waiting_of state) word, not_pair, no_long, is_short) at e) in
         flags-refused options flags x first some (held_at seen state) parts.0
 
 -- ---- a word with none
 
-module _ (name : Text) (options : List OptionName) (seen : List Given) (word : Text) (no_long : long_of word ≡ None) (no_short : short_of word ≡ None) (bare : bytes_eq word (codes "--") ≡ false) where
+module _ (name : Text) (options : List OptionName) (seen : List Given) (word : Text) (no_long : long_of word ≡ None) (no_short : short_of word ≡ None) (not_pair : bytes_eq word (codes "--") ≡ false) where
   pub plain-refused : turn_fault (shape name options) [] (walk_at seen resting) word ≡ [] → ⊥
-  plain-refused e = cc (rw (bare, no_long, no_short, arg_by_index-none options 1) at e)
+  plain-refused e = cc (rw (not_pair, no_long, no_short, arg_by_index-none options 1) at e)
 
   pub plain-refused_behind : (given : Given) → turn_fault (shape name options) [] (walk_at seen (holding given)) word ≡ [] → ⊥
-  plain-refused_behind given e = cc (rw (bare, no_long, no_short, arg_by_index-none options 1) at e)
+  plain-refused_behind given e = cc (rw (not_pair, no_long, no_short, arg_by_index-none options 1) at e)
 
   module _ (name_is : OptionName) (known : list_any (is_option name_is) options ≡ true) where
     pub value-passes : turn_fault (shape name options) [] (walk_at seen (naming name_is)) word ≡ []
-    value-passes = rw (bare, no_long, no_short) refl
+    value-passes = rw (not_pair, no_long, no_short) refl
 
-    pub value-walks : walked (rules options) [] (walk_at seen (naming name_is)) word ≡ walk_at seen (holding (name_is, word))
+    pub value-walks : walked (built_rules options) [] (walk_at seen (naming name_is)) word ≡ walk_at seen (holding (name_is, word))
     unfolding walked
-    value-walks = rw (bare, no_long, no_short, arg_by_id-known options name_is known, bytes_eq-same (text_of name_is)) refl
+    value-walks = rw (not_pair, no_long, no_short, arg_by_id-known options name_is known, bytes_eq-same (text_of name_is)) refl

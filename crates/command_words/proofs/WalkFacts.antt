@@ -8,7 +8,7 @@ use Rattle.clap.specs.Walk.{Held, Row, Waiting, Walk, has_row, idle, option, set
 use Rattle.clap.specs.Faults.{settle_fault}
 use Rattle.command_words.specs.declared.option_name.OptionName.{OptionName}
 use Rattle.command_words.specs.Options.{Given, Text, begins_with_hyphen, is_option, text_of, value_of}
-use Rattle.command_words.proofs.RuleFacts.{arg_by_id-known, has_row-given, row_for, rules, used-new}
+use Rattle.command_words.proofs.RuleFacts.{arg_by_id-known, has_row-given, row_for, built_rules, used-new}
 
 -- ---- kinds of errors
 
@@ -81,7 +81,7 @@ none-from_is_some (Some text) e = cc e
 module _ (options : List OptionName) where
   -- ---- settling
 
-  pub settle-rests : (seen : List Given) (state : State) → Fits options state → settle_fault (rules options) false (held_at seen state) ≡ [] → Rests seen state
+  pub settle-rests : (seen : List Given) (state : State) → Fits options state → settle_fault (built_rules options) false (held_at seen state) ≡ [] → Rests seen state
   settle-rests seen resting fits e = tt
   settle-rests seen (holding given) fits e =
       let used = rw (arg_by_id-known options given.0 fits.0) at e in
@@ -94,13 +94,13 @@ module _ (options : List OptionName) where
   pub missing_row : (seen : List Given) (name : OptionName) → value_of seen name ≡ None → has_row (text_of name) (map row_for seen) ≡ false
   missing_row seen name new = has_row-given seen name ∙ ap is_some new
 
-  pub rests-settle : (seen : List Given) (state : State) → Fits options state → Rests seen state → settle_fault (rules options) false (held_at seen state) ≡ []
+  pub rests-settle : (seen : List Given) (state : State) → Fits options state → Rests seen state → settle_fault (built_rules options) false (held_at seen state) ≡ []
   rests-settle seen resting fits rests = refl
   rests-settle seen (holding given) fits rests = rw (arg_by_id-known options given.0 fits.0, missing_row seen given.0 rests) refl
   rests-settle seen (naming name) fits rests = absurd rests
 
   pub settled_rows-whole : (seen : List Given) (state : State) → Fits options state → Rests seen state
-      → settled_rows (rules options) (pending_of state) (map row_for seen) ≡ map row_for (whole seen state)
+      → settled_rows (built_rules options) (pending_of state) (map row_for seen) ≡ map row_for (whole seen state)
   settled_rows-whole seen resting fits rests = refl
   settled_rows-whole seen (holding given) fits rests = rw (arg_by_id-known options given.0 fits.0) (used-new seen given rests)
   settled_rows-whole seen (naming name) fits rests = absurd rests

@@ -33,13 +33,13 @@ long_of-joined Content value = refl
 long_of-joined Session value = refl
 
 -- a word with a name is no pair of hyphens
-pub long-not_bare : (word : Text) (long : Text × Option Text) → long_of word ≡ Some long → bytes_eq word (codes "--") ≡ false
-long-not_bare word long e = go (cases_Bool (bytes_eq word (codes "--")))
+pub long-not_pair : (word : Text) (long : Text × Option Text) → long_of word ≡ Some long → bytes_eq word (codes "--") ≡ false
+long-not_pair word long e = go (cases_Bool (bytes_eq word (codes "--")))
   where
     go : (bytes_eq word (codes "--") ≡ true) ⊎ (bytes_eq word (codes "--") ≡ false) → bytes_eq word (codes "--") ≡ false
     go (inr other) = other
-    go (inl bare) =
-        let is : word ≡ codes "--" = (bytes_eq-Decides word (codes "--")).0 bare in
+    go (inl pair) =
+        let is : word ≡ codes "--" = (bytes_eq-Decides word (codes "--")).0 pair in
         cc (rw is at e)
 
 -- ---- words by their looks

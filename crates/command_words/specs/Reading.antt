@@ -41,14 +41,14 @@ with_option app option = with_rule app (option_rule option)
 
 -- a command without options; it is given the words behind the command, and answers no request for
 -- help
-abbrev pub bare_app : Text → App
-bare_app name = on_top (λ shape. record shape {
+abbrev pub app_without_options : Text → App
+app_without_options name = on_top (λ shape. record shape {
   no_binary_name = true;
   disable_help_flag = true;
 }) (new_app name)
 
 abbrev pub app_with : Text → List OptionName → App
-app_with name options = fold with_option (bare_app name) options
+app_with name options = fold with_option (app_without_options name) options
 
 abbrev pub app_for : Action → App
 app_for action = app_with (word_of action) (options_of action)

@@ -2,7 +2,7 @@
 ghost use Rattle.std.specs.Prelude.{◌≡◌, IfOk};
 ghost use Rattle.clap.specs.Simple.{app_of};
 ghost use Rattle.command_words.specs.Commands.{word_of};
-ghost use Rattle.command_words.specs.Reading.{app_for, bare_app, with_option};
+ghost use Rattle.command_words.specs.Reading.{app_for, app_without_options, with_option};
 
 use crate::action::{Action, options_of, word_of};
 use crate::option_name::{OptionName, text_of};
@@ -10,8 +10,8 @@ use clap::{Arg, Command};
 use std::alloc::{AllocError, Global};
 
 // A command without options. It is given the words behind the command, and has no flag for help.
-fn bare<'w>(alloc: Global, action: Action) -> Command<'w>
-    ensures { app_of result ≡ bare_app (word_of action) }
+fn without_options<'w>(alloc: Global, action: Action) -> Command<'w>
+    ensures { app_of result ≡ app_without_options (word_of action) }
 {
     let name: &'w str = word_of(action);
     Command::new(alloc, name)
@@ -35,7 +35,7 @@ fn with_option<'w>(
 pub fn described<'w>(alloc: Global, action: Action) -> Result<Command<'w>, AllocError>
     ensures { IfOk result (λ command. app_of command ≡ app_for action) }
 {
-    let mut command = bare(alloc, action);
+    let mut command = without_options(alloc, action);
     for option in options_of(action) {
         command = with_option(alloc, command, *option)?;
     }

@@ -2,7 +2,7 @@ use Rattle.std.proofs.Common.{◌<◌, ◌∙◌, ap, ap₂, length, slice_index
 use Rattle.std.proofs.lemmas.List.Sums.{fold_more}
 use Rattle.command_words.specs.declared.option_name.OptionName.TheVariants.{Static}
 use Rattle.command_words.specs.Commands.{options_of, word_of}
-use Rattle.command_words.specs.Reading.{bare_app, with_option}
+use Rattle.command_words.specs.Reading.{app_without_options, with_option}
 use Rattle.command_words.proofs.described.described.Goals as goal
 
 pub loop-option-preserved : goal.loop-option-preserved
@@ -13,5 +13,5 @@ loop-option-preserved c =
     record {
       items = before.items;
       told = c.in_ok-command.ensures ∙ ap₂ with_option before.told (ap (λ options. slice_index_or options at Static) before.items)
-          ∙ sym (fold_more with_option (bare_app (word_of c.args.action)) (options_of c.args.action) at Static in_range);
+          ∙ sym (fold_more with_option (app_without_options (word_of c.args.action)) (options_of c.args.action) at Static in_range);
     }
