@@ -1,0 +1,149 @@
+-- Facts about options and the values that they are given.
+use Rattle.std.proofs.Common.{◌≡◌, ◌⊎◌, ◌∙◌, true, false, List, [], ◌∷◌, ◌++◌, None, refl, sym, ap, inl, inr, codes, true≢false}
+use Rattle.std.specs.Prelude.{if◌then◌else◌}
+use Rattle.std.specs.Str.{bytes_eq}
+use Rattle.std.proofs.lemmas.Bool.{cases_Bool}
+use Rattle.std.proofs.lemmas.Slice.Eq.{bytes_eq-Decides}
+use Rattle.command_words.specs.declared.option_name.OptionName.{OptionName}
+use Rattle.command_words.specs.declared.option_name.OptionName.TheVariants.{Static, Payload, Depth, Dictionary, Content, Session}
+use Rattle.command_words.specs.Options.{Given, IsOnce, Text, is_option, text_of, value_of}
+
+-- ---- options by their texts
+
+-- the option that has a text
+abbrev named : Text → OptionName
+named text =
+    if bytes_eq text (codes "static") then Static
+    else if bytes_eq text (codes "payload") then Payload
+    else if bytes_eq text (codes "depth") then Depth
+    else if bytes_eq text (codes "dictionary") then Dictionary
+    else if bytes_eq text (codes "content") then Content
+    else Session
+
+named-text_of : (option : OptionName) → named (text_of option) ≡ option
+named-text_of Static = refl
+named-text_of Payload = refl
+named-text_of Depth = refl
+named-text_of Dictionary = refl
+named-text_of Content = refl
+named-text_of Session = refl
+
+pub text_of-injective : (one other : OptionName) → text_of one ≡ text_of other → one ≡ other
+text_of-injective one other e = sym (named-text_of one) ∙ ap named e ∙ named-text_of other
+
+pub bytes_eq-same : (text : Text) → bytes_eq text text ≡ true
+bytes_eq-same text = (bytes_eq-Decides text text).1 refl
+
+pub is_option-same : (option : OptionName) → is_option option option ≡ true
+is_option-same option = bytes_eq-same (text_of option)
+
+pub same-is_option : (one other : OptionName) → is_option one other ≡ true → one ≡ other
+same-is_option one other e = text_of-injective one other ((bytes_eq-Decides (text_of one) (text_of other)).0 e)
+
+pub is_option-flips : (one other : OptionName) → is_option one other ≡ false → is_option other one ≡ false
+is_option-flips one other e = go (cases_Bool (is_option other one))
+  where
+    go : (is_option other one ≡ true) ⊎ (is_option other one ≡ false) → is_option other one ≡ false
+    go (inr different) = different
+    go (inl same) =
+        let back : one ≡ other = sym (same-is_option other one same) in
+        absurd (true≢false (sym (is_option-same one) ∙ ap (is_option one) back ∙ e))
+
+-- ---- values that are given
+
+-- the options of `given` come one after the other behind `seen`, each for the first time
+pub IsNew : List Given → List Given → Type 0
+IsNew seen [] = Unit {0}
+IsNew seen (given ∷ more) = (value_of seen given.0 ≡ None) × IsNew (seen ++ given ∷ []) more
+
+pub IsNew-head : (seen : List Given) (given : Given) (more : List Given) → IsNew seen (given ∷ more) → value_of seen given.0 ≡ None
+unfolding IsNew
+IsNew-head seen given more new = new.0
+
+pub IsNew-tail : (seen : List Given) (given : Given) (more : List Given) → IsNew seen (given ∷ more) → IsNew (seen ++ given ∷ []) more
+unfolding IsNew
+IsNew-tail seen given more new = new.1
+
+pub IsNew-cons : (seen : List Given) (given : Given) (more : List Given) → value_of seen given.0 ≡ None → IsNew (seen ++ given ∷ []) more → IsNew seen (given ∷ more)
+unfolding IsNew
+IsNew-cons seen given more first rest = (first, rest)
+
+pub IsNew-nil : (seen : List Given) → IsNew seen []
+unfolding IsNew
+IsNew-nil seen = tt
+
+-- one more option leaves no value to another
+value_of-push : (seen : List Given) (given : Given) (option : OptionName) → value_of seen option ≡ None → is_option given.0 option ≡ false
+    → value_of (seen ++ given ∷ []) option ≡ None
+value_of-push [] given option none other = rw other refl
+value_of-push (one ∷ seen) given option none other =
+    elim (cases_Bool (is_option one.0 option)) [
+      | inl same ↦ cc (rw same at none)
+      | inr different ↦ rw different (value_of-push seen given option (rw different at none) other)
+    ]
+
+value_of-front : (seen : List Given) (given : Given) (option : OptionName) → value_of (seen ++ given ∷ []) option ≡ None
+    → (value_of seen option ≡ None) × (is_option given.0 option ≡ false)
+value_of-front [] given option none =
+    elim (cases_Bool (is_option given.0 option)) [
+      | inl same ↦ cc (rw same at none)
+      | inr different ↦ (refl, different)
+    ]
+value_of-front (one ∷ seen) given option none =
+    elim (cases_Bool (is_option one.0 option)) [
+      | inl same ↦ cc (rw same at none)
+      | inr different ↦
+          let rest = value_of-front seen given option (rw different at none) in
+          (rw different rest.0, rest.1)
+    ]
+
+-- none of the options has a value in `seen`
+AreAbsent : List Given → List Given → Type 0
+AreAbsent seen [] = Unit {0}
+AreAbsent seen (given ∷ more) = (value_of seen given.0 ≡ None) × AreAbsent seen more
+
+absent-nil : (given : List Given) → AreAbsent [] given
+unfolding AreAbsent
+absent-nil [] = tt
+absent-nil (one ∷ given) = (refl, absent-nil given)
+
+absent-push : (seen : List Given) (one : Given) (given : List Given) → AreAbsent seen given → value_of given one.0 ≡ None → AreAbsent (seen ++ one ∷ []) given
+unfolding AreAbsent
+absent-push seen one [] absent none = tt
+absent-push seen one (other ∷ given) absent none =
+    elim (cases_Bool (is_option other.0 one.0)) [
+      | inl same ↦ cc (rw same at none)
+      | inr different ↦ (
+        value_of-push seen one other.0 absent.0 (is_option-flips other.0 one.0 different),
+        absent-push seen one given absent.1 (rw different at none),
+      )
+    ]
+
+absent-front : (seen : List Given) (one : Given) (given : List Given) → AreAbsent (seen ++ one ∷ []) given → AreAbsent seen given × (value_of given one.0 ≡ None)
+unfolding AreAbsent
+absent-front seen one [] absent = (tt, refl)
+absent-front seen one (other ∷ given) absent =
+    let here = value_of-front seen one other.0 absent.0 in
+    let rest = absent-front seen one given absent.1 in
+    ((here.0, rest.0), rw (is_option-flips one.0 other.0 here.1) rest.1)
+
+new-once : (seen given : List Given) → AreAbsent seen given → IsOnce given → IsNew seen given
+unfolding AreAbsent IsNew
+new-once seen [] absent once = tt
+new-once seen (one ∷ given) absent once =
+    (absent.0, new-once (seen ++ one ∷ []) given (absent-push seen one given absent.1 once.0) once.1)
+
+once-new : (seen given : List Given) → IsNew seen given → AreAbsent seen given × IsOnce given
+unfolding AreAbsent IsNew
+once-new seen [] new = (tt, tt)
+once-new seen (one ∷ given) new =
+    let rest = once-new (seen ++ one ∷ []) given new.1 in
+    let front = absent-front seen one given rest.0 in
+    ((new.0, front.0), (front.1, rest.1))
+
+-- options come each for the first time where none is given twice
+pub new-from_once : (given : List Given) → IsOnce given → IsNew [] given
+new-from_once given once = new-once [] given (absent-nil given) once
+
+pub once-from_new : (given : List Given) → IsNew [] given → IsOnce given
+once-from_new given new = (once-new [] given new).1

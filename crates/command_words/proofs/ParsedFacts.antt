@@ -1,0 +1,91 @@
+-- Words that may be given to clap, and what it makes of them.
+use Rattle.std.proofs.Common.{◌≡◌, ◌∙◌, ◌<◌, ℕ, zero, suc, false, List, [], ◌∷◌, ◌++◌, ◌+◌, ◌-◌, ◌≤◌, drop, length, map, take, Option, Some, String, sym, ap, subst, inl, inr, codes, arith, slice_index_or, string_bytes}
+use Rattle.std.specs.Prelude.{All, Any}
+use Rattle.std.specs.List.{AllByRecursion}
+use Rattle.clap.specs.Lexer.{long_of}
+use Rattle.command_words.specs.declared.option_name.OptionName.{OptionName}
+use Rattle.std.proofs.lemmas.Bool.{cases_lt}
+use Rattle.std.proofs.lemmas.List.{get_or_default, take_all}
+use Rattle.clap.specs.declared.parser.matches.ArgMatches.{ArgMatches}
+use Rattle.command_words.specs.declared.action.Action.{Action}
+use Rattle.command_words.specs.declared.words.WordsFault.TheVariants.{Memory, NotUnderstood}
+use Rattle.command_words.specs.Commands.{word_of}
+use Rattle.command_words.specs.Options.{Given, Spells, Text, begins_with_hyphen, dashed, value_of}
+use Rattle.command_words.specs.Reading.{HasFound, IsBare, IsReadable, found_values}
+use Rattle.command_words.specs.Requests.{AskToRead, Asked, IsRequest}
+use Rattle.command_words.proofs.LawFacts.{spells-one}
+use Rattle.command_words.proofs.WordFacts.{long_of-dashed, long_of-joined}
+
+module _ {A : Type 0} where
+  -- strings that may each be read
+  pub readable-words : (words : List (String A)) → All (λ word. IsReadable (string_bytes word)) words → AllByRecursion IsReadable (map string_bytes words)
+  readable-words [] readable = tt
+  readable-words (word ∷ words) readable = (readable 0 word (omega arith), readable-words words (λ k d lt. readable (suc k) d (omega arith)))
+
+  -- one string more
+  pub readable-more : (words : List (String A)) (i : ℕ) (word : String A) → ((k : ℕ) (d : String A) → k < i → IsReadable (string_bytes (slice_index_or words k d)))
+      → i < length words → word ≡ slice_index_or words i word → IsReadable (string_bytes word)
+      → (k : ℕ) (d : String A) → k < i + 1 → IsReadable (string_bytes (slice_index_or words k d))
+  readable-more words i word before lt at readable k d below =
+      elim (cases_lt k i) [
+        | inl under ↦ before k d under
+        | inr over ↦
+            let here : k ≡ i = omega arith in
+            let is : slice_index_or words k d ≡ word = ap (λ n. slice_index_or words n d) here ∙ get_or_default words i d word lt ∙ sym at in
+            subst (λ w. IsReadable (string_bytes w)) (sym is) readable
+      ]
+
+  none-of : (words : List (String A)) (k : ℕ) (word : String A) → k < length words → slice_index_or words k word ≡ word → IsBare (string_bytes word)
+      → AllByRecursion (λ w. ¬ IsBare w) (map string_bytes words) → ⊥
+  none-of [] k word lt at bare none = absurd (omega arith)
+  none-of (one ∷ words) zero word lt at bare none = none.0 (subst (λ w. IsBare (string_bytes w)) (sym at) bare)
+  none-of (one ∷ words) (suc k) word lt at bare none = none-of words k word (omega arith) at bare none.1
+
+-- a word with a name isn't bare
+long-not_bare : (word : Text) (long : Text × Option Text) → long_of word ≡ Some long → ¬ IsBare word
+long-not_bare word long is (inl one) = cc (rw one at is)
+long-not_bare word long is (inr two) = cc (rw two at is)
+
+plain-not_bare : (word : Text) → begins_with_hyphen word ≡ false → ¬ IsBare word
+plain-not_bare word plain (inl one) = cc (rw one at plain)
+plain-not_bare word plain (inr two) = cc (rw two at plain)
+
+spelled-not_bare : (given : List Given) (words : List Text) → Spells words given → AllByRecursion (λ w. ¬ IsBare w) words
+spelled-not_bare [] words none = subst (AllByRecursion (λ w. ¬ IsBare w)) (sym none) tt
+spelled-not_bare (one ∷ given) words (rest, inl (is, plain), spelled) =
+    subst (AllByRecursion (λ w. ¬ IsBare w)) (sym is)
+    (long-not_bare (dashed one.0) _ (long_of-dashed one.0), (plain-not_bare one.1 plain, spelled-not_bare given rest spelled))
+spelled-not_bare (one ∷ given) words (rest, inr is, spelled) =
+    subst (AllByRecursion (λ w. ¬ IsBare w)) (sym is)
+    (long-not_bare (dashed one.0 ++ (codes "=" ++ one.1)) _ (long_of-joined one.0 one.1), spelled-not_bare given rest spelled)
+
+-- words among which one is bare spell no options
+pub bare-refused : {A : Type 0} (words : List (String A)) (given : List Given) → Any (λ word. IsBare (string_bytes word)) words → Spells (map string_bytes words) given → ⊥
+bare-refused words given (k, word, lt, at, bare) spelled = none-of words k word lt at bare (spelled-not_bare given (map string_bytes words) spelled)
+
+pub memory≢not_understood : Memory ≡ NotUnderstood → ⊥
+memory≢not_understood e = cc e
+
+-- ---- the command and its options
+
+-- words with a program's name and a command
+pub words-cut : {A : Type 0} (words : List (String A)) (command : String A) → 2 ≤ length words → command ≡ slice_index_or words 1 command
+    → (program : Text) × (map string_bytes words ≡ program ∷ string_bytes command ∷ map string_bytes (take (length words - 2) (drop 2 words)))
+words-cut [] command some at = absurd (omega arith)
+words-cut (first ∷ []) command some at = absurd (omega arith)
+words-cut (first ∷ second ∷ rest) command some at =
+    let all : length (first ∷ second ∷ rest) - 2 ≡ length rest = omega arith in
+    let whole : take (length (first ∷ second ∷ rest) - 2) rest ≡ rest = ap (λ n. take n rest) all ∙ take_all (length rest) rest (omega arith) in
+    (string_bytes first, (λ i. string_bytes first ∷ string_bytes (sym at i) ∷ map string_bytes (sym whole i)))
+
+-- the words of a request give the options that were found
+pub request-asks : (words options : List Text) (program : Text) (action : Action) (matches : ArgMatches) (asked : Asked) → words ≡ program ∷ word_of action ∷ options
+    → HasFound action options matches → IsRequest words asked → AskToRead (found_values matches) asked.statics asked.limits
+request-asks words options program action matches asked is found request =
+    let same : program ∷ word_of action ∷ options ≡ request.program ∷ word_of asked.action ∷ request.options = sym is ∙ request.command in
+    let same_options : request.options ≡ options = cc same in
+    let given : request.given ≡ found.given =
+    spells-one request.given found.given options (subst (λ ws. Spells ws request.given) same_options request.gives.spelled) found.gives.spelled in
+    let values : ◌≡◌ {A = OptionName → Option Text} (value_of request.given) (found_values matches) =
+    ap value_of given ∙ (λ i option. sym (found.values option) i) in
+    subst (λ value. AskToRead value asked.statics asked.limits) values request.meant

@@ -1,0 +1,5 @@
+use Rattle.command_words.proofs.LawFacts.{request-one}
+use Rattle.command_words.proofs.laws.one_request.Goals as goal
+
+pub returns : goal.returns
+returns c = request-one

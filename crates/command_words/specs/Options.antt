@@ -1,0 +1,64 @@
+-- The options, the values that they are given, and how they are spelled. A word is the list of its
+-- bytes.
+use Rattle.std.specs.Prelude.{◌≡◌, ◌⊎◌, ℕ, Bool, false, ◌==◌, ⊤, List, [], ◌∷◌, ◌++◌, Option, Some, None, codes, if◌then◌else◌}
+use Rattle.std.specs.Str.{bytes_eq}
+use Rattle.command_words.specs.declared.option_name.OptionName.{OptionName}
+use Rattle.command_words.specs.declared.option_name.OptionName.TheVariants.{Static, Payload, Depth, Dictionary, Content, Session}
+
+abbrev pub Text : Type 0
+Text = List ℕ
+
+-- what stands behind the two hyphens of each option
+abbrev pub text_of : OptionName → Text
+text_of Static = codes "static"
+text_of Payload = codes "payload"
+text_of Depth = codes "depth"
+text_of Dictionary = codes "dictionary"
+text_of Content = codes "content"
+text_of Session = codes "session"
+
+abbrev pub is_option : OptionName → OptionName → Bool
+is_option one other = bytes_eq (text_of one) (text_of other)
+
+-- `--name`
+abbrev pub dashed : OptionName → Text
+dashed option = codes "--" ++ text_of option
+
+-- ---- options that are given
+
+-- an option, and the value that it is given
+abbrev pub Given : Type 0
+Given = OptionName × Text
+
+-- the value that an option is given first
+abbrev pub value_of : List Given → OptionName → Option Text
+value_of [] option = None
+value_of (given ∷ more) option =
+    if is_option given.0 option then Some given.1 else value_of more option
+
+-- no option is given twice
+abbrev pub IsOnce : List Given → Type 0
+IsOnce [] = ⊤
+IsOnce (given ∷ more) = (value_of more given.0 ≡ None) × IsOnce more
+
+-- ---- how they are spelled
+
+abbrev pub begins_with_hyphen : Text → Bool
+begins_with_hyphen [] = false
+begins_with_hyphen (byte ∷ rest) = byte == 45
+
+-- the words begin with an option as two words, `--name value`, whose second doesn't begin with a
+-- hyphen
+abbrev pub BeginsApart : List Text → Given → List Text → Type 0
+BeginsApart words given rest =
+    (words ≡ dashed given.0 ∷ given.1 ∷ rest) × (begins_with_hyphen given.1 ≡ false)
+
+-- the words begin with an option as one word, `--name=value`
+abbrev pub BeginsJoined : List Text → Given → List Text → Type 0
+BeginsJoined words given rest = words ≡ (dashed given.0 ++ (codes "=" ++ given.1)) ∷ rest
+
+-- the words are these options with their values, in this order
+abbrev pub Spells : List Text → List Given → Type 0
+Spells words [] = words ≡ []
+Spells words (given ∷ more) = (rest : List Text)
+    × (BeginsApart words given rest ⊎ BeginsJoined words given rest) × Spells rest more

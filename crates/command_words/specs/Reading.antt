@@ -1,0 +1,70 @@
+-- What the parts of a reader of words answer.
+use Rattle.std.specs.Prelude.{◌≡◌, ◌≢◌, ◌⊎◌, ◌&&◌, nat_le, nat_lt, Bool, true, false, Some, List, [], ◌∷◌, Option, IsUtf8, codes, fold, option_map}
+use Rattle.std.specs.Borrow.{Bor}
+use Rattle.std.specs.Char.{is_ascii_digit}
+use Rattle.clap.specs.Matches.{first_value, found_of}
+use Rattle.clap.specs.Walk.{Rule}
+use Rattle.clap.specs.Simple.{App, new_app, new_rule, on_top, with_rule}
+use Rattle.clap.specs.declared.parser.matches.ArgMatches.{ArgMatches}
+use Rattle.command_words.specs.declared.action.Action.{Action}
+use Rattle.command_words.specs.declared.option_name.OptionName.{OptionName}
+use Rattle.command_words.specs.Commands.{options_of, word_of}
+use Rattle.command_words.specs.Options.{Given, Text, text_of, value_of}
+use Rattle.command_words.specs.Requests.{GiveOptions}
+
+-- ---- words that are given to clap
+
+-- a single or double hyphen that stands alone
+abbrev pub IsBare : Text → Type 0
+IsBare word = (word ≡ codes "-") ⊎ (word ≡ codes "--")
+
+-- any other text
+pub record IsReadable (word : Text) : Type 0 where
+  pub not_one : word ≢ codes "-"
+  pub not_two : word ≢ codes "--"
+  pub utf8 : IsUtf8 word
+
+-- the text begins as a number does, with a digit, which is the zero only where it is alone
+abbrev pub begins_plain : Text → Bool
+begins_plain [] = false
+begins_plain (digit ∷ []) = is_ascii_digit digit
+begins_plain (digit ∷ next ∷ rest) = nat_lt 48 digit && nat_le digit 57
+
+-- ---- what clap is told
+
+-- an option, which takes one value as text
+abbrev pub option_rule : OptionName → Rule
+option_rule option = record (new_rule (text_of option)) { long = Some (text_of option) }
+
+abbrev pub with_option : App → OptionName → App
+with_option app option = with_rule app (option_rule option)
+
+-- a command without options; it is given the words behind the command, and answers no request for
+-- help
+abbrev pub app_without_options : Text → App
+app_without_options name = on_top (λ shape. record shape {
+  no_binary_name = true;
+  disable_help_flag = true;
+}) (new_app name)
+
+abbrev pub app_with : Text → List OptionName → App
+app_with name options = fold with_option (app_without_options name) options
+
+abbrev pub app_for : Action → App
+app_for action = app_with (word_of action) (options_of action)
+
+-- ---- what clap finds
+
+-- the text that may stand behind a reference
+abbrev pub text_behind : Option (Bor Text) → Option Text
+text_behind = option_map (λ text. text.now)
+
+-- the value of each option that a parse found
+abbrev pub found_values : ArgMatches → OptionName → Option Text
+found_values matches option = first_value (found_of matches) (text_of option)
+
+-- the words give options, with the values that a parse found
+pub record HasFound (action : Action) (words : List Text) (matches : ArgMatches) : Type 0 where
+  pub given : List Given
+  pub gives : GiveOptions action words given
+  pub values : (option : OptionName) → found_values matches option ≡ value_of given option

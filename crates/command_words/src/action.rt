@@ -1,0 +1,56 @@
+// The commands, and the options of each.
+ghost use Rattle.std.specs.Prelude.{◌≡◌, ◌≢◌, IfNone, IfSome};
+ghost use Rattle.command_words.specs.Commands.{options_of, word_of};
+
+use crate::option_name::OptionName;
+
+/// A command of the program.
+#[derive(Clone, Copy, Debug, PartialEq, Eq)]
+pub enum Action {
+    /// Reads a session and reports it.
+    Check,
+    /// Reads a session and prints its documents.
+    Dump,
+}
+
+static READING: [OptionName; 6] = [
+    OptionName::Static,
+    OptionName::Payload,
+    OptionName::Depth,
+    OptionName::Dictionary,
+    OptionName::Content,
+    OptionName::Session,
+];
+
+/// The command that a word names.
+pub fn action_of(word: &str) -> Option<Action>
+    ensures named { IfSome result (λ action. word.now ≡ word_of action) }
+    ensures unknown { IfNone result ((action : Action) → word.now ≢ word_of action) }
+{
+    if word == "check" {
+        return Some(Action::Check);
+    }
+    if word == "dump" {
+        return Some(Action::Dump);
+    }
+    None
+}
+
+/// The word of a command.
+pub fn word_of(action: Action) -> &'static str
+    ensures { result.now ≡ word_of action }
+{
+    match action {
+        Action::Check => "check",
+        Action::Dump => "dump",
+    }
+}
+
+/// The options of a command.
+pub fn options_of(action: Action) -> &'static [OptionName]
+    ensures { result.now ≡ options_of action }
+{
+    match action {
+        Action::Check | Action::Dump => READING.as_slice(),
+    }
+}

@@ -1,0 +1,47 @@
+// The number that a value writes.
+ghost use Rattle.std.specs.Prelude.{◌≡◌, ◌≢◌, ◌<◌, ◌^◌, ℕ, IfNone, IfSome};
+ghost use Rattle.std.specs.Fmt.{decimal};
+ghost use Rattle.command_words.specs.Reading.{begins_plain, text_behind};
+ghost use Rattle.command_words.specs.Requests.{IsNumber};
+
+// Whether a text begins as a number does: with a digit, which is the zero only where it is alone.
+fn begins_plain(text: &[u8]) -> bool
+    ensures { result ≡ begins_plain text.now }
+{
+    match text {
+        [b'0'..=b'9'] | [b'1'..=b'9', _, ..] => true,
+        _ => false,
+    }
+}
+
+// The number that decimal digits without a leading zero write.
+fn number_in(text: &str) -> Option<u64>
+    ensures written { IfSome result (λ n. text.now ≡ decimal n) }
+    ensures none { IfNone result ((n : ℕ) → n < 2 ^ 64 → text.now ≢ decimal n) }
+{
+    if !begins_plain(text.as_bytes()) {
+        return None;
+    }
+    text.parse::<u64>().ok()
+}
+
+/// The number that a value writes, or the usual one where there is no value.
+pub fn number_or(value: Option<&str>, usual: u64) -> Option<u64>
+    ensures written { IfSome result (IsNumber (text_behind value.entry) usual) }
+    ensures none { IfNone result ((n : ℕ) → n < 2 ^ 64
+        → ¬ IsNumber (text_behind value.entry) usual n) }
+{
+    match value {
+        Some(text) => number_in(text),
+        None => Some(usual),
+    }
+}
+
+/// The same, where it is small.
+pub fn small_or(value: Option<&str>, usual: u64) -> Option<u32>
+    ensures written { IfSome result (IsNumber (text_behind value.entry) usual) }
+    ensures none { IfNone result ((n : ℕ) → n < 2 ^ 32
+        → ¬ IsNumber (text_behind value.entry) usual n) }
+{
+    u32::try_from(number_or(value, usual)?).ok()
+}

@@ -1,0 +1,34 @@
+// The options by name.
+ghost use Rattle.std.specs.Prelude.{◌≡◌};
+ghost use Rattle.command_words.specs.Options.{text_of};
+
+/// An option that a command may be given.
+#[derive(Clone, Copy, Debug, PartialEq, Eq)]
+pub enum OptionName {
+    /// The file of the static strings.
+    Static,
+    /// The greatest payload.
+    Payload,
+    /// The greatest depth.
+    Depth,
+    /// The greatest cost of the session strings.
+    Dictionary,
+    /// The greatest content of a document.
+    Content,
+    /// The longest session.
+    Session,
+}
+
+/// What stands behind the two hyphens of an option.
+pub fn text_of(option: OptionName) -> &'static str
+    ensures { result.now ≡ text_of option }
+{
+    match option {
+        OptionName::Static => "static",
+        OptionName::Payload => "payload",
+        OptionName::Depth => "depth",
+        OptionName::Dictionary => "dictionary",
+        OptionName::Content => "content",
+        OptionName::Session => "session",
+    }
+}

@@ -1,0 +1,66 @@
+// The options of a command, as clap reads them.
+ghost use Rattle.std.specs.Prelude.{◌≡◌, ◌↔◌, All, Any, IfOk, IsErrOf, IsTrue, List, map, string_bytes};
+ghost use Rattle.std.specs.Bool.{OnFalse, OnTrue};
+ghost use Rattle.clap.specs.Values.{kind_of};
+ghost use Rattle.command_words.specs.Options.{Given};
+ghost use Rattle.command_words.specs.Reading.{HasFound, IsBare, IsReadable};
+ghost use Rattle.command_words.specs.Requests.{GiveOptions};
+
+use crate::action::Action;
+use crate::described::described;
+use crate::words::WordsFault;
+use clap::error::ErrorKind;
+use clap::{ArgMatches, Error};
+use std::alloc::Global;
+
+// Whether a word is a hyphen or two alone, of which clap has a use of its own.
+fn is_bare(word: &str) -> bool
+    ensures { IsTrue result ↔ IsBare word.now }
+{
+    word == "-" || word == "--"
+}
+
+// Whether no word is bare.
+fn are_readable(words: &[String]) -> bool
+    ensures readable { OnTrue result (All (λ word. IsReadable (string_bytes word)) words.now) }
+    ensures bare { OnFalse result (Any (λ word. IsBare (string_bytes word)) words.now) }
+{
+    for word in words {
+        if is_bare(word.as_str()) {
+            return false;
+        }
+    }
+    true
+}
+
+// What an error of clap means.
+fn fault_of(error: &Error) -> WordsFault
+    ensures { (result ≡ WordsFault.Memory) ↔ (kind_of error.now ≡ ErrorKind.OutOfMemory) }
+{
+    match error.kind() {
+        ErrorKind::OutOfMemory => WordsFault::Memory,
+        _ => WordsFault::NotUnderstood,
+    }
+}
+
+/// The options of a command, with their values.
+pub fn parsed<'w>(
+    alloc: Global,
+    action: Action,
+    words: &'w [String],
+) -> Result<ArgMatches<'w>, WordsFault>
+    ensures found { IfOk result (HasFound action (map string_bytes words.entry.now)) }
+    ensures refused { IsErrOf result WordsFault.NotUnderstood → (given : List Given)
+        → ¬ GiveOptions action (map string_bytes words.entry.now) given }
+{
+    if !are_readable(words) {
+        return Err(WordsFault::NotUnderstood);
+    }
+    let Ok(command) = described(alloc, action) else {
+        return Err(WordsFault::Memory);
+    };
+    match command.try_get_matches_from(words) {
+        Ok(matches) => Ok(matches),
+        Err(error) => Err(fault_of(&error)),
+    }
+}

@@ -1,0 +1,232 @@
+// Words of each form and of none, with ample memory.
+use crate::{Action, Request, WordsFault, read};
+use nbfx_values::Quotas;
+use std::alloc::{AllocError, Global};
+use std::process::Abort;
+use std::test::Fail;
+
+// The words as the system hands them in.
+fn words_of(alloc: Global, texts: &[&str]) -> Result<Vec<String>, AllocError> {
+    let mut words = Vec::new(alloc);
+    for text in texts {
+        words.push(String::from_str(alloc, *text)?)?;
+    }
+    Ok(words)
+}
+
+// Whether words ask for these quotas, with the static strings of `texts.csv`.
+fn asks(
+    rt: &impl Abort,
+    alloc: Global,
+    texts: &[&str],
+    action: Action,
+    quotas: Quotas,
+) -> Result<(), Fail> {
+    let words = words_of(alloc, texts)?;
+    let request = Request {
+        action,
+        statics: "texts.csv",
+        quotas,
+    };
+    assert!(rt; read(alloc, words.as_slice())? == request);
+    Ok(())
+}
+
+// Whether words are in no form.
+fn refused(rt: &impl Abort, alloc: Global, texts: &[&str]) -> Result<(), Fail> {
+    let words = words_of(alloc, texts)?;
+    match read(alloc, words.as_slice()) {
+        Ok(_) => assert!(rt; false),
+        Err(fault) => assert_eq!(rt; fault, WordsFault::NotUnderstood),
+    }
+    Ok(())
+}
+
+#[test]
+fn commands(rt: HostRuntime) -> Result<(), Fail> {
+    let alloc = rt.alloc();
+    let usual = Quotas::usual();
+    asks(
+        &rt,
+        alloc,
+        &["nettcp", "check", "--static", "texts.csv"],
+        Action::Check,
+        usual,
+    )?;
+    asks(
+        &rt,
+        alloc,
+        &["", "dump", "--static=texts.csv"],
+        Action::Dump,
+        usual,
+    )?;
+    refused(&rt, alloc, &[])?;
+    refused(&rt, alloc, &["nettcp"])?;
+    refused(&rt, alloc, &["nettcp", "Check", "--static", "texts.csv"])?;
+    refused(&rt, alloc, &["nettcp", "", "--static", "texts.csv"])?;
+    refused(&rt, alloc, &["nettcp", "--static", "texts.csv", "check"])?;
+    refused(&rt, alloc, &["nettcp", "--help"])?;
+    refused(&rt, alloc, &["nettcp", "help"])?;
+    Ok(())
+}
+
+#[test]
+fn all_options(rt: HostRuntime) -> Result<(), Fail> {
+    let alloc = rt.alloc();
+    let quotas = Quotas::of(8_192, 8, 1_000, 9_000, 2_048, 1).ok_or("good")?;
+    asks(
+        &rt,
+        alloc,
+        &[
+            "nettcp",
+            "dump",
+            "--session",
+            "1",
+            "--content=9000",
+            "--depth",
+            "8",
+            "--static",
+            "texts.csv",
+            "--dictionary=1000",
+            "--payload",
+            "8192",
+        ],
+        Action::Dump,
+        quotas,
+    )
+}
+
+#[test]
+fn names_of_files(rt: HostRuntime) -> Result<(), Fail> {
+    let alloc = rt.alloc();
+    for (text, name) in [
+        ("--static=a=b", "a=b"),
+        ("--static=-x", "-x"),
+        ("--static=--", "--"),
+        ("--static=a b", "a b"),
+        ("--static=é", "é"),
+    ] {
+        let words = words_of(alloc, &["nettcp", "check", text])?;
+        assert_eq!(rt; read(alloc, words.as_slice())?.statics, name);
+    }
+    Ok(())
+}
+
+#[test]
+fn refused_options(rt: HostRuntime) -> Result<(), Fail> {
+    let alloc = rt.alloc();
+    refused(&rt, alloc, &["nettcp", "check"])?;
+    refused(&rt, alloc, &["nettcp", "check", "--depth", "8"])?;
+    refused(&rt, alloc, &["nettcp", "check", "--static"])?;
+    refused(&rt, alloc, &["nettcp", "check", "--static="])?;
+    refused(&rt, alloc, &["nettcp", "check", "--static", ""])?;
+    refused(&rt, alloc, &["nettcp", "check", "--static", "-x"])?;
+    refused(&rt, alloc, &["nettcp", "check", "--static", "-"])?;
+    refused(&rt, alloc, &["nettcp", "check", "--static", "--"])?;
+    refused(&rt, alloc, &["nettcp", "check", "-s", "texts.csv"])?;
+    refused(&rt, alloc, &["nettcp", "check", "--stat", "texts.csv"])?;
+    refused(&rt, alloc, &["nettcp", "check", "--", "--static=a"])?;
+    for more in [
+        "--static=b",
+        "more",
+        "",
+        "-",
+        "--",
+        "-h",
+        "--help",
+        "--version",
+        "--depth",
+        "--depth=",
+        "--=",
+        "--=4",
+        "--DEPTH=8",
+        "--depth=3",
+        "--depth=04",
+        "--depth=+4",
+        "--depth= 4",
+        "--depth=4294967300",
+        "--depth=99999999999999999999",
+        "--session=18446744073709551616",
+    ] {
+        refused(&rt, alloc, &["nettcp", "check", "--static=a", more])?;
+    }
+    Ok(())
+}
+
+// The quotas of a `check` with one option beside the file's name.
+fn with_option(alloc: Global, option: &str) -> Result<Option<Quotas>, Fail> {
+    let words = words_of(alloc, &["nettcp", "check", option, "--static=a"])?;
+    match read(alloc, words.as_slice()) {
+        Ok(request) => Ok(Some(request.quotas)),
+        Err(WordsFault::NotUnderstood) => Ok(None),
+        Err(fault) => Err(Fail::from(fault)),
+    }
+}
+
+#[test]
+fn edges(rt: HostRuntime) -> Result<(), Fail> {
+    let alloc = rt.alloc();
+    for (option, is_taken) in [
+        ("--payload=4095", false),
+        ("--payload=4096", true),
+        ("--payload=1048576", true),
+        ("--payload=1048577", false),
+        ("--depth=3", false),
+        ("--depth=4", true),
+        ("--depth=128", true),
+        ("--depth=129", false),
+        ("--dictionary=0", true),
+        ("--dictionary=65536", true),
+        ("--dictionary=65537", false),
+        ("--content=65535", false),
+        ("--content=65536", true),
+        ("--content=16777216", true),
+        ("--content=16777217", false),
+        ("--session=0", false),
+        ("--session=1", true),
+        ("--session=281474976710656", true),
+        ("--session=281474976710657", false),
+    ] {
+        assert_eq!(rt; with_option(alloc, option)?.is_some(), is_taken, "{option}");
+    }
+    Ok(())
+}
+
+#[test]
+fn usual_contents(rt: HostRuntime) -> Result<(), Fail> {
+    let alloc = rt.alloc();
+    for (option, content) in [
+        ("--payload=4096", 262_144),
+        ("--payload=65537", 262_148),
+        ("--payload=131072", 524_288),
+        ("--payload=1048576", 4_194_304),
+        ("--content=65536", 65_536),
+    ] {
+        let quotas = with_option(alloc, option)?.ok_or("taken")?;
+        assert_eq!(rt; quotas.content, content, "{option}");
+    }
+    Ok(())
+}
+
+// Wherever one allocation fails, the answer is want of memory or as with ample memory.
+#[test]
+fn with_little_memory(rt: HostRuntime) {
+    let alloc = rt.alloc();
+    for (texts, is_taken) in [
+        (["nettcp", "check", "--static", "a", "--depth=8"], true),
+        (["nettcp", "dump", "--depth=8", "--static", "a"], true),
+        (["nettcp", "dump", "--depth=8", "--static", "-a"], false),
+        (["nettcp", "check", "--static=a", "--static", "a"], false),
+        (["nettcp", "check", "--static=a", "--depth", "3"], false),
+        (["nettcp", "check", "--help", "--static", "a"], false),
+    ] {
+        let Ok(words) = words_of(alloc, texts.as_slice()) else {
+            continue;
+        };
+        match read(alloc, words.as_slice()) {
+            Ok(request) => assert!(rt; is_taken && request.quotas.depth == 8),
+            Err(WordsFault::NotUnderstood) => assert!(rt; !is_taken),
+            Err(WordsFault::Memory) => (),
+        }
+    }
+}
