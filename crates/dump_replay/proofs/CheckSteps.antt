@@ -18,20 +18,21 @@ use Rattle.unit_streams.proofs.Standing.{standing_nothing}
 use Rattle.unit_streams.proofs.Passing.{refusal_from, going_refusal}
 use Rattle.unit_streams.proofs.Pending.{pending_open, pending_unrefused, open_going_on, open_first}
 use Rattle.nbfx_values.specs.declared.refusals.Offence.{Offence}
+use Rattle.nbfx_values.specs.Limits.{IsGood, Limits}
 use Rattle.string_tables.specs.StaticStrings.{Entry}
 use Rattle.stream_reader.specs.Judging.{offence}
 use Rattle.stream_reader.specs.Laws.{IsInitiators}
-use Rattle.stream_reader.specs.Stream.{Settings, beginning, ends, too_long, stream}
+use Rattle.stream_reader.specs.Stream.{Settings, beginning, initiators, ends, too_long, stream}
 use Rattle.stream_reader.proofs.Ending.{tells}
 use Rattle.stream_reader.proofs.Grammar.{within_quota, readable, short_enough}
 use Rattle.dump_replay.specs.declared.check.TheConstants.{ROOM}
 use Rattle.dump_replay.specs.declared.check.Progress.{Progress}
 use Rattle.dump_replay.specs.declared.check.Ending.{Ending}
 use Rattle.dump_replay.specs.declared.check.Ending.TheVariants as endings
+use Rattle.dump_replay.specs.declared.report.Detail.{Detail}
 use Rattle.dump_replay.specs.Checking.{Grows, Reaches, Writes}
 use Rattle.dump_replay.specs.Reading.{AreDue, HasChecked, HasRead, HasReported, ReadsOf, ReportsAs}
 use Rattle.dump_replay.specs.Report.{history_lines, report, event_lines}
-use Rattle.dump_replay.specs.Statics.{with_statics}
 use Rattle.dump_replay.proofs.Lines.{open_report}
 use Rattle.dump_replay.proofs.Writing.{told_some}
 
@@ -165,12 +166,12 @@ pub first_read : (x : Settings) → IsInitiators x → (stands : List ℕ → Ty
 first_read x set stands room here = read_at x stands [] here (first_pending x set room)
 
 -- so many bytes are read, of which a piece is the last, and lines are put for them
-module _ (x : Settings) (left left' taken taken' written written' : Option (List ℕ)) (held held' : List ℕ) (p y : List ℕ) (pending : IsPending (stream x) p) where
+module _ (d : Detail) (x : Settings) (left left' taken taken' written written' : Option (List ℕ)) (held held' : List ℕ) (p y : List ℕ) (pending : IsPending (stream x) p) where
   -- by what is known of the input
   pub has_reported : (result : Result Ending SinkFault) (lines : List ℕ) → length y ≤ ROOM
       → ((bytes : List ℕ) → left ≡ Some bytes → (rest : List ℕ) × (left' ≡ Some rest) × (bytes ≡ p ++ y ++ rest))
       → ((t : List ℕ) → taken ≡ Some t → taken' ≡ Some (t ++ (p ++ y)))
-      → Told written written' (Writes x held p) → ReportsAs x p y left left' held' result lines → HasReported x left left' taken taken' written written' held held' result lines
+      → Told written written' (Writes d x held p) → ReportsAs d x p y left left' held' result lines → HasReported d x left left' taken taken' written written' held held' result lines
   has_reported result lines short moved took wrote ends = record {
     before = p;
     piece = y;
@@ -192,37 +193,37 @@ pub record IsCut (x : Settings) (p : List ℕ) (Holds : List ℕ → Type 0) : T
   pub holds : Holds before
 
 -- the lines of these bytes' events are written, and maybe more
-abbrev pub WritesLines : Settings → (held bytes : List ℕ) → (w w' : List ℕ) → Type 0
-WritesLines x held bytes w w' = Grows (w ++ held ++ event_lines x bytes) w'
+abbrev pub WritesLines : Detail → Settings → (held bytes : List ℕ) → (w w' : List ℕ) → Type 0
+WritesLines d x held bytes w w' = Grows (w ++ held ++ event_lines d x bytes) w'
 
 -- what is written where p is read: nothing, where p has no bytes, or at least the lines of all but its last piece
-abbrev pub WritesSoFar : Settings → (written written' : Option (List ℕ)) → (held held' p : List ℕ) → Type 0
-WritesSoFar x written written' held held' p =
-    ((p ≡ []) × (written' ≡ written) × (held' ≡ held)) ⊎ IsCut x p (λ before. Told written written' (WritesLines x held before))
+abbrev pub WritesSoFar : Detail → Settings → (written written' : Option (List ℕ)) → (held held' p : List ℕ) → Type 0
+WritesSoFar d x written written' held held' p =
+    ((p ≡ []) × (written' ≡ written) × (held' ≡ held)) ⊎ IsCut x p (λ before. Told written written' (WritesLines d x held before))
 
-module _ (x : Settings) (held : List ℕ) where
+module _ (d : Detail) (x : Settings) (held : List ℕ) where
   -- nothing is written
-  pub writes_none : (w : Option (List ℕ)) → Told w w (Writes x held [])
+  pub writes_none : (w : Option (List ℕ)) → Told w w (Writes d x held [])
   writes_none None = tt
   writes_none (Some w) = inr (refl, record { kept = 0; grown = sym (append-nil w) })
 
   -- all lines are
-  pub writes_lines : (p : List ℕ) (w w' : Option (List ℕ)) (held' : List ℕ) → Told w w' (λ w w'. Passes w w' held held' (event_lines x p)) → held' ≡ [] → Told w w' (WritesLines x held p)
+  pub writes_lines : (p : List ℕ) (w w' : Option (List ℕ)) (held' : List ℕ) → Told w w' (λ w w'. Passes w w' held held' (event_lines d x p)) → held' ≡ [] → Told w w' (WritesLines d x held p)
   writes_lines p None w' held' h none = tt
   writes_lines p (Some w) None held' h none = absurd h
   writes_lines p (Some w) (Some w') held' h none =
-      let put : h.put ≡ held ++ event_lines x p = sym (append-nil h.put) ∙ ap (λ l. h.put ++ l) (sym none) ∙ sym h.split in
-      record { more = []; grown = h.grown ∙ ap (λ l. w ++ l) put ∙ sym (append_assoc w held (event_lines x p)) ∙ sym (append-nil (w ++ held ++ event_lines x p)) }
+      let put : h.put ≡ held ++ event_lines d x p = sym (append-nil h.put) ∙ ap (λ l. h.put ++ l) (sym none) ∙ sym h.split in
+      record { more = []; grown = h.grown ∙ ap (λ l. w ++ l) put ∙ sym (append_assoc w held (event_lines d x p)) ∙ sym (append-nil (w ++ held ++ event_lines d x p)) }
 
   -- and more behind them
-  pub writes_more : (p : List ℕ) (w w1 w2 : Option (List ℕ)) → Told w w1 (WritesLines x held p) → Told w1 w2 Grows → Told w w2 (WritesLines x held p)
+  pub writes_more : (p : List ℕ) (w w1 w2 : Option (List ℕ)) → Told w w1 (WritesLines d x held p) → Told w1 w2 Grows → Told w w2 (WritesLines d x held p)
   writes_more p None w1 w2 h more = tt
   writes_more p (Some w) None w2 h more = absurd h
   writes_more p (Some w) (Some w1) None h more = absurd more
-  writes_more p (Some w) (Some w1) (Some w2) h more = record { more = h.more ++ more.more; grown = more.grown ∙ ap (λ l. l ++ more.more) h.grown ∙ append_assoc (w ++ held ++ event_lines x p) h.more more.more }
+  writes_more p (Some w) (Some w1) (Some w2) h more = record { more = h.more ++ more.more; grown = more.grown ∙ ap (λ l. l ++ more.more) h.grown ∙ append_assoc (w ++ held ++ event_lines d x p) h.more more.more }
 
-  pub writes_some : (p : List ℕ) (w w' : Option (List ℕ)) → Told w w' (WritesLines x held p) → Told w w' (Writes x held p)
-  writes_some p w w' h = told_as (WritesLines x held p) (Writes x held p) w w' h (λ l l' k. inl k)
+  pub writes_some : (p : List ℕ) (w w' : Option (List ℕ)) → Told w w' (WritesLines d x held p) → Told w w' (Writes d x held p)
+  writes_some p w w' h = told_as (WritesLines d x held p) (Writes d x held p) w w' h (λ l l' k. inl k)
 
 -- what a put adds to what is written
 prefix_grows : (b : List ℕ) (w w' : Option (List ℕ)) → Told w w' (λ w w'. GrowsByPrefix w w' b) → Told w w' Grows
@@ -233,25 +234,25 @@ puts_grow {lines = lines} (Ok u) {w = w} {w' = w'} {h = h} {h' = h'} p = told_as
 puts_grow {lines = lines} (Err fault) {w = w} {w' = w'} {h = h} p = prefix_grows (h ++ lines) w w' p.refused
 
 -- where the lines are cut off that were to be written before more is taken
-pub flush_cut : (x : Settings) (p : List ℕ) → IsPending (stream x) [] → (w w1 w2 : Option (List ℕ)) (held held1 : List ℕ) → WritesSoFar x w w1 held held1 p → Told w1 w2 (λ w w'. GrowsByPrefix w w' held1)
-    → IsCut x p (λ before. Told w w2 (Writes x held before))
-flush_cut x p none w w1 w2 held held1 (inl first) cut =
+pub flush_cut : (d : Detail) (x : Settings) (p : List ℕ) → IsPending (stream x) [] → (w w1 w2 : Option (List ℕ)) (held held1 : List ℕ) → WritesSoFar d x w w1 held held1 p → Told w1 w2 (λ w w'. GrowsByPrefix w w' held1)
+    → IsCut x p (λ before. Told w w2 (Writes d x held before))
+flush_cut d x p none w w1 w2 held held1 (inl first) cut =
     let first_cut : Told w w2 (λ w w'. GrowsByPrefix w w' held) = rw (first.1, first.2) at cut in
-    record { before = []; piece = []; all = first.0; pending = none; short = omega arith; holds = told_as (λ l l'. GrowsByPrefix l l' held) (Writes x held []) w w2 first_cut (λ l l' k. inr (refl, k)) }
-flush_cut x p none w w1 w2 held held1 (inr so_far) cut =
+    record { before = []; piece = []; all = first.0; pending = none; short = omega arith; holds = told_as (λ l l'. GrowsByPrefix l l' held) (Writes d x held []) w w2 first_cut (λ l l' k. inr (refl, k)) }
+flush_cut d x p none w w1 w2 held held1 (inr so_far) cut =
     record {
       before = so_far.before;
       piece = so_far.piece;
       all = so_far.all;
       pending = so_far.pending;
       short = so_far.short;
-      holds = writes_some x held so_far.before w w2 (writes_more x held so_far.before w w1 w2 so_far.holds (prefix_grows held1 w1 w2 cut));
+      holds = writes_some d x held so_far.before w w2 (writes_more d x held so_far.before w w1 w2 so_far.holds (prefix_grows held1 w1 w2 cut));
     }
 
 -- the lines of what was read are due, whatever follows
-pub lines_due : (x : Settings) (p : List ℕ) → IsPending (stream x) p → AreDue x (p ++ []) [] (event_lines x p)
-lines_due x p pending more =
-    (history_lines (history_from (stream x) p more), ap (λ l. report x (l ++ more)) (append-nil p) ∙ open_report x p (pending_open (stream x) p pending) more)
+pub lines_due : (d : Detail) (x : Settings) (p : List ℕ) → IsPending (stream x) p → AreDue d x (p ++ []) [] (event_lines d x p)
+lines_due d x p pending more =
+    (history_lines d (history_from (stream x) p more), ap (λ l. report d x (l ++ more)) (append-nil p) ∙ open_report d x p (pending_open (stream x) p pending) more)
 
 -- what was known of the input with no piece more
 pub left_still : (left mid left' : Option (List ℕ)) (p : List ℕ) → ((bytes : List ℕ) → left ≡ Some bytes → (rest : List ℕ) × (mid ≡ Some rest) × (bytes ≡ p ++ rest)) → Told mid left' (λ l l'. l' ≡ l)
@@ -299,18 +300,18 @@ module _ (first mid last : Option (List ℕ)) (p room : List ℕ) (n : ℕ) (zer
       (k.0, k.1, k.2.rest ∙ ap (λ m. drop m h.0) zero ∙ over.2.0 zero))
 
 -- what is answered by the settings that an end has now, said by those that it had at first
-pub reads_at : (now x : Settings) → now ≡ x → (stands stands' : List ℕ → Type 0) (p y : List ℕ) (P : Result Progress SinkFault → List ℕ → Type 0) (r : Result Progress SinkFault) → HasRead stands x p
-    → ((p : List ℕ) → HasRead stands now p → (lines : List ℕ) × P r lines × ReadsOf stands' now p y r lines) → (lines : List ℕ) × P r lines × ReadsOf stands' x p y r lines
-reads_at now x same stands stands' p y P r read reads =
+pub reads_at : (d : Detail) (now x : Settings) → now ≡ x → (stands stands' : List ℕ → Type 0) (p y : List ℕ) (P : Result Progress SinkFault → List ℕ → Type 0) (r : Result Progress SinkFault) → HasRead stands x p
+    → ((p : List ℕ) → HasRead stands now p → (lines : List ℕ) × P r lines × ReadsOf d stands' now p y r lines) → (lines : List ℕ) × P r lines × ReadsOf d stands' x p y r lines
+reads_at d now x same stands stands' p y P r read reads =
     let k = reads p (subst (λ s. HasRead stands s p) (sym same) read) in
-    (k.0, k.1, subst (λ s. ReadsOf stands' s p y r k.0) same k.2)
+    (k.0, k.1, subst (λ s. ReadsOf d stands' s p y r k.0) same k.2)
 
-pub ends_at : (now x : Settings) → now ≡ x → (stands : List ℕ → Type 0) (p : List ℕ) (P : List ℕ → Type 0) (v : Result (Option Offence) SinkFault) → HasRead stands x p → IsPending (stream x) p
-    → ((p : List ℕ) → HasRead stands now p → IsPending (stream now) p → (lines : List ℕ) × P lines × (report now p ≡ event_lines now p ++ lines) × IfOk v (λ o. offence now p ≡ o))
-    → (lines : List ℕ) × P lines × (report x p ≡ event_lines x p ++ lines) × IfOk v (λ o. offence x p ≡ o)
-ends_at now x same stands p P v read pending ends =
+pub ends_at : (d : Detail) (now x : Settings) → now ≡ x → (stands : List ℕ → Type 0) (p : List ℕ) (P : List ℕ → Type 0) (v : Result (Option Offence) SinkFault) → HasRead stands x p → IsPending (stream x) p
+    → ((p : List ℕ) → HasRead stands now p → IsPending (stream now) p → (lines : List ℕ) × P lines × (report d now p ≡ event_lines d now p ++ lines) × IfOk v (λ o. offence now p ≡ o))
+    → (lines : List ℕ) × P lines × (report d x p ≡ event_lines d x p ++ lines) × IfOk v (λ o. offence x p ≡ o)
+ends_at d now x same stands p P v read pending ends =
     let k = ends p (subst (λ s. HasRead stands s p) (sym same) read) (subst (λ s. IsPending (stream s) p) (sym same) pending) in
-    (k.0, k.1, subst (λ s. report s p ≡ event_lines s p ++ k.0) same k.2, subst (λ s. IfOk v (λ o. offence s p ≡ o)) same k.3)
+    (k.0, k.1, subst (λ s. report d s p ≡ event_lines d s p ++ k.0) same k.2, subst (λ s. IfOk v (λ o. offence s p ≡ o)) same k.3)
 
 -- what was put, and then written
 pub after_flush : {lines : List ℕ} (r : Result ⊤ SinkFault) {w w1 w2 : Option (List ℕ)} {h h1 h2 : List ℕ} {f f1 f2 : ℕ} {m m1 m2 : Bool} → PutsAll lines (Ok tt) w w1 h h1 f f1 m m1
@@ -319,46 +320,30 @@ pub after_flush : {lines : List ℕ} (r : Result ⊤ SinkFault) {w w1 w2 : Optio
 after_flush r p written refused emptied counted wanted settled = rw append-nil at (PutsAll-then r p (flush_puts r written refused emptied counted wanted settled))
 
 -- the settings of a check are an initiator's
-pub with_statics_set : (entries : List Entry) → IsInitiators (with_statics entries)
-with_statics_set entries = record {
-  direction = refl;
-  mode = refl;
-  good = record {
-    payload_least = lit≤ tt;
-    payload_most = lit≤ tt;
-    depth_least = lit≤ tt;
-    depth_most = lit≤ tt;
-    dictionary_most = lit≤ tt;
-    content_least = lit≤ tt;
-    content_most = lit≤ tt;
-    via_least = lit≤ tt;
-    via_most = lit≤ tt;
-    session_least = lit≤ tt;
-    session_most = lit≤ tt;
-  };
-}
+pub reads_set : (entries : List Entry) (quotas : Limits) → IsGood quotas → IsInitiators (initiators entries quotas)
+reads_set entries quotas good = record { direction = refl; mode = refl; good = good }
 
 -- before anything is read or put
-pub first_reaches : (x : Settings) → IsInitiators x → 0 < x.limits.session → (left taken written : Option (List ℕ)) (held : List ℕ) → Reaches x left left taken taken written written held
-first_reaches x set room left taken written held = record {
+pub first_reaches : (d : Detail) (x : Settings) → IsInitiators x → 0 < x.limits.session → (left taken written : Option (List ℕ)) (held : List ℕ) → Reaches d x left left taken taken written written held
+first_reaches d x set room left taken written held = record {
   before = [];
   piece = [];
   pending = first_pending x set room;
   short = omega arith;
   stream = known_told (λ all rest. all ≡ rest) left left (λ all e. (all, e, refl));
   took = known_told (λ t t'. t' ≡ t ++ [] ++ []) taken taken (λ t e. (t, e, sym (append-nil (t ++ []) ∙ append-nil t)));
-  wrote = writes_none x held written;
+  wrote = writes_none d x held written;
 }
 
 -- where there was no memory to begin with
-pub not_checked : (x : Settings) → IsInitiators x → 0 < x.limits.session → (left taken written : Option (List ℕ)) (held : List ℕ) (reads writes : ℕ)
-    → HasChecked x left left taken taken written written held reads reads writes writes endings.Memory
-not_checked x set room left taken written held reads writes = record {
+pub not_checked : (d : Detail) (x : Settings) → IsInitiators x → 0 < x.limits.session → (left taken written : Option (List ℕ)) (held : List ℕ) (reads writes : ℕ)
+    → HasChecked d x left left taken taken written written held reads reads writes writes endings.Memory
+not_checked d x set room left taken written held reads writes = record {
   judges = λ bytes e. tt;
   reports = λ bytes w e before. (w, before, record { kept = 0; grown = sym (append-nil w) });
   decides = λ o e. cc;
   breaks = λ e. cc;
-  reaches = first_reaches x set room left taken written held;
+  reaches = first_reaches d x set room left taken written held;
   reads_counted = counted_none _ _ _ refl (λ e. cc);
   writes_counted = counted_none _ _ _ refl (λ e. cc);
 }

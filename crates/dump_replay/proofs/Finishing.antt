@@ -15,6 +15,7 @@ use Rattle.stream_reader.specs.Judging.{offence}
 use Rattle.stream_reader.specs.Stream.{Settings}
 use Rattle.dump_replay.specs.declared.check.Ending.{Ending}
 use Rattle.dump_replay.specs.declared.check.Ending.TheVariants as endings
+use Rattle.dump_replay.specs.declared.report.Detail.{Detail}
 use Rattle.dump_replay.specs.Checking.{Decides, Breaks, Grows, Reaches, Writes}
 use Rattle.dump_replay.specs.Reading.{AreDue, HasReported, IsAllRead, ReportsAs, done, stopped_by, Judges, Reports}
 use Rattle.dump_replay.specs.Report.{report, event_lines}
@@ -23,7 +24,7 @@ use Rattle.dump_replay.proofs.Writing.{told_some, grown_within, put_either}
 use Rattle.dump_replay.proofs.CheckSteps.{known_told, told_as, counted_with, lines_due, puts_grow}
 
 -- what was put and then written, of what was reported so, and how that ends
-pub record Finished (x : Settings) (r : Result Ending SinkFault) (lines : List ℕ) (w w1 w2 : Option (List ℕ)) (h h2 : List ℕ) (f f2 : ℕ) (m m2 : Bool) (e : Ending) : Type 0 where
+pub record Finished (d : Detail) (x : Settings) (r : Result Ending SinkFault) (lines : List ℕ) (w w1 w2 : Option (List ℕ)) (h h2 : List ℕ) (f f2 : ℕ) (m m2 : Bool) (e : Ending) : Type 0 where
   pub put : Result ⊤ SinkFault
   pub puts : PutsAll lines put w w2 h h2 f f2 m m2
   pub grew : Told w1 w2 Grows
@@ -36,10 +37,10 @@ grows_not : (w : Option (List ℕ)) → Told w w Grows
 grows_not None = tt
 grows_not (Some w) = record { more = []; grown = sym (append-nil w) }
 
-module _ (x : Settings) (S : Type 0) (wr : S → Option (List ℕ)) (hd : S → List ℕ) (ft : S → ℕ) (mw : S → Bool) (first old new : S) (left left' taken taken' : Option (List ℕ)) (lines : List ℕ) (e : Ending) where
+module _ (d : Detail) (x : Settings) (S : Type 0) (wr : S → Option (List ℕ)) (hd : S → List ℕ) (ft : S → ℕ) (mw : S → Bool) (first old new : S) (left left' taken taken' : Option (List ℕ)) (lines : List ℕ) (e : Ending) where
   -- it ends so, of what was reported so
   abbrev pub Finishes : Result Ending SinkFault → Type 0
-  Finishes r = Finished x r lines (wr first) (wr old) (wr new) (hd first) (hd new) (ft first) (ft new) (mw first) (mw new) e
+  Finishes r = Finished d x r lines (wr first) (wr old) (wr new) (hd first) (hd new) (ft first) (ft new) (mw first) (mw new) e
 
   abbrev Flushes : Ending → Type 0
   Flushes k = (flush : Result ⊤ SinkFault) × PutsAll [] flush (wr old) (wr new) (hd old) (hd new) (ft old) (ft new) (mw old) (mw new) × OnOk flush ((e ≡ k) × (hd new ≡ [])) × IfErr flush (λ fault. e ≡ stopped_by fault)
@@ -60,7 +61,7 @@ module _ (x : Settings) (S : Type 0) (wr : S → Option (List ℕ)) (hd : S → 
   }
 
   pub finished_by : (r : Result Ending SinkFault) → PutsAll lines (done r) (wr first) (wr old) (hd first) (hd old) (ft first) (ft old) (mw first) (mw old)
-      → HasReported x left left' taken taken' (wr first) (wr old) (hd first) (hd old) r lines
+      → HasReported d x left left' taken taken' (wr first) (wr old) (hd first) (hd old) r lines
       → (r ≡ Ok endings.ReadFault → (e ≡ endings.ReadFault) × (new ≡ old))
       → IfErr r (λ fault. (e ≡ stopped_by fault) × (new ≡ old))
       → IfOk r (λ k. (k ≡ endings.ReadFault → ⊥) → Flushes k)
@@ -87,42 +88,42 @@ stopped_failed faults.Failed e = refl
 stopped_failed faults.Memory e = cc
 
 -- the first bytes of what was held and of lines
-prefix_writes : (x : Settings) (h lines w w' : List ℕ) → GrowsByPrefix w w' (h ++ lines) → Writes x h [] w w'
-prefix_writes x h lines w w' g =
+prefix_writes : (d : Detail) (x : Settings) (h lines w w' : List ℕ) → GrowsByPrefix w w' (h ++ lines) → Writes d x h [] w w'
+prefix_writes d x h lines w w' g =
     elim (cases_lt (length h) g.kept) [
       | inl lt ↦
           let n : ℕ = g.kept - length h in
           let e : g.kept ≡ length h + n = omega arith in
           let shape : take g.kept (h ++ lines) ≡ h ++ take n lines = ap (λ k. take k (h ++ lines)) e ∙ take-append-add h lines n in
-          let none : w ++ h ++ event_lines x [] ≡ w ++ h = ap (λ l. w ++ h ++ l) (nothing_lines x) ∙ append-nil (w ++ h) in
+          let none : w ++ h ++ event_lines d x [] ≡ w ++ h = ap (λ l. w ++ h ++ l) (nothing_lines d x) ∙ append-nil (w ++ h) in
           inl (record { more = take n lines; grown = g.grown ∙ ap (λ l. w ++ l) shape ∙ sym (append_assoc w h (take n lines)) ∙ ap (λ l. l ++ take n lines) (sym none) })
       | inr ge ↦ inr (refl, record { kept = g.kept; grown = g.grown ∙ ap (λ l. w ++ l) (take-append-le g.kept h lines ge) })
     ]
 
 -- what is written behind what was, where more comes
-writes_on : (x : Settings) (h before lines : List ℕ) (w w1 w2 : Option (List ℕ)) → Told w w1 (Writes x h before) → Told w1 w2 Grows → Told w w2 (λ w w'. GrowsByPrefix w w' (h ++ lines)) → Told w w2 (Writes x h before)
-writes_on x h before lines None w1 w2 wrote grew all = tt
-writes_on x h before lines (Some w) None w2 wrote grew all = absurd wrote
-writes_on x h before lines (Some w) (Some w1) None wrote grew all = absurd grew
-writes_on x h before lines (Some w) (Some w1) (Some w2) (inl wrote) grew all = inl (record { more = wrote.more ++ grew.more; grown = grew.grown ∙ ap (λ l. l ++ grew.more) wrote.grown ∙ append_assoc (w ++ h ++ event_lines x before) wrote.more grew.more })
-writes_on x h before lines (Some w) (Some w1) (Some w2) (inr none) grew all = rw none.0 (prefix_writes x h lines w w2 all)
+writes_on : (d : Detail) (x : Settings) (h before lines : List ℕ) (w w1 w2 : Option (List ℕ)) → Told w w1 (Writes d x h before) → Told w1 w2 Grows → Told w w2 (λ w w'. GrowsByPrefix w w' (h ++ lines)) → Told w w2 (Writes d x h before)
+writes_on d x h before lines None w1 w2 wrote grew all = tt
+writes_on d x h before lines (Some w) None w2 wrote grew all = absurd wrote
+writes_on d x h before lines (Some w) (Some w1) None wrote grew all = absurd grew
+writes_on d x h before lines (Some w) (Some w1) (Some w2) (inl wrote) grew all = inl (record { more = wrote.more ++ grew.more; grown = grew.grown ∙ ap (λ l. l ++ grew.more) wrote.grown ∙ append_assoc (w ++ h ++ event_lines d x before) wrote.more grew.more })
+writes_on d x h before lines (Some w) (Some w1) (Some w2) (inr none) grew all = rw none.0 (prefix_writes d x h lines w w2 all)
 
-module _ (x : Settings) (left left' taken taken' w w1 w2 : Option (List ℕ)) (h h1 h2 : List ℕ) (f f2 : ℕ) (m m2 : Bool) (r : Result Ending SinkFault) (lines : List ℕ) (e : Ending)
-    (b : HasReported x left left' taken taken' w w1 h h1 r lines) (z : Finished x r lines w w1 w2 h h2 f f2 m m2 e) where
+module _ (d : Detail) (x : Settings) (left left' taken taken' w w1 w2 : Option (List ℕ)) (h h1 h2 : List ℕ) (f f2 : ℕ) (m m2 : Bool) (r : Result Ending SinkFault) (lines : List ℕ) (e : Ending)
+    (b : HasReported d x left left' taken taken' w w1 h h1 r lines) (z : Finished d x r lines w w1 w2 h h2 f f2 m m2 e) where
   -- the lines begin the stream's report
-  due : IsAllRead x b.before b.piece left left' lines ⊎ AreDue x (b.before ++ b.piece) [] lines
+  due : IsAllRead d x b.before b.piece left left' lines ⊎ AreDue d x (b.before ++ b.piece) [] lines
   due = go r b.ends where
-    go : (r : Result Ending SinkFault) → ReportsAs x b.before b.piece left left' h1 r lines → IsAllRead x b.before b.piece left left' lines ⊎ AreDue x (b.before ++ b.piece) [] lines
+    go : (r : Result Ending SinkFault) → ReportsAs d x b.before b.piece left left' h1 r lines → IsAllRead d x b.before b.piece left left' lines ⊎ AreDue d x (b.before ++ b.piece) [] lines
     go (Ok (endings.Judged o)) (inl all) = inl all.0
     go (Ok (endings.Judged o)) (inr known) = inr (λ more. ([], (known more).1 ∙ sym (append-nil lines)))
-    go (Ok endings.ReadFault) ends = inr (rw (ends.0, ends.1) (lines_due x b.before b.pending))
+    go (Ok endings.ReadFault) ends = inr (rw (ends.0, ends.1) (lines_due d x b.before b.pending))
     go (Ok endings.WriteFault) ends = absurd ends
     go (Ok endings.Memory) ends = inr ends
     go (Err fault) ends = ends
 
   -- as one that ends so
-  as_ended : (put : Result ⊤ SinkFault) → OnOk put ((r ≡ Ok e) × (h2 ≡ [])) → OnOk put (ReportsAs x b.before b.piece left left' h1 (Ok e) lines)
-  as_ended (Ok u) whole = subst (λ (v : Result Ending SinkFault). ReportsAs x b.before b.piece left left' h1 v lines) whole.0 b.ends
+  as_ended : (put : Result ⊤ SinkFault) → OnOk put ((r ≡ Ok e) × (h2 ≡ [])) → OnOk put (ReportsAs d x b.before b.piece left left' h1 (Ok e) lines)
+  as_ended (Ok u) whole = subst (λ (v : Result Ending SinkFault). ReportsAs d x b.before b.piece left left' h1 v lines) whole.0 b.ends
   as_ended (Err fault) whole = tt
 
   -- all was written
@@ -132,17 +133,17 @@ module _ (x : Settings) (left left' taken taken' w w1 w2 : Option (List ℕ)) (h
       p.grown ∙ ap (λ k. l ++ k) put ∙ sym (append_assoc l h lines))
 
   -- where it isn't stopped by the output
-  whole_end : ((fault : SinkFault) → e ≡ stopped_by fault → ⊥) → ReportsAs x b.before b.piece left left' h1 (Ok e) lines × Told w w2 (λ w w'. w' ≡ w ++ h ++ lines)
+  whole_end : ((fault : SinkFault) → e ≡ stopped_by fault → ⊥) → ReportsAs d x b.before b.piece left left' h1 (Ok e) lines × Told w w2 (λ w w'. w' ≡ w ++ h ++ lines)
   whole_end never = go z.put z.puts.written z.whole z.stopped where
     go : (put : Result ⊤ SinkFault) → OnOk put (Told w w2 (λ w w'. Passes w w' h h2 lines)) → OnOk put ((r ≡ Ok e) × (h2 ≡ [])) → IfErr put (λ fault. e ≡ stopped_by fault)
-        → ReportsAs x b.before b.piece left left' h1 (Ok e) lines × Told w w2 (λ w w'. w' ≡ w ++ h ++ lines)
+        → ReportsAs d x b.before b.piece left left' h1 (Ok e) lines × Told w w2 (λ w w'. w' ≡ w ++ h ++ lines)
     go (Ok u) written whole stopped = (as_ended (Ok u) whole, all_written written whole.1)
     go (Err fault) written whole stopped = absurd (never fault stopped)
 
-  judged_end : (o : Option Offence) → e ≡ endings.Judged o → ReportsAs x b.before b.piece left left' h1 (Ok (endings.Judged o)) lines × Told w w2 (λ w w'. w' ≡ w ++ h ++ lines)
+  judged_end : (o : Option Offence) → e ≡ endings.Judged o → ReportsAs d x b.before b.piece left left' h1 (Ok (endings.Judged o)) lines × Told w w2 (λ w w'. w' ≡ w ++ h ++ lines)
   judged_end o is =
       let k = whole_end (λ fault by. never_judged fault o (sym is ∙ by)) in
-      (subst (λ (v : Ending). ReportsAs x b.before b.piece left left' h1 (Ok v) lines) is k.0, k.1)
+      (subst (λ (v : Ending). ReportsAs d x b.before b.piece left left' h1 (Ok v) lines) is k.0, k.1)
 
   -- the first bytes of the lines are written, or all
   written_front : Told w w2 (λ w w'. GrowsByPrefix w w' (h ++ lines))
@@ -156,25 +157,25 @@ module _ (x : Settings) (left left' taken taken' w w1 w2 : Option (List ℕ)) (h
     rest = told_some (λ all rest. all ≡ b.before ++ b.piece ++ rest) left left' bytes is b.stream
 
     -- where all was read
-    all_read : IsAllRead x b.before b.piece left left' lines → bytes ≡ b.before
+    all_read : IsAllRead d x b.before b.piece left left' lines → bytes ≡ b.before
     all_read all =
         let over = told_some (λ all rest. rest ≡ []) left left' bytes is all.2 in
         let same : rest.0 ≡ [] = (let one = rest.1 in let other = over.1 in cc) ∙ over.2 in
         rest.2 ∙ ap (λ l. b.before ++ l ++ rest.0) all.0 ∙ ap (λ l. b.before ++ [] ++ l) same ∙ append-nil (b.before ++ []) ∙ append-nil b.before
 
     -- the report begins with the lines
-    report_front : (more : List ℕ) × (report x bytes ≡ lines ++ more)
+    report_front : (more : List ℕ) × (report d x bytes ≡ lines ++ more)
     report_front =
         elim due [
-          | inl all ↦ ([], ap (report x) (all_read all) ∙ all.1 ∙ sym (append-nil lines))
-          | inr known ↦ let k = known rest.0 in (k.0, ap (report x) rest.2 ∙ k.1)
+          | inl all ↦ ([], ap (report d x) (all_read all) ∙ all.1 ∙ sym (append-nil lines))
+          | inr known ↦ let k = known rest.0 in (k.0, ap (report d x) rest.2 ∙ k.1)
         ]
 
-    report_is : (o : Option Offence) → e ≡ endings.Judged o → (report x bytes ≡ lines) × (offence x bytes ≡ o)
+    report_is : (o : Option Offence) → e ≡ endings.Judged o → (report d x bytes ≡ lines) × (offence x bytes ≡ o)
     report_is o ended =
         elim (judged_end o ended).0 [
-          | inl all ↦ (ap (report x) (all_read all.0) ∙ all.0.1, ap (offence x) (all_read all.0) ∙ all.1)
-          | inr known ↦ (ap (report x) rest.2 ∙ (known rest.0).1, ap (offence x) rest.2 ∙ (known rest.0).0)
+          | inl all ↦ (ap (report d x) (all_read all.0) ∙ all.0.1, ap (offence x) (all_read all.0) ∙ all.1)
+          | inr known ↦ (ap (report d x) rest.2 ∙ (known rest.0).1, ap (offence x) rest.2 ∙ (known rest.0).0)
         ]
 
     pub judges : Judges x bytes e
@@ -186,15 +187,15 @@ module _ (x : Settings) (left left' taken taken' w w1 w2 : Option (List ℕ)) (h
       go endings.Memory ended = tt
 
     module _ (l : List ℕ) (before : w ≡ Some l) where
-      front : (l' : List ℕ) × (w2 ≡ Some l') × GrowsByPrefix l l' (h ++ report x bytes)
+      front : (l' : List ℕ) × (w2 ≡ Some l') × GrowsByPrefix l l' (h ++ report d x bytes)
       front =
           let k = told_some (λ l l'. GrowsByPrefix l l' (h ++ lines)) w w2 l before written_front in
           let more = report_front in
           (k.0, k.1, subst (GrowsByPrefix l k.0) (append_assoc h lines more.0 ∙ ap (λ s. h ++ s) (sym more.1)) (grown_within l k.0 (h ++ lines) more.0 k.2))
 
-      pub reports : (l' : List ℕ) × (w2 ≡ Some l') × Reports x bytes l h l' e
+      pub reports : (l' : List ℕ) × (w2 ≡ Some l') × Reports d x bytes l h l' e
       reports = go e refl where
-        go : (v : Ending) → e ≡ v → (l' : List ℕ) × (w2 ≡ Some l') × Reports x bytes l h l' v
+        go : (v : Ending) → e ≡ v → (l' : List ℕ) × (w2 ≡ Some l') × Reports d x bytes l h l' v
         go (endings.Judged o) ended =
             let k = told_some (λ l l'. l' ≡ l ++ h ++ lines) w w2 l before (judged_end o ended).1 in
             (k.0, k.1, k.2 ∙ ap (λ s. l ++ h ++ s) (sym (report_is o ended).0))
@@ -202,7 +203,7 @@ module _ (x : Settings) (left left' taken taken' w w1 w2 : Option (List ℕ)) (h
         go endings.WriteFault ended = front
         go endings.Memory ended = front
 
-  pub decides : (o : Option Offence) → e ≡ endings.Judged o → Decides x o left left' taken taken' w w2 h
+  pub decides : (o : Option Offence) → e ≡ endings.Judged o → Decides d x o left left' taken taken' w w2 h
   decides o ended =
       let k = judged_end o ended in
       elim k.0 [
@@ -214,7 +215,7 @@ module _ (x : Settings) (left left' taken taken' w w1 w2 : Option (List ℕ)) (h
               let over = told_some (λ all rest. rest ≡ []) left left' bytes is all.0.2 in
               (over.0, over.1, (all_read bytes is all.0 ∙ sym (append-nil b.before) ∙ ap (λ l. b.before ++ l) (sym over.2), inl over.2)));
           took = told_as (λ t t'. t' ≡ t ++ b.before ++ b.piece) (λ t t'. t' ≡ t ++ b.before) taken taken' b.took (λ t t' s. s ∙ ap (λ l. t ++ b.before ++ l) all.0.0 ∙ append-nil (t ++ b.before));
-          wrote = told_as (λ l l'. l' ≡ l ++ h ++ lines) (λ l l'. l' ≡ l ++ h ++ report x b.before) w w2 k.1 (λ l l' s. s ∙ ap (λ q. l ++ h ++ q) (sym all.0.1));
+          wrote = told_as (λ l l'. l' ≡ l ++ h ++ lines) (λ l l'. l' ≡ l ++ h ++ report d x b.before) w w2 k.1 (λ l l' s. s ∙ ap (λ q. l ++ h ++ q) (sym all.0.1));
         }
         | inr known ↦ record {
           bytes = b.before ++ b.piece;
@@ -223,24 +224,24 @@ module _ (x : Settings) (left left' taken taken' w w1 w2 : Option (List ℕ)) (h
           stream = told_as (λ all rest. all ≡ b.before ++ b.piece ++ rest) (λ all rest. (all ≡ b.before ++ b.piece ++ rest) × ((rest ≡ []) ⊎ ((more : List ℕ) → offence x (b.before ++ b.piece ++ more) ≡ o))) left left' b.stream
               (λ all rest s. (s, inr (λ more. (known more).0)));
           took = told_as (λ t t'. t' ≡ t ++ b.before ++ b.piece) (λ t t'. t' ≡ t ++ (b.before ++ b.piece)) taken taken' b.took (λ t t' s. s ∙ append_assoc t b.before b.piece);
-          wrote = told_as (λ l l'. l' ≡ l ++ h ++ lines) (λ l l'. l' ≡ l ++ h ++ report x (b.before ++ b.piece)) w w2 k.1
-              (λ l l' s. s ∙ ap (λ q. l ++ h ++ q) (sym (ap (report x) (sym (append-nil (b.before ++ b.piece))) ∙ (known []).1)));
+          wrote = told_as (λ l l'. l' ≡ l ++ h ++ lines) (λ l l'. l' ≡ l ++ h ++ report d x (b.before ++ b.piece)) w w2 k.1
+              (λ l l' s. s ∙ ap (λ q. l ++ h ++ q) (sym (ap (report d x) (sym (append-nil (b.before ++ b.piece))) ∙ (known []).1)));
         }
       ]
 
-  pub breaks : e ≡ endings.ReadFault → Breaks x left left' taken taken' w w2 h
+  pub breaks : e ≡ endings.ReadFault → Breaks d x left left' taken taken' w w2 h
   breaks ended =
       let k = whole_end (λ fault by. never_read fault (sym ended ∙ by)) in
-      let ends : (b.piece ≡ []) × (lines ≡ event_lines x b.before) × (h1 ≡ []) = subst (λ (v : Ending). ReportsAs x b.before b.piece left left' h1 (Ok v) lines) ended k.0 in
+      let ends : (b.piece ≡ []) × (lines ≡ event_lines d x b.before) × (h1 ≡ []) = subst (λ (v : Ending). ReportsAs d x b.before b.piece left left' h1 (Ok v) lines) ended k.0 in
       record {
         bytes = b.before;
         pending = b.pending;
         stream = told_as (λ all rest. all ≡ b.before ++ b.piece ++ rest) (λ all rest. all ≡ b.before ++ rest) left left' b.stream (λ all rest s. s ∙ ap (λ l. b.before ++ l ++ rest) ends.0 ∙ ap (λ l. l ++ rest) (append-nil b.before));
         took = told_as (λ t t'. t' ≡ t ++ b.before ++ b.piece) (λ t t'. t' ≡ t ++ b.before) taken taken' b.took (λ t t' s. s ∙ ap (λ l. t ++ b.before ++ l) ends.0 ∙ append-nil (t ++ b.before));
-        wrote = told_as (λ l l'. l' ≡ l ++ h ++ lines) (λ l l'. l' ≡ l ++ h ++ event_lines x b.before) w w2 k.1 (λ l l' s. s ∙ ap (λ q. l ++ h ++ q) ends.1);
+        wrote = told_as (λ l l'. l' ≡ l ++ h ++ lines) (λ l l'. l' ≡ l ++ h ++ event_lines d x b.before) w w2 k.1 (λ l l' s. s ∙ ap (λ q. l ++ h ++ q) ends.1);
       }
 
-  pub reaches : Reaches x left left' taken taken' w w2 h
+  pub reaches : Reaches d x left left' taken taken' w w2 h
   reaches = record {
     before = b.before;
     piece = b.piece;
@@ -248,12 +249,12 @@ module _ (x : Settings) (left left' taken taken' w w1 w2 : Option (List ℕ)) (h
     short = b.short;
     stream = b.stream;
     took = b.took;
-    wrote = writes_on x h b.before lines w w1 w2 b.wrote z.grew written_front;
+    wrote = writes_on d x h b.before lines w w1 w2 b.wrote z.grew written_front;
   }
 
   -- a write failed where the output did
   failed_as : (put : Result ⊤ SinkFault) → OnOk put ((r ≡ Ok e) × (h2 ≡ [])) → IfErr put (λ fault. e ≡ stopped_by fault) → (e ≡ endings.WriteFault) ↔ IsErrOf put faults.Failed
-  failed_as (Ok u) whole stopped = (λ ended. absurd (subst (λ (v : Ending). ReportsAs x b.before b.piece left left' h1 (Ok v) lines) ended (as_ended (Ok u) whole)), λ no. cc)
+  failed_as (Ok u) whole stopped = (λ ended. absurd (subst (λ (v : Ending). ReportsAs d x b.before b.piece left left' h1 (Ok v) lines) ended (as_ended (Ok u) whole)), λ no. cc)
   failed_as (Err fault) whole stopped = (λ ended. ap Err (stopped_failed fault (sym stopped ∙ ended)), λ failed. let same : fault ≡ faults.Failed = cc in stopped ∙ ap stopped_by same)
 
   pub writes_counted : CountsFaults f f2 (e ≡ endings.WriteFault)

@@ -6,5 +6,4 @@ pub mod CheckSteps
 pub mod Finishing
 pub mod Telling
 pub mod Noting
-pub mod CheckWords
 pub mod RunSteps

@@ -15,8 +15,9 @@ use Rattle.stream_reader.specs.Laws.{IsInitiators}
 use Rattle.stream_reader.specs.Stream.{Settings, StreamEvent, opened, message, ended, ends, stream}
 use Rattle.stream_reader.specs.declared.reader.ReadRefusal.{ReadRefusal}
 use Rattle.stream_reader.specs.declared.reader.ReadRefusal.TheVariants.{Offence as Refused}
+use Rattle.dump_replay.specs.declared.report.Detail.{Detail}
 use Rattle.dump_replay.specs.Reading.{AreDue, HasRead}
-use Rattle.dump_replay.specs.Report.{offence_line, offence_line_of, event_line, history_lines, report, event_lines}
+use Rattle.dump_replay.specs.Report.{told_of, offence_line, offence_line_of, history_lines, report, event_lines}
 use Rattle.dump_replay.proofs.Lines.{pending_offence, pending_report, open_report, goes_on_lines, completes_within, completes_event, completes_lines, completes_open, closes_for_good, refuses_for_good}
 
 -- the parts of what is said
@@ -62,22 +63,22 @@ abbrev pub rest_of : List ℕ → ℕ → List ℕ
 rest_of piece used = take (length piece - used) (drop used piece)
 
 -- an event that n more bytes of a piece complete, of which so many were used
-pub record ReadsEvent (x : Settings) (p piece : List ℕ) (used n : ℕ) (step : Step) : Type 0 where
+pub record ReadsEvent (d : Detail) (x : Settings) (p piece : List ℕ) (used n : ℕ) (step : Step) : Type 0 where
   pub event : StreamEvent
   pub is : step ≡ step_for event
   pub some : 0 < n
   pub within : n ≤ length (rest_of piece used)
   pub here : event_at (stream x) ((p ++ take used piece) ++ take n (rest_of piece used)) ≡ Some event
   -- its line is behind those before
-  pub lines : event_lines x ((p ++ take used piece) ++ take n (rest_of piece used)) ≡ event_lines x (p ++ take used piece) ++ event_line event
+  pub lines : event_lines d x ((p ++ take used piece) ++ take n (rest_of piece used)) ≡ event_lines d x (p ++ take used piece) ++ told_of d event
   -- where it isn't the end the stream is open
   pub stays_open : (step ≡ Ended → ⊥) → IsOpenAt (stream x) ((p ++ take used piece) ++ take n (rest_of piece used))
   -- and the line is due behind those before
-  pub due : (step ≡ Ended → ⊥) → AreDue x (p ++ piece) (event_lines x (p ++ take used piece)) (event_line event)
+  pub due : (step ≡ Ended → ⊥) → AreDue d x (p ++ piece) (event_lines d x (p ++ take used piece)) (told_of d event)
   -- the end is the last line
-  pub last : step ≡ Ended → (more : List ℕ) → (report x ((p ++ piece) ++ more) ≡ event_lines x (p ++ take used piece) ++ event_line event) × (offence x ((p ++ piece) ++ more) ≡ None)
+  pub last : step ≡ Ended → (more : List ℕ) → (report d x ((p ++ piece) ++ more) ≡ event_lines d x (p ++ take used piece) ++ told_of d event) × (offence x ((p ++ piece) ++ more) ≡ None)
 
-module _ (x : Settings) (p piece : List ℕ) (used : ℕ) where
+module _ (d : Detail) (x : Settings) (p piece : List ℕ) (used : ℕ) where
   abbrev q : List ℕ
   q = p ++ take used piece
 
@@ -97,56 +98,56 @@ module _ (x : Settings) (p piece : List ℕ) (used : ℕ) where
   further n le = append_assoc p (take used piece) (take n y) ∙ ap (λ l. p ++ l) (ap (λ l. take used piece ++ take n l) (take_rest piece used) ∙ sym (take-add used n piece))
 
   -- no line is due where nothing more is known
-  pub none_due : IsOpenAt (stream x) q → AreDue x (p ++ piece) (event_lines x q) []
+  pub none_due : IsOpenAt (stream x) q → AreDue d x (p ++ piece) (event_lines d x q) []
   none_due on more =
-      let rest : List ℕ = history_lines (history_from (stream x) q (y ++ more)) in
-      (rest, ap (report x) (sym (stream_of more)) ∙ open_report x q on (y ++ more) ∙ ap (λ l. l ++ rest) (sym (append-nil (event_lines x q))))
+      let rest : List ℕ = history_lines d (history_from (stream x) q (y ++ more)) in
+      (rest, ap (report d x) (sym (stream_of more)) ∙ open_report d x q on (y ++ more) ∙ ap (λ l. l ++ rest) (sym (append-nil (event_lines d x q))))
 
   module _ (set : IsInitiators x) (on : IsOpenAt (stream x) q) where
     -- nothing more
     pub read_more : (n : ℕ) → Ok (n, More) ≡ said (length y) (answer (stream x) q y)
-        → (q ++ take n y ≡ p ++ piece) × IsPending (stream x) (p ++ piece) × (event_lines x (p ++ piece) ≡ event_lines x q)
+        → (q ++ take n y ≡ p ++ piece) × IsPending (stream x) (p ++ piece) × (event_lines d x (p ++ piece) ≡ event_lines d x q)
     read_more n e =
         let s = said_more (length y) n (answer (stream x) q y) e in
-        let on' = goes_on_lines x q on set y s.1 in
+        let on' = goes_on_lines d x q on set y s.1 in
         let whole : take n y ≡ y = take_all n y (omega (arith, s.0)) in (
           ap (λ l. q ++ l) whole ∙ all_of,
           subst (IsPending (stream x)) all_of on'.0,
-          ap (event_lines x) (sym all_of) ∙ on'.1,
+          ap (event_lines d x) (sym all_of) ∙ on'.1,
         )
 
     -- an event
     module _ (n : ℕ) (step : Step) (event : StreamEvent) (told : answer (stream x) q y ≡ completes n event) (is : step ≡ step_for event) where
       -- where it isn't the end the stream is open
       event_open : (step ≡ Ended → ⊥) → IsOpenAt (stream x) (q ++ take n y)
-      event_open not_end = completes_open x q on set y n event told (event_going event (λ is_end. not_end (is ∙ is_end)))
+      event_open not_end = completes_open d x q on set y n event told (event_going event (λ is_end. not_end (is ∙ is_end)))
 
-      event_due : (step ≡ Ended → ⊥) → AreDue x (p ++ piece) (event_lines x q) (event_line event)
+      event_due : (step ≡ Ended → ⊥) → AreDue d x (p ++ piece) (event_lines d x q) (told_of d event)
       event_due not_end more =
           let q' : List ℕ = q ++ take n y in
           let z : List ℕ = drop n y ++ more in
           let same : q' ++ z ≡ (p ++ piece) ++ more
           = append_assoc q (take n y) z ∙ ap (λ l. q ++ l) (sym (append_assoc (take n y) (drop n y) more) ∙ ap (λ l. l ++ more) (take-append-drop n y)) ∙ stream_of more in
-          let rest : List ℕ = history_lines (history_from (stream x) q' z) in (
+          let rest : List ℕ = history_lines d (history_from (stream x) q' z) in (
             rest,
-            ap (report x) (sym same) ∙ open_report x q' (event_open not_end) z ∙ ap (λ l. l ++ rest) (completes_lines x q on set y n event told),
+            ap (report d x) (sym same) ∙ open_report d x q' (event_open not_end) z ∙ ap (λ l. l ++ rest) (completes_lines d x q on set y n event told),
           )
 
-      event_last : step ≡ Ended → (more : List ℕ) → (report x ((p ++ piece) ++ more) ≡ event_lines x q ++ event_line event) × (offence x ((p ++ piece) ++ more) ≡ None)
+      event_last : step ≡ Ended → (more : List ℕ) → (report d x ((p ++ piece) ++ more) ≡ event_lines d x q ++ told_of d event) × (offence x ((p ++ piece) ++ more) ≡ None)
       event_last is_end more =
-          let c = closes_for_good x q on set y more n event told (event_ends event (sym is ∙ is_end)) in
-          (ap (report x) (sym (stream_of more)) ∙ c.0, ap (offence x) (sym (stream_of more)) ∙ c.1)
+          let c = closes_for_good d x q on set y more n event told (event_ends event (sym is ∙ is_end)) in
+          (ap (report d x) (sym (stream_of more)) ∙ c.0, ap (offence x) (sym (stream_of more)) ∙ c.1)
 
-    event_read : (n : ℕ) (step : Step) → (step ≡ More → ⊥) → Ok (n, step) ≡ said (length y) (answer (stream x) q y) → ReadsEvent x p piece used n step
+    event_read : (n : ℕ) (step : Step) → (step ≡ More → ⊥) → Ok (n, step) ≡ said (length y) (answer (stream x) q y) → ReadsEvent d x p piece used n step
     event_read n step not_more e =
         let s = said_step (length y) n step (answer (stream x) q y) not_more e in
         record {
           event = s.0;
           is = s.2;
-          some = (completes_within x q on set y n s.0 s.1).0;
-          within = (completes_within x q on set y n s.0 s.1).1;
-          here = completes_event x q on set y n s.0 s.1;
-          lines = completes_lines x q on set y n s.0 s.1;
+          some = (completes_within d x q on set y n s.0 s.1).0;
+          within = (completes_within d x q on set y n s.0 s.1).1;
+          here = completes_event d x q on set y n s.0 s.1;
+          lines = completes_lines d x q on set y n s.0 s.1;
           stays_open = event_open n step s.0 s.1 s.2;
           due = event_due n step s.0 s.1 s.2;
           last = event_last n step s.0 s.1 s.2;
@@ -154,11 +155,11 @@ module _ (x : Settings) (p piece : List ℕ) (used : ℕ) where
 
     -- an offence is the last line
     pub offence_read : (o : Offence) → Err (Refused o) ≡ said (length y) (answer (stream x) q y) → (more : List ℕ)
-        → (report x ((p ++ piece) ++ more) ≡ event_lines x q ++ offence_line o) × (offence x ((p ++ piece) ++ more) ≡ Some o)
+        → (report d x ((p ++ piece) ++ more) ≡ event_lines d x q ++ offence_line o) × (offence x ((p ++ piece) ++ more) ≡ Some o)
     offence_read o e more =
         let s = said_offence (length y) o (answer (stream x) q y) e in
-        let c = refuses_for_good x q on set y more s.0 o s.1 in
-        (ap (report x) (sym (stream_of more)) ∙ c.0, ap (offence x) (sym (stream_of more)) ∙ c.1)
+        let c = refuses_for_good d x q on set y more s.0 o s.1 in
+        (ap (report d x) (sym (stream_of more)) ∙ c.0, ap (offence x) (sym (stream_of more)) ∙ c.1)
 
 -- an answer, said by the settings that the end had at first
 pub told_at : (now x : Settings) → now ≡ x → (q y : List ℕ) (r : Result (ℕ × Step) ReadRefusal) → IsOpenAt (stream x) q
@@ -167,41 +168,41 @@ told_at now x same q y r on told =
     subst (λ s. Says (length y) (answer (stream s) q y) r) same (told (subst (λ s. is_over_at (stream s) q ≡ false) (sym same) (open_going_on (stream x) q on)))
 
 -- an event that is answered to an end which has read so far
-pub event_answered : (now x : Settings) → now ≡ x → IsInitiators x → (stands : List ℕ → Type 0) (p piece : List ℕ) (used : ℕ) → HasRead stands x (p ++ take used piece) → (n : ℕ) (step : Step) → (step ≡ More → ⊥)
-    → ((q : List ℕ) → stands q → is_over_at (stream now) q ≡ false → Says (length (rest_of piece used)) (answer (stream now) q (rest_of piece used)) (Ok (n, step))) → ReadsEvent x p piece used n step
-event_answered now x same set stands p piece used h n step not_more answers =
+pub event_answered : (d : Detail) (now x : Settings) → now ≡ x → IsInitiators x → (stands : List ℕ → Type 0) (p piece : List ℕ) (used : ℕ) → HasRead stands x (p ++ take used piece) → (n : ℕ) (step : Step) → (step ≡ More → ⊥)
+    → ((q : List ℕ) → stands q → is_over_at (stream now) q ≡ false → Says (length (rest_of piece used)) (answer (stream now) q (rest_of piece used)) (Ok (n, step))) → ReadsEvent d x p piece used n step
+event_answered d now x same set stands p piece used h n step not_more answers =
     let q : List ℕ = p ++ take used piece in
-    event_read x p piece used set h.on n step not_more (told_at now x same q (rest_of piece used) (Ok (n, step)) h.on (answers q h.stands_for))
+    event_read d x p piece used set h.on n step not_more (told_at now x same q (rest_of piece used) (Ok (n, step)) h.on (answers q h.stands_for))
 
 -- what the end of the input is answered with is the stream's offence, and the last line of its report
-module _ (x : Settings) (p : List ℕ) (pending : IsPending (stream x) p) where
-  pub end_well : (u : ⊤) → ◌≡◌ {A = Result ⊤ Offence} (Ok u) (said_at_end (ending_at (stream x) p)) → (offence x p ≡ None) × (report x p ≡ event_lines x p)
+module _ (d : Detail) (x : Settings) (p : List ℕ) (pending : IsPending (stream x) p) where
+  pub end_well : (u : ⊤) → ◌≡◌ {A = Result ⊤ Offence} (Ok u) (said_at_end (ending_at (stream x) p)) → (offence x p ≡ None) × (report d x p ≡ event_lines d x p)
   end_well u e =
       let none = well (ending_at (stream x) p) e in
-      (pending_offence x p pending ∙ none, pending_report x p pending ∙ ap (λ o. event_lines x p ++ offence_line_of o) none ∙ append-nil (event_lines x p))
+      (pending_offence d x p pending ∙ none, pending_report d x p pending ∙ ap (λ o. event_lines d x p ++ offence_line_of o) none ∙ append-nil (event_lines d x p))
     where
       well : (v : Option Offence) → ◌≡◌ {A = Result ⊤ Offence} (Ok u) (said_at_end v) → v ≡ None
       well None e = refl
       well (Some o) e = cc
 
-  pub end_says : (o : Offence) → ◌≡◌ {A = Result ⊤ Offence} (Err o) (said_at_end (ending_at (stream x) p)) → (offence x p ≡ Some o) × (report x p ≡ event_lines x p ++ offence_line o)
+  pub end_says : (o : Offence) → ◌≡◌ {A = Result ⊤ Offence} (Err o) (said_at_end (ending_at (stream x) p)) → (offence x p ≡ Some o) × (report d x p ≡ event_lines d x p ++ offence_line o)
   end_says o e =
       let some = refused (ending_at (stream x) p) e in
-      (pending_offence x p pending ∙ some, pending_report x p pending ∙ ap (λ v. event_lines x p ++ offence_line_of v) some)
+      (pending_offence d x p pending ∙ some, pending_report d x p pending ∙ ap (λ v. event_lines d x p ++ offence_line_of v) some)
     where
       refused : (v : Option Offence) → ◌≡◌ {A = Result ⊤ Offence} (Err o) (said_at_end v) → v ≡ Some o
       refused None e = cc
       refused (Some given) e = cc
 
 -- lines behind lines
-pub due_behind : (x : Settings) (bytes before lines line here : List ℕ) → here ≡ before ++ lines → AreDue x bytes here line → AreDue x bytes before (lines ++ line)
-due_behind x bytes before lines line here e due more =
+pub due_behind : (d : Detail) (x : Settings) (bytes before lines line here : List ℕ) → here ≡ before ++ lines → AreDue d x bytes here line → AreDue d x bytes before (lines ++ line)
+due_behind d x bytes before lines line here e due more =
     let d = due more in
     (d.0, d.1 ∙ ap (λ l. (l ++ line) ++ d.0) e ∙ ap (λ l. l ++ d.0) (append_assoc before lines line))
 
 -- the last lines are due
-pub last_due : (x : Settings) (bytes before lines : List ℕ) → ((more : List ℕ) → report x (bytes ++ more) ≡ before ++ lines) → AreDue x bytes before lines
-last_due x bytes before lines all more = ([], all more ∙ sym (append-nil (before ++ lines)))
+pub last_due : (d : Detail) (x : Settings) (bytes before lines : List ℕ) → ((more : List ℕ) → report d x (bytes ++ more) ≡ before ++ lines) → AreDue d x bytes before lines
+last_due d x bytes before lines all more = ([], all more ∙ sym (append-nil (before ++ lines)))
 
 pub joined : (all here before lines line : List ℕ) → all ≡ here ++ line → here ≡ before ++ lines → all ≡ before ++ (lines ++ line)
 joined all here before lines line e f = e ∙ ap (λ l. l ++ line) f ∙ append_assoc before lines line

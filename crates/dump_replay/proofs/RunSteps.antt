@@ -12,10 +12,15 @@ use Rattle.string_tables.specs.StaticStrings.{Entry}
 use Rattle.stream_reader.specs.Judging.{offence}
 use Rattle.stream_reader.specs.Laws.{ClosedOrRefused, IsInitiators}
 use Rattle.stream_reader.specs.Sessions.{IsClosed}
+use Rattle.dump_replay.specs.declared.report.Detail.{Detail}
 use Rattle.dump_replay.specs.Report.{report}
+use Rattle.command_words.specs.declared.words.WordsFault.{WordsFault}
+use Rattle.command_words.specs.declared.words.WordsFault.TheVariants as words
+use Rattle.dump_replay.specs.declared.statics.FileFault.{FileFault}
+use Rattle.dump_replay.specs.declared.statics.FileFault.TheVariants as files_faults
 use Rattle.dump_replay.specs.Running.{IsJudged, IsNoTable, status_of, is_session_too_long}
-use Rattle.dump_replay.specs.Statics.{Has, static_file, table}
-use Rattle.dump_replay.specs.Reading.{Judges, Reports, status_at}
+use Rattle.dump_replay.specs.Statics.{Has, StaticFile, bad, missing, static_file, table}
+use Rattle.dump_replay.specs.Reading.{Judges, Reports, TellsFile, status_at, status_of_fault, status_of_words}
 
 -- a status that is a number is one that this number is
 pub status_as : (n m k k' : ℕ) → n ≡ m → k ≡ k' → (m ≡ k) ⊎ (m ≡ 3) ⊎ (m ≡ 4) ⊎ (m ≡ 5) → (n ≡ k') ⊎ (n ≡ 3) ⊎ (n ≡ 4) ⊎ (n ≡ 5)
@@ -93,17 +98,17 @@ module _ (x : Settings) (bytes : List ℕ) where
   status_complete endings.WriteFault h = inr (inr (inl refl))
   status_complete endings.Memory h = inr (inr (inr refl))
 
-  module _ (w held w' : List ℕ) where
+  module _ (d : Detail) (w held w' : List ℕ) where
     -- a judgement's status
-    pub status_reported : (e : Ending) → IsJudged (status_at e) → Reports x bytes w held w' e → w' ≡ w ++ held ++ report x bytes
+    pub status_reported : (e : Ending) → IsJudged (status_at e) → Reports d x bytes w held w' e → w' ≡ w ++ held ++ report d x bytes
     status_reported (endings.Judged o) s h = h
     status_reported endings.ReadFault s h = absurd (no_judgement 3 (λ e. cc) (λ e. cc) (λ e. cc) s)
     status_reported endings.WriteFault s h = absurd (no_judgement 4 (λ e. cc) (λ e. cc) (λ e. cc) s)
     status_reported endings.Memory s h = absurd (no_judgement 5 (λ e. cc) (λ e. cc) (λ e. cc) s)
 
     -- whatever the status
-    pub status_cut : (e : Ending) → Reports x bytes w held w' e → GrowsByPrefix w w' (held ++ report x bytes)
-    status_cut (endings.Judged o) h = record { kept = length (held ++ report x bytes); grown = h ∙ append_assoc w held (report x bytes) ∙ ap (λ l. w ++ l) (sym (take_all (length (held ++ report x bytes)) (held ++ report x bytes) (omega arith))) }
+    pub status_cut : (e : Ending) → Reports d x bytes w held w' e → GrowsByPrefix w w' (held ++ report d x bytes)
+    status_cut (endings.Judged o) h = record { kept = length (held ++ report d x bytes); grown = h ∙ append_assoc w held (report d x bytes) ∙ ap (λ l. w ++ l) (sym (take_all (length (held ++ report d x bytes)) (held ++ report d x bytes) (omega arith))) }
     status_cut endings.ReadFault h = h
     status_cut endings.WriteFault h = h
     status_cut endings.Memory h = h
@@ -139,3 +144,26 @@ module _ (files : Option Store) (store : Store) (name : List ℕ) (entries : Lis
 
   pub same_entries : (others : List Entry) → static_file store name ≡ table others → entries ≡ others
   same_entries others is = let same = sym file_is ∙ is in cc
+
+-- words that aren't read though they are a request
+module _ (fault : WordsFault) (read : fault ≡ words.NotUnderstood → ⊥) where
+  pub words_starved : status_of_words fault ≡ 5
+  words_starved = go fault refl where
+    go : (v : WordsFault) → fault ≡ v → status_of_words v ≡ 5
+    go words.NotUnderstood is = absurd (read is)
+    go words.Memory is = refl
+
+pub words_two : (fault : WordsFault) → status_of_words fault ≡ 2 → fault ≡ words.NotUnderstood
+words_two words.NotUnderstood e = refl
+words_two words.Memory e = cc
+
+-- a file that isn't read though it gives a table
+module _ (files : Option Store) (store : Store) (name : List ℕ) (told : files ≡ Some store) (entries : List Entry) (is : static_file store name ≡ table entries) where
+  no_other : (file : StaticFile) → Has files name file → file ≡ table entries
+  no_other file has = let there : static_file store name ≡ file = rw told at has in sym there ∙ is
+
+  pub unread_status : (fault : FileFault) → TellsFile files name fault → (fault ≡ files_faults.Failed) ⊎ (status_of_fault fault ≡ 5)
+  unread_status files_faults.Missing tells = let bad = no_other missing tells in cc
+  unread_status (files_faults.Bad row kind) tells = let other = no_other (bad row kind) tells in cc
+  unread_status files_faults.Failed tells = inl refl
+  unread_status files_faults.Memory tells = inr refl

@@ -1,6 +1,9 @@
 -- The line of an event, by what a receiver shows behind it.
-use Rattle.std.proofs.Common.{◌≡◌, ℕ, ◌-◌, ◌<◌, List, length, Some, refl, sym, ap, ◌∙◌, arith}
+use Rattle.std.proofs.Common.{◌≡◌, ℕ, ◌-◌, ◌<◌, List, length, Bool, Option, Some, Err, refl, sym, ap, ◌∙◌, arith}
 use Rattle.std.specs.Prelude.{◌^◌}
+use Rattle.io_edges.specs.Puts.{PutsAll}
+use Rattle.io_edges.specs.declared.SinkFault.{SinkFault}
+use Rattle.io_edges.proofs.Putting.{PutsAll-cut}
 use Rattle.unit_streams.specs.Grammar.{standing}
 use Rattle.unit_streams.specs.Judging.{event_at}
 use Rattle.nbfx_values.specs.Limits.{IsGood}
@@ -12,7 +15,9 @@ use Rattle.receiver_machine.specs.Saying.{step_for}
 use Rattle.receiver_machine.specs.declared.receiver.Step.TheVariants as steps
 use Rattle.stream_reader.specs.Stream.{Settings, Envelope, StreamEvent, opened, message, ended, stream, strings_in}
 use Rattle.stream_reader.proofs.Situations.{documents_fit, event_tells}
-use Rattle.dump_replay.specs.Report.{ended_line, event_line, message_line, open_line}
+use Rattle.dump_replay.specs.declared.report.Detail.{Detail}
+use Rattle.dump_replay.specs.declared.report.Detail.TheVariants.{Summary, Whole}
+use Rattle.dump_replay.specs.Report.{document_lines, ended_line, event_line, message_line, open_line, told_of}
 
 envelope_is : (e : Envelope) (number size : ℕ) (items : List Item) (strings : List (List ℕ)) → number ≡ e.number → size ≡ e.size → items ≡ e.items → strings ≡ e.strings
     → e ≡ record { number = number; size = size; items = items; strings = strings }
@@ -58,3 +63,8 @@ module _ (x : Settings) (p : List ℕ) where
       let most = good.content_most in
       rw same_items (omega (arith, low, most))
   line_fits good (ended n) size items here is = cc
+
+-- a line that was cut short is what was told of its event
+pub told_cut : (d : Detail) (event : StreamEvent) {e : SinkFault} {w w1 : Option (List ℕ)} {h h1 : List ℕ} {f f1 : ℕ} {m m1 : Bool} → PutsAll (event_line event) (Err e) w w1 h h1 f f1 m m1 → PutsAll (told_of d event) (Err e) w w1 h h1 f f1 m m1
+told_cut Summary event p = p
+told_cut Whole event p = PutsAll-cut (document_lines event) p

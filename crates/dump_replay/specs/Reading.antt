@@ -12,7 +12,10 @@ use Rattle.unit_streams.specs.Going.{IsPending, IsOpenAt}
 use Rattle.nbfx_values.specs.declared.refusals.Offence.{Offence}
 use Rattle.stream_reader.specs.Judging.{offence}
 use Rattle.stream_reader.specs.Stream.{Settings, stream}
+use Rattle.command_words.specs.declared.words.WordsFault.{WordsFault}
+use Rattle.command_words.specs.declared.words.WordsFault.TheVariants as words
 use Rattle.dump_replay.specs.declared.check.TheConstants.{ROOM}
+use Rattle.dump_replay.specs.declared.report.Detail.{Detail}
 use Rattle.dump_replay.specs.declared.check.Progress.{Progress}
 use Rattle.dump_replay.specs.declared.check.Progress.TheVariants.{Going, Judged, Starved}
 use Rattle.dump_replay.specs.declared.check.Ending.{Ending}
@@ -36,46 +39,47 @@ done (Ok a) = Ok tt
 done (Err fault) = Err fault
 
 -- with these lines the report of a stream begins at whose front these bytes stand, behind other lines
-abbrev pub AreDue : Settings → (bytes before lines : List ℕ) → Type 0
-AreDue x bytes before lines =
-    (more : List ℕ) → (rest : List ℕ) × (report x (bytes ++ more) ≡ before ++ lines ++ rest)
+abbrev pub AreDue : Detail → Settings → (bytes before lines : List ℕ) → Type 0
+AreDue d x bytes before lines =
+    (more : List ℕ) → (rest : List ℕ) × (report d x (bytes ++ more) ≡ before ++ lines ++ rest)
 
 -- what is said of a stream of which p is read, when the bytes y came, and which lines are put then
-abbrev pub ReadsOf : (List ℕ → Type 0) → Settings → List ℕ → List ℕ → Result Progress SinkFault
+abbrev pub ReadsOf : Detail → (List ℕ → Type 0) → Settings → List ℕ → List ℕ → Result Progress SinkFault
     → List ℕ → Type 0
-ReadsOf stands x p y (Ok Going) lines = stands (p ++ y) × IsPending (stream x) (p ++ y)
-    × (event_lines x (p ++ y) ≡ event_lines x p ++ lines)
-ReadsOf stands x p y (Ok (Judged o)) lines =
+ReadsOf d stands x p y (Ok Going) lines = stands (p ++ y) × IsPending (stream x) (p ++ y)
+    × (event_lines d x (p ++ y) ≡ event_lines d x p ++ lines)
+ReadsOf d stands x p y (Ok (Judged o)) lines =
     (more : List ℕ) → (offence x ((p ++ y) ++ more) ≡ o)
-    × (report x ((p ++ y) ++ more) ≡ event_lines x p ++ lines)
-ReadsOf stands x p y (Ok Starved) lines = AreDue x (p ++ y) (event_lines x p) lines
-ReadsOf stands x p y (Err fault) lines = AreDue x (p ++ y) (event_lines x p) lines
+    × (report d x ((p ++ y) ++ more) ≡ event_lines d x p ++ lines)
+ReadsOf d stands x p y (Ok Starved) lines = AreDue d x (p ++ y) (event_lines d x p) lines
+ReadsOf d stands x p y (Err fault) lines = AreDue d x (p ++ y) (event_lines d x p) lines
 
 -- all of the stream was read before, and its report are the lines
-abbrev pub IsAllRead : Settings → (before piece : List ℕ) → (left left' : Option (List ℕ))
+abbrev pub IsAllRead : Detail → Settings → (before piece : List ℕ) → (left left' : Option (List ℕ))
     → List ℕ → Type 0
-IsAllRead x before piece left left' lines = (piece ≡ []) × (report x before ≡ lines)
+IsAllRead d x before piece left left' lines = (piece ≡ []) × (report d x before ≡ lines)
     × Told left left' (λ all rest. rest ≡ [])
 
 -- what lines are a stream's, of which bytes were read before, and then a piece, how that ended, and
 -- what the output holds then
-abbrev pub ReportsAs : Settings → (before piece : List ℕ) → (left left' : Option (List ℕ))
+abbrev pub ReportsAs : Detail → Settings → (before piece : List ℕ) → (left left' : Option (List ℕ))
     → (held : List ℕ) → Result Ending SinkFault → List ℕ → Type 0
-ReportsAs x before piece left left' held (Ok (endings.Judged o)) lines =
-    (IsAllRead x before piece left left' lines × (offence x before ≡ o))
+ReportsAs d x before piece left left' held (Ok (endings.Judged o)) lines =
+    (IsAllRead d x before piece left left' lines × (offence x before ≡ o))
     ⊎ ((more : List ℕ) → (offence x ((before ++ piece) ++ more) ≡ o)
-    × (report x ((before ++ piece) ++ more) ≡ lines))
-ReportsAs x before piece left left' held (Ok endings.ReadFault) lines =
-    (piece ≡ []) × (lines ≡ event_lines x before) × (held ≡ [])
-ReportsAs x before piece left left' held (Ok endings.WriteFault) lines = ⊥
-ReportsAs x before piece left left' held (Ok endings.Memory) lines =
-    AreDue x (before ++ piece) [] lines
-ReportsAs x before piece left left' held (Err fault) lines =
-    IsAllRead x before piece left left' lines ⊎ AreDue x (before ++ piece) [] lines
+    × (report d x ((before ++ piece) ++ more) ≡ lines))
+ReportsAs d x before piece left left' held (Ok endings.ReadFault) lines =
+    (piece ≡ []) × (lines ≡ event_lines d x before) × (held ≡ [])
+ReportsAs d x before piece left left' held (Ok endings.WriteFault) lines = ⊥
+ReportsAs d x before piece left left' held (Ok endings.Memory) lines =
+    AreDue d x (before ++ piece) [] lines
+ReportsAs d x before piece left left' held (Err fault) lines =
+    IsAllRead d x before piece left left' lines ⊎ AreDue d x (before ++ piece) [] lines
 
 -- what was read of a stream, what was written then, and which lines were put for it, by an output
 -- that held bytes at first, and holds others now
-pub record HasReported (x : Settings) (left left' taken taken' written written' : Option (List ℕ))
+pub record HasReported (d : Detail) (x : Settings)
+    (left left' taken taken' written written' : Option (List ℕ))
     (held held' : List ℕ) (result : Result Ending SinkFault) (lines : List ℕ) : Type 0 where
   pub before : List ℕ
   pub piece : List ℕ
@@ -83,8 +87,8 @@ pub record HasReported (x : Settings) (left left' taken taken' written written' 
   pub short : length piece ≤ ROOM
   pub stream : Told left left' (λ all rest. all ≡ before ++ piece ++ rest)
   pub took : Told taken taken' (λ t t'. t' ≡ t ++ before ++ piece)
-  pub wrote : Told written written' (Writes x held before)
-  pub ends : ReportsAs x before piece left left' held' result lines
+  pub wrote : Told written written' (Writes d x held before)
+  pub ends : ReportsAs d x before piece left left' held' result lines
 
 -- what a fault of the output ends a check with
 abbrev pub stopped_by : SinkFault → Ending
@@ -97,21 +101,22 @@ Judges x bytes (endings.Judged o) = offence x bytes ≡ o
 Judges x bytes _ = Unit {0}
 
 -- what is written of the stream behind what was held: its report, or the first bytes of both
-abbrev pub Reports : Settings → List ℕ → (w held w' : List ℕ) → Ending → Type 0
-Reports x bytes w held w' (endings.Judged o) = w' ≡ w ++ held ++ report x bytes
-Reports x bytes w held w' _ = GrowsByPrefix w w' (held ++ report x bytes)
+abbrev pub Reports : Detail → Settings → List ℕ → (w held w' : List ℕ) → Ending → Type 0
+Reports d x bytes w held w' (endings.Judged o) = w' ≡ w ++ held ++ report d x bytes
+Reports d x bytes w held w' _ = GrowsByPrefix w w' (held ++ report d x bytes)
 
 -- what is known of a check of a stream, which ends so: what was read and written, and what the calls
 -- that failed by the outside left of the counts of the input and of the output
-pub record HasChecked (x : Settings) (left left' taken taken' written written' : Option (List ℕ))
+pub record HasChecked (d : Detail) (x : Settings)
+    (left left' taken taken' written written' : Option (List ℕ))
     (held : List ℕ) (reads reads' writes writes' : ℕ) (ending : Ending) : Type 0 where
   pub judges : (bytes : List ℕ) → left ≡ Some bytes → Judges x bytes ending
   pub reports : (bytes w : List ℕ) → left ≡ Some bytes → written ≡ Some w
-      → (w' : List ℕ) × (written' ≡ Some w') × Reports x bytes w held w' ending
+      → (w' : List ℕ) × (written' ≡ Some w') × Reports d x bytes w held w' ending
   pub decides : (o : Option Offence) → ending ≡ endings.Judged o
-      → Decides x o left left' taken taken' written written' held
-  pub breaks : ending ≡ endings.ReadFault → Breaks x left left' taken taken' written written' held
-  pub reaches : Reaches x left left' taken taken' written written' held
+      → Decides d x o left left' taken taken' written written' held
+  pub breaks : ending ≡ endings.ReadFault → Breaks d x left left' taken taken' written written' held
+  pub reaches : Reaches d x left left' taken taken' written written' held
   pub reads_counted : CountsFaults reads reads' (ending ≡ endings.ReadFault)
   pub writes_counted : CountsFaults writes writes' (ending ≡ endings.WriteFault)
 
@@ -126,6 +131,11 @@ status_at endings.Memory = 5
 abbrev pub file_fault : TableFault → FileFault
 file_fault (tables.Bad row kind) = file_faults.Bad row kind
 file_fault tables.Memory = file_faults.Memory
+
+-- the status of a run whose words aren't read
+abbrev pub status_of_words : WordsFault → ℕ
+status_of_words words.NotUnderstood = 2
+status_of_words words.Memory = 5
 
 -- the status of a run that such a fault ends
 abbrev pub status_of_fault : FileFault → ℕ

@@ -1,9 +1,9 @@
--- The lines that a report of an initiator's stream has.
+-- What a report of an initiator's stream tells, in lines.
 use Rattle.std.specs.Prelude.{ℕ, List, [], ◌∷◌, ◌++◌, length, Option, Some, None, codes}
 use Rattle.std.specs.List.{flat_map}
 use Rattle.std.specs.Fmt.{decimal}
 use Rattle.line_notation.specs.Quoted.{quoted}
-use Rattle.line_notation.specs.Lines.{with_line_feed}
+use Rattle.line_notation.specs.Lines.{text_of, with_line_feed}
 use Rattle.line_notation.specs.Words.{spaced}
 use Rattle.nbfx_values.specs.Measures.{content_of, depth_of}
 use Rattle.nbfx_values.specs.Refusals.{reason_number, reason_name}
@@ -17,6 +17,8 @@ use Rattle.nbfx_values.specs.declared.session.Mode.TheVariants.{Singleton, Duple
 use Rattle.string_tables.specs.SessionStrings.{used_cost}
 use Rattle.unit_streams.specs.Judging.{History, history, events_of}
 use Rattle.stream_reader.specs.Stream.{Settings, Envelope, StreamEvent, opened, message, ended, stream}
+use Rattle.dump_replay.specs.declared.report.Detail.{Detail}
+use Rattle.dump_replay.specs.declared.report.Detail.TheVariants.{Summary, Whole}
 
 -- a line: a word that says what it tells of, other words, each behind a space, and a line feed
 abbrev pub line : List ℕ → List (List ℕ) → List ℕ
@@ -58,18 +60,28 @@ event_line (opened mode kind via) = open_line mode kind via
 event_line (message envelope) = message_line envelope
 event_line (ended n) = ended_line n
 
+-- the lines of the document that an event brings
+abbrev pub document_lines : StreamEvent → List ℕ
+document_lines (message envelope) = text_of envelope.items
+document_lines _ = []
+
+-- what is told of an event: its line, and where documents are shown whole, theirs behind it
+abbrev pub told_of : Detail → StreamEvent → List ℕ
+told_of Summary event = event_line event
+told_of Whole event = event_line event ++ document_lines event
+
 abbrev pub offence_line_of : Option Offence → List ℕ
 offence_line_of None = []
 offence_line_of (Some o) = offence_line o
 
--- the lines of a history: one for each event, and then the offence's
-abbrev pub history_lines : History StreamEvent Offence → List ℕ
-history_lines h = flat_map event_line h.events ++ offence_line_of h.offence
+-- the lines of a history: those of each event, and then the offence's
+abbrev pub history_lines : Detail → History StreamEvent Offence → List ℕ
+history_lines d h = flat_map (told_of d) h.events ++ offence_line_of h.offence
 
 -- the report of a stream
-unfoldable pub report : Settings → List ℕ → List ℕ
-report x bytes = history_lines (history (stream x) bytes)
+unfoldable pub report : Detail → Settings → List ℕ → List ℕ
+report d x bytes = history_lines d (history (stream x) bytes)
 
 -- the lines for the events of bytes so far
-unfoldable pub event_lines : Settings → List ℕ → List ℕ
-event_lines x bytes = flat_map event_line (events_of (stream x) bytes)
+unfoldable pub event_lines : Detail → Settings → List ℕ → List ℕ
+event_lines d x bytes = flat_map (told_of d) (events_of (stream x) bytes)

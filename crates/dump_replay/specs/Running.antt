@@ -1,22 +1,21 @@
--- The words, statuses and notes of a run.
+-- The statuses and notes of a run.
 use Rattle.std.specs.Prelude.{◌≡◌, ◌≢◌, ℕ, ◌⊎◌, List, [], ◌∷◌, ◌++◌, Bool, true, false, Option, Some, None, ◌==◌, if◌then◌else◌, codes}
 use Rattle.std.specs.Fmt.{decimal}
 use Rattle.io_edges.specs.Store.{Store}
 use Rattle.nbfx_values.specs.declared.refusals.Offence.{Offence}
 use Rattle.nbfx_values.specs.declared.refusals.Reason.{Reason}
 use Rattle.nbfx_values.specs.declared.refusals.Reason.TheVariants.{SessionTooLong}
+use Rattle.command_words.specs.declared.action.Action.{Action}
+use Rattle.command_words.specs.declared.action.Action.TheVariants.{Check, Dump}
+use Rattle.command_words.specs.Requests.{Asked, IsRequest}
+use Rattle.dump_replay.specs.declared.report.Detail.{Detail}
+use Rattle.dump_replay.specs.declared.report.Detail.TheVariants.{Summary, Whole}
 use Rattle.dump_replay.specs.Statics.{Has, StaticFile, bad, kind_name, missing, table}
 
--- a value isn't empty, and doesn't begin as an option does
-abbrev pub IsValue : List ℕ → Type 0
-IsValue [] = ⊥
-IsValue (byte ∷ rest) = byte ≢ 45
-
--- the program's name, whatever it is, the command `check`, and the name of the static strings' file
-abbrev pub IsCheck : List (List ℕ) → List ℕ → Type 0
-IsCheck (program ∷ command ∷ option ∷ value ∷ []) name =
-    (command ≡ codes "check") × (option ≡ codes "--static") × IsValue value × (value ≡ name)
-IsCheck _ name = ⊥
+-- how much of documents a command's report shows
+abbrev pub detail_of : Action → Detail
+detail_of Check = Summary
+detail_of Dump = Whole
 
 abbrev pub is_session_too_long : Reason → Bool
 is_session_too_long SessionTooLong = true
@@ -52,14 +51,14 @@ abbrev pub IsNoTable : StaticFile → Type 0
 IsNoTable (table entries) = ⊥
 IsNoTable _ = Unit {0}
 
--- the words name a file that gives no table, of which this is the note
+-- the words ask for a file that gives no table, of which this is the note
 pub record NotesFile (words : List (List ℕ)) (files : Option Store) (text : List ℕ) : Type 0 where
-  pub name : List ℕ
+  pub asked : Asked
   pub file : StaticFile
-  pub is_check : IsCheck words name
-  pub has : Has files name file
+  pub is_request : IsRequest words asked
+  pub has : Has files asked.statics file
   pub no_table : IsNoTable file
-  pub says : text ≡ file_note name file
+  pub says : text ≡ file_note asked.statics file
 
 -- the note that goes with a status
 abbrev pub IsNote : List (List ℕ) → Option Store → ℕ → List ℕ → Type 0

@@ -2,7 +2,7 @@
 use Rattle.std.specs.Prelude.{◌≡◌, ℕ, List, Option, Some, None, IfSome, codes}
 use Rattle.std.specs.FinMap as finite
 use Rattle.io_edges.specs.Store.{Store}
-use Rattle.nbfx_values.specs.Limits.{usual_limits}
+use Rattle.command_words.specs.Requests.{Asked}
 use Rattle.static_dictionary.specs.Rows.{Fault, fault_of, rows_of, table_of}
 use Rattle.static_dictionary.specs.declared.fault.TableKind.{TableKind}
 use Rattle.static_dictionary.specs.declared.fault.TableKind.TheVariants as kinds
@@ -32,16 +32,13 @@ static_file store name = file_of (finite.get store name)
 abbrev pub Has : Option Store → List ℕ → StaticFile → Type 0
 Has files name file = IfSome files (λ store. static_file store name ≡ file)
 
--- an initiator's stream in duplex mode, with these static strings and the usual quotas
-abbrev pub with_statics : List Entry → Settings
-with_statics entries = initiators entries usual_limits
-
--- this holds of the settings that the file gives
-pub record UnderFile (files : Option Store) (name : List ℕ) (Holds : Settings → Type 0)
+-- this holds of an initiator's stream in duplex mode, within the quotas that are asked for and with
+-- the static strings of the file
+pub record UnderFile (files : Option Store) (asked : Asked) (Holds : Settings → Type 0)
     : Type 0 where
   pub entries : List Entry
-  pub has : Has files name (table entries)
-  pub holds : Holds (with_statics entries)
+  pub has : Has files asked.statics (table entries)
+  pub holds : Holds (initiators entries asked.limits)
 
 abbrev pub kind_name : TableKind → List ℕ
 kind_name kinds.Header = codes "Header"

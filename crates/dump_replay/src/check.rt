@@ -1,22 +1,28 @@
-//! The command that reads a stream and reports what comes in it.
+//! The commands that read a stream and report what comes in it.
 
 ghost use Rattle.std.specs.Prelude.{◌≡◌, ⊤, Result, ℕ, ◌≤◌, ◌<◌, List, [], ◌++◌, Option, Some, None, Err, IfOk, IfErr, OnOk, OnErr, IsErrOf};
 ghost use Rattle.io_edges.specs.Faults.{CountsFaults};
 ghost use Rattle.io_edges.specs.Puts.{Puts};
 ghost use Rattle.io_edges.specs.declared.SinkFault.{SinkFault as Fault};
 ghost use Rattle.unit_streams.specs.Going.{IsPending};
+ghost use Rattle.unit_streams.specs.Judging.{event_at};
 ghost use Rattle.nbfx_values.specs.declared.refusals.Offence.{Offence as Refusal};
 ghost use Rattle.stream_reader.specs.Judging.{offence};
-ghost use Rattle.stream_reader.specs.Stream.{stream};
+ghost use Rattle.receiver_machine.specs.Saying.{step_for};
+ghost use Rattle.stream_reader.specs.Stream.{StreamEvent, initiators, stream};
 ghost use Rattle.dump_replay.specs.Checking.{Decides, Breaks, Reaches};
 ghost use Rattle.dump_replay.specs.Reading.{HasChecked, HasRead, ReadsOf, HasReported, done, stopped_by};
-ghost use Rattle.dump_replay.specs.Report.{event_lines, report};
-ghost use Rattle.dump_replay.specs.Statics.{with_statics};
+ghost use Rattle.dump_replay.specs.Report.{document_lines, event_lines, report, told_of};
+ghost use Rattle.dump_replay.specs.Running.{detail_of};
+ghost use Rattle.nbfx_values.specs.QuotasOf.{limits_of};
+ghost use Rattle.dump_replay.specs.declared.report.Detail.{Detail as Shown};
 
 use crate::reading::ReadingEnd;
-use crate::report;
+use crate::report::{self, Detail};
+use command_words::Request;
 use io_edges::{Sink, SinkFault, Source};
-use nbfx_values::{Offence, Quotas};
+use line_notation::print;
+use nbfx_values::Offence;
 use receiver_machine::{ReadRefusal, Receiver, Step};
 use static_dictionary::StaticTable;
 use std::alloc::Global;
@@ -44,8 +50,40 @@ enum Progress {
     Starved,
 }
 
-// Reads a piece, and puts a line for each event and for an offence.
+// Puts the lines of the document that an event has brought.
+fn put_document<O: Sink>(step: &Step, output: &mut O) -> Result<(), SinkFault>
+    ensures { (event : StreamEvent) → step.now ≡ step_for event
+        → Puts O.written O.held O.faults O.may_want output.old output.new (document_lines event)
+        result }
+{
+    match step {
+        Step::Message { doc, .. } => print(doc, output),
+        _ => Ok(()),
+    }
+}
+
+// Puts what is told of an event that the bytes used have just completed.
+fn put_event<E: ReadingEnd, O: Sink>(
+    detail: Detail,
+    end: &E,
+    step: &Step,
+    output: &mut O,
+) -> Result<(), SinkFault>
+    ensures { (p : List ℕ) (event : StreamEvent) → E.stands end.now p
+        → event_at (stream (E.settings end.now)) p ≡ Some event → step.now ≡ step_for event
+        → Puts O.written O.held O.faults O.may_want output.old output.new (told_of detail event)
+        result }
+{
+    end.put_line(step, output)?;
+    match detail {
+        Detail::Summary => Ok(()),
+        Detail::Whole => put_document(step, output),
+    }
+}
+
+// Reads a piece, and puts what is told of each event, and the line of an offence.
 fn read<E: ReadingEnd, O: Sink>(
+    detail: Detail,
     end: &mut E,
     piece: &[u8],
     output: &mut O,
@@ -54,7 +92,7 @@ fn read<E: ReadingEnd, O: Sink>(
     ensures reads { (p : List ℕ) → HasRead (E.stands end.old) (E.settings end.old) p
         → (lines : List ℕ)
         × Puts O.written O.held O.faults O.may_want output.old output.new lines (done result)
-        × ReadsOf (E.stands end.new) (E.settings end.old) p piece.now result lines }
+        × ReadsOf detail (E.stands end.new) (E.settings end.old) p piece.now result lines }
     ensures settings { E.settings end.new ≡ E.settings end.old }
 {
     let mut used = 0;
@@ -70,11 +108,11 @@ fn read<E: ReadingEnd, O: Sink>(
         match step {
             Step::More => return Ok(Progress::Going),
             Step::Ended => {
-                end.put_line(&step, output)?;
+                put_event(detail, end, &step, output)?;
                 return Ok(Progress::Judged(None));
             }
             _ => {
-                end.put_line(&step, output)?;
+                put_event(detail, end, &step, output)?;
                 end.hand_back(step);
                 used += n;
             }
@@ -85,11 +123,11 @@ fn read<E: ReadingEnd, O: Sink>(
 // Says that the input is over, and puts the line of what was cut off.
 fn finish<E: ReadingEnd, O: Sink>(end: &mut E, output: &mut O) -> Result<Option<Offence>, SinkFault>
     requires going { (p : List ℕ) × HasRead (E.stands end.old) (E.settings end.old) p }
-    ensures { (p : List ℕ) → HasRead (E.stands end.old) (E.settings end.old) p
+    ensures { (d : Shown) (p : List ℕ) → HasRead (E.stands end.old) (E.settings end.old) p
         → IsPending (stream (E.settings end.old)) p
         → (lines : List ℕ)
         × Puts O.written O.held O.faults O.may_want output.old output.new lines (done result)
-        × (report (E.settings end.old) p ≡ event_lines (E.settings end.old) p ++ lines)
+        × (report d (E.settings end.old) p ≡ event_lines d (E.settings end.old) p ++ lines)
         × IfOk result (λ o. offence (E.settings end.old) p ≡ o) }
 {
     match end.end_of_input() {
@@ -105,6 +143,7 @@ fn finish<E: ReadingEnd, O: Sink>(end: &mut E, output: &mut O) -> Result<Option<
 // lines of what came are written before more is taken.
 fn put_report<I: Source, O: Sink, E: ReadingEnd + Drop>(
     alloc: Global,
+    detail: Detail,
     end: E,
     input: &mut I,
     output: &mut O,
@@ -113,7 +152,7 @@ fn put_report<I: Source, O: Sink, E: ReadingEnd + Drop>(
     requires room { 0 < (E.settings end).limits.session }
     ensures reports { (lines : List ℕ)
         × Puts O.written O.held O.faults O.may_want output.old output.new lines (done result)
-        × HasReported (E.settings end) (I.left input.old) (I.left input.new)
+        × HasReported detail (E.settings end) (I.left input.old) (I.left input.new)
         (I.taken input.old) (I.taken input.new) (O.written output.old) (O.written output.new)
         (O.held output.old) (O.held output.new) result lines }
     ensures counted { CountsFaults (I.faults input.old) (I.faults input.new)
@@ -131,7 +170,7 @@ fn put_report<I: Source, O: Sink, E: ReadingEnd + Drop>(
         if n == 0 {
             return Ok(Ending::Judged(finish(&mut end, output)?));
         }
-        match read(&mut end, &room[..n], output)? {
+        match read(detail, &mut end, &room[..n], output)? {
             Progress::Going => {}
             Progress::Judged(offence) => return Ok(Ending::Judged(offence)),
             Progress::Starved => return Ok(Ending::Memory),
@@ -160,23 +199,26 @@ fn written<O: Sink>(ending: Result<Ending, SinkFault>, output: &mut O) -> Ending
     }
 }
 
-/// Reads the initiator's stream that the input gives, under these static strings, and writes its
-/// report.
+/// Reads the initiator's stream that the input gives, with these static strings and as is asked for,
+/// and writes its report.
 pub fn check<I: Source, O: Sink>(
     alloc: Global,
+    request: &Request,
     statics: &StaticTable,
     input: &mut I,
     output: &mut O,
 ) -> Ending
-    ensures { HasChecked (with_statics statics.now) (I.left input.old) (I.left input.new)
+    ensures { HasChecked (detail_of request.now.action)
+        (initiators statics.now (limits_of request.now.quotas)) (I.left input.old) (I.left input.new)
         (I.taken input.old) (I.taken input.new) (O.written output.old) (O.written output.new)
         (O.held output.old) (I.faults input.old) (I.faults input.new)
         (O.faults output.old) (O.faults output.new) result }
 {
-    let Ok(receiver) = Receiver::new(alloc, statics, Quotas::usual()) else {
+    let Ok(receiver) = Receiver::new(alloc, statics, request.quotas) else {
         return Ending::Memory;
     };
-    written(put_report(alloc, receiver, input, output), output)
+    let detail = report::detail_of(request.action);
+    written(put_report(alloc, detail, receiver, input, output), output)
 }
 
 fn stopped(fault: SinkFault) -> Ending

@@ -24,7 +24,6 @@ pub mod reading;
 pub mod report;
 pub mod run;
 mod statics;
-mod words;
 
 use io_edges::{FileShelf, ReadSource, WriteSink};
 use std::alloc::{AllocError, Global};

@@ -3,12 +3,33 @@
 ghost use Rattle.std.specs.Prelude.{◌≡◌, ℕ, ◌<◌, ◌^◌, List};
 ghost use Rattle.io_edges.specs.Puts.{Puts};
 ghost use Rattle.nbfx_values.specs.Measures.{content_of};
+ghost use Rattle.dump_replay.specs.Running.{detail_of};
 ghost use Rattle.dump_replay.specs.Report.{mode_name, open_line, message_line, ended_line, offence_line};
 
+use command_words::Action;
 use io_edges::{Sink, SinkFault};
 use line_notation::{Word, put_words};
 use nbfx_values::{Doc, Kind, Mode, Offence, Place};
 use session_dictionary::SessionTable;
+
+/// What a report tells of a document.
+#[derive(Clone, Copy, Debug, PartialEq, Eq)]
+pub enum Detail {
+    /// A line of what it measures.
+    Summary,
+    /// Its items too.
+    Whole,
+}
+
+/// What the report of a command tells of a document.
+pub fn detail_of(action: Action) -> Detail
+    ensures { result ≡ detail_of action }
+{
+    match action {
+        Action::Check => Detail::Summary,
+        Action::Dump => Detail::Whole,
+    }
+}
 
 fn mode_name(mode: Mode) -> &'static str
     ensures { result.now ≡ mode_name mode }

@@ -96,8 +96,27 @@ fn note(status: u8) -> &'static str {
     }
 }
 
-// Asserts what `check` leaves of a stream: its status, with the note of that, its output, and the
+// Asserts what these words leave of a stream: the status, with the note of that, the output, and the
 // bytes that weren't taken.
+fn assert_ran(
+    rt: &(impl Abort + AllocGlobal),
+    words: &[&str],
+    stream: &[u8],
+    outside: Outside,
+    status: u8,
+    output: &str,
+    rest: &[u8],
+) -> Result<(), Fail> {
+    let mut notes = sure_sink(rt.alloc());
+    let ran = run_on_fakes(rt.alloc(), words, stream, outside, &mut notes)?;
+    assert_eq!(rt; ran.status, status, "{output}");
+    assert_eq!(rt; ran.output.bytes(), output.as_bytes(), "{output}");
+    assert_eq!(rt; ran.input.rest(), rest, "{output}");
+    assert_eq!(rt; notes.bytes(), note(status).as_bytes(), "{output}");
+    Ok(())
+}
+
+// The same of `check`.
 fn assert_left(
     rt: &(impl Abort + AllocGlobal),
     stream: &[u8],
@@ -106,13 +125,7 @@ fn assert_left(
     output: &str,
     rest: &[u8],
 ) -> Result<(), Fail> {
-    let mut notes = sure_sink(rt.alloc());
-    let ran = run_on_fakes(rt.alloc(), &CHECK, stream, outside, &mut notes)?;
-    assert_eq!(rt; ran.status, status, "{output}");
-    assert_eq!(rt; ran.output.bytes(), output.as_bytes(), "{output}");
-    assert_eq!(rt; ran.input.rest(), rest, "{output}");
-    assert_eq!(rt; notes.bytes(), note(status).as_bytes(), "{output}");
-    Ok(())
+    assert_ran(rt, &CHECK, stream, outside, status, output, rest)
 }
 
 const DOCUMENT: &[u8] =
@@ -144,6 +157,83 @@ fn calls_are_reported_in_any_pieces(rt: HostRuntime) -> Result<(), Fail> {
         assert_left(&rt, &stream, outside, 0, want, b"")?;
     }
     Ok(())
+}
+
+// What `dump` shows of two calls.
+const TWO_DOCUMENTS: &str = r#"open duplex 8 "net.tcp://h/e"
+message 0 payload 60 items 18 depth 3 content 165 strings 1 used 1
+start "s" "Envelope"
+ns "s" "http://www.w3.org/2003/05/soap-envelope"
+ns "a" "http://www.w3.org/2005/08/addressing"
+start "s" "Header"
+start "a" "Action"
+attr "s" "mustUnderstand" number 1
+text string "urn:echo"
+close
+start "a" "MessageID"
+text id 00112233-4455-6677-8899-aabbccddeeff
+close
+close
+start "s" "Body"
+start "" "x"
+text string "hi"
+close
+close
+close
+message 1 payload 58 items 18 depth 3 content 165 strings 1 used 1
+start "s" "Envelope"
+ns "s" "http://www.w3.org/2003/05/soap-envelope"
+ns "a" "http://www.w3.org/2005/08/addressing"
+start "s" "Header"
+start "a" "Action"
+attr "s" "mustUnderstand" number 1
+text string "urn:echo"
+close
+start "a" "MessageID"
+text id 00112233-4455-6677-8899-aabbccddeeff
+close
+close
+start "s" "Body"
+start "" "x"
+text string "hi"
+close
+close
+close
+ended 146
+"#;
+
+#[test]
+fn documents_are_dumped_in_any_pieces(rt: HostRuntime) -> Result<(), Fail> {
+    let stream = two_calls(rt.alloc())?;
+    let words = ["nettcp", "dump", "--static=S"];
+    for most in [65_536, 61, 7, 1] {
+        let outside = Outside { most, ..SURE };
+        assert_ran(&rt, &words, &stream, outside, 0, TWO_DOCUMENTS, b"")?;
+    }
+    Ok(())
+}
+
+#[test]
+fn documents_before_an_offence_are_dumped(rt: HostRuntime) -> Result<(), Fail> {
+    let stream =
+        b"\x00\x01\x00\x01\x02\x02\x0Dnet.tcp://h/e\x03\x07\x0C\x06\x06\x40\x01x\x99\x01y\x06\x03\x40\x01\xFF";
+    let want =
+        "open duplex 7 \"net.tcp://h/e\"\nmessage 0 payload 6 items 3 depth 1 content 2 strings 0 used 0\nstart \"\" \"x\"\ntext string \"y\"\nclose\noffence payload 1 0 13 BadUtf8\n";
+    let words = ["nettcp", "dump", "--static", "S"];
+    assert_ran(&rt, &words, stream, SURE, 1, want, b"")
+}
+
+#[test]
+fn quotas_are_set_by_words(rt: HostRuntime) -> Result<(), Fail> {
+    let open = "open duplex 8 \"net.tcp://h/e\"\noffence frame 23 25 SessionTooLong\n";
+    let words = ["nettcp", "check", "--session", "23", "--static", "S"];
+    assert_ran(&rt, &words, SESSION, SURE, 10, open, b"")?;
+    let words = ["nettcp", "check", "--session=24", "--static=S"];
+    let ended = "open duplex 8 \"net.tcp://h/e\"\nended 24\n";
+    assert_ran(&rt, &words, SESSION, SURE, 0, ended, b"")?;
+    let large = "open duplex 8 \"net.tcp://h/e\"\noffence frame 23 24 Truncated\n";
+    let words = ["nettcp", "dump", "--static", "S", "--payload", "65537"];
+    assert_ran(&rt, &words, TOO_LARGE, SURE, 1, large, b"")
 }
 
 #[test]
@@ -290,10 +380,10 @@ fn other_words_take_nothing(rt: HostRuntime) -> Result<(), Fail> {
         &["nettcp", "check"],
         &["nettcp", "check", "S"],
         &["nettcp", "check", "--static"],
-        &["nettcp", "check", "--static=S"],
+        &["nettcp", "check", "--static="],
         &["nettcp", "check", "--static", ""],
         &["nettcp", "check", "--static", "-S"],
-        &["nettcp", "dump", "--static", "S"],
+        &["nettcp", "build", "--static", "S"],
         &["nettcp", "Check", "--static", "S"],
         &["nettcp", "check", "--Static", "S"],
         &["nettcp", "check", "--static", "S", "--depth", "3"],
@@ -322,7 +412,7 @@ fn the_first_word_is_not_judged(rt: HostRuntime) -> Result<(), Fail> {
 #[test]
 fn a_note_that_fails_changes_no_status(rt: HostRuntime) -> Result<(), Fail> {
     let table: [(&str, &'static [u64], &'static [u64], u8); 4] = [
-        ("dump", &[], &[], 2),
+        ("build", &[], &[], 2),
         ("check", &[0], &[], 3),
         ("check", &[], &[0], 4),
         // No note is put.

@@ -8,6 +8,7 @@ use Rattle.io_edges.specs.declared.SinkFault.{SinkFault}
 use Rattle.io_edges.proofs.Putting.{PutsAll-nothing, PutsAll-then}
 use Rattle.stream_reader.specs.Stream.{Settings}
 use Rattle.dump_replay.specs.declared.check.Progress.{Progress}
+use Rattle.dump_replay.specs.declared.report.Detail.{Detail}
 use Rattle.dump_replay.specs.Report.{event_lines, report}
 use Rattle.dump_replay.specs.Reading.{AreDue, HasRead, ReadsOf, done}
 use Rattle.dump_replay.proofs.Lines.{nothing_lines}
@@ -19,6 +20,7 @@ use Rattle.dump_replay.proofs.check.put_report.Goals.{After-read}
 -- before the first piece nothing is read
 pub loop-end-init : goal.loop-end-init
 loop-end-init g c =
+    let d = c.args.detail in
     let x : Settings = g.E.ReadingEnd.settings c.args.end in
     record {
       room = omega (arith, c.in-Ok.ensures.len);
@@ -38,26 +40,28 @@ loop-end-init g c =
 -- there was no memory to begin with
 pub returns-in_default-clause-reports : goal.returns-in_default-clause-reports
 returns-in_default-clause-reports g c =
+    let d = c.args.detail in
     let x : Settings = g.E.ReadingEnd.settings c.args.end in (
       [],
       PutsAll-nothing _ _ _ _,
-      has_reported x _ _ _ _ _ _ (g.O.Sink.held c.args.output.now) _ [] [] (first_pending x (g.met.E.ReadingEnd.initiators c.args.end) c.requires.room) _ [] (omega arith) (λ bytes e. (bytes, e, refl)) (λ t e. e ∙ ap Some (sym (append-nil t)))
-          (writes_none x (g.O.Sink.held c.args.output.now) _) (λ more. (report x more, refl)),
+      has_reported d x _ _ _ _ _ _ (g.O.Sink.held c.args.output.now) _ [] [] (first_pending x (g.met.E.ReadingEnd.initiators c.args.end) c.requires.room) _ [] (omega arith) (λ bytes e. (bytes, e, refl)) (λ t e. e ∙ ap Some (sym (append-nil t)))
+          (writes_none d x (g.O.Sink.held c.args.output.now) _) (λ more. (report d x more, refl)),
     )
 
 -- what was put isn't written
 pub returns-in_err-flush-clause-reports : goal.returns-in_err-flush-clause-reports
 returns-in_err-flush-clause-reports g c =
+    let d = c.args.detail in
     let x : Settings = g.E.ReadingEnd.settings c.args.end in
     let i = c.loop-end.invariant.reads in
     let r = err_from_is_err_and c.from_residual.result c.from_residual.ensures.1 in
-    let s = flush_cut x i.0 (first_pending x (g.met.E.ReadingEnd.initiators c.args.end) c.requires.room) (g.O.Sink.written c.args.output.now) (g.O.Sink.written c.loop-end.output) (g.O.Sink.written c.flush.new.self) (g.O.Sink.held c.args.output.now) (g.O.Sink.held c.loop-end.output) i.6 c.in_err-flush.ensures.refused in
+    let s = flush_cut d x i.0 (first_pending x (g.met.E.ReadingEnd.initiators c.args.end) c.requires.room) (g.O.Sink.written c.args.output.now) (g.O.Sink.written c.loop-end.output) (g.O.Sink.written c.flush.new.self) (g.O.Sink.held c.args.output.now) (g.O.Sink.held c.loop-end.output) i.6 c.in_err-flush.ensures.refused in
     rw (r.1, r.2) (
-      event_lines x i.0,
+      event_lines d x i.0,
       after_flush (Err c.in_err-flush.field-0.0) i.5 tt c.in_err-flush.ensures.refused c.in_err-flush.ensures.emptied c.in_err-flush.ensures.counted c.in_err-flush.ensures.wanted c.in_err-flush.ensures.settled,
-      has_reported x (g.I.Source.left c.args.input.now) (g.I.Source.left c.loop-end.input) (g.I.Source.taken c.args.input.now) (g.I.Source.taken c.loop-end.input) _ _ _ _ s.before s.piece s.pending _ _ s.short
+      has_reported d x (g.I.Source.left c.args.input.now) (g.I.Source.left c.loop-end.input) (g.I.Source.taken c.args.input.now) (g.I.Source.taken c.loop-end.input) _ _ _ _ s.before s.piece s.pending _ _ s.short
           (left_as (g.I.Source.left c.args.input.now) (g.I.Source.left c.loop-end.input) i.0 (s.before ++ s.piece) s.all i.3) (taken_as (g.I.Source.taken c.args.input.now) (g.I.Source.taken c.loop-end.input) i.0 (s.before ++ s.piece) s.all i.4)
-          s.holds (inr (subst (λ (b : List ℕ). AreDue x b [] (event_lines x i.0)) (append-nil i.0 ∙ s.all) (lines_due x i.0 i.2))),
+          s.holds (inr (subst (λ (b : List ℕ). AreDue d x b [] (event_lines d x i.0)) (append-nil i.0 ∙ s.all) (lines_due d x i.0 i.2))),
     )
 
 pub returns-in_err-flush-clause-counted : goal.returns-in_err-flush-clause-counted
@@ -68,13 +72,14 @@ returns-in_err-flush-clause-counted g c =
 -- reading failed
 pub returns-in_default-take-clause-reports : goal.returns-in_default-take-clause-reports
 returns-in_default-take-clause-reports g c =
+    let d = c.args.detail in
     let x : Settings = g.E.ReadingEnd.settings c.args.end in
     let i = c.loop-end.invariant.reads in
     let put = after_flush (Ok tt) i.5 c.in_ok-flush.ensures.written tt c.in_ok-flush.ensures.emptied c.in_ok-flush.ensures.counted c.in_ok-flush.ensures.wanted c.in_ok-flush.ensures.settled in (
-      event_lines x i.0,
+      event_lines d x i.0,
       put,
-      has_reported x _ _ _ _ _ _ (g.O.Sink.held c.args.output.now) _ i.0 [] i.2 _ _ (omega arith) (left_still (g.I.Source.left c.args.input.now) (g.I.Source.left c.loop-end.input) (g.I.Source.left c.take.new.self) i.0 i.3 c.in_default-take.ensures.failed_left) (taken_still (g.I.Source.taken c.args.input.now) (g.I.Source.taken c.loop-end.input) (g.I.Source.taken c.take.new.self) i.0 i.4 c.in_default-take.ensures.failed_taken)
-          (writes_some x (g.O.Sink.held c.args.output.now) i.0 _ _ (writes_lines x (g.O.Sink.held c.args.output.now) i.0 _ _ _ put.written c.in_ok-flush.ensures.emptied)) (refl, refl, c.in_ok-flush.ensures.emptied),
+      has_reported d x _ _ _ _ _ _ (g.O.Sink.held c.args.output.now) _ i.0 [] i.2 _ _ (omega arith) (left_still (g.I.Source.left c.args.input.now) (g.I.Source.left c.loop-end.input) (g.I.Source.left c.take.new.self) i.0 i.3 c.in_default-take.ensures.failed_left) (taken_still (g.I.Source.taken c.args.input.now) (g.I.Source.taken c.loop-end.input) (g.I.Source.taken c.take.new.self) i.0 i.4 c.in_default-take.ensures.failed_taken)
+          (writes_some d x (g.O.Sink.held c.args.output.now) i.0 _ _ (writes_lines d x (g.O.Sink.held c.args.output.now) i.0 _ _ _ put.written c.in_ok-flush.ensures.emptied)) (refl, refl, c.in_ok-flush.ensures.emptied),
     )
 
 pub returns-in_default-take-clause-counted : goal.returns-in_default-take-clause-counted
@@ -83,16 +88,17 @@ returns-in_default-take-clause-counted g c = counted_with _ _ _ _ _ c.loop-end.i
 -- the end is told that the input is over
 pub returns-in_err-finish-clause-reports : goal.returns-in_err-finish-clause-reports
 returns-in_err-finish-clause-reports g c =
+    let d = c.args.detail in
     let x : Settings = g.E.ReadingEnd.settings c.args.end in
     let i = c.loop-end.invariant.reads in
     let r = err_from_is_err_and c.from_residual-in_err-finish.result c.from_residual-in_err-finish.ensures.1 in
     let put = after_flush (Ok tt) i.5 c.in_ok-flush.ensures.written tt c.in_ok-flush.ensures.emptied c.in_ok-flush.ensures.counted c.in_ok-flush.ensures.wanted c.in_ok-flush.ensures.settled in
-    let e = ends_at (g.E.ReadingEnd.settings c.loop-end.end) x c.loop-end.invariant.settings (g.E.ReadingEnd.stands c.loop-end.end) i.0 _ (Err c.in_err-finish.field-0.0) i.1 i.2 c.in_err-finish.ensures in
+    let e = ends_at d (g.E.ReadingEnd.settings c.loop-end.end) x c.loop-end.invariant.settings (g.E.ReadingEnd.stands c.loop-end.end) i.0 _ (Err c.in_err-finish.field-0.0) i.1 i.2 (c.in_err-finish.ensures d) in
     rw (r.1, r.2) (
-      event_lines x i.0 ++ e.0,
+      event_lines d x i.0 ++ e.0,
       PutsAll-then _ put e.1,
-      has_reported x _ _ _ _ _ _ (g.O.Sink.held c.args.output.now) _ i.0 [] i.2 _ _ (omega arith) (end_left (g.I.Source.left c.args.input.now) (g.I.Source.left c.loop-end.input) (g.I.Source.left c.take.new.self) i.0 c.take.new.room c.in-Ok-take.n c.if-n-eq0.true i.3 c.in-Ok-take.ensures.moved) (end_taken (g.I.Source.taken c.args.input.now) (g.I.Source.taken c.loop-end.input) (g.I.Source.taken c.take.new.self) i.0 c.take.new.room c.in-Ok-take.n c.if-n-eq0.true i.4 c.in-Ok-take.ensures.taken)
-          (writes_some x (g.O.Sink.held c.args.output.now) i.0 _ _ (writes_more x (g.O.Sink.held c.args.output.now) i.0 _ _ _ (writes_lines x (g.O.Sink.held c.args.output.now) i.0 _ _ _ put.written c.in_ok-flush.ensures.emptied) (puts_grow _ e.1)))
+      has_reported d x _ _ _ _ _ _ (g.O.Sink.held c.args.output.now) _ i.0 [] i.2 _ _ (omega arith) (end_left (g.I.Source.left c.args.input.now) (g.I.Source.left c.loop-end.input) (g.I.Source.left c.take.new.self) i.0 c.take.new.room c.in-Ok-take.n c.if-n-eq0.true i.3 c.in-Ok-take.ensures.moved) (end_taken (g.I.Source.taken c.args.input.now) (g.I.Source.taken c.loop-end.input) (g.I.Source.taken c.take.new.self) i.0 c.take.new.room c.in-Ok-take.n c.if-n-eq0.true i.4 c.in-Ok-take.ensures.taken)
+          (writes_some d x (g.O.Sink.held c.args.output.now) i.0 _ _ (writes_more d x (g.O.Sink.held c.args.output.now) i.0 _ _ _ (writes_lines d x (g.O.Sink.held c.args.output.now) i.0 _ _ _ put.written c.in_ok-flush.ensures.emptied) (puts_grow _ e.1)))
           (inl (refl, e.2, end_over (g.I.Source.left c.args.input.now) (g.I.Source.left c.loop-end.input) (g.I.Source.left c.take.new.self) i.0 c.take.new.room c.in-Ok-take.n c.if-n-eq0.true i.3 c.in-Ok-take.ensures.moved (c.in-Ok-take.ensures.ended (let room = c.loop-end.invariant.room in omega (arith, c.deref_mut.ensures.len, room))))),
     )
 
@@ -103,14 +109,15 @@ returns-in_err-finish-clause-counted g c =
 
 pub returns-then-n-eq0-clause-reports : goal.returns-then-n-eq0-clause-reports
 returns-then-n-eq0-clause-reports g c =
+    let d = c.args.detail in
     let x : Settings = g.E.ReadingEnd.settings c.args.end in
     let i = c.loop-end.invariant.reads in
     let put = after_flush (Ok tt) i.5 c.in_ok-flush.ensures.written tt c.in_ok-flush.ensures.emptied c.in_ok-flush.ensures.counted c.in_ok-flush.ensures.wanted c.in_ok-flush.ensures.settled in
-    let e = ends_at (g.E.ReadingEnd.settings c.loop-end.end) x c.loop-end.invariant.settings (g.E.ReadingEnd.stands c.loop-end.end) i.0 _ (Ok c.in_ok-finish.field-0) i.1 i.2 c.in_ok-finish.ensures in (
-      event_lines x i.0 ++ e.0,
+    let e = ends_at d (g.E.ReadingEnd.settings c.loop-end.end) x c.loop-end.invariant.settings (g.E.ReadingEnd.stands c.loop-end.end) i.0 _ (Ok c.in_ok-finish.field-0) i.1 i.2 (c.in_ok-finish.ensures d) in (
+      event_lines d x i.0 ++ e.0,
       PutsAll-then _ put e.1,
-      has_reported x _ _ _ _ _ _ (g.O.Sink.held c.args.output.now) _ i.0 [] i.2 _ _ (omega arith) (end_left (g.I.Source.left c.args.input.now) (g.I.Source.left c.loop-end.input) (g.I.Source.left c.take.new.self) i.0 c.take.new.room c.in-Ok-take.n c.if-n-eq0.true i.3 c.in-Ok-take.ensures.moved) (end_taken (g.I.Source.taken c.args.input.now) (g.I.Source.taken c.loop-end.input) (g.I.Source.taken c.take.new.self) i.0 c.take.new.room c.in-Ok-take.n c.if-n-eq0.true i.4 c.in-Ok-take.ensures.taken)
-          (writes_some x (g.O.Sink.held c.args.output.now) i.0 _ _ (writes_more x (g.O.Sink.held c.args.output.now) i.0 _ _ _ (writes_lines x (g.O.Sink.held c.args.output.now) i.0 _ _ _ put.written c.in_ok-flush.ensures.emptied) (puts_grow _ e.1)))
+      has_reported d x _ _ _ _ _ _ (g.O.Sink.held c.args.output.now) _ i.0 [] i.2 _ _ (omega arith) (end_left (g.I.Source.left c.args.input.now) (g.I.Source.left c.loop-end.input) (g.I.Source.left c.take.new.self) i.0 c.take.new.room c.in-Ok-take.n c.if-n-eq0.true i.3 c.in-Ok-take.ensures.moved) (end_taken (g.I.Source.taken c.args.input.now) (g.I.Source.taken c.loop-end.input) (g.I.Source.taken c.take.new.self) i.0 c.take.new.room c.in-Ok-take.n c.if-n-eq0.true i.4 c.in-Ok-take.ensures.taken)
+          (writes_some d x (g.O.Sink.held c.args.output.now) i.0 _ _ (writes_more d x (g.O.Sink.held c.args.output.now) i.0 _ _ _ (writes_lines d x (g.O.Sink.held c.args.output.now) i.0 _ _ _ put.written c.in_ok-flush.ensures.emptied) (puts_grow _ e.1)))
           (inl ((refl, e.2, end_over (g.I.Source.left c.args.input.now) (g.I.Source.left c.loop-end.input) (g.I.Source.left c.take.new.self) i.0 c.take.new.room c.in-Ok-take.n c.if-n-eq0.true i.3 c.in-Ok-take.ensures.moved (c.in-Ok-take.ensures.ended (let room = c.loop-end.invariant.room in omega (arith, c.deref_mut.ensures.len, room)))), e.3)),
     )
 
@@ -119,6 +126,9 @@ returns-then-n-eq0-clause-counted g c = counted_none _ _ _ (c.in-Ok-take.ensures
 
 -- a piece that came is read
 module _ (g : Over) (f : After-read g) where
+  abbrev d : Detail
+  d = f.args.detail
+
   abbrev x : Settings
   x = g.E.ReadingEnd.settings f.args.end
 
@@ -139,7 +149,7 @@ module _ (g : Over) (f : After-read g) where
   abbrev PutsSince : List ℕ → Result ⊤ SinkFault → Option (List ℕ) → List ℕ → ℕ → Bool → Type 0
   PutsSince lines r w h n m = PutsAll lines r (g.O.Sink.written f.args.output.now) w (g.O.Sink.held f.args.output.now) h (g.O.Sink.faults f.args.output.now) n (g.O.Sink.may_want f.args.output.now) m
 
-  before_piece : PutsSince (event_lines x p) (Ok tt) (g.O.Sink.written f.flush.new.self) (g.O.Sink.held f.flush.new.self) (g.O.Sink.faults f.flush.new.self) (g.O.Sink.may_want f.flush.new.self)
+  before_piece : PutsSince (event_lines d x p) (Ok tt) (g.O.Sink.written f.flush.new.self) (g.O.Sink.held f.flush.new.self) (g.O.Sink.faults f.flush.new.self) (g.O.Sink.may_want f.flush.new.self)
   before_piece =
       after_flush (Ok tt) f.loop-end.invariant.reads.5 f.in_ok-flush.ensures.written tt f.in_ok-flush.ensures.emptied f.in_ok-flush.ensures.counted f.in_ok-flush.ensures.wanted f.in_ok-flush.ensures.settled
 
@@ -149,14 +159,14 @@ module _ (g : Over) (f : After-read g) where
       (g.O.Sink.faults f.flush.new.self) (g.O.Sink.faults f.read.new.output) (g.O.Sink.may_want f.flush.new.self) (g.O.Sink.may_want f.read.new.output)
 
   reads : (r : Result Progress SinkFault)
-      → ((b : List ℕ) → HasRead (g.E.ReadingEnd.stands f.loop-end.end) (g.E.ReadingEnd.settings f.loop-end.end) b → (lines : List ℕ) × PutsOf r lines × ReadsOf (g.E.ReadingEnd.stands f.read.new.end) (g.E.ReadingEnd.settings f.loop-end.end) b y r lines)
-      → (lines : List ℕ) × PutsOf r lines × ReadsOf (g.E.ReadingEnd.stands f.read.new.end) x p y r lines
-  reads r said = reads_at (g.E.ReadingEnd.settings f.loop-end.end) x f.loop-end.invariant.settings (g.E.ReadingEnd.stands f.loop-end.end) (g.E.ReadingEnd.stands f.read.new.end) p y PutsOf r f.loop-end.invariant.reads.1 said
+      → ((b : List ℕ) → HasRead (g.E.ReadingEnd.stands f.loop-end.end) (g.E.ReadingEnd.settings f.loop-end.end) b → (lines : List ℕ) × PutsOf r lines × ReadsOf d (g.E.ReadingEnd.stands f.read.new.end) (g.E.ReadingEnd.settings f.loop-end.end) b y r lines)
+      → (lines : List ℕ) × PutsOf r lines × ReadsOf d (g.E.ReadingEnd.stands f.read.new.end) x p y r lines
+  reads r said = reads_at d (g.E.ReadingEnd.settings f.loop-end.end) x f.loop-end.invariant.settings (g.E.ReadingEnd.stands f.loop-end.end) (g.E.ReadingEnd.stands f.read.new.end) p y PutsOf r f.loop-end.invariant.reads.1 said
 
   -- the lines of what was read before it are written
-  written_of : (r : Result Progress SinkFault) {lines : List ℕ} → PutsOf r lines → Told (g.O.Sink.written f.args.output.now) (g.O.Sink.written f.read.new.output) (WritesLines x (g.O.Sink.held f.args.output.now) p)
+  written_of : (r : Result Progress SinkFault) {lines : List ℕ} → PutsOf r lines → Told (g.O.Sink.written f.args.output.now) (g.O.Sink.written f.read.new.output) (WritesLines d x (g.O.Sink.held f.args.output.now) p)
   written_of r puts =
-      writes_more x (g.O.Sink.held f.args.output.now) p _ _ _ (writes_lines x (g.O.Sink.held f.args.output.now) p _ _ _ before_piece.written f.in_ok-flush.ensures.emptied) (puts_grow (done r) puts)
+      writes_more d x (g.O.Sink.held f.args.output.now) p _ _ _ (writes_lines d x (g.O.Sink.held f.args.output.now) p _ _ _ before_piece.written f.in_ok-flush.ensures.emptied) (puts_grow (done r) puts)
 
 pub returns-in_err-read-clause-reports : goal.returns-in_err-read-clause-reports
 returns-in_err-read-clause-reports g c =
@@ -164,9 +174,9 @@ returns-in_err-read-clause-reports g c =
     let r = err_from_is_err_and c.from_residual-in_err-read.result c.from_residual-in_err-read.ensures.1 in
     let s = reads g f (Err c.in_err-read.field-0.0) c.in_err-read.ensures.reads in
     rw (r.1, r.2) (
-      event_lines (x g f) (p g f) ++ s.0,
+      event_lines (d g f) (x g f) (p g f) ++ s.0,
       PutsAll-then _ (before_piece g f) s.1,
-      has_reported (x g f) _ _ _ _ _ _ (g.O.Sink.held f.args.output.now) _ (p g f) (y g f) c.loop-end.invariant.reads.2 _ _ (came g f).short (came g f).rest (came g f).handed (writes_some (x g f) (g.O.Sink.held f.args.output.now) (p g f) _ _ (written_of g f (Err c.in_err-read.field-0.0) s.1)) (inr s.2),
+      has_reported (d g f) (x g f) _ _ _ _ _ _ (g.O.Sink.held f.args.output.now) _ (p g f) (y g f) c.loop-end.invariant.reads.2 _ _ (came g f).short (came g f).rest (came g f).handed (writes_some (d g f) (x g f) (g.O.Sink.held f.args.output.now) (p g f) _ _ (written_of g f (Err c.in_err-read.field-0.0) s.1)) (inr s.2),
     )
 
 pub returns-in_err-read-clause-counted : goal.returns-in_err-read-clause-counted
@@ -206,9 +216,9 @@ pub returns-in-Judged-clause-reports : goal.returns-in-Judged-clause-reports
 returns-in-Judged-clause-reports g c =
     let f : After-read g = (goal.at-returns-in-Judged-clause-reports g c).After-read in
     let s = rw c.in-Judged.is at (reads g f (Ok c.in_ok-read.field-0) c.in_ok-read.ensures.reads) in (
-      event_lines (x g f) (p g f) ++ s.0,
+      event_lines (d g f) (x g f) (p g f) ++ s.0,
       PutsAll-then _ (before_piece g f) s.1,
-      has_reported (x g f) _ _ _ _ _ _ (g.O.Sink.held f.args.output.now) _ (p g f) (y g f) c.loop-end.invariant.reads.2 _ _ (came g f).short (came g f).rest (came g f).handed (writes_some (x g f) (g.O.Sink.held f.args.output.now) (p g f) _ _ (written_of g f (Ok c.in_ok-read.field-0) s.1)) (inr s.2),
+      has_reported (d g f) (x g f) _ _ _ _ _ _ (g.O.Sink.held f.args.output.now) _ (p g f) (y g f) c.loop-end.invariant.reads.2 _ _ (came g f).short (came g f).rest (came g f).handed (writes_some (d g f) (x g f) (g.O.Sink.held f.args.output.now) (p g f) _ _ (written_of g f (Ok c.in_ok-read.field-0) s.1)) (inr s.2),
     )
 
 pub returns-in-Judged-clause-counted : goal.returns-in-Judged-clause-counted
@@ -219,9 +229,9 @@ pub returns-in-Starved-clause-reports : goal.returns-in-Starved-clause-reports
 returns-in-Starved-clause-reports g c =
     let f : After-read g = (goal.at-returns-in-Starved-clause-reports g c).After-read in
     let s = rw c.in-Starved.is at (reads g f (Ok c.in_ok-read.field-0) c.in_ok-read.ensures.reads) in (
-      event_lines (x g f) (p g f) ++ s.0,
+      event_lines (d g f) (x g f) (p g f) ++ s.0,
       PutsAll-then _ (before_piece g f) s.1,
-      has_reported (x g f) _ _ _ _ _ _ (g.O.Sink.held f.args.output.now) _ (p g f) (y g f) c.loop-end.invariant.reads.2 _ _ (came g f).short (came g f).rest (came g f).handed (writes_some (x g f) (g.O.Sink.held f.args.output.now) (p g f) _ _ (written_of g f (Ok c.in_ok-read.field-0) s.1)) s.2,
+      has_reported (d g f) (x g f) _ _ _ _ _ _ (g.O.Sink.held f.args.output.now) _ (p g f) (y g f) c.loop-end.invariant.reads.2 _ _ (came g f).short (came g f).rest (came g f).handed (writes_some (d g f) (x g f) (g.O.Sink.held f.args.output.now) (p g f) _ _ (written_of g f (Ok c.in_ok-read.field-0) s.1)) s.2,
     )
 
 pub returns-in-Starved-clause-counted : goal.returns-in-Starved-clause-counted

@@ -16,9 +16,9 @@ invariant-loop-end g l = record {
   reads : (p : List ℕ) × HasRead (g.E.ReadingEnd.stands l.end) (g.E.ReadingEnd.settings l.initial.end) p × IsPending (stream (g.E.ReadingEnd.settings l.initial.end)) p
       × ((bytes : List ℕ) → g.I.Source.left l.initial.input ≡ Some bytes → (rest : List ℕ) × (g.I.Source.left l.input ≡ Some rest) × (bytes ≡ p ++ rest))
       × ((t : List ℕ) → g.I.Source.taken l.initial.input ≡ Some t → g.I.Source.taken l.input ≡ Some (t ++ p))
-      × PutsAll (event_lines (g.E.ReadingEnd.settings l.initial.end) p) (Ok tt) (g.O.Sink.written l.initial.output) (g.O.Sink.written l.output) (g.O.Sink.held l.initial.output) (g.O.Sink.held l.output)
+      × PutsAll (event_lines l.initial.detail (g.E.ReadingEnd.settings l.initial.end) p) (Ok tt) (g.O.Sink.written l.initial.output) (g.O.Sink.written l.output) (g.O.Sink.held l.initial.output) (g.O.Sink.held l.output)
       (g.O.Sink.faults l.initial.output) (g.O.Sink.faults l.output) (g.O.Sink.may_want l.initial.output) (g.O.Sink.may_want l.output)
-      × WritesSoFar (g.E.ReadingEnd.settings l.initial.end) (g.O.Sink.written l.initial.output) (g.O.Sink.written l.output) (g.O.Sink.held l.initial.output) (g.O.Sink.held l.output) p;
+      × WritesSoFar l.initial.detail (g.E.ReadingEnd.settings l.initial.end) (g.O.Sink.written l.initial.output) (g.O.Sink.written l.output) (g.O.Sink.held l.initial.output) (g.O.Sink.held l.output) p;
 }
 
 abbrev pub decreases-loop-end : goal.decreases-loop-end

@@ -10,7 +10,7 @@ invariant-loop-answer g l = record {
   settings : g.E.ReadingEnd.settings l.end ≡ g.E.ReadingEnd.settings l.initial.end;
   reads : (p : List ℕ) → HasRead (g.E.ReadingEnd.stands l.initial.end) (g.E.ReadingEnd.settings l.initial.end) p
       → HasRead (g.E.ReadingEnd.stands l.end) (g.E.ReadingEnd.settings l.initial.end) (p ++ take l.used l.piece)
-      × (lines : List ℕ) × (event_lines (g.E.ReadingEnd.settings l.initial.end) (p ++ take l.used l.piece) ≡ event_lines (g.E.ReadingEnd.settings l.initial.end) p ++ lines)
+      × (lines : List ℕ) × (event_lines l.initial.detail (g.E.ReadingEnd.settings l.initial.end) (p ++ take l.used l.piece) ≡ event_lines l.initial.detail (g.E.ReadingEnd.settings l.initial.end) p ++ lines)
       × PutsAll lines (Ok tt) (g.O.Sink.written l.initial.output) (g.O.Sink.written l.output) (g.O.Sink.held l.initial.output) (g.O.Sink.held l.output)
       (g.O.Sink.faults l.initial.output) (g.O.Sink.faults l.output) (g.O.Sink.may_want l.initial.output) (g.O.Sink.may_want l.output);
 }

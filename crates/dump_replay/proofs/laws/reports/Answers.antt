@@ -5,4 +5,4 @@ use Rattle.dump_replay.proofs.laws.reports.Goals as goal
 
 pub returns : goal.returns
 unfolding events offence report
-returns c = λ x bytes. refl
+returns c = λ d x bytes. refl
