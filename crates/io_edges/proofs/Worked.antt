@@ -1,7 +1,7 @@
 -- The definitions at small cases, and over calls in a row.
 use Rattle.std.proofs.Common.{arith, ℕ, ◌≤◌, ◌≡◌, ◌-◌, ◌^◌, [], ◌∷◌, true, refl, lit<, inl, inr}
 use Rattle.io_edges.specs.Faults.{Rose, one_more}
-use Rattle.io_edges.specs.Flow.{GrowsByPrefix}
+use Rattle.io_edges.specs.Flow.{GrowsByPrefix, Passes}
 use Rattle.io_edges.specs.Plan.{Plan, is_due}
 use Rattle.io_edges.specs.InMemory.{PlannedSource, new_source, after_take}
 
@@ -13,6 +13,10 @@ stands_at_the_end = inr refl
 
 keeps_a_front : GrowsByPrefix (1 ∷ []) (1 ∷ 2 ∷ []) (2 ∷ 3 ∷ [])
 keeps_a_front = record { kept = 1; grown = refl }
+
+-- 2 was held, 3 and 4 come, 2 and 3 are written
+holds_the_last : Passes (1 ∷ []) (1 ∷ 2 ∷ 3 ∷ []) (2 ∷ []) (4 ∷ []) (3 ∷ 4 ∷ [])
+holds_the_last = record { put = 2 ∷ 3 ∷ []; split = refl; grown = refl }
 
 -- five bytes, at most two a take, and the take number 1 fails
 five : PlannedSource

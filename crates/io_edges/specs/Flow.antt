@@ -12,6 +12,13 @@ pub record GrowsByPrefix (written written' : List ℕ) (piece : List ℕ) : Type
   pub kept : ℕ
   pub grown : written' ≡ written ++ take kept piece
 
+-- of what a sink held and the bytes that came behind it the first were written, and the others are
+-- held now
+pub record Passes (written written' held held' bytes : List ℕ) : Type 0 where
+  pub put : List ℕ
+  pub split : held ++ bytes ≡ put ++ held'
+  pub grown : written' ≡ written ++ put
+
 -- P of what was told before and what is told now; what was told once stays told
 abbrev pub Told : Option (List ℕ) → Option (List ℕ) → (List ℕ → List ℕ → Type 0) → Type 0
 Told None new P = Unit {0}

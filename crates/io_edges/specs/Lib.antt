@@ -2,6 +2,8 @@
 pub mod Adapters
 pub mod Faults
 pub mod Flow
+pub mod Gathering
 pub mod InMemory
+pub mod Puts
 pub mod Store
 pub mod Plan

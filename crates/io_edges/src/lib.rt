@@ -10,24 +10,27 @@
 //! Each trait has implementations in memory, for tests and for work without an outside: `Memory..`
 //! ones, which meet a fault at the calls that they are told to, and for sources and sinks `Sure..`
 //! ones, which never meet one. A put to one of these sinks may want memory, and so may a fetch that
-//! isn't to fail. All tell their content. [`ReadSource`], [`WriteSink`] and [`FileShelf`] stand over
-//! the readers, the writers and the files of std, and tell none: that a file or a socket gave or took
-//! these bytes is trusted.
+//! isn't to fail. All tell their content, and hold nothing back. [`ReadSource`], [`WriteSink`] and
+//! [`FileShelf`] stand over the readers, the writers and the files of std, and tell none: that a file
+//! or a socket gave or took these bytes is trusted. A [`GatheringSink`] stands over any other sink, and
+//! holds back what has room.
 //!
-//! The definitions are in `specs/`: `Faults` has the count, `Flow` what moves at a call, `Store` what
-//! a shelf holds, `Plan` and `InMemory` what the implementations in memory do call by call, and
-//! `Adapters` what is seen of the ones over std.
+//! The definitions are in `specs/`: `Faults` has the count, `Flow` what moves at a call, `Puts` what
+//! several puts leave, `Store` what a shelf holds, `Plan` and `InMemory` what the implementations in
+//! memory do call by call, `Gathering` what is seen of a sink that gathers, and `Adapters` what is
+//! seen of the ones over std.
 #![tactic(auto)]
 
 ghost use Rattle.std.specs.Prelude.{◌≡◌, ◌≤◌, ◌<◌, ℕ, List, [], ◌++◌, length, take, Bool, true, Option, IfSome, IfOk, OnOk, OnErr, IsErr, IsErrOf, ◌↔◌};
 ghost use Rattle.io_edges.specs.Faults.{CountsFaults};
-ghost use Rattle.io_edges.specs.Flow.{Told, Moves, GrowsByPrefix};
+ghost use Rattle.io_edges.specs.Flow.{Told, Moves, GrowsByPrefix, Passes};
 ghost use Rattle.io_edges.specs.Store.{Store};
 ghost use Rattle.std.specs.Option.{option_map};
 ghost use Rattle.std.specs.FinMap as finite;
 
 mod fault_plan;
 mod file_shelf;
+mod gathering_sink;
 mod memory_shelf;
 mod memory_sink;
 mod memory_source;
@@ -37,6 +40,7 @@ mod sure_source;
 mod write_sink;
 
 pub use file_shelf::FileShelf;
+pub use gathering_sink::{GatheringSink, gather, gathering_room, put_gathered};
 pub use memory_shelf::MemoryShelf;
 pub use memory_sink::MemorySink;
 pub use memory_source::MemorySource;
@@ -86,23 +90,41 @@ pub enum SinkFault {
     Memory,
 }
 
-/// Where bytes go.
+/// Where bytes go. A sink may hold back what was put to it: such bytes are written in the order in
+/// which they were put, by later calls, and by a flush at the latest.
 pub trait Sink {
     /// All that was written, where the sink tells it.
     ghost written: { Self → Option (List ℕ) };
 
+    /// What was put and isn't written yet.
+    ghost held: { Self → List ℕ };
+
     /// How many calls met an outside fault, up to 2^64 - 1.
     ghost faults: { Self → ℕ };
 
-    /// Whether a put may want memory.
+    /// Whether a call may want memory.
     ghost may_want: { Self → Bool };
 
-    /// Writes the whole piece. A refusal may have written the first bytes of it.
+    /// Takes the whole piece, behind what is held. A refusal may have written the first bytes of
+    /// both, and drops the others.
     fn put(&mut self, bytes: &[u8]) -> Result<(), SinkFault>
         ensures written { OnOk result (Told (written self.old) (written self.new)
-            (λ w w'. w' ≡ w ++ bytes.now)) }
+            (λ w w'. Passes w w' (held self.old) (held self.new) bytes.now)) }
         ensures refused { OnErr result (Told (written self.old) (written self.new)
-            (λ w w'. GrowsByPrefix w w' bytes.now)) }
+            (λ w w'. GrowsByPrefix w w' (held self.old ++ bytes.now))) }
+        ensures dropped { OnErr result (held self.new ≡ []) }
+        ensures counted { CountsFaults (faults self.old) (faults self.new)
+            (IsErrOf result SinkFault.Failed) }
+        ensures wanted { IsErrOf result SinkFault.Memory → may_want self.old ≡ true }
+        ensures settled { may_want self.new ≡ may_want self.old };
+
+    /// Writes what is held. A refusal may have written the first bytes of it, and drops the others.
+    fn flush(&mut self) -> Result<(), SinkFault>
+        ensures written { OnOk result (Told (written self.old) (written self.new)
+            (λ w w'. w' ≡ w ++ held self.old)) }
+        ensures refused { OnErr result (Told (written self.old) (written self.new)
+            (λ w w'. GrowsByPrefix w w' (held self.old))) }
+        ensures emptied { held self.new ≡ [] }
         ensures counted { CountsFaults (faults self.old) (faults self.new)
             (IsErrOf result SinkFault.Failed) }
         ensures wanted { IsErrOf result SinkFault.Memory → may_want self.old ≡ true }

@@ -1,6 +1,6 @@
 //! A sink in memory, whose calls fail as planned.
 
-ghost use Rattle.std.specs.Prelude.{◌≡◌, ◌<◌, ◌^◌, ◌++◌, take, true, false, Some, OnOk, IsErrOf};
+ghost use Rattle.std.specs.Prelude.{◌≡◌, ◌<◌, ◌^◌, ◌++◌, [], take, true, false, Some, OnOk, IsOk, IsErrOf};
 ghost use Rattle.io_edges.specs.Plan.{is_due, counted, after_call};
 ghost use Rattle.io_edges.specs.InMemory.{new_sink};
 
@@ -49,6 +49,8 @@ impl MemorySink {
 impl Sink for MemorySink {
     ghost written = { λ s. Some s.written };
 
+    ghost held = { λ _. [] };
+
     ghost faults = { λ s. s.plan.faults };
 
     ghost may_want = { λ _. true };
@@ -79,6 +81,14 @@ impl Sink for MemorySink {
         if is_due {
             return Err(SinkFault::Failed);
         }
+        Ok(())
+    }
+
+    // Nothing is held, so there is nothing to do.
+    fn flush(&mut self) -> Result<(), SinkFault>
+        ensures ok { IsOk result }
+        ensures kept { self.new ≡ self.old }
+    {
         Ok(())
     }
 }

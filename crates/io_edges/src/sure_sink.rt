@@ -1,6 +1,6 @@
 //! A sink in memory that never fails by the outside.
 
-ghost use Rattle.std.specs.Prelude.{◌≡◌, [], ◌++◌, true, Some, OnOk, IsOkUnless, OnErr};
+ghost use Rattle.std.specs.Prelude.{◌≡◌, [], ◌++◌, true, Some, OnOk, IsOk, IsOkUnless, OnErr};
 
 use crate::{Sink, SinkFault};
 use std::alloc::Global;
@@ -42,6 +42,8 @@ impl SureSink {
 impl Sink for SureSink {
     ghost written = { λ s. Some s };
 
+    ghost held = { λ _. [] };
+
     ghost faults = { λ _. 0 };
 
     ghost may_want = { λ _. true };
@@ -55,5 +57,13 @@ impl Sink for SureSink {
             Ok(()) => Ok(()),
             Err(_) => Err(SinkFault::Memory),
         }
+    }
+
+    // Nothing is held, so there is nothing to do.
+    fn flush(&mut self) -> Result<(), SinkFault>
+        ensures ok { IsOk result }
+        ensures kept { self.new ≡ self.old }
+    {
+        Ok(())
     }
 }

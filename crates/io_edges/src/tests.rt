@@ -1,8 +1,10 @@
-ghost use Rattle.std.specs.Prelude.{◌≡◌, ◌++◌, take, true, Some, IfSome, IfOk, IsErrOf};
-ghost use Rattle.io_edges.specs.Faults.{Rose};
+ghost use Rattle.std.specs.Prelude.{◌≡◌, ◌++◌, take, true, Some, IfSome, IfOk, OnOk, IsErrOf};
+ghost use Rattle.io_edges.specs.Faults.{CountsFaults, Rose};
+ghost use Rattle.io_edges.specs.Flow.{Told};
 
 mod adapters;
 mod flaky;
+mod gathering;
 
 use super::*;
 use std::alloc::Global;
@@ -27,7 +29,7 @@ fn pass_on<I: Source, N: Sink>(
     room: &mut [u8],
 ) -> Result<usize, Lost>
     ensures given { IfOk result (λ n. IfSome (I.left input.old) (λ left. IfSome (N.written output.old)
-        (λ written. N.written output.new ≡ Some (written ++ take n left)))) }
+        (λ written. N.written output.new ≡ Some (written ++ N.held output.old ++ take n left)))) }
     ensures source { IsErrOf result Lost.Source → Rose (I.faults input.old) (I.faults input.new) }
     ensures sink { IsErrOf result Lost.Sink → Rose (N.faults output.old) (N.faults output.new) }
     ensures memory { IsErrOf result Lost.Memory → (I.faults input.new ≡ I.faults input.old)
@@ -37,11 +39,23 @@ fn pass_on<I: Source, N: Sink>(
         Ok(n) => n,
         Err(Failed) => return Err(Lost::Source),
     };
-    match output.put(&room[..n]) {
+    match put_out(&room[..n], output) {
         Ok(()) => Ok(n),
         Err(SinkFault::Failed) => Err(Lost::Sink),
         Err(SinkFault::Memory) => Err(Lost::Memory),
     }
+}
+
+// Puts a piece, and what was held before it, out.
+fn put_out<N: Sink>(bytes: &[u8], output: &mut N) -> Result<(), SinkFault>
+    ensures written { OnOk result (Told (N.written output.old) (N.written output.new)
+        (λ w w'. w' ≡ w ++ N.held output.old ++ bytes.now)) }
+    ensures counted { CountsFaults (N.faults output.old) (N.faults output.new)
+        (IsErrOf result SinkFault.Failed) }
+    ensures wanted { IsErrOf result SinkFault.Memory → N.may_want output.old ≡ true }
+{
+    output.put(bytes)?;
+    output.flush()
 }
 
 // What the traits tell at new fakes.

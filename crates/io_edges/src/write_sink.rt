@@ -1,15 +1,16 @@
 //! A sink over a writer of std.
 
-ghost use Rattle.std.specs.Prelude.{◌≡◌, false, None, OnOk, OnErr, IsErr, IsOkUnless};
-ghost use Rattle.std.specs.Io.KnownBytes.{Appends};
+ghost use Rattle.std.specs.Prelude.{◌≡◌, ◌↔◌, [], true, false, None, OnOk, IsOk, OnErr, IsErr, IsOkUnless};
+ghost use Rattle.std.specs.Io.KnownBytes.{Appends, Keeps};
 ghost use Rattle.io_edges.specs.Faults.{CountsOne};
 ghost use Rattle.io_edges.specs.Adapters.{writer_of, write_faults, AppendsPrefix};
 
 use crate::{Failed, Sink, SinkFault};
 use std::io::Write;
 
-/// A sink over a writer. A put writes until the whole piece is taken. A write that fails, one that
-/// was interrupted too, and one that takes nothing each count as a fault and end the put.
+/// A sink over a writer. A put writes until the whole piece is taken, and a flush flushes the
+/// writer. A write that fails, one that was interrupted too, one that takes nothing and a flush that
+/// fails each count as a fault and end the call.
 #[derive(Debug, Drop)]
 pub struct WriteSink<W> {
     writer: W,
@@ -24,10 +25,26 @@ impl<W: Write> WriteSink<W> {
     {
         WriteSink { writer, faults: 0 }
     }
+
+    // The answer of a call to the writer, which is counted where it failed.
+    fn answer(&mut self, done: bool) -> Result<(), SinkFault>
+        ensures writer { writer_of self.new ≡ writer_of self.old }
+        ensures ok { IsOk result ↔ (done ≡ true) }
+        ensures no_want { IsOkUnless result SinkFault.Failed }
+        ensures counted { CountsOne (write_faults self.old) (write_faults self.new) (IsErr result) }
+    {
+        if done {
+            return Ok(());
+        }
+        self.faults = self.faults.saturating_add(1);
+        Err(SinkFault::Failed)
+    }
 }
 
 impl<W: Write> Sink for WriteSink<W> {
     ghost written = { λ _. None };
+
+    ghost held = { λ _. [] };
 
     ghost faults = { λ s. write_faults s };
 
@@ -41,13 +58,18 @@ impl<W: Write> Sink for WriteSink<W> {
         ensures no_want { IsOkUnless result SinkFault.Failed }
         ensures counted { CountsOne (write_faults self.old) (write_faults self.new) (IsErr result) }
     {
-        match write_whole(&mut self.writer, bytes) {
-            Ok(()) => Ok(()),
-            Err(Failed) => {
-                self.faults = self.faults.saturating_add(1);
-                Err(SinkFault::Failed)
-            }
-        }
+        let done = write_whole(&mut self.writer, bytes).is_ok();
+        self.answer(done)
+    }
+
+    // The sink holds nothing, but its writer may.
+    fn flush(&mut self) -> Result<(), SinkFault>
+        ensures kept { Keeps (W.contents (writer_of self.old)) (W.contents (writer_of self.new)) }
+        ensures no_want { IsOkUnless result SinkFault.Failed }
+        ensures counted { CountsOne (write_faults self.old) (write_faults self.new) (IsErr result) }
+    {
+        let done = self.writer.flush().is_ok();
+        self.answer(done)
     }
 }
 

@@ -217,9 +217,6 @@ read-form : (lines : List (List ℕ)) (docs : List (List Item)) (n : ℕ) (items
 read-form lines docs n items opened line r is =
     subst (λ (o : Result Placed LineKind). HaveRead (lines ++ line ∷ []) (docs ++ document_of (answer_of (n + 1) o)) (standing_of (n + 1) o)) (sym is) (go (form_of line) refl)
   where
-    Claim : Result Placed LineKind → Type 0
-    Claim o = HaveRead (lines ++ line ∷ []) (docs ++ document_of (answer_of (n + 1) o)) (standing_of (n + 1) o)
-
     leads : (form : Form) → form_of line ≡ Some form → (said : Line) → judged (kind_of opened) form ≡ Ok said → (o : Result Placed LineKind) → placed items opened said ≡ o
         → HaveRead (lines ++ line ∷ []) (docs ++ document_of (answer_of (n + 1) o)) (standing_of (n + 1) o)
     leads form e said j (Err kind) h = tt

@@ -33,9 +33,6 @@ use Rattle.line_notation.proofs.ValidFacts.{array-some, array_parts, number-64}
 abbrev are_small : List ℕ → Bool
 are_small = list_all (λ b. nat_lt b 256)
 
-lead-small : (c : ℕ) (low : ℕ) → low + 8 ≤ 256 → c < 8 → low + c < 256
-lead-small c low h k = omega arith
-
 next-small : (bits : ℕ) → nat_lt (next bits) 256 ≡ true
 next-small bits = lt-ltb (128 + bits % 64) 256 (omega arith)
 

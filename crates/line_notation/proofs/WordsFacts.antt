@@ -1,7 +1,7 @@
 -- The words of a line.
 use Rattle.std.specs.Prelude.{◌↔◌}
-use Rattle.std.proofs.Common.{Option, None, Some, IsTrue, is_some, option_map, ◌≡◌, ◌∙◌, ◌<◌, ◌≤◌, ◌+◌, ◌^◌, ◌==◌, ℕ, suc, List, [], ◌∷◌, ◌++◌, length, take, drop, get_or, Bool, true, false, not, ◌&&◌, if◌then◌else◌, refl, sym, ap, append_assoc, append-nil, drop-cons, arith}
-use Rattle.std.proofs.lemmas.List.{drop_all, take_more}
+use Rattle.std.proofs.Common.{Option, None, Some, IsTrue, is_some, option_map, ◌≡◌, ◌∙◌, ◌<◌, ◌≤◌, ◌+◌, ◌^◌, ◌==◌, ℕ, suc, List, [], ◌∷◌, ◌++◌, length, take, drop, get_or, Bool, true, false, not, ◌&&◌, if◌then◌else◌, refl, sym, ap, append-nil, drop-cons, arith}
+use Rattle.std.proofs.lemmas.List.{drop_all}
 use Rattle.line_notation.specs.Steps.{CutsWord, words_behind}
 use Rattle.line_notation.specs.Words.{goes_on_within, onto_first, words_from, words_left, words_of}
 
@@ -9,10 +9,6 @@ use Rattle.line_notation.specs.Words.{goes_on_within, onto_first, words_from, wo
 abbrev pub prepended : List ℕ → List (List ℕ) → List (List ℕ)
 prepended front [] = front ∷ []
 prepended front (word ∷ words) = (front ++ word) ∷ words
-
-prepended-onto_first : (front : List ℕ) (b : ℕ) (words : List (List ℕ)) → prepended front (onto_first b words) ≡ prepended (front ++ b ∷ []) words
-prepended-onto_first front b [] = refl
-prepended-onto_first front b (word ∷ words) = ap (λ w. w ∷ words) (sym (append_assoc front (b ∷ []) word))
 
 -- the words of a line, of which so many bytes belong to the first one
 pub record WithinWord (line : List ℕ) (within : Bool) (at : ℕ) : Type 0 where
@@ -35,20 +31,6 @@ words_from-prepended within (b ∷ line) = go (b == 32 && not within)
 
 pub word-begins : (line : List ℕ) → WithinWord line false 0
 word-begins line = record { words = words_from-prepended false line }
-
-pub word-goes_on : (line : List ℕ) (within : Bool) (at : ℕ) → at < length line → (get_or line at 0 == 32 && not within) ≡ false → WithinWord line within at
-    → WithinWord line (goes_on_within within (get_or line at 0)) (at + 1)
-word-goes_on line within at below inner h = record {
-  words =
-      let b = get_or line at 0 in
-      let front = take at line in
-      let one : at + 1 ≡ suc at = omega arith in
-      let more = words_from (goes_on_within within b) (drop (suc at) line) in
-      h.words ∙ ap (λ l. prepended front (words_from within l)) (drop-cons line at 0 below)
-      ∙ ap (λ t. prepended front (if t then [] ∷ more else onto_first b more)) inner ∙ prepended-onto_first front b more
-      ∙ ap (λ l. prepended l more) (sym (take_more line at 0 below))
-      ∙ ap (λ n. prepended (take (at + 1) line) (words_from (goes_on_within within b) (drop n line))) (sym one);
-}
 
 pub word-ends : (line : List ℕ) (within : Bool) (at : ℕ) → at < length line → get_or line at 0 ≡ 32 → within ≡ false → WithinWord line within at → CutsWord line at
 word-ends line within at below space out h = record {

@@ -35,7 +35,7 @@ mod values;
 mod words;
 
 pub use printing::print;
-pub use puts::quote;
+pub use puts::{Word, put_joined, put_words, quote};
 pub use reader::{LineFault, LineKind, LineReader, LineStep};
 
 #[cfg(test)]

@@ -6,7 +6,8 @@ ghost use Rattle.nbfx_values.specs.Items.{is_valid_array, is_valid_attribute, is
 ghost use Rattle.nbfx_values.specs.Scalars.{is_valid_scalar, is_valid_value};
 ghost use Rattle.line_notation.specs.Forms.{array, attr, form_words, keyword_word, line_of, text, values};
 ghost use Rattle.line_notation.specs.Lines.{attribute_form, form_text, item_text, text_of, with_line_feed};
-ghost use Rattle.line_notation.specs.Puts.{Adds, IsPuttable, Puts, spaced_words, word_bytes};
+ghost use Rattle.io_edges.specs.Puts.{Adds, Puts};
+ghost use Rattle.line_notation.specs.Puts.{IsPuttable, spaced_words, word_bytes};
 ghost use Rattle.line_notation.specs.Quoted.{quoted};
 ghost use Rattle.line_notation.specs.Scalars.{scalar_kind_word, scalar_words, sign_word, truth_word};
 ghost use Rattle.line_notation.specs.Values.{value_words, written_scalars, written_value};
@@ -15,7 +16,7 @@ ghost use Rattle.std.specs.Prelude.{All};
 
 use crate::arrays::array_kind_word;
 use crate::line::Keyword;
-use crate::puts::{Word, add_words};
+use crate::puts::{Word, add_words, put_words};
 use crate::room::{Room, add, end_line};
 use crate::scalars::ScalarKind;
 use io_edges::{Sink, SinkFault};
@@ -44,14 +45,14 @@ fn add_one<K: Sink>(
     sink: &mut K,
 ) -> Result<(), SinkFault>
     requires { IsPuttable word }
-    ensures { Adds K.written K.faults K.may_want sink.old sink.new room.old room.new
+    ensures { Adds K.written K.held K.faults K.may_want sink.old sink.new room.old room.new
         (behind_spaces (scalar_kind_word kind ∷ word_bytes word.entry ∷ [])) result }
 {
     add_words(&[Word::Plain(kind.word()), word], room, sink)
 }
 
 fn add_decimal<K: Sink>(dec: Dec, room: &mut Room, sink: &mut K) -> Result<(), SinkFault>
-    ensures { Adds K.written K.faults K.may_want sink.old sink.new room.old room.new
+    ensures { Adds K.written K.held K.faults K.may_want sink.old sink.new room.old room.new
         (behind_spaces (scalar_words (Scalar.Decimal dec))) result }
 {
     let words = [
@@ -70,14 +71,14 @@ fn add_bits<K: Sink>(
     room: &mut Room,
     sink: &mut K,
 ) -> Result<(), SinkFault>
-    ensures { Adds K.written K.faults K.may_want sink.old sink.new room.old room.new
+    ensures { Adds K.written K.held K.faults K.may_want sink.old sink.new room.old room.new
         (behind_spaces (scalar_kind_word kind ∷ encode_lower bytes.now ∷ [])) result }
 {
     add_one(kind, Word::Digits(bytes), room, sink)
 }
 
 fn add_bytes<K: Sink>(bytes: &Blob, room: &mut Room, sink: &mut K) -> Result<(), SinkFault>
-    ensures { Adds K.written K.faults K.may_want sink.old sink.new room.old room.new
+    ensures { Adds K.written K.held K.faults K.may_want sink.old sink.new room.old room.new
         (behind_spaces (scalar_words (Scalar.Bytes bytes.now))) result }
 {
     add_one(
@@ -90,7 +91,7 @@ fn add_bytes<K: Sink>(bytes: &Blob, room: &mut Room, sink: &mut K) -> Result<(),
 
 fn add_name<K: Sink>(letter: u8, name: &Txt, room: &mut Room, sink: &mut K) -> Result<(), SinkFault>
     requires { letter ≤ 25 }
-    ensures { Adds K.written K.faults K.may_want sink.old sink.new room.old room.new
+    ensures { Adds K.written K.held K.faults K.may_want sink.old sink.new room.old room.new
         (behind_spaces (scalar_words (Scalar.QName letter name.now))) result }
 {
     let words = [
@@ -104,7 +105,7 @@ fn add_name<K: Sink>(letter: u8, name: &Txt, room: &mut Room, sink: &mut K) -> R
 // Adds a value's words, each behind a space.
 fn add_scalar<K: Sink>(scalar: &Scalar, room: &mut Room, sink: &mut K) -> Result<(), SinkFault>
     requires { IsTrue (is_valid_scalar scalar.now) }
-    ensures { Adds K.written K.faults K.may_want sink.old sink.new room.old room.new
+    ensures { Adds K.written K.held K.faults K.may_want sink.old sink.new room.old room.new
         (behind_spaces (scalar_words scalar.now)) result }
 {
     match scalar {
@@ -143,7 +144,7 @@ fn add_scalar<K: Sink>(scalar: &Scalar, room: &mut Room, sink: &mut K) -> Result
 // Adds values' words, each behind a space.
 fn add_scalars<K: Sink>(scalars: &[Scalar], room: &mut Room, sink: &mut K) -> Result<(), SinkFault>
     requires { IsTrue (list_all is_valid_scalar scalars.now) }
-    ensures { Adds K.written K.faults K.may_want sink.old sink.new room.old room.new
+    ensures { Adds K.written K.held K.faults K.may_want sink.old sink.new room.old room.new
         (behind_spaces (flat_map scalar_words scalars.now)) result }
 {
     for scalar in scalars {
@@ -154,7 +155,7 @@ fn add_scalars<K: Sink>(scalars: &[Scalar], room: &mut Room, sink: &mut K) -> Re
 
 fn add_list<K: Sink>(values: &Values, room: &mut Room, sink: &mut K) -> Result<(), SinkFault>
     requires { IsTrue (list_all is_valid_scalar values.now) }
-    ensures { Adds K.written K.faults K.may_want sink.old sink.new room.old room.new
+    ensures { Adds K.written K.held K.faults K.may_want sink.old sink.new room.old room.new
         (behind_spaces (value_words (written_value (Value.List values.now)))) result }
 {
     let count = values.len();
@@ -168,7 +169,7 @@ fn add_list<K: Sink>(values: &Values, room: &mut Room, sink: &mut K) -> Result<(
 
 fn add_value<K: Sink>(value: &Value, room: &mut Room, sink: &mut K) -> Result<(), SinkFault>
     requires { IsTrue (is_valid_value value.now) }
-    ensures { Adds K.written K.faults K.may_want sink.old sink.new room.old room.new
+    ensures { Adds K.written K.held K.faults K.may_want sink.old sink.new room.old room.new
         (behind_spaces (value_words (written_value value.now))) result }
 {
     match value {
@@ -185,7 +186,7 @@ fn add_words_of<K: Sink>(
     sink: &mut K,
 ) -> Result<(), SinkFault>
     requires { All IsPuttable words.now }
-    ensures { Adds K.written K.faults K.may_want sink.old sink.new room.old room.new
+    ensures { Adds K.written K.held K.faults K.may_want sink.old sink.new room.old room.new
         (keyword_word keyword ++ spaced_words words.now) result }
 {
     add(keyword.word().as_bytes(), room, sink)?;
@@ -195,12 +196,10 @@ fn add_words_of<K: Sink>(
 // Puts a line of a keyword and words.
 fn put_line<K: Sink>(keyword: Keyword, words: &[Word], sink: &mut K) -> Result<(), SinkFault>
     requires { All IsPuttable words.now }
-    ensures { Puts K.written K.faults K.may_want sink.old sink.new
+    ensures { Puts K.written K.held K.faults K.may_want sink.old sink.new
         (with_line_feed (keyword_word keyword ++ spaced_words words.now)) result }
 {
-    let mut room = Room::new();
-    add_words_of(keyword, words, &mut room, sink)?;
-    end_line(&mut room, sink)
+    put_words(keyword.word(), words, sink)
 }
 
 // Puts a line of a keyword, words and a value.
@@ -212,7 +211,7 @@ fn put_valued<K: Sink>(
 ) -> Result<(), SinkFault>
     requires puttable { All IsPuttable words.now }
     requires valid { IsTrue (is_valid_value value.now) }
-    ensures { Puts K.written K.faults K.may_want sink.old sink.new
+    ensures { Puts K.written K.held K.faults K.may_want sink.old sink.new
         (with_line_feed (keyword_word keyword ++ spaced_words words.now
         ++ behind_spaces (value_words (written_value value.now)))) result }
 {
@@ -229,7 +228,7 @@ fn put_attribute<K: Sink>(
     sink: &mut K,
 ) -> Result<(), SinkFault>
     requires { IsTrue (is_valid_value value.now) }
-    ensures { Puts K.written K.faults K.may_want sink.old sink.new
+    ensures { Puts K.written K.held K.faults K.may_want sink.old sink.new
         (form_text (attr prefix.now local.now (written_value value.now))) result }
 {
     let names = [Word::Quoted(prefix.as_str()), Word::Quoted(local.as_str())];
@@ -243,7 +242,7 @@ fn put_named<K: Sink>(
     second: &Txt,
     sink: &mut K,
 ) -> Result<(), SinkFault>
-    ensures { Puts K.written K.faults K.may_want sink.old sink.new
+    ensures { Puts K.written K.held K.faults K.may_want sink.old sink.new
         (with_line_feed (spaced (keyword_word keyword ∷ quoted first.now ∷ quoted second.now ∷ [])))
         result }
 {
@@ -256,7 +255,7 @@ fn put_named<K: Sink>(
 
 fn put_array_attribute<K: Sink>(one: &AttrItem, sink: &mut K) -> Result<(), SinkFault>
     requires { IsTrue (is_valid_attribute one.now) }
-    ensures { Puts K.written K.faults K.may_want sink.old sink.new
+    ensures { Puts K.written K.held K.faults K.may_want sink.old sink.new
         (form_text (attribute_form one.now)) result }
 {
     match one {
@@ -271,7 +270,7 @@ fn put_array_attribute<K: Sink>(one: &AttrItem, sink: &mut K) -> Result<(), Sink
 
 fn put_array_attributes<K: Sink>(all: &[AttrItem], sink: &mut K) -> Result<(), SinkFault>
     requires { IsTrue (list_all is_valid_attribute all.now) }
-    ensures { Puts K.written K.faults K.may_want sink.old sink.new
+    ensures { Puts K.written K.held K.faults K.may_want sink.old sink.new
         (flat_map form_text (map attribute_form all.now)) result }
 {
     for one in all {
@@ -282,7 +281,7 @@ fn put_array_attributes<K: Sink>(all: &[AttrItem], sink: &mut K) -> Result<(), S
 
 fn put_array_values<K: Sink>(scalars: &[Scalar], sink: &mut K) -> Result<(), SinkFault>
     requires { IsTrue (list_all is_valid_scalar scalars.now) }
-    ensures { Puts K.written K.faults K.may_want sink.old sink.new
+    ensures { Puts K.written K.held K.faults K.may_want sink.old sink.new
         (form_text (values (written_scalars scalars.now))) result }
 {
     let mut room = Room::new();
@@ -297,7 +296,7 @@ fn put_array_start<K: Sink>(
     local: &Txt,
     sink: &mut K,
 ) -> Result<(), SinkFault>
-    ensures { Puts K.written K.faults K.may_want sink.old sink.new
+    ensures { Puts K.written K.held K.faults K.may_want sink.old sink.new
         (form_text (array kind prefix.now local.now)) result }
 {
     let words = [
@@ -310,7 +309,7 @@ fn put_array_start<K: Sink>(
 
 fn put_array<K: Sink>(array: &ArrayItem, sink: &mut K) -> Result<(), SinkFault>
     requires { IsTrue (is_valid_array array.now) }
-    ensures { Puts K.written K.faults K.may_want sink.old sink.new
+    ensures { Puts K.written K.held K.faults K.may_want sink.old sink.new
         (item_text (Item.Array array.now)) result }
 {
     put_array_start(array.kind, &array.prefix, &array.local, sink)?;
@@ -320,7 +319,7 @@ fn put_array<K: Sink>(array: &ArrayItem, sink: &mut K) -> Result<(), SinkFault>
 
 fn put_item<K: Sink>(item: &Item, sink: &mut K) -> Result<(), SinkFault>
     requires { IsTrue (is_valid_item item.now) }
-    ensures { Puts K.written K.faults K.may_want sink.old sink.new (item_text item.now) result }
+    ensures { Puts K.written K.held K.faults K.may_want sink.old sink.new (item_text item.now) result }
 {
     match item {
         Item::Start { prefix, local } => put_named(Keyword::Start, prefix, local, sink),
@@ -339,7 +338,7 @@ fn put_item<K: Sink>(item: &Item, sink: &mut K) -> Result<(), SinkFault>
 
 fn put_items<K: Sink>(items: &[Item], sink: &mut K) -> Result<(), SinkFault>
     requires { IsTrue (list_all is_valid_item items.now) }
-    ensures { Puts K.written K.faults K.may_want sink.old sink.new (text_of items.now) result }
+    ensures { Puts K.written K.held K.faults K.may_want sink.old sink.new (text_of items.now) result }
 {
     for item in items {
         put_item(item, sink)?;
@@ -351,7 +350,7 @@ fn put_items<K: Sink>(items: &[Item], sink: &mut K) -> Result<(), SinkFault>
 /// a longer one by several. A refusal has put the first bytes of them. No memory is taken but the
 /// sink's.
 pub fn print<K: Sink>(doc: &Doc, sink: &mut K) -> Result<(), SinkFault>
-    ensures { Puts K.written K.faults K.may_want sink.old sink.new (text_of doc.now) result }
+    ensures { Puts K.written K.held K.faults K.may_want sink.old sink.new (text_of doc.now) result }
 {
     put_items(doc.items().as_slice(), sink)
 }

@@ -3,11 +3,13 @@ ghost use Rattle.std.specs.Prelude.{◌≡◌, ◌≤◌, ◌<◌, ◌^◌, ◌�
 ghost use Rattle.std.specs.Fmt.{decimal, digit_glyph, signed_decimal};
 ghost use Rattle.std.specs.List.{flat_map};
 ghost use Rattle.hex.specs.Hex.{encode_lower};
-ghost use Rattle.line_notation.specs.Puts.{Adds, IsPuttable, Puts, spaced_word, spaced_words, word_bytes};
+ghost use Rattle.io_edges.specs.Puts.{Adds, Puts};
+ghost use Rattle.line_notation.specs.Lines.{with_line_feed};
+ghost use Rattle.line_notation.specs.Puts.{joined_words, IsPuttable, spaced_word, spaced_words, word_bytes};
 ghost use Rattle.line_notation.specs.Quoted.{escape, is_plain, quoted, quoted_byte};
 ghost use Rattle.line_notation.specs.Scalars.{digits_in_quotes, identifier_word, letter_word};
 
-use crate::room::{Room, add};
+use crate::room::{Room, add, end_line};
 use io_edges::{Sink, SinkFault};
 use itoa::Buffer;
 use uuid::Uuid;
@@ -52,7 +54,7 @@ fn digit(bits: u8) -> u8
 
 // Adds a backslash and the byte's digits.
 fn add_escape<K: Sink>(byte: u8, room: &mut Room, sink: &mut K) -> Result<(), SinkFault>
-    ensures { Adds K.written K.faults K.may_want sink.old sink.new room.old room.new
+    ensures { Adds K.written K.held K.faults K.may_want sink.old sink.new room.old room.new
         (escape byte) result }
 {
     add(&[b'\\', digit(byte / 16), digit(byte % 16)], room, sink)
@@ -67,7 +69,7 @@ pub fn plain_count(bytes: &[u8]) -> usize
 
 // Adds the bytes of a quoted text.
 fn add_pieces<K: Sink>(bytes: &[u8], room: &mut Room, sink: &mut K) -> Result<(), SinkFault>
-    ensures { Adds K.written K.faults K.may_want sink.old sink.new room.old room.new
+    ensures { Adds K.written K.held K.faults K.may_want sink.old sink.new room.old room.new
         (flat_map quoted_byte bytes.now) result }
 {
     let mut rest = bytes;
@@ -87,7 +89,7 @@ fn add_pieces<K: Sink>(bytes: &[u8], room: &mut Room, sink: &mut K) -> Result<()
 }
 
 fn add_quoted<K: Sink>(text: &str, room: &mut Room, sink: &mut K) -> Result<(), SinkFault>
-    ensures { Adds K.written K.faults K.may_want sink.old sink.new room.old room.new
+    ensures { Adds K.written K.held K.faults K.may_want sink.old sink.new room.old room.new
         (quoted text.now) result }
 {
     add(b"\"", room, sink)?;
@@ -99,7 +101,7 @@ fn add_quoted<K: Sink>(text: &str, room: &mut Room, sink: &mut K) -> Result<(), 
 /// quote and the backslash as a backslash and two hexadecimal digits. A text of some hundred bytes
 /// is put by one call. A refusal has put the first bytes. No memory is taken but the sink's.
 pub fn quote<K: Sink>(text: &str, sink: &mut K) -> Result<(), SinkFault>
-    ensures { Puts K.written K.faults K.may_want sink.old sink.new (quoted text.now) result }
+    ensures { Puts K.written K.held K.faults K.may_want sink.old sink.new (quoted text.now) result }
 {
     let mut room = Room::new();
     add_quoted(text, &mut room, sink)?;
@@ -111,7 +113,7 @@ const CHUNK: usize = 32;
 // Adds the hexadecimal digits of a few bytes.
 fn add_chunk<K: Sink>(bytes: &[u8], room: &mut Room, sink: &mut K) -> Result<(), SinkFault>
     requires { length bytes.now ≤ CHUNK }
-    ensures { Adds K.written K.faults K.may_want sink.old sink.new room.old room.new
+    ensures { Adds K.written K.held K.faults K.may_want sink.old sink.new room.old room.new
         (encode_lower bytes.now) result }
 {
     let mut digits = [0; 2 * CHUNK];
@@ -122,7 +124,7 @@ fn add_chunk<K: Sink>(bytes: &[u8], room: &mut Room, sink: &mut K) -> Result<(),
 
 // Adds the hexadecimal digits of bytes.
 fn add_digits<K: Sink>(bytes: &[u8], room: &mut Room, sink: &mut K) -> Result<(), SinkFault>
-    ensures { Adds K.written K.faults K.may_want sink.old sink.new room.old room.new
+    ensures { Adds K.written K.held K.faults K.may_want sink.old sink.new room.old room.new
         (encode_lower bytes.now) result }
 {
     let mut rest = bytes;
@@ -139,7 +141,7 @@ fn add_digits_in_quotes<K: Sink>(
     room: &mut Room,
     sink: &mut K,
 ) -> Result<(), SinkFault>
-    ensures { Adds K.written K.faults K.may_want sink.old sink.new room.old room.new
+    ensures { Adds K.written K.held K.faults K.may_want sink.old sink.new room.old room.new
         (digits_in_quotes bytes.now) result }
 {
     add(b"\"", room, sink)?;
@@ -148,7 +150,7 @@ fn add_digits_in_quotes<K: Sink>(
 }
 
 fn add_natural<K: Sink>(n: u128, room: &mut Room, sink: &mut K) -> Result<(), SinkFault>
-    ensures { Adds K.written K.faults K.may_want sink.old sink.new room.old room.new
+    ensures { Adds K.written K.held K.faults K.may_want sink.old sink.new room.old room.new
         (decimal n) result }
 {
     let mut buffer = Buffer::new();
@@ -156,7 +158,7 @@ fn add_natural<K: Sink>(n: u128, room: &mut Room, sink: &mut K) -> Result<(), Si
 }
 
 fn add_integer<K: Sink>(n: i128, room: &mut Room, sink: &mut K) -> Result<(), SinkFault>
-    ensures { Adds K.written K.faults K.may_want sink.old sink.new room.old room.new
+    ensures { Adds K.written K.held K.faults K.may_want sink.old sink.new room.old room.new
         (signed_decimal n) result }
 {
     let mut buffer = Buffer::new();
@@ -164,7 +166,7 @@ fn add_integer<K: Sink>(n: i128, room: &mut Room, sink: &mut K) -> Result<(), Si
 }
 
 fn add_identifier<K: Sink>(bytes: &[u8; 16], room: &mut Room, sink: &mut K) -> Result<(), SinkFault>
-    ensures { Adds K.written K.faults K.may_want sink.old sink.new room.old room.new
+    ensures { Adds K.written K.held K.faults K.may_want sink.old sink.new room.old room.new
         (identifier_word bytes.now) result }
 {
     let mut buffer = Uuid::encode_buffer();
@@ -178,7 +180,7 @@ fn add_identifier<K: Sink>(bytes: &[u8; 16], room: &mut Room, sink: &mut K) -> R
 
 fn add_word<K: Sink>(word: &Word, room: &mut Room, sink: &mut K) -> Result<(), SinkFault>
     requires { IsPuttable word.now }
-    ensures { Adds K.written K.faults K.may_want sink.old sink.new room.old room.new
+    ensures { Adds K.written K.held K.faults K.may_want sink.old sink.new room.old room.new
         (word_bytes word.now) result }
 {
     match word {
@@ -196,7 +198,7 @@ fn add_word<K: Sink>(word: &Word, room: &mut Room, sink: &mut K) -> Result<(), S
 // Adds a space and a word.
 fn add_spaced_word<K: Sink>(word: &Word, room: &mut Room, sink: &mut K) -> Result<(), SinkFault>
     requires { IsPuttable word.now }
-    ensures { Adds K.written K.faults K.may_want sink.old sink.new room.old room.new
+    ensures { Adds K.written K.held K.faults K.may_want sink.old sink.new room.old room.new
         (spaced_word word.now) result }
 {
     add(b" ", room, sink)?;
@@ -206,11 +208,48 @@ fn add_spaced_word<K: Sink>(word: &Word, room: &mut Room, sink: &mut K) -> Resul
 // Adds words, each behind a space.
 pub fn add_words<K: Sink>(words: &[Word], room: &mut Room, sink: &mut K) -> Result<(), SinkFault>
     requires { All IsPuttable words.now }
-    ensures { Adds K.written K.faults K.may_want sink.old sink.new room.old room.new
+    ensures { Adds K.written K.held K.faults K.may_want sink.old sink.new room.old room.new
         (spaced_words words.now) result }
 {
     for word in words {
         add_spaced_word(word, room, sink)?;
     }
     Ok(())
+}
+
+// Adds words, one right behind the other.
+fn add_joined<K: Sink>(words: &[Word], room: &mut Room, sink: &mut K) -> Result<(), SinkFault>
+    requires { All IsPuttable words.now }
+    ensures { Adds K.written K.held K.faults K.may_want sink.old sink.new room.old room.new
+        (joined_words words.now) result }
+{
+    for word in words {
+        add_word(word, room, sink)?;
+    }
+    Ok(())
+}
+
+/// Puts words, one right behind the other, by one call where they have some hundred bytes. A refusal
+/// has put the first bytes. No memory is taken but the sink's.
+pub fn put_joined<K: Sink>(words: &[Word], sink: &mut K) -> Result<(), SinkFault>
+    requires { All IsPuttable words.now }
+    ensures { Puts K.written K.held K.faults K.may_want sink.old sink.new
+        (joined_words words.now) result }
+{
+    let mut room = Room::new();
+    add_joined(words, &mut room, sink)?;
+    room.put(sink)
+}
+
+/// Puts a line: a keyword, words, each behind a space, and a line feed; by one call where it has some
+/// hundred bytes. A refusal has put the first bytes. No memory is taken but the sink's.
+pub fn put_words<K: Sink>(keyword: &str, words: &[Word], sink: &mut K) -> Result<(), SinkFault>
+    requires { All IsPuttable words.now }
+    ensures { Puts K.written K.held K.faults K.may_want sink.old sink.new
+        (with_line_feed (keyword.now ++ spaced_words words.now)) result }
+{
+    let mut room = Room::new();
+    add(keyword.as_bytes(), &mut room, sink)?;
+    add_words(words, &mut room, sink)?;
+    end_line(&mut room, sink)
 }

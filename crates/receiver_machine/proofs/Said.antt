@@ -11,7 +11,8 @@ use Rattle.stream_reader.specs.Standing as reader_standing
 use Rattle.stream_reader.specs.declared.reader.StreamReader.{StreamReader}
 use Rattle.stream_reader.specs.declared.reader.StreamStep.TheVariants as reader_steps
 use Rattle.receiver_machine.specs.declared.receiver.Receiver.{Receiver}
-use Rattle.receiver_machine.specs.Standing.{FailedBehind, FailsBy}
+use Rattle.stream_reader.proofs.ReaderFacts.{failure_as, not_failed}
+use Rattle.receiver_machine.specs.Standing.{FailedBehind, FailsBy, StandsFor, failure_of}
 use Rattle.stream_reader.specs.Stream.{StreamEvent, opened, message, ended}
 use Rattle.receiver_machine.specs.declared.receiver.Step.{Step}
 use Rattle.receiver_machine.specs.declared.receiver.Step.TheVariants as steps
@@ -60,3 +61,8 @@ fails_by r whole p y a Memory is h = rw is h
 -- the same refusal
 pub err_is : {A : Type 0} (a b : ReadRefusal) → ◌≡◌ {A = Result A ReadRefusal} (Err a) (Err b) → a ≡ b
 err_is a b e = cc
+
+-- one that stands has failed with nothing
+pub stands_unfailed : (r : Receiver) (p : List ℕ) (refusal : ReadRefusal) → StandsFor r p → failure_of r ≡ Some refusal → ⊥
+unfolding StandsFor failure_of reader_standing.StandsFor
+stands_unfailed r p refusal stands failed = not_failed r.reader (reader_standing.settings_of r.reader) p refusal stands (failure_as r.reader (Some refusal) failed)

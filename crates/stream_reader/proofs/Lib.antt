@@ -9,6 +9,7 @@ pub mod Grammar
 pub mod Coming
 pub mod DueRecords
 pub mod Ending
+pub mod Closing
 -- payloads: where bytes of one lead, what holds of each situation, what bytes of one bring to a
 -- stream, and which bytes of a stream are one's
 pub mod Outcomes

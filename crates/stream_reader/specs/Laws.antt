@@ -1,18 +1,20 @@
 -- What holds of streams by their definitions alone, whatever the settings. What is said of sessions,
 -- and of streams that are cut off, is said of an initiator's stream in duplex mode.
 use Rattle.std.specs.Prelude.{◌≡◌, ◌≤◌, ◌<◌, ℕ, List, ◌++◌, length, take, false, Some, None, ◌↔◌, ◌⊎◌}
-use Rattle.unit_streams.specs.Judging.{refusal_at, is_over_at, ending_at, history, answer, offends}
-use Rattle.nbfx_values.specs.Limits.{IsGood}
+use Rattle.unit_streams.specs.Judging.{event_at, refusal_at, is_over_at, ending_at, history, answer, offends}
+use Rattle.nbfx_values.specs.Limits.{IsGood, Limits}
+use Rattle.nbfx_values.specs.Measures.{content_of, depth_of}
 use Rattle.nbfx_values.specs.declared.session.Kind.{Kind}
 use Rattle.nbfx_values.specs.declared.session.Mode.TheVariants.{Duplex}
 use Rattle.nbfx_values.specs.declared.refusals.Offence.{Offence}
 use Rattle.nbfx_values.specs.declared.refusals.Reason.{Reason}
 use Rattle.nbfx_values.specs.declared.refusals.Reason.TheVariants.{Unbuilt, MessageTooLarge, Truncated, SessionTooLong}
+use Rattle.string_tables.specs.SessionStrings.{used_cost}
 use Rattle.nbfx_decoder.specs.Payload.{Refusal, refusal}
 use Rattle.nmf_records.specs.declared.frame.Frame.{Frame}
 use Rattle.nmf_records.specs.declared.script.Direction.TheVariants.{FromInitiator}
 use Rattle.nmf_records.specs.Script.{IsScript}
-use Rattle.stream_reader.specs.Stream.{Settings, offence_at, offence_in, stream}
+use Rattle.stream_reader.specs.Stream.{Settings, Envelope, message, offence_at, offence_in, stream}
 use Rattle.stream_reader.specs.Judging.{offence}
 use Rattle.stream_reader.specs.Sessions.{Carried, IsSession, IsClosed, HasScript, untold}
 use Rattle.stream_reader.specs.Events.{session_events}
@@ -46,6 +48,16 @@ SessionsAreTold = (x : Settings) → IsInitiators x
     → IsSession x via kind carried session
     → history (stream x) (session ++ rest)
     ≡ record { events = session_events via kind carried (length session); offence = None }
+
+-- a document that an envelope brings, and the strings behind it, are within the quotas
+pub record FitsIn (quotas : Limits) (e : Envelope) : Type 0 where
+  pub depth : depth_of e.items ≤ quotas.depth
+  pub content : content_of e.items ≤ quotas.content
+  pub dictionary : used_cost e.strings ≤ quotas.dictionary
+
+abbrev pub DocumentsFit : Type 0
+DocumentsFit = (x : Settings) → IsGood x.limits → (p : List ℕ) (e : Envelope)
+    → event_at (stream x) p ≡ Some (message e) → FitsIn x.limits e
 
 -- bytes are a session of one list of documents at most, each of which leaves one list of strings
 abbrev pub SpellsOneSession : Type 0

@@ -5,7 +5,7 @@
 ghost use Rattle.unit_streams.specs.Laws.{StandingsGoOn, AnswersAreFirst, CutsChangeNothing, HistoryIsAnswers, PendingHistories, NoUnitGoesOn, EndsAreClosed, OffencesAreFirst, AcceptedOrOffended};
 ghost use Rattle.unit_streams.specs.Refusals.{RefusalsAreThree};
 ghost use Rattle.stream_reader.specs.Stream.{Settings, stream};
-ghost use Rattle.stream_reader.specs.Laws.{ClosedOrRefused, SessionsAreScripts, SessionsAreTold, SpellsOneSession, RefusedInRecordOrPayload, UnbuiltByRecord, UnbuiltFirst, TooLargeByHead, TooLargeFirst, InPayloadByBytes, InPayloadFirst, TooLongByLength, TooLongAtQuota, NoPieceCutsOff, CutOffByEnd, EndCutsOff, CutOffUnrefused};
+ghost use Rattle.stream_reader.specs.Laws.{ClosedOrRefused, SessionsAreScripts, SessionsAreTold, DocumentsFit, SpellsOneSession, RefusedInRecordOrPayload, UnbuiltByRecord, UnbuiltFirst, TooLargeByHead, TooLargeFirst, InPayloadByBytes, InPayloadFirst, TooLongByLength, TooLongAtQuota, NoPieceCutsOff, CutOffByEnd, EndCutsOff, CutOffUnrefused};
 
 /// A stream either is closed or has an offence, which is one: what refuses it is a function of its
 /// bytes. It is closed where its units, of which none is refused, lead to where the input may end,
@@ -28,6 +28,12 @@ pub fn sessions_are_scripts()
 pub fn sessions()
     ensures told { SessionsAreTold }
     ensures one { SpellsOneSession }
+{}
+
+/// Each document that an envelope brings is within the quotas on depth and content, and the strings
+/// that it leaves within theirs, whatever follows.
+pub fn documents_fit()
+    ensures { DocumentsFit }
 {}
 
 /// A stream stands where its bytes so far have led it. No unit, which is a record or a byte of a

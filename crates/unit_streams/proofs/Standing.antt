@@ -131,14 +131,15 @@ module _ {Z U E R : Type 0} (g : Grammar Z U E R) (readable : IsReadable g) wher
       peel_by (λ s t. P s.situation s.from → P t.situation t.from) (λ s o h. h)
       (λ s u k t e some within rest h. rest (more s.situation s.from s.begun u k e some h)) (at_start g p) first
 
-  -- what holds before the first unit, and behind each, holds of what the last one left and gave
+  -- what holds before the first unit, and behind each where it holds before, holds of what the last one left and gave
   pub standing_last : (P : Z → ℕ → Option E → Option R → Type 0) → P g.start 0 None None
-      → ((z : Z) (from : ℕ) (b : List ℕ) (u : U) (k : ℕ) → g.unit_at z from b ≡ whole u k → P (g.after z from u) (from + k) (g.completed z from u) (g.refused z from u))
+      → ((z : Z) (from : ℕ) (event : Option E) (refusal : Option R) (b : List ℕ) (u : U) (k : ℕ) → g.unit_at z from b ≡ whole u k → 0 < k → P z from event refusal
+      → P (g.after z from u) (from + k) (g.completed z from u) (g.refused z from u))
       → (p : List ℕ) → P (standing g p).situation (standing g p).from (standing g p).event (standing g p).refusal
   unfolding standing
   standing_last P first behind p =
       peel_by (λ s t. P s.situation s.from s.event s.refusal → P t.situation t.from t.event t.refusal) (λ s o h. h)
-      (λ s u k t e some within rest h. rest (behind s.situation s.from s.begun u k e)) (at_start g p) first
+      (λ s u k t e some within rest h. rest (behind s.situation s.from s.event s.refusal s.begun u k e some h)) (at_start g p) first
 
   -- a unit that has all the bytes
   pub peel_all : (s : Standing Z E R) (u : U) (k : ℕ) → next_unit g s ≡ whole u k → k ≡ length s.begun → peel g s ≡ record (behind_unit g s u k) { begun = [] }

@@ -1,4 +1,4 @@
-use Rattle.std.proofs.Common.{drop, flat_map}
+use Rattle.std.proofs.Common.{◌++◌, drop, flat_map}
 use Rattle.line_notation.specs.Scalars.{scalar_words}
 use Rattle.line_notation.specs.Words.{behind_spaces}
 use Rattle.line_notation.proofs.PutsFacts.{HaveAdded}
@@ -8,4 +8,5 @@ abbrev pub invariant-loop-scalar : goal.invariant-loop-scalar
 invariant-loop-scalar g l =
     HaveAdded (flat_map (λ s. behind_spaces (scalar_words s))) l.scalars (drop l.scalar-index l.scalars)
     (g.K.Sink.written l.fn.sink) (g.K.Sink.written l.sink)
-    l.fn.room l.room (g.K.Sink.faults l.fn.sink) (g.K.Sink.faults l.sink) (g.K.Sink.may_want l.fn.sink) (g.K.Sink.may_want l.sink)
+    (g.K.Sink.held l.fn.sink ++ l.fn.room) (g.K.Sink.held l.sink ++ l.room)
+    (g.K.Sink.faults l.fn.sink) (g.K.Sink.faults l.sink) (g.K.Sink.may_want l.fn.sink) (g.K.Sink.may_want l.sink)

@@ -1,6 +1,6 @@
 use Rattle.std.proofs.lemmas.Result.{err_from_is_err_and}
 use Rattle.line_notation.proofs.PrintFacts.{array_text}
-use Rattle.line_notation.proofs.PutsFacts.{PutsAll-then, PutsAll-cut}
+use Rattle.io_edges.proofs.Putting.{PutsAll-then, PutsAll-cut}
 use Rattle.line_notation.proofs.ValidFacts.{array_parts}
 use Rattle.line_notation.proofs.printing.put_array.Goals as goal
 

@@ -1,4 +1,4 @@
-use Rattle.std.proofs.Common.{length, flat_map}
+use Rattle.std.proofs.Common.{◌++◌, length, flat_map}
 use Rattle.line_notation.specs.Quoted.{quoted_byte}
 use Rattle.line_notation.proofs.PutsFacts.{HaveAdded}
 use Rattle.line_notation.proofs.puts.add_pieces.Given as goal
@@ -6,7 +6,8 @@ use Rattle.line_notation.proofs.puts.add_pieces.Given as goal
 abbrev pub invariant-loop-rest : goal.invariant-loop-rest
 invariant-loop-rest g l =
     HaveAdded (flat_map quoted_byte) l.bytes l.rest (g.K.Sink.written l.fn.sink) (g.K.Sink.written l.sink)
-    l.fn.room l.room (g.K.Sink.faults l.fn.sink) (g.K.Sink.faults l.sink) (g.K.Sink.may_want l.fn.sink) (g.K.Sink.may_want l.sink)
+    (g.K.Sink.held l.fn.sink ++ l.fn.room) (g.K.Sink.held l.sink ++ l.room)
+    (g.K.Sink.faults l.fn.sink) (g.K.Sink.faults l.sink) (g.K.Sink.may_want l.fn.sink) (g.K.Sink.may_want l.sink)
 
 abbrev pub decreases-loop-rest : goal.decreases-loop-rest
 decreases-loop-rest g l = length l.rest

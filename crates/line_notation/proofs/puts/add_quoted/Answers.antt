@@ -1,22 +1,22 @@
 use Rattle.std.proofs.Common.{◌∷◌, []}
 use Rattle.std.proofs.lemmas.Result.{err_from_is_err_and}
 use Rattle.line_notation.specs.Quoted.{quoted}
-use Rattle.line_notation.proofs.PutsFacts.{AddsAll-then, AddsAll-cut}
+use Rattle.io_edges.proofs.Putting.{PutsAll-then, PutsAll-cut}
 use Rattle.line_notation.proofs.puts.add_quoted.Goals as goal
 
 pub returns-in_err-add : goal.returns-in_err-add
 unfolding quoted
 returns-in_err-add g c =
     let p = err_from_is_err_and c.from_residual.result c.from_residual.ensures.1 in
-    rw (p.1, p.2) (AddsAll-cut _ c.in_err-add.ensures)
+    rw (p.1, p.2) (PutsAll-cut _ c.in_err-add.ensures)
 
 pub returns-in_err-add_pieces : goal.returns-in_err-add_pieces
 unfolding quoted
 returns-in_err-add_pieces g c =
     let p = err_from_is_err_and c.from_residual-in_err-add_pieces.result c.from_residual-in_err-add_pieces.ensures.1 in
-    rw (p.1, p.2) (AddsAll-cut (34 ∷ []) (AddsAll-then _ c.in_ok-add.ensures (rw c.as_bytes.ensures.value at c.in_err-add_pieces.ensures)))
+    rw (p.1, p.2) (PutsAll-cut (34 ∷ []) (PutsAll-then _ c.in_ok-add.ensures (rw c.as_bytes.ensures.value at c.in_err-add_pieces.ensures)))
 
 pub returns : goal.returns
 unfolding quoted
 returns g c =
-    AddsAll-then _ c.in_ok-add.ensures (AddsAll-then _ (rw c.as_bytes.ensures.value at c.in_ok-add_pieces.ensures) c.add-2.ensures)
+    PutsAll-then _ c.in_ok-add.ensures (PutsAll-then _ (rw c.as_bytes.ensures.value at c.in_ok-add_pieces.ensures) c.add-2.ensures)

@@ -1,11 +1,11 @@
 use Rattle.std.proofs.lemmas.Result.{err_from_is_err_and}
-use Rattle.line_notation.proofs.PutsFacts.{AddsAll-then, AddsAll-cut}
+use Rattle.io_edges.proofs.Putting.{PutsAll-then, PutsAll-cut}
 use Rattle.line_notation.proofs.puts.add_spaced_word.Goals as goal
 
 pub returns-in_err-add : goal.returns-in_err-add
 returns-in_err-add g c =
     let p = err_from_is_err_and c.from_residual.result c.from_residual.ensures.1 in
-    rw (p.1, p.2) (AddsAll-cut _ c.in_err-add.ensures)
+    rw (p.1, p.2) (PutsAll-cut _ c.in_err-add.ensures)
 
 pub returns : goal.returns
-returns g c = AddsAll-then _ c.in_ok-add.ensures c.add_word.ensures
+returns g c = PutsAll-then _ c.in_ok-add.ensures c.add_word.ensures

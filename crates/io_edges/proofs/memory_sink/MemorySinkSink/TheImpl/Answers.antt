@@ -7,6 +7,7 @@ pub put-tells : goal.put-tells
 put-tells c = record {
   written = search rules;
   refused = refused_front _ _ _ c.args.self.now.kept c.result c.ensures.front c.ensures.memory;
+  dropped = search rules;
   counted = record {
     rose = grind (arith, common_steps);
     same = grind (arith, common_steps);

@@ -1,0 +1,161 @@
+//! A sink that gathers what is put to it, and puts it on by few calls.
+
+ghost use Rattle.std.specs.Prelude.{◌≡◌, ◌≤◌, ◌+◌, ◌++◌, [], length, take, vec_len, IfOk, IsOk, OnErr};
+ghost use Rattle.io_edges.specs.Puts.{Adds};
+
+use crate::{Sink, SinkFault};
+use std::alloc::{AllocError, Global};
+use std::marker::Model;
+use std::mem;
+
+/// How many bytes the usual room has.
+const ROOM: usize = 65_536;
+
+/// The usual room to gather in, of 64 KiB.
+pub fn gathering_room(alloc: Global) -> Result<Vec<u8>, AllocError>
+    ensures { IfOk result (λ room. vec_len room ≡ 65536) }
+{
+    vec![in alloc; 0u8; ROOM]
+}
+
+// Copies bytes behind the first so many of the room.
+fn keep(bytes: &[u8], room: &mut [u8], used: &mut usize)
+    requires { used.old + length bytes.now ≤ length room.old }
+    ensures kept { take used.new room.new ≡ take used.old room.old ++ bytes.now }
+    ensures used { used.new ≡ used.old + length bytes.now }
+    ensures room { length room.new ≡ length room.old }
+{
+    let end = *used + bytes.len();
+    room[*used..end].copy_from_slice(bytes);
+    *used = end;
+}
+
+/// Puts the first so many bytes of a room by one put, or by none where there are none. None stands
+/// there then, also where the put fails.
+pub fn put_gathered<K: Sink>(room: &[u8], used: &mut usize, sink: &mut K) -> Result<(), SinkFault>
+    requires { used.old ≤ length room.now }
+    ensures puts { Adds K.written K.held K.faults K.may_want sink.old sink.new
+        (take used.old room.now) [] [] result }
+    ensures emptied { used.new ≡ 0 }
+{
+    if *used == 0 {
+        return Ok(());
+    }
+    let gathered = mem::replace(used, 0);
+    sink.put(&room[..gathered])
+}
+
+/// Adds bytes behind the first so many of a room. Where they have no room, what stands there is put
+/// first; and where they are too many for it, they are put as they are. Where a put fails, none
+/// stands there any more.
+pub fn gather<K: Sink>(
+    bytes: &[u8],
+    room: &mut [u8],
+    used: &mut usize,
+    sink: &mut K,
+) -> Result<(), SinkFault>
+    requires { used.old ≤ length room.old }
+    ensures adds { Adds K.written K.held K.faults K.may_want sink.old sink.new
+        (take used.old room.old) (take used.new room.new) bytes.now result }
+    ensures fits { used.old + length bytes.now ≤ length room.old → IsOk result
+        × (sink.new ≡ sink.old) × (take used.new room.new ≡ take used.old room.old ++ bytes.now) }
+    ensures within { used.new ≤ length room.new }
+    ensures room { length room.new ≡ length room.old }
+{
+    if bytes.len() <= room.len() - *used {
+        keep(bytes, room, used);
+        return Ok(());
+    }
+    put_gathered(room, used, sink)?;
+    if bytes.len() <= room.len() {
+        keep(bytes, room, used);
+        return Ok(());
+    }
+    sink.put(bytes)
+}
+
+/// A sink that gathers what is put to it in a room, and puts it to the sink beneath where the room
+/// has no place for more, or at a flush. A piece that is greater than the room is put on as it is.
+/// Gathering takes no memory.
+#[derive(Debug, Drop)]
+pub struct GatheringSink<K> {
+    sink: K,
+    room: Vec<u8>,
+    used: usize,
+}
+
+impl<K> Model for GatheringSink<K> {
+    ghost use Rattle.std.specs.Prelude.{◌≤◌, take, vec_len};
+    ghost use Rattle.io_edges.specs.Gathering.{Gathering};
+
+    ghost Value = { Gathering K };
+
+    ghost view = { λ s. record {
+      sink = s.sink;
+      room = vec_len s.room;
+      gathered = take s.used s.room.items;
+    } };
+
+    ghost invariant = { λ s. s.used ≤ vec_len s.room };
+}
+
+impl<K: Sink> GatheringSink<K> {
+    /// Gathers in this room, whatever stands in it.
+    pub fn new(room: Vec<u8>, sink: K) -> GatheringSink<K>
+        ensures sink { result.sink ≡ sink }
+        ensures room { result.room ≡ vec_len room }
+        ensures nothing { result.gathered ≡ [] }
+    {
+        GatheringSink {
+            sink,
+            room,
+            used: 0,
+        }
+    }
+
+    /// The sink beneath.
+    pub fn sink(&self) -> &K
+        ensures { result.now ≡ self.now.sink }
+    {
+        &self.sink
+    }
+
+    /// The sink beneath. What is gathered is dropped.
+    pub fn into_sink(self) -> K
+        ensures { result ≡ self.sink }
+    {
+        self.sink
+    }
+}
+
+impl<K: Sink> Sink for GatheringSink<K> {
+    ghost written = { λ s. K.written s.sink };
+
+    ghost held = { λ s. K.held s.sink ++ s.gathered };
+
+    ghost faults = { λ s. K.faults s.sink };
+
+    ghost may_want = { λ s. K.may_want s.sink };
+
+    fn put(&mut self, bytes: &[u8]) -> Result<(), SinkFault>
+        ensures adds { Adds K.written K.held K.faults K.may_want self.old.sink self.new.sink
+            self.old.gathered self.new.gathered bytes.now result }
+        ensures fits { length self.old.gathered + length bytes.now ≤ self.old.room → IsOk result
+            × (self.new.sink ≡ self.old.sink)
+            × (self.new.gathered ≡ self.old.gathered ++ bytes.now) }
+        ensures within { length self.new.gathered ≤ self.new.room }
+        ensures room { self.new.room ≡ self.old.room }
+    {
+        gather(bytes, &mut self.room, &mut self.used, &mut self.sink)
+    }
+
+    fn flush(&mut self) -> Result<(), SinkFault>
+        ensures adds { Adds K.written K.held K.faults K.may_want self.old.sink self.new.sink
+            self.old.gathered self.new.gathered [] result }
+        ensures emptied { K.held self.new.sink ++ self.new.gathered ≡ [] }
+        ensures room { self.new.room ≡ self.old.room }
+    {
+        put_gathered(&self.room, &mut self.used, &mut self.sink)?;
+        self.sink.flush()
+    }
+}
