@@ -27,6 +27,11 @@ utf8_told bytes utf8 = sym (is_utf8-from_IsUtf8 bytes utf8)
 pub utf8_refused : (bytes : List ℕ) → (IsUtf8 bytes → ⊥) → false ≡ is_utf8 bytes
 utf8_refused bytes bad = sym (false_from_ne_true (is_utf8 bytes) (λ h. bad (IsUtf8-from_is_utf8 bytes h)))
 
+-- what is made of a part has its texts in UTF-8
+pub texts_of_made : {X : Type 0} (texts : Bool) (found : Option X) (x : X) → judge texts found ≡ Ok x → texts ≡ true
+texts_of_made true found x e = refl
+texts_of_made false found x e = cc
+
 -- some things, judged one by one
 module _ {A B : Type 0} (texts : A → Bool) (value : A → Option B) where
   abbrev pub all_judged : List A → Result (List B) NodeFault

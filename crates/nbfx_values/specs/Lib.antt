@@ -11,3 +11,4 @@ pub mod Scalars
 pub mod Session
 -- cited by private calls, and inside documents and their builders
 pub mod Measured
+pub mod Texts

@@ -75,6 +75,7 @@ impl DocBuilder {
     }
 
     /// Where the items end in the document.
+    #[inline(always)]
     pub fn position(&self) -> Position
         ensures ends { position_of self.now ≡ Some result }
         ensures few { spec.open_count result < 2 ^ 63 }
@@ -100,6 +101,7 @@ impl DocBuilder {
     }
 
     /// The content of the items, up to 2^64 - 1.
+    #[inline(always)]
     pub fn content(&self) -> u64
         ensures { result ≡ capped (content_of self.now) }
     {
@@ -107,6 +109,7 @@ impl DocBuilder {
     }
 
     /// Puts one more item behind the others. A fault drops it and leaves the others.
+    #[inline(always)]
     pub fn push(&mut self, item: Item) -> Result<(), PushFault>
         requires { IsTrue (is_valid_item item) }
         ensures pushed { OnOk result (self.new ≡ self.old ++ item ∷ []) }

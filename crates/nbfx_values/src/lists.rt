@@ -83,6 +83,7 @@ impl<T: Drop> Sequence<T> {
     }
 
     /// Puts one more value at the end. Want of memory drops it and leaves the list.
+    #[inline(always)]
     pub fn push(&mut self, one: T) -> Result<(), Memory>
         ensures pushed { OnOk result (self.new ≡ self.old ++ one ∷ []) }
         ensures unchanged { OnErr result (self.new ≡ self.old) }

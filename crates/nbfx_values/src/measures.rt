@@ -9,27 +9,30 @@ use crate::scalars::{Scalar, Value};
 use crate::texts::Txt;
 
 // The bytes of two texts.
+#[inline(always)]
 fn bytes_of(first: &Txt, second: &Txt) -> u64
     ensures { result ≡ capped (length first.now + length second.now) }
 {
-    (first.as_str().len() as u64).saturating_add(second.as_str().len() as u64)
+    (first.len() as u64).saturating_add(second.len() as u64)
 }
 
 impl Scalar {
     /// How much the value counts in a document's content.
+    #[inline]
     pub fn content(&self) -> u64
         ensures { result ≡ scalar_content self.now }
     {
         match self {
-            Scalar::Text(text) => text.as_str().len() as u64,
+            Scalar::Text(text) => text.len() as u64,
             Scalar::Bytes(bytes) => bytes.as_slice().len() as u64,
-            Scalar::QName(_, name) => name.as_str().len() as u64,
+            Scalar::QName(_, name) => name.len() as u64,
             Scalar::Decimal(_) | Scalar::UniqueId(_) | Scalar::Uuid(_) => 16,
             _ => 8,
         }
     }
 }
 
+#[inline(never)]
 fn content_of_scalars(scalars: &[Scalar]) -> u64
     ensures { result ≡ capped (sum_by scalar_content scalars.now) }
 {
@@ -42,6 +45,7 @@ fn content_of_scalars(scalars: &[Scalar]) -> u64
 
 impl Value {
     /// How much the value counts in a document's content, up to 2^64 - 1.
+    #[inline]
     pub fn content(&self) -> u64
         ensures { result ≡ capped (value_content self.now) }
     {
@@ -80,6 +84,7 @@ fn content_of_attributes(attributes: &[AttrItem]) -> u64
 
 impl ArrayItem {
     /// How much the array counts in a document's content, up to 2^64 - 1.
+    #[inline(never)]
     pub fn content(&self) -> u64
         ensures { result ≡ capped (array_content self.now) }
     {
@@ -91,6 +96,7 @@ impl ArrayItem {
 
 impl Item {
     /// How much the item counts in a document's content, up to 2^64 - 1.
+    #[inline(always)]
     pub fn content(&self) -> u64
         ensures { result ≡ capped (item_content self.now) }
     {
@@ -103,7 +109,7 @@ impl Item {
                 value,
             } => { bytes_of(prefix, local).saturating_add(value.content()) }
             Item::Text(value) => value.content(),
-            Item::Comment(text) => text.as_str().len() as u64,
+            Item::Comment(text) => text.len() as u64,
             Item::Array(array) => array.content(),
             Item::Close => 0,
         }
@@ -111,6 +117,7 @@ impl Item {
 }
 
 // The most elements that are open while an item stands and behind it.
+#[inline(always)]
 fn most_open(before: usize, item: &Item) -> usize
     requires { before < 2 ^ 63 }
     ensures { result ≡ spec.most_open before (item.now ∷ []) }
@@ -140,6 +147,7 @@ impl Measures {
     }
 
     /// Those with one item more, before which so many elements are open.
+    #[inline(always)]
     pub(crate) fn with(self, before: usize, item: &Item) -> Measures
         requires { before < 2 ^ 63 }
         ensures { (items : List Item) → opened_by 0 items ≡ before → AreMeasuresOf items self

@@ -30,6 +30,7 @@ impl Position {
     }
 
     /// How many elements are open.
+    #[inline(always)]
     pub fn open_count(self) -> usize
         requires { spec.open_count self < 2 ^ 64 }
         ensures { result ≡ spec.open_count self }
@@ -61,6 +62,7 @@ impl Position {
     }
 
     /// Where an item leads, whatever its values, if it may stand here.
+    #[inline(always)]
     pub fn moved(self, item: &Item) -> Option<Position>
         requires { spec.open_count self < 2 ^ 64 }
         ensures { result ≡ spec.moved self item.now }

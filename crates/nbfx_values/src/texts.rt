@@ -1,35 +1,68 @@
 //! Texts and bytes.
 
-ghost use Rattle.std.specs.Prelude.{◌≡◌, IfOk, IsTrue, string_bytes};
+ghost use Rattle.std.specs.Prelude.{◌≡◌, IfOk, IsTrue, length, string_bytes};
 ghost use Rattle.std.specs.Str.{is_utf8};
+ghost use Rattle.nbfx_values.specs.Texts.{bytes_of};
 
 use crate::copies::Copied;
+use arrayvec::ArrayString;
 use std::alloc::Global;
 use std::marker::Model;
 use unit_streams::Memory;
 
+// A text of up to 16 bytes lies in the value itself, so that most names take no allocation.
+#[derive(Debug, Drop)]
+enum Letters {
+    Short(ArrayString<16>),
+    Long(String),
+}
+
+impl Letters {
+    #[inline]
+    fn of(alloc: Global, text: &str) -> Result<Letters, Memory>
+        ensures { IfOk result (λ letters. bytes_of letters ≡ text.now) }
+    {
+        match ArrayString::from(text) {
+            Ok(short) => Ok(Letters::Short(short)),
+            Err(_) => Ok(Letters::Long(String::from_str(alloc, text)?)),
+        }
+    }
+
+    #[inline]
+    fn as_str(&self) -> &str
+        ensures { result.now ≡ bytes_of self.now }
+    {
+        match self {
+            Letters::Short(text) => text.as_str(),
+            Letters::Long(text) => text.as_str(),
+        }
+    }
+}
+
 /// A text, which contracts see as the list of its UTF-8 bytes.
 #[derive(Debug, Drop)]
 pub struct Txt {
-    text: String,
+    letters: Letters,
 }
 
 impl Model for Txt {
-    ghost use Rattle.std.specs.Prelude.{ℕ, List, string_bytes};
+    ghost use Rattle.std.specs.Prelude.{ℕ, List};
+    ghost use Rattle.nbfx_values.specs.Texts.{bytes_of};
 
     ghost Value = { List ℕ };
 
-    ghost view = { λ t. string_bytes t.text };
+    ghost view = { λ t. bytes_of t.letters };
 }
 
 impl Txt {
     /// The text with these characters.
+    #[inline]
     pub fn of(alloc: Global, text: &str) -> Result<Txt, Memory>
         ensures same { IfOk result (λ t. t ≡ text.now) }
         ensures utf8 { IfOk result (λ t. IsTrue (is_utf8 t)) }
     {
         Ok(Txt {
-            text: String::from_str(alloc, text)?,
+            letters: Letters::of(alloc, text)?,
         })
     }
 
@@ -42,11 +75,23 @@ impl Txt {
     }
 
     /// The characters.
+    #[inline]
     pub fn as_str(&self) -> &str
         ensures same { result.now ≡ self.now }
         ensures utf8 { IsTrue (is_utf8 self.now) }
     {
-        self.text.as_str()
+        self.letters.as_str()
+    }
+
+    /// How many bytes the text has.
+    #[inline]
+    pub fn len(&self) -> usize
+        ensures { result ≡ length self.now }
+    {
+        match &self.letters {
+            Letters::Short(text) => text.len(),
+            Letters::Long(text) => text.len(),
+        }
     }
 }
 
@@ -54,14 +99,19 @@ impl From<String> for Txt {
     ghost from_gives = { λ text t. t ≡ string_bytes text };
 
     fn from(text: String) -> Txt {
-        Txt { text }
+        Txt {
+            letters: Letters::Long(text),
+        }
     }
 }
 
 impl Copied for Txt {
     fn copy(&self) -> Result<Txt, Memory> {
         Ok(Txt {
-            text: self.text.clone()?,
+            letters: match &self.letters {
+                Letters::Short(text) => Letters::Short(*text),
+                Letters::Long(text) => Letters::Long(text.clone()?),
+            },
         })
     }
 }
