@@ -12,6 +12,7 @@ pub mod Waits
 pub mod Keeping
 pub mod StringSteps
 pub mod UnitSteps
+pub mod Saying
 pub mod TakeSteps
 pub mod AllSteps
 pub mod FeedSteps

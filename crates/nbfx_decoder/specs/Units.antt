@@ -8,6 +8,9 @@ use Rattle.nbfx_values.specs.declared.refusals.Reason.{Reason}
 use Rattle.nbfx_decoder.specs.declared.faults.UnitFault.{UnitFault}
 use Rattle.nbfx_decoder.specs.declared.faults.UnitFault.TheVariants.{Refused, Memory}
 use Rattle.nbfx_records.specs.declared.nodes.Node.{Node}
+use Rattle.nbfx_records.specs.declared.nodes.NodePlace.{NodePlace}
+use Rattle.nbfx_records.specs.Cursor.{IsWhole}
+use Rattle.nbfx_records.specs.Shapes.{Shape, shape_at}
 use Rattle.nbfx_decoder.specs.declared.strings.Head.{Head}
 use Rattle.nbfx_decoder.specs.declared.strings.StringRead.{StringRead}
 use Rattle.nbfx_decoder.specs.declared.strings.StringRead.TheVariants as strings_read
@@ -112,3 +115,15 @@ AddAnswers x z from n used new (Ok done) = (refused x z (node n) ≡ None)
 AddAnswers x z from n used new (Err (Refused reason shown_by)) =
     (refused x z (node n) ≡ Some reason) × (shown_by ≡ used) × HasStrings new x z.strings from
 AddAnswers x z from n used new (Err Memory) = HasStrings new x z.strings from
+
+-- a whole record of this shape stands at the front, of so many bytes
+pub record HasShape (place : NodePlace) (shape : Shape) (used : ℕ) (bytes : List ℕ) : Type 0 where
+  pub whole : IsWhole (shape_at place) bytes 0 shape used
+
+-- what bytes are answered with at whose front a whole record of so many bytes stands
+abbrev pub SayAnswers : Settings → Situation → ℕ → List ℕ → ℕ → UnitReader
+    → Result (Unit {0}) UnitFault → Type 0
+SayAnswers x z from bytes used new (Ok done) =
+    (n : Node) × (unit_in x z from bytes ≡ whole (node n) used) × (refused x z (node n) ≡ None)
+    × IsAt new x (after x z (node n)) from
+SayAnswers x z from bytes used new (Err fault) = UnitAnswers x z from bytes new (Err fault)

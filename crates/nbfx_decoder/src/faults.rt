@@ -3,7 +3,7 @@
 ghost use Rattle.std.specs.Prelude.{◌≡◌, Err};
 ghost use Rattle.nbfx_decoder.specs.Faults as spec;
 
-use nbfx_records::{NodeFault, ReadFault};
+use nbfx_records::{NodeFault, ReadFault, Unfit};
 use nbfx_values::Reason;
 use unit_streams::Memory;
 
@@ -73,5 +73,18 @@ pub(crate) fn unread(fault: ReadFault) -> UnitFault
             shown_by,
         },
         ReadFault::Memory => UnitFault::Memory,
+    }
+}
+
+/// Why no node is made of a whole record of so many bytes.
+pub(crate) fn unmade(unfit: Unfit, used: usize) -> UnitFault
+    ensures { result ≡ spec.unmade unfit used }
+{
+    match unfit {
+        Unfit::Fault(fault) => UnitFault::Refused {
+            reason: reason_of(fault),
+            shown_by: used,
+        },
+        Unfit::Memory => UnitFault::Memory,
     }
 }

@@ -55,6 +55,7 @@ pub(crate) struct Lookup<'a> {
 }
 
 impl Lookup<'_> {
+    #[inline(always)]
     fn text(&self, id: u32) -> Option<&str>
         ensures { option_map (λ text. text.now) result ≡ named_text (table_of self.now) id }
     {
@@ -65,6 +66,7 @@ impl Lookup<'_> {
         }
     }
 
+    #[inline(never)]
     fn named(&self, id: u32) -> Result<Txt, Unmeant>
         ensures found { Finds (named_text (table_of self.now) id) result }
         ensures utf8 { IfOk result (λ text. IsTrue (is_utf8 text)) }
@@ -75,6 +77,7 @@ impl Lookup<'_> {
         }
     }
 
+    #[inline(always)]
     fn name(&self, name: NameRef) -> Result<Txt, Unmeant>
         ensures found { Finds (name_text (table_of self.now) name) result }
         ensures utf8 { IsTrue (is_valid_name name) → IfOk result (λ text. IsTrue (is_utf8 text)) }
@@ -85,6 +88,7 @@ impl Lookup<'_> {
         }
     }
 
+    #[inline(always)]
     fn scalar(&self, scalar: RawScalar) -> Result<Scalar, Unmeant>
         ensures found { Finds (meant_scalar (table_of self.now) scalar) result }
         ensures valid { IsTrue (is_valid_raw scalar)
@@ -97,6 +101,7 @@ impl Lookup<'_> {
         }
     }
 
+    #[inline(never)]
     fn scalars(&self, raw: RawValues) -> Result<Values, Unmeant>
         ensures found { Finds (each (meant_scalar (table_of self.now)) raw) result }
         ensures valid { IsTrue (list_all is_valid_raw raw)
@@ -109,6 +114,7 @@ impl Lookup<'_> {
         Ok(values)
     }
 
+    #[inline(always)]
     fn value(&self, value: RawValue) -> Result<Value, Unmeant>
         ensures found { Finds (meant_value (table_of self.now) value) result }
         ensures valid { IsTrue (is_valid_text value)
@@ -154,6 +160,7 @@ impl Lookup<'_> {
         Ok(parts)
     }
 
+    #[inline(never)]
     fn array(&self, array: ArrayNode) -> Result<ArrayItem, Unmeant>
         ensures found { Finds (meant_array (table_of self.now) array) result }
         ensures valid { IsTrue (raw.is_valid_array array)
@@ -176,6 +183,7 @@ impl Lookup<'_> {
     }
 
     /// What the node means.
+    #[inline(always)]
     pub(crate) fn meant(&self, node: Node) -> Result<Meant, Unmeant>
         ensures found { FindsItems (items_of (table_of self.now) node) result }
         ensures valid { IsTrue (is_valid_node node)

@@ -8,18 +8,26 @@ ghost use Rattle.nbfx_values.specs.Positions.{position_of};
 ghost use Rattle.nbfx_values.specs.QuotasOf.{limits_of};
 ghost use Rattle.nbfx_values.specs.Items.{is_valid_item};
 ghost use Rattle.nbfx_decoder.specs.Meant.{items_in};
+ghost use Rattle.multibyte_ints.specs.Integer.{IsBytes};
+ghost use Rattle.nbfx_records.specs.Contents.{contents};
+ghost use Rattle.nbfx_records.specs.Judged.{Makes};
 ghost use Rattle.nbfx_records.specs.Places.{Stands};
+ghost use Rattle.nbfx_records.specs.Shapes.{Shape};
+ghost use Rattle.nbfx_records.specs.Views.{IsSoundRecord, record_seen};
 ghost use Rattle.nbfx_records.specs.Answers.{Answers, ReadsValid, Wants};
 ghost use Rattle.nbfx_records.specs.Valid.{is_valid_node};
 ghost use Rattle.nbfx_decoder.specs.Sections.{first_section, left_in};
 
 use crate::begun::Begun;
-use crate::faults::{UnitFault, refused, unread};
+use crate::faults::{UnitFault, refused, unmade, unread};
 use crate::meaning::{Lookup, Meant, Unmeant};
 use crate::section::Section;
 use crate::strings::{StringRead, string_at};
 use multibyte_ints::{IntRead, read_int};
-use nbfx_records::{Node, NodePlace, NodeRead, ReadFault, read_node};
+use nbfx_records::{
+    Node, NodePlace, NodeRead, ReadFault, RecordPart, Resume, Unfit, attribute_node, element_node,
+    node, shape_at, stopped, text_node,
+};
 use nbfx_values::{Doc, DocBuilder, Item, Kind, Position, PushFault, Quotas, Reason};
 use session_dictionary::{AddFault, SessionTable};
 use static_dictionary::StaticTable;
@@ -51,7 +59,7 @@ pub(crate) struct UnitReader<'s> {
 
 impl<'s> UnitReader<'s> {
     ghost use Rattle.nbfx_decoder.specs.Payload.{Settings, Situation, beginning, place_of};
-    ghost use Rattle.nbfx_decoder.specs.Units.{IsAt, Keeps, KeepsSettings, Counts, counted, AddAnswers, UnitAnswers};
+    ghost use Rattle.nbfx_decoder.specs.Units.{IsAt, Keeps, KeepsSettings, Counts, counted, AddAnswers, HasShape, SayAnswers, UnitAnswers};
 
     /// Before a payload's first byte, with no strings.
     pub(crate) fn new(alloc: Global, statics: &'s StaticTable, quotas: Quotas, kind: Kind) -> Self
@@ -83,14 +91,12 @@ impl<'s> UnitReader<'s> {
         match self.section {
             Section::TableSize => self.table_size(bytes),
             Section::Strings { left } => self.table_string(left, bytes),
-            Section::Nodes => {
-                let read = read_node(self.alloc, bytes, self.place());
-                self.node(bytes.len(), read)
-            }
+            Section::Nodes => self.record(bytes),
         }
     }
 
     /// Reads the unit whose bytes have begun, as far as they weren't read before.
+    #[inline(never)]
     pub(crate) fn read_on(&mut self, begun: &mut Begun) -> Result<UnitRead, UnitFault>
         requires few { self.old.from + length begun.old < 2 ^ 32 }
         ensures answers { (x : Settings) (z : Situation) (from : ℕ) → IsAt self.old x z from
@@ -111,6 +117,7 @@ impl<'s> UnitReader<'s> {
     }
 
     // Goes behind a unit of so many bytes.
+    #[inline(always)]
     fn pass(&mut self, used: usize) -> UnitRead
         requires { self.old.from + used < 2 ^ 32 }
         ensures done { result ≡ UnitRead.Done used }
@@ -123,6 +130,7 @@ impl<'s> UnitReader<'s> {
         UnitRead::Done { used }
     }
 
+    #[inline(never)]
     fn table_size(&mut self, bytes: &[u8]) -> Result<UnitRead, UnitFault>
         requires here { self.old.section ≡ Section.TableSize }
         requires few { self.old.from + length bytes.now < 2 ^ 32 }
@@ -144,6 +152,7 @@ impl<'s> UnitReader<'s> {
         }
     }
 
+    #[inline(never)]
     fn table_string(&mut self, left: u32, bytes: &[u8]) -> Result<UnitRead, UnitFault>
         requires here { self.old.section ≡ Section.Strings left }
         requires few { self.old.from + length bytes.now < 2 ^ 32 }
@@ -168,6 +177,7 @@ impl<'s> UnitReader<'s> {
     }
 
     // Where the next node stands.
+    #[inline(always)]
     fn place(&self) -> NodePlace
         ensures { result ≡ place_of self.now.quotas.depth (position_of self.now.document) }
     {
@@ -182,6 +192,7 @@ impl<'s> UnitReader<'s> {
     }
 
     // Goes behind a node that was read at the front of some bytes.
+    #[inline(never)]
     fn node(&mut self, len: usize, read: Result<NodeRead, ReadFault>) -> Result<UnitRead, UnitFault>
         requires here { self.old.section ≡ Section.Nodes }
         requires few { self.old.from + len < 2 ^ 32 }
@@ -208,7 +219,95 @@ impl<'s> UnitReader<'s> {
         }
     }
 
+    // Reads the record at the front of the bytes, and puts what it means behind the items.
+    #[inline(always)]
+    fn record(&mut self, bytes: &[u8]) -> Result<UnitRead, UnitFault>
+        requires here { self.old.section ≡ Section.Nodes }
+        requires few { self.old.from + length bytes.now < 2 ^ 32 }
+        ensures answers { (x : Settings) (z : Situation) (from : ℕ) → IsAt self.old x z from
+            → UnitAnswers x z from bytes.now self.new result }
+        ensures counts { IfOk result (Counts (length bytes.now)) }
+        ensures from { IfOk result (λ read. self.new.from ≡ self.old.from + counted read) }
+        ensures kept { KeepsSettings self.old self.new }
+    {
+        match shape_at(self.place(), bytes, &mut Resume::new()) {
+            Ok((part, used)) => {
+                self.say(&part, used)?;
+                Ok(self.pass(used))
+            }
+            Err(stop) => self.node(bytes.len(), stopped(stop)),
+        }
+    }
+
+    // Puts what a whole record of so many bytes means behind the items. Each kind of record has a
+    // way of its own, so that none pays for the room of another.
+    #[inline(always)]
+    fn say(&mut self, part: &RecordPart, used: usize) -> Result<(), UnitFault>
+        requires here { self.old.section ≡ Section.Nodes }
+        requires sound { IsSoundRecord part.now }
+        requires stands { (bytes : List ℕ) × HasShape (place_of self.old.quotas.depth
+            (position_of self.old.document)) (record_seen part.now) used bytes × IsBytes bytes }
+        ensures answers { (x : Settings) (z : Situation) (from : ℕ) (bytes : List ℕ)
+            → IsAt self.old x z from → HasShape (place_of self.old.quotas.depth
+            (position_of self.old.document)) (record_seen part.now) used bytes
+            → SayAnswers x z from bytes used self.new result }
+        ensures section { self.new.section ≡ self.old.section }
+        ensures from { self.new.from ≡ self.old.from }
+        ensures kept { KeepsSettings self.old self.new }
+    {
+        match part {
+            RecordPart::EndElement => self.put(Ok(Node::EndElement), used),
+            RecordPart::Element(part) => self.put(element_node(self.alloc, part), used),
+            RecordPart::Attribute(part) => self.put(attribute_node(self.alloc, part), used),
+            RecordPart::Text(part, ends) => self.put(text_node(self.alloc, part, *ends), used),
+            RecordPart::Comment(_) | RecordPart::Array(_) => {
+                let made = node(self.alloc, part);
+                self.put_any(made, used)
+            }
+        }
+    }
+
+    // Puts what is made of a whole record behind the items, if a node is.
+    #[inline(always)]
+    fn put(&mut self, made: Result<Node, Unfit>, used: usize) -> Result<(), UnitFault>
+        requires here { self.old.section ≡ Section.Nodes }
+        requires stands { (shape : Shape) × (bytes : List ℕ) × HasShape (place_of
+            self.old.quotas.depth (position_of self.old.document)) shape used bytes
+            × IsBytes bytes × Makes made (contents shape) }
+        ensures answers { (x : Settings) (z : Situation) (from : ℕ) (shape : Shape)
+            (bytes : List ℕ) → IsAt self.old x z from → HasShape (place_of self.old.quotas.depth
+            (position_of self.old.document)) shape used bytes → Makes made (contents shape)
+            → SayAnswers x z from bytes used self.new result }
+        ensures section { self.new.section ≡ self.old.section }
+        ensures from { self.new.from ≡ self.old.from }
+        ensures kept { KeepsSettings self.old self.new }
+    {
+        match made {
+            Ok(node) => self.add(node, used),
+            Err(unfit) => Err(unmade(unfit, used)),
+        }
+    }
+
+    // The same for records that seldom come.
+    #[inline(never)]
+    fn put_any(&mut self, made: Result<Node, Unfit>, used: usize) -> Result<(), UnitFault>
+        requires here { self.old.section ≡ Section.Nodes }
+        requires stands { (shape : Shape) × (bytes : List ℕ) × HasShape (place_of
+            self.old.quotas.depth (position_of self.old.document)) shape used bytes
+            × IsBytes bytes × Makes made (contents shape) }
+        ensures answers { (x : Settings) (z : Situation) (from : ℕ) (shape : Shape)
+            (bytes : List ℕ) → IsAt self.old x z from → HasShape (place_of self.old.quotas.depth
+            (position_of self.old.document)) shape used bytes → Makes made (contents shape)
+            → SayAnswers x z from bytes used self.new result }
+        ensures section { self.new.section ≡ self.old.section }
+        ensures from { self.new.from ≡ self.old.from }
+        ensures kept { KeepsSettings self.old self.new }
+    {
+        self.put(made, used)
+    }
+
     // Puts what a node of so many bytes means behind the items.
+    #[inline(always)]
     fn add(&mut self, node: Node, used: usize) -> Result<(), UnitFault>
         requires valid { IsTrue (is_valid_node node) }
         requires stands { Stands (place_of self.old.quotas.depth (position_of self.old.document)) node }
@@ -305,6 +404,7 @@ impl<'s> UnitReader<'s> {
 }
 
 // Puts what a node means behind the items.
+#[inline(always)]
 fn push(document: &mut DocBuilder, meant: Meant) -> Result<(), PushFault>
     requires { IsTrue (list_all is_valid_item (items_in meant)) }
     ensures pushed { OnOk result (document.new ≡ document.old ++ items_in meant) }

@@ -201,6 +201,7 @@ fn cells_at(bytes: &[u8], at: usize) -> Result<(CellsPart<'_>, usize), Stop>
 }
 
 /// What follows an array's type byte.
+#[inline(never)]
 pub fn array_at<'a>(
     bytes: &'a [u8],
     at: usize,

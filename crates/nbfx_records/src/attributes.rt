@@ -38,6 +38,7 @@ pub enum AttributePart<'a> {
 }
 
 // What follows the type byte of a text that is an attribute's value.
+#[inline(always)]
 fn text_value<'a>(
     kind: TextKind,
     ends: bool,
@@ -69,6 +70,7 @@ fn text_value<'a>(
 }
 
 // What follows the type byte of an attribute's value.
+#[inline(always)]
 fn value_of_kind<'a>(
     kind: Option<RecordKind>,
     bytes: &'a [u8],
@@ -91,6 +93,7 @@ fn value_of_kind<'a>(
 }
 
 // The value of an attribute, with its type byte.
+#[inline(always)]
 fn value_at<'a>(
     bytes: &'a [u8],
     at: usize,
@@ -109,6 +112,7 @@ fn value_at<'a>(
 }
 
 /// What follows the type byte of an attribute in these forms.
+#[inline(always)]
 pub fn attribute_at<'a>(
     prefix: PrefixForm,
     name: NameForm,
@@ -138,6 +142,7 @@ pub fn attribute_at<'a>(
 }
 
 /// What follows the type byte of a declaration in these forms.
+#[inline(always)]
 pub fn declaration_at(
     prefix: PrefixForm,
     uri: NameForm,

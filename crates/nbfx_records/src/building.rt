@@ -22,6 +22,7 @@ use nbfx_values::{Txt, Values};
 use std::alloc::Global;
 
 // The text of a prefix.
+#[inline(always)]
 fn prefix(alloc: Global, part: &PrefixPart) -> Result<Txt, Unfit>
     ensures { Makes result (spec.text_judged (prefix_seen part.now)) }
 {
@@ -42,6 +43,7 @@ fn has_text(part: &ScalarPart) -> bool
 }
 
 // A name.
+#[inline(always)]
 fn name(alloc: Global, part: &NamePart) -> Result<NameRef, Unfit>
     ensures { Makes result (spec.name_judged (name_seen part.now)) }
 {
@@ -52,6 +54,7 @@ fn name(alloc: Global, part: &NamePart) -> Result<NameRef, Unfit>
 }
 
 // One value.
+#[inline(always)]
 fn scalar(alloc: Global, part: &ScalarPart) -> Result<RawScalar, Unfit>
     ensures { Makes result (spec.scalar_judged (scalar_seen part.now)) }
 {
@@ -118,6 +121,7 @@ fn scalar_before(alloc: Global, part: &ScalarPart, rest: &[u8]) -> Result<RawSca
 }
 
 // The values of a list.
+#[inline(never)]
 fn scalars(alloc: Global, list: &[u8]) -> Result<RawValues, Unfit>
     requires { IsList list.now }
     ensures { Makes result (spec.scalars_judged (listed list.now)) }
@@ -132,6 +136,7 @@ fn scalars(alloc: Global, list: &[u8]) -> Result<RawValues, Unfit>
 }
 
 // The value of a text or an attribute.
+#[inline(always)]
 fn value(alloc: Global, part: &ValuePart) -> Result<RawValue, Unfit>
     requires { HoldsLists part.now }
     ensures { Makes result (spec.value_judged (value_seen part.now)) }
@@ -143,6 +148,7 @@ fn value(alloc: Global, part: &ValuePart) -> Result<RawValue, Unfit>
 }
 
 // An attribute or a declaration.
+#[inline(always)]
 fn attribute(alloc: Global, part: &AttributePart) -> Result<AttrNode, Unfit>
     requires { IsSoundAttribute part.now }
     ensures { Makes result (spec.attribute_judged (attribute_seen part.now)) }
@@ -266,6 +272,7 @@ fn attribute_before(alloc: Global, part: &AttributePart, rest: &[u8]) -> Result<
 }
 
 // The attributes of an array's element.
+#[inline(never)]
 fn attributes(alloc: Global, parts: &[u8]) -> Result<AttrNodes, Unfit>
     requires { AreParts parts.now }
     ensures { Makes result (spec.attributes_judged (parts_of parts.now)) }
@@ -297,6 +304,7 @@ fn cells(alloc: Global, part: &CellsPart) -> Result<Values, Unfit>
 }
 
 // An array.
+#[inline(never)]
 fn array(alloc: Global, part: &ArrayPart) -> Result<ArrayNode, Unfit>
     requires parts { AreParts part.now.attributes.now }
     requires sized { AreSized part.now.cells }
@@ -311,13 +319,38 @@ fn array(alloc: Global, part: &ArrayPart) -> Result<ArrayNode, Unfit>
     })
 }
 
-// The node of an element.
-fn element(alloc: Global, part: &NamedPart) -> Result<Node, Unfit>
-    ensures { Makes result (spec.element_judged (named_seen part.now)) }
+/// The node of an element.
+#[inline(always)]
+#[tactic(auto, unfolding(crate::specs::Contents::contents))]
+pub fn element_node(alloc: Global, part: &NamedPart) -> Result<Node, Unfit>
+    ensures { Makes result (spec.contents (record_seen (RecordPart.Element part.now))) }
 {
     Ok(Node::Element {
         prefix: prefix(alloc, &part.prefix)?,
         name: name(alloc, &part.name)?,
+    })
+}
+
+/// The node of an attribute or a declaration.
+#[inline(always)]
+#[tactic(auto, unfolding(crate::specs::Contents::contents))]
+pub fn attribute_node(alloc: Global, part: &AttributePart) -> Result<Node, Unfit>
+    requires { IsSoundAttribute part.now }
+    ensures { Makes result (spec.contents (record_seen (RecordPart.Attribute part.now))) }
+{
+    Ok(Node::from(attribute(alloc, part)?))
+}
+
+/// The node of a text.
+#[inline(always)]
+#[tactic(auto, unfolding(crate::specs::Contents::contents))]
+pub fn text_node(alloc: Global, part: &ValuePart, ends: bool) -> Result<Node, Unfit>
+    requires { HoldsLists part.now }
+    ensures { Makes result (spec.contents (record_seen (RecordPart.Text part.now ends))) }
+{
+    Ok(Node::Text {
+        value: value(alloc, part)?,
+        ends,
     })
 }
 
@@ -330,12 +363,9 @@ pub fn node(alloc: Global, part: &RecordPart) -> Result<Node, Unfit>
     match part {
         RecordPart::EndElement => Ok(Node::EndElement),
         RecordPart::Comment(bytes) => Ok(Node::Comment(text(alloc, bytes)?)),
-        RecordPart::Element(part) => element(alloc, part),
-        RecordPart::Attribute(part) => Ok(Node::from(attribute(alloc, part)?)),
-        RecordPart::Text(part, ends) => Ok(Node::Text {
-            value: value(alloc, part)?,
-            ends: *ends,
-        }),
+        RecordPart::Element(part) => element_node(alloc, part),
+        RecordPart::Attribute(part) => attribute_node(alloc, part),
+        RecordPart::Text(part, ends) => text_node(alloc, part, *ends),
         RecordPart::Array(part) => Ok(Node::Array(array(alloc, part)?)),
     }
 }

@@ -20,6 +20,7 @@ pub enum Stop {
 }
 
 /// So many bytes show this fault.
+#[inline(always)]
 pub fn fault<T>(fault: NodeFault, shown_by: usize) -> Result<T, Stop>
     ensures { result ≡ Err (Stop.Fault fault shown_by) }
 {
@@ -27,6 +28,7 @@ pub fn fault<T>(fault: NodeFault, shown_by: usize) -> Result<T, Stop>
 }
 
 /// A byte.
+#[inline(always)]
 pub fn byte_at(bytes: &[u8], at: usize) -> Result<(u8, usize), Stop>
     requires { at ≤ length bytes.now }
     ensures { Tells (λ byte. byte) a_byte asked.a_byte bytes.now at result }
@@ -38,6 +40,7 @@ pub fn byte_at(bytes: &[u8], at: usize) -> Result<(u8, usize), Stop>
 }
 
 /// So many bytes.
+#[inline(always)]
 pub fn bytes_at(bytes: &[u8], at: usize, count: usize) -> Result<(&[u8], usize), Stop>
     requires within { at ≤ length bytes.now }
     requires few { count < 2 ^ 62 }
@@ -78,6 +81,7 @@ pub fn integer_at(bytes: &[u8], from: usize) -> Result<(u32, usize), Stop>
 }
 
 /// A string, whose text isn't judged.
+#[inline(always)]
 pub fn string_at(bytes: &[u8], from: usize) -> Result<(&[u8], usize), Stop>
     requires { from ≤ length bytes.now }
     ensures { Tells (λ part. part.now) a_string asked.a_string bytes.now from result }

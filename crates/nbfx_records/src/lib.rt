@@ -26,14 +26,21 @@ mod resume;
 mod type_bytes;
 mod values;
 
+pub use arrays::{ArrayPart, CellsPart};
+pub use attributes::{AttributePart, ValuePart};
+pub use building::{attribute_node, element_node, node, text_node};
+pub use cursor::Stop;
 pub use kinds::TextKind;
 pub use nodes::{
     ArrayNode, AttrNode, AttrNodes, NameRef, Node, NodeFault, NodePlace, RawScalar, RawValue,
     RawValues,
 };
+pub use parts::{NamePart, NamedPart, PrefixPart, ScalarPart};
 pub use put_nodes::put_node;
-pub use read::{NodeRead, ReadFault, read_node, read_node_on};
+pub use read::{NodeRead, ReadFault, read_node, read_node_on, stopped};
+pub use records::{RecordPart, shape_at};
 pub use resume::Resume;
+pub use values::Unfit;
 
 #[cfg(test)]
 mod tests;

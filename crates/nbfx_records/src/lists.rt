@@ -112,6 +112,7 @@ pub struct ListPart<'a> {
 }
 
 /// A list behind its type byte. What was seen of it is kept in `resume`.
+#[inline(never)]
 pub fn list_at<'a>(
     holder: ListHolder,
     bytes: &'a [u8],

@@ -45,6 +45,7 @@ pub enum ScalarPart<'a> {
 }
 
 /// A prefix in this form.
+#[inline(always)]
 pub fn prefix_at(form: PrefixForm, bytes: &[u8], at: usize) -> Result<(PrefixPart<'_>, usize), Stop>
     requires { at ≤ length bytes.now }
     ensures { Tells prefix_seen (spec.prefix_at form) (asked.prefix_at form) bytes.now at result }
@@ -60,6 +61,7 @@ pub fn prefix_at(form: PrefixForm, bytes: &[u8], at: usize) -> Result<(PrefixPar
 }
 
 /// A name in this form.
+#[inline(always)]
 pub fn name_at(form: NameForm, bytes: &[u8], at: usize) -> Result<(NamePart<'_>, usize), Stop>
     requires { at ≤ length bytes.now }
     ensures { Tells name_seen (spec.name_at form) (asked.name_at form) bytes.now at result }
@@ -77,6 +79,7 @@ pub fn name_at(form: NameForm, bytes: &[u8], at: usize) -> Result<(NamePart<'_>,
 }
 
 /// What follows the type byte of an element in these forms.
+#[inline(always)]
 pub fn element_at(
     prefix: PrefixForm,
     name: NameForm,
@@ -124,6 +127,7 @@ fn length_said(form: LengthForm, said: &[u8]) -> Option<usize>
 }
 
 /// A length in this form.
+#[inline(always)]
 pub fn length_at(form: LengthForm, bytes: &[u8], at: usize) -> Result<(usize, usize), Stop>
     requires { at ≤ length bytes.now }
     ensures tells { Tells (λ n. n) (spec.a_length form)
@@ -141,6 +145,7 @@ pub fn length_at(form: LengthForm, bytes: &[u8], at: usize) -> Result<(usize, us
 }
 
 // A length, and as many bytes as it says.
+#[inline(always)]
 fn counted_at(form: LengthForm, bytes: &[u8], at: usize) -> Result<(&[u8], usize), Stop>
     requires { at ≤ length bytes.now }
     ensures { Tells (λ part. part.now) (spec.counted_bytes form)
@@ -161,6 +166,7 @@ fn qualified_at(bytes: &[u8], at: usize) -> Result<(ScalarPart<'_>, usize), Stop
 }
 
 /// What follows the type byte of one value of this kind.
+#[inline(always)]
 pub fn scalar_at(kind: TextKind, bytes: &[u8], at: usize) -> Result<(ScalarPart<'_>, usize), Stop>
     requires { at ≤ length bytes.now }
     ensures { Tells scalar_seen (spec.scalar_at kind) (asked.scalar_at kind) bytes.now at result }

@@ -47,8 +47,9 @@ fn done(alloc: Global, part: &RecordPart, used: usize) -> Result<NodeRead, ReadF
     }
 }
 
-// A record whose structure isn't whole.
-fn stopped(stop: Stop) -> Result<NodeRead, ReadFault>
+/// What is answered of a record whose structure isn't whole.
+#[inline(always)]
+pub fn stopped(stop: Stop) -> Result<NodeRead, ReadFault>
     ensures { result ≡ stopped_by stop }
 {
     match stop {
@@ -61,6 +62,7 @@ fn stopped(stop: Stop) -> Result<NodeRead, ReadFault>
 /// does. `resume` is what was seen of the same bytes, or of fewer of them, when they were read
 /// before: a list and an array's attributes are read on from where they were left. What is seen now
 /// is kept in it, so that a long list isn't gone through again for each piece of it.
+#[inline(never)]
 pub fn read_node_on(
     alloc: Global,
     bytes: &[u8],

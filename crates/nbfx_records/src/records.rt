@@ -30,6 +30,7 @@ pub enum RecordPart<'a> {
 }
 
 // What follows the type byte of a text.
+#[inline(always)]
 fn text_at<'a>(
     kind: TextKind,
     ends: bool,
@@ -62,6 +63,7 @@ fn text_at<'a>(
 
 // What follows the type byte of a record.
 #[tactic(auto, unfolding(crate::specs::Shapes::record_at))]
+#[inline(always)]
 fn record_at<'a>(
     kind: RecordKind,
     bytes: &'a [u8],
@@ -132,6 +134,7 @@ fn misplaced(place: NodePlace, kind: RecordKind) -> Option<NodeFault>
 }
 
 // What follows a type byte, where the record may come that it begins.
+#[inline(always)]
 fn placed<'a>(
     place: NodePlace,
     kind: Option<RecordKind>,
@@ -161,6 +164,7 @@ fn placed<'a>(
 
 /// The record at the front of the bytes, where it may come at this place. What was seen of one that
 /// isn't whole is kept in `resume`.
+#[inline(always)]
 pub fn shape_at<'a>(
     place: NodePlace,
     bytes: &'a [u8],

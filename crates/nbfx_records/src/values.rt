@@ -52,6 +52,7 @@ pub fn is_text(bytes: &[u8]) -> bool
 }
 
 /// The text of bytes that are UTF-8.
+#[inline]
 pub fn text(alloc: Global, bytes: &[u8]) -> Result<Txt, Unfit>
     ensures { Makes result (text_judged bytes.now) }
 {
