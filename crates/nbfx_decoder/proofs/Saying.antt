@@ -14,8 +14,6 @@ use Rattle.nbfx_records.specs.declared.nodes.NodePlace.{NodePlace}
 use Rattle.nbfx_records.specs.declared.read.NodeRead.TheVariants.{Done}
 use Rattle.nbfx_records.specs.declared.read.ReadFault.TheVariants.{Fault}
 use Rattle.nbfx_records.specs.declared.cursor.Stop.{Stop}
-use Rattle.nbfx_records.specs.declared.read.NodeRead.{NodeRead}
-use Rattle.nbfx_records.specs.declared.read.ReadFault.{ReadFault}
 use Rattle.nbfx_records.specs.declared.values.Unfit.{Unfit}
 use Rattle.nbfx_records.specs.declared.values.Unfit.TheVariants as unfits
 use Rattle.nbfx_records.specs.Answers.{Answers, Wants, stopped_by}
@@ -88,15 +86,15 @@ node_unmade r x z from at here bytes shape used has (unfits.Fault fault) e = nod
 node_unmade r x z from at here bytes shape used has unfits.Memory e = at.set
 
 -- what is answered where it isn't whole
-module _ (place at : NodePlace) (bytes : List ℕ) (stop : Stop) (same : at ≡ place) (told : Stops (shape_at at) (asked.shape_at at) bytes 0 stop) (r : Result NodeRead ReadFault) (is : r ≡ stopped_by stop) where
+module _ (place at : NodePlace) (bytes : List ℕ) (stop : Stop) (same : at ≡ place) (told : Stops (shape_at at) (asked.shape_at at) bytes 0 stop) where
   there : Stops (shape_at place) (asked.shape_at place) bytes 0 stop
   there = subst (λ (p : NodePlace). Stops (shape_at p) (asked.shape_at p) bytes 0 stop) same told
 
-  pub stop_answers : Answers place bytes r
-  stop_answers = subst (Answers place bytes) (sym is) (stopped_answers place bytes stop there)
+  pub stop_answers : Answers place bytes (stopped_by stop)
+  stop_answers = stopped_answers place bytes stop there
 
-  pub stop_wants : Wants place bytes r
-  stop_wants = subst (Wants place bytes) (sym is) (stopped_wants place bytes stop there)
+  pub stop_wants : Wants place bytes (stopped_by stop)
+  stop_wants = stopped_wants place bytes stop there
 
 -- a fault that is handed on
 pub unsaid : (x : Settings) (z : Situation) (from : ℕ) (bytes : List ℕ) (used : ℕ) (new : UnitReader) (fault : UnitFault) (r : Result UnitRead UnitFault) → IsErrAnd r (λ y. y ≡ fault)

@@ -25,8 +25,8 @@ use crate::section::Section;
 use crate::strings::{StringRead, string_at};
 use multibyte_ints::{IntRead, read_int};
 use nbfx_records::{
-    Node, NodePlace, NodeRead, ReadFault, RecordPart, Resume, Unfit, attribute_node, element_node,
-    node, shape_at, stopped, text_node,
+    Node, NodePlace, NodeRead, ReadFault, RecordPart, Resume, Stop, Unfit, attribute_node,
+    element_node, node, shape_at, text_node,
 };
 use nbfx_values::{Doc, DocBuilder, Item, Kind, Position, PushFault, Quotas, Reason};
 use session_dictionary::{AddFault, SessionTable};
@@ -235,7 +235,10 @@ impl<'s> UnitReader<'s> {
                 self.say(&part, used)?;
                 Ok(self.pass(used))
             }
-            Err(stop) => self.node(bytes.len(), stopped(stop)),
+            Err(Stop::More { wants }) => Ok(UnitRead::More { wants }),
+            Err(Stop::Fault { fault, shown_by }) => {
+                Err(unread(ReadFault::Fault { fault, shown_by }))
+            }
         }
     }
 
@@ -260,11 +263,27 @@ impl<'s> UnitReader<'s> {
             RecordPart::Element(part) => self.put(element_node(self.alloc, part), used),
             RecordPart::Attribute(part) => self.put(attribute_node(self.alloc, part), used),
             RecordPart::Text(part, ends) => self.put(text_node(self.alloc, part, *ends), used),
-            RecordPart::Comment(_) | RecordPart::Array(_) => {
-                let made = node(self.alloc, part);
-                self.put_any(made, used)
-            }
+            RecordPart::Comment(_) | RecordPart::Array(_) => self.say_any(*part, used),
         }
+    }
+
+    // The same for any record, in one way: for those that seldom come.
+    #[inline(never)]
+    fn say_any(&mut self, part: RecordPart, used: usize) -> Result<(), UnitFault>
+        requires here { self.old.section ≡ Section.Nodes }
+        requires sound { IsSoundRecord part }
+        requires stands { (bytes : List ℕ) × HasShape (place_of self.old.quotas.depth
+            (position_of self.old.document)) (record_seen part) used bytes × IsBytes bytes }
+        ensures answers { (x : Settings) (z : Situation) (from : ℕ) (bytes : List ℕ)
+            → IsAt self.old x z from → HasShape (place_of self.old.quotas.depth
+            (position_of self.old.document)) (record_seen part.entry) used bytes
+            → SayAnswers x z from bytes used self.new result }
+        ensures section { self.new.section ≡ self.old.section }
+        ensures from { self.new.from ≡ self.old.from }
+        ensures kept { KeepsSettings self.old self.new }
+    {
+        let made = node(self.alloc, &part);
+        self.put(made, used)
     }
 
     // Puts what is made of a whole record behind the items, if a node is.
@@ -286,24 +305,6 @@ impl<'s> UnitReader<'s> {
             Ok(node) => self.add(node, used),
             Err(unfit) => Err(unmade(unfit, used)),
         }
-    }
-
-    // The same for records that seldom come.
-    #[inline(never)]
-    fn put_any(&mut self, made: Result<Node, Unfit>, used: usize) -> Result<(), UnitFault>
-        requires here { self.old.section ≡ Section.Nodes }
-        requires stands { (shape : Shape) × (bytes : List ℕ) × HasShape (place_of
-            self.old.quotas.depth (position_of self.old.document)) shape used bytes
-            × IsBytes bytes × Makes made (contents shape) }
-        ensures answers { (x : Settings) (z : Situation) (from : ℕ) (shape : Shape)
-            (bytes : List ℕ) → IsAt self.old x z from → HasShape (place_of self.old.quotas.depth
-            (position_of self.old.document)) shape used bytes → Makes made (contents shape)
-            → SayAnswers x z from bytes used self.new result }
-        ensures section { self.new.section ≡ self.old.section }
-        ensures from { self.new.from ≡ self.old.from }
-        ensures kept { KeepsSettings self.old self.new }
-    {
-        self.put(made, used)
     }
 
     // Puts what a node of so many bytes means behind the items.

@@ -27,6 +27,7 @@ fn prefix(alloc: Global, part: &PrefixPart) -> Result<Txt, Unfit>
     ensures { Makes result (spec.text_judged (prefix_seen part.now)) }
 {
     match part {
+        PrefixPart::Letter(letter) if letter.is_ascii() => Ok(Txt::of_ascii(*letter)),
         PrefixPart::Letter(letter) => text(alloc, &[*letter]),
         PrefixPart::Text(bytes) => text(alloc, bytes),
     }

@@ -37,7 +37,7 @@ pub use nodes::{
 };
 pub use parts::{NamePart, NamedPart, PrefixPart, ScalarPart};
 pub use put_nodes::put_node;
-pub use read::{NodeRead, ReadFault, read_node, read_node_on, stopped};
+pub use read::{NodeRead, ReadFault, read_node, read_node_on};
 pub use records::{RecordPart, shape_at};
 pub use resume::Resume;
 pub use values::Unfit;

@@ -47,9 +47,8 @@ fn done(alloc: Global, part: &RecordPart, used: usize) -> Result<NodeRead, ReadF
     }
 }
 
-/// What is answered of a record whose structure isn't whole.
-#[inline(always)]
-pub fn stopped(stop: Stop) -> Result<NodeRead, ReadFault>
+// A record whose structure isn't whole.
+fn stopped(stop: Stop) -> Result<NodeRead, ReadFault>
     ensures { result ≡ stopped_by stop }
 {
     match stop {

@@ -10,7 +10,7 @@ ghost use Rattle.nbfx_records.specs.Views.{IsSoundRecord, record_seen};
 use crate::arrays::{ArrayPart, array_at};
 use crate::attributes::{AttributePart, ValuePart, attribute_at, declaration_at};
 use crate::cursor::{Stop, byte_at, fault, string_at};
-use crate::kinds::{RecordKind, TextKind};
+use crate::kinds::{NameForm, PrefixForm, RecordKind, TextKind};
 use crate::lists::{ListHolder, list_at};
 use crate::nodes::{NodeFault, NodePlace};
 use crate::parts::{NamedPart, element_at, scalar_at};
@@ -27,6 +27,30 @@ pub enum RecordPart<'a> {
     /// And whether the element that holds it ends.
     Text(ValuePart<'a>, bool),
     Array(ArrayPart<'a>),
+}
+
+// What follows the type byte of a list that is a text.
+#[inline(always)]
+fn list_record<'a>(
+    ends: bool,
+    bytes: &'a [u8],
+    at: usize,
+    resume: &mut Resume,
+) -> Result<(RecordPart<'a>, usize), Stop>
+    requires within { at ≤ length bytes.now }
+    requires fits { Fits resume.old bytes.now }
+    ensures tells { Tells record_seen (spec.text_at TextKind.StartList ends)
+        (asked.text_at TextKind.StartList ends) bytes.now at result }
+    ensures sound { IfOk result (λ read. IsSoundRecord read.0) }
+    ensures kept { OnMore result (KeepsOf (RecordKind.Text TextKind.StartList ends) at
+        resume.new bytes.now) }
+    ensures fits { Fits resume.new bytes.now }
+{
+    let (list, at) = list_at(ListHolder::Text, bytes, at, resume)?;
+    Ok((
+        RecordPart::Text(ValuePart::List(list.bytes), list.closes),
+        at,
+    ))
 }
 
 // What follows the type byte of a text.
@@ -47,13 +71,7 @@ fn text_at<'a>(
     ensures fits { Fits resume.new bytes.now }
 {
     match kind {
-        TextKind::StartList => {
-            let (list, at) = list_at(ListHolder::Text, bytes, at, resume)?;
-            Ok((
-                RecordPart::Text(ValuePart::List(list.bytes), list.closes),
-                at,
-            ))
-        }
+        TextKind::StartList => list_record(ends, bytes, at, resume),
         _ => {
             let (scalar, at) = scalar_at(kind, bytes, at)?;
             Ok((RecordPart::Text(ValuePart::One(scalar), ends), at))
@@ -61,9 +79,101 @@ fn text_at<'a>(
     }
 }
 
-// What follows the type byte of a record.
-#[tactic(auto, unfolding(crate::specs::Shapes::record_at))]
+// What follows the type byte of a comment.
 #[inline(always)]
+#[tactic(auto, unfolding(crate::specs::Shapes::record_at))]
+fn comment_record(bytes: &[u8], at: usize) -> Result<(RecordPart<'_>, usize), Stop>
+    requires { at ≤ length bytes.now }
+    ensures tells { Tells record_seen (spec.record_at RecordKind.Comment)
+        (asked.record_at RecordKind.Comment) bytes.now at result }
+    ensures sound { IfOk result (λ read. IsSoundRecord read.0) }
+{
+    let (text, at) = string_at(bytes, at)?;
+    Ok((RecordPart::Comment(text), at))
+}
+
+// What follows the type byte of an array.
+#[inline(always)]
+#[tactic(auto, unfolding(crate::specs::Shapes::record_at))]
+fn array_record<'a>(
+    bytes: &'a [u8],
+    at: usize,
+    resume: &mut Resume,
+) -> Result<(RecordPart<'a>, usize), Stop>
+    requires within { at ≤ length bytes.now }
+    requires fits { Fits resume.old bytes.now }
+    ensures tells { Tells record_seen (spec.record_at RecordKind.Array)
+        (asked.record_at RecordKind.Array) bytes.now at result }
+    ensures sound { IfOk result (λ read. IsSoundRecord read.0) }
+    ensures kept { OnMore result (KeepsOf RecordKind.Array at resume.new bytes.now) }
+    ensures fits { Fits resume.new bytes.now }
+{
+    let (array, at) = array_at(bytes, at, resume)?;
+    Ok((RecordPart::Array(array), at))
+}
+
+// What follows the type byte of an attribute.
+#[inline(always)]
+#[tactic(auto, unfolding(crate::specs::Shapes::record_at))]
+fn attribute_record<'a>(
+    prefix: PrefixForm,
+    name: NameForm,
+    bytes: &'a [u8],
+    at: usize,
+    resume: &mut Resume,
+) -> Result<(RecordPart<'a>, usize), Stop>
+    requires within { at ≤ length bytes.now }
+    requires fits { Fits resume.old bytes.now }
+    ensures tells { Tells record_seen (spec.record_at (RecordKind.Attribute prefix name))
+        (asked.record_at (RecordKind.Attribute prefix name)) bytes.now at result }
+    ensures sound { IfOk result (λ read. IsSoundRecord read.0) }
+    ensures kept { OnMore result (KeepsOf (RecordKind.Attribute prefix name) at
+        resume.new bytes.now) }
+    ensures fits { Fits resume.new bytes.now }
+{
+    let (attribute, at) = attribute_at(prefix, name, bytes, at, resume)?;
+    Ok((RecordPart::Attribute(attribute), at))
+}
+
+// What follows the type byte of a declaration.
+#[inline(always)]
+#[tactic(auto, unfolding(crate::specs::Shapes::record_at))]
+fn declaration_record(
+    prefix: PrefixForm,
+    uri: NameForm,
+    bytes: &[u8],
+    at: usize,
+) -> Result<(RecordPart<'_>, usize), Stop>
+    requires { at ≤ length bytes.now }
+    ensures tells { Tells record_seen (spec.record_at (RecordKind.Declaration prefix uri))
+        (asked.record_at (RecordKind.Declaration prefix uri)) bytes.now at result }
+    ensures sound { IfOk result (λ read. IsSoundRecord read.0) }
+{
+    let (declaration, at) = declaration_at(prefix, uri, bytes, at)?;
+    Ok((RecordPart::Attribute(declaration), at))
+}
+
+// What follows the type byte of an element.
+#[inline(always)]
+#[tactic(auto, unfolding(crate::specs::Shapes::record_at))]
+fn element_record(
+    prefix: PrefixForm,
+    name: NameForm,
+    bytes: &[u8],
+    at: usize,
+) -> Result<(RecordPart<'_>, usize), Stop>
+    requires { at ≤ length bytes.now }
+    ensures tells { Tells record_seen (spec.record_at (RecordKind.Element prefix name))
+        (asked.record_at (RecordKind.Element prefix name)) bytes.now at result }
+    ensures sound { IfOk result (λ read. IsSoundRecord read.0) }
+{
+    let (element, at) = element_at(prefix, name, bytes, at)?;
+    Ok((RecordPart::Element(element), at))
+}
+
+// What follows the type byte of a record.
+#[inline(always)]
+#[tactic(auto, unfolding(crate::specs::Shapes::record_at))]
 fn record_at<'a>(
     kind: RecordKind,
     bytes: &'a [u8],
@@ -80,26 +190,11 @@ fn record_at<'a>(
 {
     match kind {
         RecordKind::EndElement => Ok((RecordPart::EndElement, at)),
-        RecordKind::Comment => {
-            let (text, at) = string_at(bytes, at)?;
-            Ok((RecordPart::Comment(text), at))
-        }
-        RecordKind::Array => {
-            let (array, at) = array_at(bytes, at, resume)?;
-            Ok((RecordPart::Array(array), at))
-        }
-        RecordKind::Attribute(prefix, name) => {
-            let (attribute, at) = attribute_at(prefix, name, bytes, at, resume)?;
-            Ok((RecordPart::Attribute(attribute), at))
-        }
-        RecordKind::Declaration(prefix, uri) => {
-            let (declaration, at) = declaration_at(prefix, uri, bytes, at)?;
-            Ok((RecordPart::Attribute(declaration), at))
-        }
-        RecordKind::Element(prefix, name) => {
-            let (element, at) = element_at(prefix, name, bytes, at)?;
-            Ok((RecordPart::Element(element), at))
-        }
+        RecordKind::Comment => comment_record(bytes, at),
+        RecordKind::Array => array_record(bytes, at, resume),
+        RecordKind::Attribute(prefix, name) => attribute_record(prefix, name, bytes, at, resume),
+        RecordKind::Declaration(prefix, uri) => declaration_record(prefix, uri, bytes, at),
+        RecordKind::Element(prefix, name) => element_record(prefix, name, bytes, at),
         RecordKind::Text(kind, ends) => text_at(kind, ends, bytes, at, resume),
     }
 }

@@ -88,7 +88,8 @@ impl<T: Drop> Sequence<T> {
         ensures pushed { OnOk result (self.new ≡ self.old ++ one ∷ []) }
         ensures unchanged { OnErr result (self.new ≡ self.old) }
     {
-        self.items.push(one)?;
+        self.items.reserve(1)?;
+        self.items.push_reserved(one);
         Ok(())
     }
 }

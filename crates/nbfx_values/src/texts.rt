@@ -1,6 +1,6 @@
 //! Texts and bytes.
 
-ghost use Rattle.std.specs.Prelude.{◌≡◌, IfOk, IsTrue, length, string_bytes};
+ghost use Rattle.std.specs.Prelude.{◌≡◌, ◌<◌, [], ◌∷◌, IfOk, IsTrue, length, string_bytes};
 ghost use Rattle.std.specs.Str.{is_utf8};
 ghost use Rattle.nbfx_values.specs.Texts.{bytes_of};
 
@@ -24,8 +24,15 @@ impl Letters {
     {
         match ArrayString::from(text) {
             Ok(short) => Ok(Letters::Short(short)),
-            Err(_) => Ok(Letters::Long(String::from_str(alloc, text)?)),
+            Err(_) => Letters::long(alloc, text),
         }
+    }
+
+    #[inline(never)]
+    fn long(alloc: Global, text: &str) -> Result<Letters, Memory>
+        ensures { IfOk result (λ letters. bytes_of letters ≡ text.now) }
+    {
+        Ok(Letters::Long(String::from_str(alloc, text)?))
     }
 
     #[inline]
@@ -64,6 +71,24 @@ impl Txt {
         Ok(Txt {
             letters: Letters::of(alloc, text)?,
         })
+    }
+
+    /// The text of one ASCII character.
+    #[inline(always)]
+    pub fn of_ascii(character: u8) -> Txt
+        requires { character < 128 }
+        ensures same { result ≡ character ∷ [] }
+        ensures utf8 { IsTrue (is_utf8 result) }
+    {
+        let mut letters = ArrayString::new();
+        letters.push(character as char);
+        let text = Txt {
+            letters: Letters::Short(letters),
+        };
+
+        // Characters are UTF-8.
+        let _characters = text.as_str();
+        text
     }
 
     // Whether the bytes are UTF-8, as those of every text are.

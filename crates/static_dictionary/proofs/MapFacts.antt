@@ -1,7 +1,8 @@
 -- Facts about a table's two maps.
-use Rattle.std.proofs.Common.{◌≡◌, ℕ, true, false, cond, List, [], ◌∷◌, Option, Some, None, String, Ordering, refl, sym, ap, ◌∙◌, map, option_map, string_bytes, inl, inr}
-use Rattle.std.specs.Prelude.{◌==◌, Ok, is_some}
-use Rattle.std.specs.BTreeMap.{insert_entry, is_at}
+use Rattle.std.proofs.Common.{◌≡◌, ℕ, zero, suc, ◌*◌, ◌/◌, ◌%◌, ◌++◌, ◌⊎◌, length, arith, true, false, cond, List, [], ◌∷◌, Option, Some, None, String, Ordering, refl, sym, ap, ◌∙◌, subst, map, option_map, string_bytes, inl, inr}
+use Rattle.std.specs.Prelude.{◌==◌, Result, Ok, Err, IfOk, IfErr, OnOk, is_some}
+use Rattle.std.specs.BTreeMap.{BTreeMap, insert_entry, is_at}
+use Rattle.std.specs.List.{slice_get}
 use Rattle.std.specs.Cmp.{unsigned_tied}
 use Rattle.std.specs.Cmp.Lexicographic.{bytes_decides}
 use Rattle.std.specs.Map.{lookup}
@@ -10,6 +11,10 @@ use Rattle.std.specs.Str.{bytes_eq}
 use Rattle.std.specs.declared.cmp.Ordering.TheVariants.{Less, Equal, Greater}
 use Rattle.std.proofs.lemmas.Bool.{cases_Bool}
 use Rattle.string_tables.specs.StaticStrings.{Entry, IsStaticId, IsStaticMap, least_static_id, least_with, static_text, with_entry}
+use Rattle.static_dictionary.specs.Faults.{Tells}
+use Rattle.static_dictionary.specs.declared.fault.TableFault.{TableFault}
+use Rattle.static_dictionary.specs.declared.fault.TableFault.TheVariants.{Memory}
+use Rattle.static_dictionary.specs.Inside.{ArePlaced, entries_in}
 use Rattle.static_dictionary.specs.Rows.{Fault, fault_or}
 use Rattle.static_dictionary.specs.declared.fault.TableKind.TheVariants as kind
 use Rattle.string_tables.proofs.EntryFacts.{least_static_id-with}
@@ -76,3 +81,41 @@ fault_or-repeated behind n before entry seen = rw seen refl
 pub found-static : (entries : List Entry) (text : List ℕ) (found : Option ℕ) → found ≡ least_static_id entries text → IsStaticMap entries → IfSome found (λ id. IsStaticId id)
 found-static entries text None is rises = tt
 found-static entries text (Some id) is rises = (static_text-stands 0 entries id text rises (least_static_id-named entries text id rises (sym is))).static_id
+
+-- what is at a place, where one more came
+slice_get-more : {X : Type 0} (xs : List X) (y : X) (k : ℕ) (x : X) → slice_get (xs ++ y ∷ []) k ≡ Some x → (slice_get xs k ≡ Some x) ⊎ ((k ≡ length xs) × (x ≡ y))
+slice_get-more [] y zero x e = inr (refl, cc)
+slice_get-more [] y (suc k) x e = cc
+slice_get-more (w ∷ xs) y zero x e = inl e
+slice_get-more (w ∷ xs) y (suc k) x e = elim (slice_get-more xs y k x e) [ inl before ↦ inl before | inr here ↦ inr (ap suc here.0, here.1) ]
+
+module _ {A : Type 0} where
+  -- one more text at its place
+  pub placed-more : (placed : List (Option (String A))) (by_id : BTreeMap ℕ (String A)) (text : Option (String A)) (id : ℕ) → ArePlaced placed by_id → id ≡ 2 * length placed
+      → option_map string_bytes text ≡ static_text (entries_in by_id) id → ArePlaced (placed ++ text ∷ []) by_id
+  placed-more placed by_id text id are is same = record {
+    are = λ place held e. elim (slice_get-more placed text place held e) [
+      | inl before ↦ are.are place held before
+      | inr here ↦ ap (option_map string_bytes) here.1 ∙ same ∙ ap (static_text (entries_in by_id)) (is ∙ ap (λ n. 2 * n) (sym here.0))
+    ];
+  }
+
+  -- what is at a place, for an even identifier
+  pub placed-here : (placed : List (Option (String A))) (by_id : BTreeMap ℕ (String A)) (text : Option (String A)) (id : ℕ) → ArePlaced placed by_id → Some text ≡ slice_get placed (id / 2) → id % 2 ≡ 0
+      → option_map string_bytes text ≡ static_text (entries_in by_id) id
+  placed-here placed by_id text id are e even =
+      let twice : 2 * (id / 2) ≡ id = omega arith in
+      are.are (id / 2) text (sym e) ∙ ap (static_text (entries_in by_id)) twice
+
+-- what holds of the table that is made, and of the want of memory for it
+pub table_made : (r : Result (List Entry) TableFault) (entries : List Entry) (P : List Entry → Type 0) → IfOk r (λ table. table ≡ entries) → P entries → IfOk r P
+table_made (Ok table) entries P is here = subst P (sym is) here
+table_made (Err fault) entries P is here = tt
+
+pub made_anyhow : (r : Result (List Entry) TableFault) {P : Type 0} → P → OnOk r P
+made_anyhow (Ok table) here = here
+made_anyhow (Err fault) here = tt
+
+pub memory_told : (r : Result (List Entry) TableFault) (first : Option Fault) → IfErr r (λ fault. fault ≡ Memory) → IfErr r (Tells first)
+memory_told (Ok table) first is = tt
+memory_told (Err fault) first is = subst (Tells first) (sym is) tt

@@ -1,10 +1,10 @@
 // The table of the static strings.
-ghost use Rattle.std.specs.Prelude.{◌≡◌, ◌≢◌, Some, None, ℕ, drop, option_map, OnOk, OnSome, IfErr, IfNone, IfOk, IfSome};
+ghost use Rattle.std.specs.Prelude.{◌≡◌, ◌≢◌, Some, None, ℕ, drop, option_map, string_bytes, OnOk, OnSome, IfErr, IfNone, IfOk, IfSome};
 ghost use Rattle.csv.specs.Records.{fields_of};
 ghost use Rattle.string_tables.specs.StaticStrings.{IsStaticId, IsStaticMap, least_static_id, least_with, static_text, with_entry};
 ghost use Rattle.string_tables.specs.StringTable.{IsLeastName};
 ghost use Rattle.static_dictionary.specs.Faults.{AddsEntryOf, Tells};
-ghost use Rattle.static_dictionary.specs.Inside.{AreMapsOfTable, entries_in};
+ghost use Rattle.static_dictionary.specs.Inside.{AreMapsOfTable, ArePlaced, entries_in};
 ghost use Rattle.static_dictionary.specs.Rows.{entries_of, entry_of, fault_of, fault_or, rows_of, table_of};
 
 use crate::entry::entry_of;
@@ -15,23 +15,28 @@ use std::alloc::{AllocError, Global};
 use std::collections::BTreeMap;
 use std::marker::Model;
 
+/// Of so many identifiers, the least even ones, the texts have places of their own.
+const PLACES: u32 = 512;
+
 /// The static strings.
 #[derive(Drop)]
 pub struct StaticTable {
     by_id: BTreeMap<u32, String>,
     by_text: BTreeMap<String, u32>,
+    /// The text of identifier 2k once more, at place k.
+    placed: Vec<Option<String>>,
 }
 
 impl Model for StaticTable {
     ghost use Rattle.std.specs.Prelude.{List};
     ghost use Rattle.string_tables.specs.StaticStrings.{Entry};
-    ghost use Rattle.static_dictionary.specs.Inside.{AreMapsOfTable, entries_in};
+    ghost use Rattle.static_dictionary.specs.Inside.{IsTable, entries_in};
 
     ghost Value = { List Entry };
 
     ghost view = { λ t. entries_in t.by_id };
 
-    ghost invariant = { λ t. AreMapsOfTable t.by_id t.by_text };
+    ghost invariant = { λ t. IsTable t.by_id t.by_text t.placed.items };
 }
 
 impl StaticTable {
@@ -51,7 +56,7 @@ impl StaticTable {
         let mut by_text = BTreeMap::new(alloc);
         for number in 1..u64::MAX {
             if !next_row(&mut reader, &mut row)? {
-                return Ok(StaticTable { by_id, by_text });
+                return with_places(alloc, by_id, by_text);
             }
             add_row(alloc, &mut by_id, &mut by_text, number, &row)?;
         }
@@ -66,8 +71,19 @@ impl StaticTable {
         ensures static_id { OnSome result (IsStaticId id) }
         ensures map { IsStaticMap self.now }
     {
-        let text = self.by_id.get(&id)?;
-        Some(text.as_str())
+        let text = self.found(id)?;
+        Some(text)
+    }
+
+    #[inline(always)]
+    fn found(&self, id: u32) -> Option<&str>
+        ensures text { option_map (λ text. text.now) result ≡ static_text self.now id }
+        ensures map { IsStaticMap self.now }
+    {
+        match self.placed.get(id as usize / 2) {
+            Some(text) if id % 2 == 0 => text_in(text),
+            _ => text_of(&self.by_id, id),
+        }
     }
 
     /// The least identifier of a text.
@@ -79,6 +95,75 @@ impl StaticTable {
         ensures map { IsStaticMap self.now }
     {
         self.by_text.get(text).copied()
+    }
+}
+
+// A text, where there is one.
+fn text_in(text: &Option<String>) -> Option<&str>
+    ensures { option_map (λ text. text.now) result ≡ option_map string_bytes text.now }
+{
+    match text {
+        Some(text) => Some(text.as_str()),
+        None => None,
+    }
+}
+
+// The text of an identifier, as the map has it.
+#[inline(never)]
+fn text_of(by_id: &BTreeMap<u32, String>, id: u32) -> Option<&str>
+    ensures { option_map (λ text. text.now) result ≡ static_text (entries_in by_id.now) id }
+{
+    let text = by_id.get(&id)?;
+    Some(text.as_str())
+}
+
+// The same once more.
+fn copy_of(
+    alloc: Global,
+    by_id: &BTreeMap<u32, String>,
+    id: u32,
+) -> Result<Option<String>, AllocError>
+    ensures { IfOk result (λ copy. option_map string_bytes copy
+        ≡ static_text (entries_in by_id.now) id) }
+{
+    match text_of(by_id, id) {
+        Some(text) => Ok(Some(String::from_str(alloc, text)?)),
+        None => Ok(None),
+    }
+}
+
+// The texts that have places.
+fn placed_of(
+    alloc: Global,
+    by_id: &BTreeMap<u32, String>,
+) -> Result<Vec<Option<String>>, AllocError>
+    ensures { IfOk result (λ placed. ArePlaced placed.items by_id.now) }
+{
+    let mut placed = Vec::new(alloc);
+    for place in 0..PLACES {
+        placed.push(copy_of(alloc, by_id, 2 * place)?)?;
+    }
+    Ok(placed)
+}
+
+// The table of two maps.
+fn with_places(
+    alloc: Global,
+    by_id: BTreeMap<u32, String>,
+    by_text: BTreeMap<String, u32>,
+) -> Result<StaticTable, TableFault>
+    requires { AreMapsOfTable by_id by_text }
+    ensures table { IfOk result (λ table. table ≡ entries_in by_id) }
+    ensures map { IfOk result IsStaticMap }
+    ensures memory { IfErr result (λ fault. fault ≡ TableFault.Memory) }
+{
+    match placed_of(alloc, &by_id) {
+        Ok(placed) => Ok(StaticTable {
+            by_id,
+            by_text,
+            placed,
+        }),
+        Err(_) => Err(TableFault::Memory),
     }
 }
 

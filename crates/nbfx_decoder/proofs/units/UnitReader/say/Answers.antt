@@ -16,6 +16,3 @@ returns-in-Attribute-clause-answers c x z from bytes at has = c.put-in-Attribute
 
 pub returns-in-Text-clause-answers : goal.returns-in-Text-clause-answers
 returns-in-Text-clause-answers c x z from bytes at has = c.put-in-Text.ensures.answers x z from (record_seen c.args.part.now) bytes at has (rw c.in-Text.is c.text_node.ensures)
-
-pub returns-in-Comment-clause-answers : goal.returns-in-Comment-clause-answers
-returns-in-Comment-clause-answers c x z from bytes at has = c.put_any.ensures.answers x z from (record_seen c.args.part.now) bytes at has c.node-made.ensures
