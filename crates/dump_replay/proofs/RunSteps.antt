@@ -167,3 +167,17 @@ module _ (files : Option Store) (store : Store) (name : List ℕ) (told : files 
   unread_status (files_faults.Bad row kind) tells = let other = no_other (bad row kind) tells in cc
   unread_status files_faults.Failed tells = inl refl
   unread_status files_faults.Memory tells = inr refl
+
+-- a file that gives no table, where the status says so
+pub bad_file : (fault : FileFault) → status_of_fault fault ≡ 6 → (files : Option Store) (name : List ℕ) → TellsFile files name fault → (file : StaticFile) × Has files name file × IsNoTable file
+bad_file files_faults.Missing e files name tells = (missing, tells, tt)
+bad_file (files_faults.Bad row kind) e files name tells = (bad row kind, tells, tt)
+bad_file files_faults.Failed e files name tells = cc
+bad_file files_faults.Memory e files name tells = cc
+
+-- which no ending of a check does
+pub never_six : (e : Ending) → status_at e ≡ 6 → ⊥
+never_six (endings.Judged o) s = other_status o 6 s (λ e. cc) (λ e. cc) (λ e. cc)
+never_six endings.ReadFault s = cc
+never_six endings.WriteFault s = cc
+never_six endings.Memory s = cc

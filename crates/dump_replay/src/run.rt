@@ -16,7 +16,7 @@ ghost use Rattle.dump_replay.specs.Checking.{Decides, Breaks, Reaches};
 ghost use Rattle.dump_replay.specs.Reading.{HasChecked, status_at, status_of_fault, status_of_words};
 ghost use Rattle.dump_replay.specs.Report.{report};
 ghost use Rattle.dump_replay.specs.Running.{IsJudged, IsNoTable, IsNote, IsStatus, detail_of, status_of, is_session_too_long};
-ghost use Rattle.dump_replay.specs.Statics.{UnderFile, static_file, table};
+ghost use Rattle.dump_replay.specs.Statics.{Has, StaticFile, UnderFile, static_file, table};
 
 use crate::check::{self, Ending};
 use crate::notes;
@@ -58,7 +58,11 @@ pub fn run<F: Shelf, I: Source, O: Sink + Send, N: Sink>(
     ensures words { result.status ≡ 2
         → (asked : Asked) → IsRequest (map string_bytes words.now) asked → ⊥ }
     ensures no_request { ((asked : Asked) → IsRequest (map string_bytes words.now) asked → ⊥)
-        → (result.status ≡ 2) ⊎ (result.status ≡ 5) }
+        → ((result.status ≡ 2) ⊎ (result.status ≡ 5))
+        × (result.input ≡ input) × (result.output ≡ output) }
+    ensures no_file { result.status ≡ 6 → (asked : Asked) × (file : StaticFile)
+        × IsRequest (map string_bytes words.now) asked
+        × Has (F.files shelf.old) asked.statics file × IsNoTable file }
     ensures untouched { (result.status ≡ 2) ⊎ (result.status ≡ 6)
         → (result.input ≡ input) × (result.output ≡ output) }
     ensures read_fault { result.status ≡ 3
@@ -138,10 +142,11 @@ pub fn run<F: Shelf, I: Source, O: Sink + Send, N: Sink>(
         → result.status ≡ 3
         → ((result.input ≡ input) × (result.output ≡ output)
         × Rose (F.faults shelf.old) (F.faults shelf.new))
-        ⊎ UnderFile (F.files shelf.old) asked (λ x.
+        ⊎ (Rose (I.faults input) (I.faults result.input)
+        × UnderFile (F.files shelf.old) asked (λ x.
         Breaks (detail_of asked.action) x (I.left input) (I.left result.input)
         (I.taken input) (I.taken result.input)
-        (O.written output) (O.written result.output) (O.held output)) }
+        (O.written output) (O.written result.output) (O.held output))) }
     ensures cut { (asked : Asked) (files : Store) (entries : List Entry) (stream w : List ℕ)
         → IsRequest (map string_bytes words.now) asked → F.files shelf.old ≡ Some files
         → static_file files asked.statics ≡ table entries → I.left input ≡ Some stream

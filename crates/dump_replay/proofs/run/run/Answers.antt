@@ -21,12 +21,12 @@ use Rattle.dump_replay.specs.Report.{report}
 use Rattle.dump_replay.specs.Running.{detail_of, status_of}
 use Rattle.dump_replay.specs.Statics.{Has, UnderFile, static_file, table}
 use Rattle.dump_replay.proofs.CheckSteps.{reads_set}
-use Rattle.dump_replay.proofs.RunSteps.{has_table, same_entries, status_as, status_broken, status_closed, status_complete, status_cut, status_ended, status_judged, status_offended, status_reported, status_too_long, unread_status, words_starved, words_two}
+use Rattle.dump_replay.proofs.RunSteps.{bad_file, has_table, never_six, same_entries, status_as, status_broken, status_closed, status_complete, status_cut, status_ended, status_judged, status_offended, status_reported, status_too_long, unread_status, words_starved, words_two}
 use Rattle.dump_replay.proofs.run.run.Given.{Over}
 use Rattle.dump_replay.proofs.run.run.Goals as goal
-use Rattle.dump_replay.proofs.run.run.Goals.{After-drop-table-inside-2, After-file_status, After-note_status}
+use Rattle.dump_replay.proofs.run.run.Goals.{After-drop-table-inside-3, After-file_status, After-note_status}
 
-module _ (g : Over) (c : After-drop-table-inside-2 g) where
+module _ (g : Over) (c : After-drop-table-inside-3 g) where
   abbrev entries : List Entry
   entries = c.in-Ok-read_statics.table
 
@@ -100,6 +100,14 @@ module _ (g : Over) (c : After-file_status g) where
       let one = request-one (map string_bytes c.args.words.now) (asked_of c.in-Ok.request) asked c.in-Ok.ensures.understood is in
       unread_status (g.F.Shelf.files c.args.shelf.now) files c.in-Ok.request.statics.now told entries (ap (λ (a : Asked). static_file files a.statics) one ∙ there) c.in-Err-read_statics.fault c.in-Err-read_statics.ensures.fault
 
+pub returns-in-Err-read_statics-clause-no_request : goal.returns-in-Err-read_statics-clause-no_request
+returns-in-Err-read_statics-clause-no_request g c = λ none. absurd (none (asked_of c.in-Ok.request) c.in-Ok.ensures.understood)
+
+pub returns-in-Err-read_statics-clause-no_file : goal.returns-in-Err-read_statics-clause-no_file
+returns-in-Err-read_statics-clause-no_file g c = λ six.
+    let file = bad_file c.in-Err-read_statics.fault (sym c.file_status.ensures ∙ six) (g.F.Shelf.files c.args.shelf.now) c.in-Ok.request.statics.now c.in-Err-read_statics.ensures.fault in
+    (asked_of c.in-Ok.request, file.0, c.in-Ok.ensures.understood, file.1, file.2)
+
 pub returns-in-Err-read_statics-clause-complete : goal.returns-in-Err-read_statics-clause-complete
 returns-in-Err-read_statics-clause-complete g c = λ asked files entries stream is told there e.
     elim (unread g c asked files entries is told there) [
@@ -115,6 +123,12 @@ returns-in-Err-read_statics-clause-closed g c = λ asked files entries stream is
     ]
 
 -- the stream is read
+pub returns-clause-no_request : goal.returns-clause-no_request
+returns-clause-no_request g c = λ none. absurd (none (own g c) c.in-Ok.ensures.understood)
+
+pub returns-clause-no_file : goal.returns-clause-no_file
+returns-clause-no_file g c = λ six. absurd (never_six (ending g c) (status_is g c 6 six))
+
 pub returns-clause-no_table : goal.returns-clause-no_table
 returns-clause-no_table g c = λ asked files is told none. absurd (has_table _ files asked.statics (entries g c) told (has_asked g c asked is) none)
 
@@ -157,8 +171,9 @@ returns-clause-decided g c = λ asked is judged.
 
 pub returns-clause-broken : goal.returns-clause-broken
 returns-clause-broken g c = λ asked is three.
-    inr (shown_under g c asked (λ shown s. Breaks shown s (g.I.Source.left c.args.input) (g.I.Source.left c.check_gathered-ending.new.input) (g.I.Source.taken c.args.input) (g.I.Source.taken c.check_gathered-ending.new.input)
-    (g.O.Sink.written c.args.output) (g.O.Sink.written c.check_gathered-ending.result.1) (g.O.Sink.held c.args.output)) is (c.check_gathered-ending.ensures.breaks (status_broken (ending g c) (status_is g c 3 three))))
+    let ended = status_broken (ending g c) (status_is g c 3 three) in
+    inr (c.check_gathered-ending.ensures.reads_counted.rose ended, shown_under g c asked (λ shown s. Breaks shown s (g.I.Source.left c.args.input) (g.I.Source.left c.check_gathered-ending.new.input) (g.I.Source.taken c.args.input) (g.I.Source.taken c.check_gathered-ending.new.input)
+    (g.O.Sink.written c.args.output) (g.O.Sink.written c.check_gathered-ending.result.1) (g.O.Sink.held c.args.output)) is (c.check_gathered-ending.ensures.breaks ended))
 
 pub returns-clause-cut : goal.returns-clause-cut
 returns-clause-cut g c = λ asked files others stream w is told there e before.
