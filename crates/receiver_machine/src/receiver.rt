@@ -165,8 +165,10 @@ impl<'s> Receiver<'s> {
             ≡ strings_in (standing (stream (settings_of self.now)) p).situation) }
         ensures failed { WhereItFailed self.now (λ refusal taken p. result.now.strings
             ≡ strings_in (standing (stream (settings_of self.now)) p).situation) }
-        ensures within { (strings : List (List ℕ)) → ShowsStrings self.now strings
-            → used_cost result.now.strings ≤ (settings_of self.now).limits.dictionary }
+        ensures within { WhereItStands self.now (λ p. used_cost result.now.strings
+            ≤ (settings_of self.now).limits.dictionary) }
+        ensures failed_within { WhereItFailed self.now (λ refusal taken p.
+            used_cost result.now.strings ≤ (settings_of self.now).limits.dictionary) }
     {
         self.reader.table()
     }
@@ -179,10 +181,12 @@ impl<'s> Receiver<'s> {
             + (settings_of self.now).limits.via) }
         ensures content { WhereItStands self.now (λ p. result.content
             ≡ content_of (items_in (standing (stream (settings_of self.now)) p).situation.stage)) }
-        ensures within { (strings : List (List ℕ)) → ShowsStrings self.now strings
-            → (result.raw ≤ (settings_of self.now).limits.payload
-            + (settings_of self.now).limits.via)
-            × (result.content ≤ (settings_of self.now).limits.content) }
+        ensures within { WhereItStands self.now (λ p. (result.raw
+            ≤ (settings_of self.now).limits.payload + (settings_of self.now).limits.via)
+            × (result.content ≤ (settings_of self.now).limits.content)) }
+        ensures failed { WhereItFailed self.now (λ refusal taken p. (result.raw
+            ≤ (settings_of self.now).limits.payload + (settings_of self.now).limits.via)
+            × (result.content ≤ (settings_of self.now).limits.content)) }
     {
         self.reader.kept()
     }

@@ -1,5 +1,5 @@
 -- Behind the event that ends a stream nothing comes.
-use Rattle.std.proofs.Common.{◌≡◌, ℕ, List, Bool, true, false, Option, Some, None, refl, subst}
+use Rattle.std.proofs.Common.{◌≡◌, ℕ, List, true, Option, Some, None, refl, subst}
 use Rattle.std.specs.Option.{option_map}
 use Rattle.unit_streams.specs.Grammar.{standing}
 use Rattle.unit_streams.specs.Judging.{event_at, is_over_at, history_from, only}
@@ -10,7 +10,7 @@ use Rattle.unit_streams.proofs.Ends.{over_closed}
 use Rattle.nbfx_values.specs.declared.refusals.Offence.{Offence}
 use Rattle.nmf_records.specs.declared.frame.Frame.{Frame}
 use Rattle.nmf_records.specs.declared.frame.Frame.TheVariants as frames
-use Rattle.stream_reader.specs.Stream.{Settings, Situation, Stage, record_due, payload_open, OpenPayload, StreamUnit, frame, payload_byte, Envelope, StreamEvent, message, ends, envelope_in, payload_begun, with_byte, completed_payload, completed_record, completed_byte, completed, refused_record, refused_byte, refused, stream}
+use Rattle.stream_reader.specs.Stream.{Settings, Situation, Stage, record_due, payload_open, StreamUnit, frame, payload_byte, Envelope, StreamEvent, message, ends, envelope_in, payload_begun, with_byte, completed_record, completed_byte, completed, refused_record, refused_byte, refused, stream}
 use Rattle.stream_reader.proofs.Grammar.{readable, quiet_over}
 
 -- an event that ends the stream comes without a refusal

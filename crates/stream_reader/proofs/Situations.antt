@@ -16,7 +16,7 @@ use Rattle.nbfx_decoder.proofs.Sound.{keeps_within}
 use Rattle.stream_reader.specs.Stream.{OpenPayload, PayloadStanding, Settings, Situation, Stage, beginning, record_due, payload_open, strings_in, StreamUnit, frame, payload_byte, Envelope, StreamEvent, opened, message, ended, unit_in, payload_in, payloads, payload_begun, with_byte, behind_payload, after_record, after_byte, after, completed_payload, completed_record, completed_byte, completed, stream}
 use Rattle.stream_reader.proofs.Grammar.{readable}
 use Rattle.stream_reader.proofs.Coming.{unit_of_record, unit_of_payload}
-use Rattle.stream_reader.specs.Laws.{FitsIn}
+use Rattle.stream_reader.specs.Laws.{FitsIn, IsBoundedIn}
 use Rattle.stream_reader.proofs.Outcomes.{envelope_of, goes_on, is_whole, is_refused, outcome}
 
 -- a payload stands behind these bytes of it
@@ -171,3 +171,25 @@ module _ (x : Settings) where
 
   pub documents_fit : IsGood x.limits → (p : List ℕ) (e : Envelope) → event_at (stream x) p ≡ Some (message e) → FitsIn x.limits e
   documents_fit good p e here = (event_tells p (message e) here).2 good
+
+  -- what there is of an open payload
+  pub open_payloads : IsGood x.limits → (p : List ℕ) (o : OpenPayload) → (standing (stream x) p).situation.stage ≡ payload_open o → IsBoundedIn x.limits o
+  open_payloads good p o at = by_open (subst (IsOpenAt x z) at (sound p).payload) where
+    z : Situation
+    z = (standing (stream x) p).situation
+
+    by_open : IsOpenIn x z o → IsBoundedIn x.limits o
+    by_open h =
+        let readable_in = payload_readable (payloads x z.kind) z.strings in
+        let keeps = keeps_within (payloads x z.kind) z.strings readable_in h.bytes in
+        let low = (sound p).dictionary in
+        let size = standing_length (payload_in x z) readable_in h.bytes in
+        let counted = h.behind.counted in
+        let there : IsBoundedIn x.limits (record o { standing = standing (payload_in x z) h.bytes }) = record {
+          open_elements = let open_now = keeps.open_elements in let some = good.depth_least in omega (arith, open_now, some);
+          content = keeps.content;
+          dictionary = let cost = keeps.dictionary in omega (arith, cost, low);
+          few_items = let few = keeps.few_items in omega (arith, few, size, counted);
+          few_values = let few = keeps.few_values in omega (arith, few, size, counted);
+        } in
+        subst (λ (s : PayloadStanding). IsBoundedIn x.limits (record o { standing = s })) (sym h.behind.standing_is) there

@@ -1,9 +1,10 @@
 -- What holds of streams by their definitions alone, whatever the settings. What is said of sessions,
 -- and of streams that are cut off, is said of an initiator's stream in duplex mode.
-use Rattle.std.specs.Prelude.{◌≡◌, ◌≤◌, ◌<◌, ℕ, List, ◌++◌, length, take, false, Some, None, ◌↔◌, ◌⊎◌}
+use Rattle.std.specs.Prelude.{◌≡◌, ◌≤◌, ◌<◌, ◌*◌, ◌-◌, ℕ, List, ◌++◌, length, take, false, Some, None, ◌↔◌, ◌⊎◌}
+use Rattle.unit_streams.specs.Grammar.{standing}
 use Rattle.unit_streams.specs.Judging.{event_at, refusal_at, is_over_at, ending_at, history, answer, offends}
 use Rattle.nbfx_values.specs.Limits.{IsGood, Limits}
-use Rattle.nbfx_values.specs.Measures.{content_of, depth_of}
+use Rattle.nbfx_values.specs.Measures.{content_of, depth_of, opened_by}
 use Rattle.nbfx_values.specs.declared.session.Kind.{Kind}
 use Rattle.nbfx_values.specs.declared.session.Mode.TheVariants.{Duplex}
 use Rattle.nbfx_values.specs.declared.refusals.Offence.{Offence}
@@ -11,10 +12,11 @@ use Rattle.nbfx_values.specs.declared.refusals.Reason.{Reason}
 use Rattle.nbfx_values.specs.declared.refusals.Reason.TheVariants.{Unbuilt, MessageTooLarge, Truncated, SessionTooLong}
 use Rattle.string_tables.specs.SessionStrings.{used_cost}
 use Rattle.nbfx_decoder.specs.Payload.{Refusal, refusal}
+use Rattle.nbfx_decoder.specs.Values.{values_of}
 use Rattle.nmf_records.specs.declared.frame.Frame.{Frame}
 use Rattle.nmf_records.specs.declared.script.Direction.TheVariants.{FromInitiator}
 use Rattle.nmf_records.specs.Script.{IsScript}
-use Rattle.stream_reader.specs.Stream.{Settings, Envelope, message, offence_at, offence_in, stream}
+use Rattle.stream_reader.specs.Stream.{Settings, Envelope, OpenPayload, message, offence_at, offence_in, payload_open, stream}
 use Rattle.stream_reader.specs.Judging.{offence}
 use Rattle.stream_reader.specs.Sessions.{Carried, IsSession, IsClosed, HasScript, untold}
 use Rattle.stream_reader.specs.Events.{session_events}
@@ -58,6 +60,19 @@ pub record FitsIn (quotas : Limits) (e : Envelope) : Type 0 where
 abbrev pub DocumentsFit : Type 0
 DocumentsFit = (x : Settings) → IsGood x.limits → (p : List ℕ) (e : Envelope)
     → event_at (stream x) p ≡ Some (message e) → FitsIn x.limits e
+
+-- what there is of a payload that is open is within the quotas: its document so far, and the strings
+-- behind its bytes; and it has no more items than twice its bytes so far, and no more values than bytes
+pub record IsBoundedIn (quotas : Limits) (o : OpenPayload) : Type 0 where
+  pub open_elements : opened_by 0 (o.standing.situation.items) ≤ quotas.depth
+  pub content : content_of (o.standing.situation.items) ≤ quotas.content
+  pub dictionary : used_cost (o.standing.situation.strings) ≤ quotas.dictionary
+  pub few_items : length (o.standing.situation.items) ≤ 2 * (o.size - o.left)
+  pub few_values : values_of (o.standing.situation.items) ≤ o.size - o.left
+
+abbrev pub OpenPayloadsAreBounded : Type 0
+OpenPayloadsAreBounded = (x : Settings) → IsGood x.limits → (p : List ℕ) (o : OpenPayload)
+    → (standing (stream x) p).situation.stage ≡ payload_open o → IsBoundedIn x.limits o
 
 -- bytes are a session of one list of documents at most, each of which leaves one list of strings
 abbrev pub SpellsOneSession : Type 0

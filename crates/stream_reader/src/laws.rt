@@ -5,7 +5,7 @@
 ghost use Rattle.unit_streams.specs.Laws.{StandingsGoOn, AnswersAreFirst, CutsChangeNothing, HistoryIsAnswers, PendingHistories, NoUnitGoesOn, EndsAreClosed, OffencesAreFirst, AcceptedOrOffended};
 ghost use Rattle.unit_streams.specs.Refusals.{RefusalsAreThree};
 ghost use Rattle.stream_reader.specs.Stream.{Settings, stream};
-ghost use Rattle.stream_reader.specs.Laws.{ClosedOrRefused, SessionsAreScripts, SessionsAreTold, DocumentsFit, SpellsOneSession, RefusedInRecordOrPayload, UnbuiltByRecord, UnbuiltFirst, TooLargeByHead, TooLargeFirst, InPayloadByBytes, InPayloadFirst, TooLongByLength, TooLongAtQuota, NoPieceCutsOff, CutOffByEnd, EndCutsOff, CutOffUnrefused};
+ghost use Rattle.stream_reader.specs.Laws.{ClosedOrRefused, SessionsAreScripts, SessionsAreTold, DocumentsFit, OpenPayloadsAreBounded, SpellsOneSession, RefusedInRecordOrPayload, UnbuiltByRecord, UnbuiltFirst, TooLargeByHead, TooLargeFirst, InPayloadByBytes, InPayloadFirst, TooLongByLength, TooLongAtQuota, NoPieceCutsOff, CutOffByEnd, EndCutsOff, CutOffUnrefused};
 
 /// A stream either is closed or has an offence, which is one: what refuses it is a function of its
 /// bytes. It is closed where its units, of which none is refused, lead to where the input may end,
@@ -34,6 +34,13 @@ pub fn sessions()
 /// that it leaves within theirs, whatever follows.
 pub fn documents_fit()
     ensures { DocumentsFit }
+{}
+
+/// What there is of a payload of which bytes are still to come is within the quotas: its open
+/// elements, its content and the strings. Its document has at most twice as many items as the payload
+/// has bytes so far, and at most as many values as bytes.
+pub fn open_payloads()
+    ensures { OpenPayloadsAreBounded }
 {}
 
 /// A stream stands where its bytes so far have led it. No unit, which is a record or a byte of a

@@ -12,3 +12,7 @@ returns-clause-content c = c.kept.ensures.content
 pub returns-clause-within : goal.returns-clause-within
 unfolding settings_of taken_of messages_of failure_of ShowsVia ShowsStrings StandsFor FailedBehind
 returns-clause-within c = c.kept.ensures.within
+
+pub returns-clause-failed : goal.returns-clause-failed
+unfolding settings_of taken_of messages_of failure_of ShowsVia ShowsStrings StandsFor FailedBehind
+returns-clause-failed c = c.kept.ensures.failed

@@ -16,3 +16,7 @@ returns-clause-failed c = c.table.ensures.failed
 pub returns-clause-within : goal.returns-clause-within
 unfolding settings_of taken_of messages_of failure_of ShowsVia ShowsStrings StandsFor FailedBehind
 returns-clause-within c = c.table.ensures.within
+
+pub returns-clause-failed_within : goal.returns-clause-failed_within
+unfolding settings_of taken_of messages_of failure_of ShowsVia ShowsStrings StandsFor FailedBehind
+returns-clause-failed_within c = c.table.ensures.failed_within

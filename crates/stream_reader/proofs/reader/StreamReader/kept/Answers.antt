@@ -1,4 +1,4 @@
-use Rattle.std.proofs.Common.{◌≡◌, ℕ, ◌≤◌, ◌⊎◌, inl, inr, List, length, ap, ◌∙◌, arith}
+use Rattle.std.proofs.Common.{◌≡◌, ℕ, ◌+◌, ◌≤◌, ◌⊎◌, inl, inr, List, length, ap, ◌∙◌, arith}
 use Rattle.std.proofs.Math.Bridge.{le_prop}
 use Rattle.std.proofs.Math.Logic.{∥∥₁_elim}
 use Rattle.nbfx_values.specs.Limits.{Limits}
@@ -8,9 +8,10 @@ use Rattle.nbfx_decoder.specs.declared.decoder.Decoder.{Decoder}
 use Rattle.nbfx_decoder.specs.declared.faults.DecodeFault.{DecodeFault}
 use Rattle.nbfx_decoder.specs.Standing.{settings_of as decoder_settings, StandsFor as DecoderStandsFor, FailedBehind as DecoderFailedBehind, WhereItStands as WhereDecoderStands, WhereItFailed as WhereDecoderFailed}
 use Rattle.stream_reader.specs.Bounds.{IsBounded}
-use Rattle.stream_reader.specs.Standing.{Shows, ShowsStrings, StandsFor, settings_of}
-use Rattle.stream_reader.proofs.ReaderFacts.{comes_in}
+use Rattle.stream_reader.specs.Standing.{FailedBehind, Shows, ShowsStrings, StandsFor, settings_of}
+use Rattle.stream_reader.proofs.ReaderFacts.{comes_in, shows_in}
 use Rattle.stream_reader.proofs.reader.StreamReader.kept.Goals as goal
+use Rattle.stream_reader.proofs.reader.StreamReader.kept.Goals.{After-saturating_add}
 
 pub returns-clause-raw : goal.returns-clause-raw
 unfolding StandsFor settings_of
@@ -38,11 +39,21 @@ kept_within d kept stands failed strings h = by_there h.there where
       let content = ap (λ (k : Kept). k.content) none in
       (omega (arith, raw), omega (arith, content))
 
+module _ (c : After-saturating_add) where
+  shown_within : (strings : List (List ℕ)) → ShowsStrings c.args.self.now strings
+      → (c.saturating_add.result ≤ (settings_of c.args.self.now).limits.payload + (settings_of c.args.self.now).limits.via) × (c.kept-payload.result.content ≤ (settings_of c.args.self.now).limits.content)
+  unfolding ShowsStrings settings_of
+  shown_within strings h =
+      let within = kept_within c.args.self.now.decoder c.kept-payload.result c.kept-payload.ensures.within c.kept-payload.ensures.failed strings h in (
+        ∥∥₁_elim c.args.self.now.bounded le_prop
+            (λ (b : IsBounded _ _ _). let payload = ap (λ (l : Limits). l.payload) b.limits in omega (arith, within.0, payload, c.saturating_add.ensures, c.held.ensures.within, c.args.self.now.limit)),
+        ∥∥₁_elim c.args.self.now.bounded le_prop (λ (b : IsBounded _ _ _). let content = ap (λ (l : Limits). l.content) b.limits in omega (arith, within.1, content)),
+      )
+
 pub returns-clause-within : goal.returns-clause-within
-unfolding ShowsStrings settings_of
-returns-clause-within c = λ strings h.
-    let within = kept_within c.args.self.now.decoder c.kept-payload.result c.kept-payload.ensures.within c.kept-payload.ensures.failed strings h in (
-      ∥∥₁_elim c.args.self.now.bounded le_prop
-          (λ (b : IsBounded _ _ _). let payload = ap (λ (l : Limits). l.payload) b.limits in omega (arith, within.0, payload, c.saturating_add.ensures, c.held.ensures.within, c.args.self.now.limit)),
-      ∥∥₁_elim c.args.self.now.bounded le_prop (λ (b : IsBounded _ _ _). let content = ap (λ (l : Limits). l.content) b.limits in omega (arith, within.1, content)),
-    )
+unfolding StandsFor ShowsStrings
+returns-clause-within c = λ p h. shown_within c _ (shows_in c.args.self.now _ _ h.at)
+
+pub returns-clause-failed : goal.returns-clause-failed
+unfolding FailedBehind
+returns-clause-failed c = λ refusal taken p h. shown_within c _ h.strings

@@ -11,6 +11,7 @@ use Rattle.stream_reader.specs.Bounds.{IsBounded}
 use Rattle.stream_reader.specs.Standing.{Shows, ShowsStrings, StandsFor, FailedBehind, settings_of}
 use Rattle.stream_reader.proofs.ReaderFacts.{shows_in}
 use Rattle.stream_reader.proofs.reader.StreamReader.table.Goals as goal
+use Rattle.stream_reader.proofs.reader.StreamReader.table.Goals.{After-table}
 
 -- the table that a decoder has
 has_strings : (d : Decoder) (table : LimitedStrings) → WhereDecoderStands d (λ before bytes. table ≡ table_at d before bytes) → WhereDecoderFailed d (λ fault before bytes. table ≡ table_at d before bytes)
@@ -32,11 +33,20 @@ pub returns-clause-failed : goal.returns-clause-failed
 unfolding FailedBehind ShowsStrings
 returns-clause-failed c = λ refusal taken p h. has_strings c.args.self.now.decoder _ c.table.ensures.strings c.table.ensures.failed _ h.strings
 
+module _ (c : After-table) where
+  shown_within : (strings : List (List ℕ)) → ShowsStrings c.args.self.now strings → used_cost c.table.result.now.strings ≤ (settings_of c.args.self.now).limits.dictionary
+  unfolding ShowsStrings settings_of
+  shown_within strings h =
+      let same = has_strings c.args.self.now.decoder _ c.table.ensures.strings c.table.ensures.failed strings h in
+      ∥∥₁_elim c.args.self.now.bounded le_prop
+      (λ (b : IsBounded _ _ _).
+      subst (λ (s : List (List ℕ)). used_cost s ≤ (settings_of c.args.self.now).limits.dictionary) (sym same)
+      (subst (λ (l : Limits). used_cost strings ≤ l.dictionary) b.limits h.within))
+
 pub returns-clause-within : goal.returns-clause-within
-unfolding ShowsStrings settings_of
-returns-clause-within c = λ strings h.
-    let same = has_strings c.args.self.now.decoder _ c.table.ensures.strings c.table.ensures.failed strings h in
-    ∥∥₁_elim c.args.self.now.bounded le_prop
-    (λ (b : IsBounded _ _ _).
-    subst (λ (s : List (List ℕ)). used_cost s ≤ (settings_of c.args.self.now).limits.dictionary) (sym same)
-    (subst (λ (l : Limits). used_cost strings ≤ l.dictionary) b.limits h.within))
+unfolding StandsFor ShowsStrings
+returns-clause-within c = λ p h. shown_within c _ (shows_in c.args.self.now _ _ h.at)
+
+pub returns-clause-failed_within : goal.returns-clause-failed_within
+unfolding FailedBehind
+returns-clause-failed_within c = λ refusal taken p h. shown_within c _ h.strings
