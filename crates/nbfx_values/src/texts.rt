@@ -7,11 +7,12 @@ ghost use Rattle.nbfx_values.specs.Texts.{bytes_of};
 use crate::copies::Copied;
 use arrayvec::ArrayString;
 use std::alloc::Global;
+use std::fmt;
 use std::marker::Model;
 use unit_streams::Memory;
 
 // A text of up to 16 bytes lies in the value itself, so that most names take no allocation.
-#[derive(Debug, Drop)]
+#[derive(Drop)]
 enum Letters {
     Short(ArrayString<16>),
     Long(String),
@@ -47,7 +48,7 @@ impl Letters {
 }
 
 /// A text, which contracts see as the list of its UTF-8 bytes.
-#[derive(Debug, Drop)]
+#[derive(Drop)]
 pub struct Txt {
     letters: Letters,
 }
@@ -117,6 +118,13 @@ impl Txt {
             Letters::Short(text) => text.len(),
             Letters::Long(text) => text.len(),
         }
+    }
+}
+
+// Equal texts are shown alike, wherever they lie.
+impl fmt::Debug for Txt {
+    fn fmt<W: fmt::Write>(&self, f: &mut fmt::Formatter<W>) -> fmt::Result {
+        fmt::Debug::fmt(&self.as_str(), f)
     }
 }
 
