@@ -7,3 +7,5 @@ pub mod Finishing
 pub mod Telling
 pub mod Noting
 pub mod RunSteps
+-- worked reports
+mod Worked

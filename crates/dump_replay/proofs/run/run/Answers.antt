@@ -172,8 +172,11 @@ returns-clause-decided g c = λ asked is judged.
 pub returns-clause-broken : goal.returns-clause-broken
 returns-clause-broken g c = λ asked is three.
     let ended = status_broken (ending g c) (status_is g c 3 three) in
-    inr (c.check_gathered-ending.ensures.reads_counted.rose ended, shown_under g c asked (λ shown s. Breaks shown s (g.I.Source.left c.args.input) (g.I.Source.left c.check_gathered-ending.new.input) (g.I.Source.taken c.args.input) (g.I.Source.taken c.check_gathered-ending.new.input)
-    (g.O.Sink.written c.args.output) (g.O.Sink.written c.check_gathered-ending.result.1) (g.O.Sink.held c.args.output)) is (c.check_gathered-ending.ensures.breaks ended))
+    inr (
+      c.check_gathered-ending.ensures.reads_counted.rose ended,
+      shown_under g c asked (λ shown s. Breaks shown s (g.I.Source.left c.args.input) (g.I.Source.left c.check_gathered-ending.new.input) (g.I.Source.taken c.args.input) (g.I.Source.taken c.check_gathered-ending.new.input)
+          (g.O.Sink.written c.args.output) (g.O.Sink.written c.check_gathered-ending.result.1) (g.O.Sink.held c.args.output)) is (c.check_gathered-ending.ensures.breaks ended),
+    )
 
 pub returns-clause-cut : goal.returns-clause-cut
 returns-clause-cut g c = λ asked files others stream w is told there e before.
