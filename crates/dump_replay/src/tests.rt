@@ -214,6 +214,29 @@ fn documents_are_dumped_in_any_pieces(rt: HostRuntime) -> Result<(), Fail> {
 }
 
 #[test]
+fn a_dump_that_is_broken_off_keeps_the_documents_before(rt: HostRuntime) -> Result<(), Fail> {
+    let stream = two_calls(rt.alloc())?;
+    let words = ["nettcp", "dump", "--static", "S"];
+    let first = TWO_DOCUMENTS.get(..459).unwrap_or("");
+    let cut = TWO_DOCUMENTS.get(..466).unwrap_or("");
+    let rest = stream.get(85..).unwrap_or(b"");
+    // The preamble and the first call come with the first take.
+    let broken = Outside {
+        most: 85,
+        takes: &[1],
+        ..SURE
+    };
+    assert_ran(&rt, &words, &stream, broken, 3, first, rest)?;
+    let full = Outside {
+        most: 85,
+        puts: &[1],
+        kept: 7,
+        ..SURE
+    };
+    assert_ran(&rt, &words, &stream, full, 4, cut, b"")
+}
+
+#[test]
 fn documents_before_an_offence_are_dumped(rt: HostRuntime) -> Result<(), Fail> {
     let stream =
         b"\x00\x01\x00\x01\x02\x02\x0Dnet.tcp://h/e\x03\x07\x0C\x06\x06\x40\x01x\x99\x01y\x06\x03\x40\x01\xFF";
