@@ -321,7 +321,7 @@ after_flush r p written refused emptied counted wanted settled = rw append-nil a
 
 -- the settings of a check are an initiator's
 pub reads_set : (entries : List Entry) (quotas : Limits) → IsGood quotas → IsInitiators (initiators entries quotas)
-reads_set entries quotas good = record { direction = refl; mode = refl; good = good }
+reads_set entries quotas good = record { direction = refl; mode = refl; endpoint = refl; good = good }
 
 -- before anything is read or put
 pub first_reaches : (d : Detail) (x : Settings) → IsInitiators x → 0 < x.limits.session → (left taken written : Option (List ℕ)) (held : List ℕ) → Reaches d x left left taken taken written written held

@@ -22,10 +22,11 @@ use Rattle.stream_reader.specs.Sessions.{Carried, IsSession, IsClosed, HasScript
 use Rattle.stream_reader.specs.Events.{session_events}
 use Rattle.stream_reader.specs.Reasons.{ShowsFrom, ShowsUnbuilt, ShowsInPayload, IsTooLong, IsCutOff}
 
--- settings of an initiator's stream in duplex mode, with quotas that may be
+-- settings of an initiator's stream in duplex mode, to any Via, with quotas that may be
 pub record IsInitiators (x : Settings) : Type 0 where
   pub direction : x.direction ≡ FromInitiator
   pub mode : x.mode ≡ Duplex
+  pub endpoint : x.endpoint ≡ None
   pub good : IsGood x.limits
 
 -- a stream has no offence exactly where a session stands at its front

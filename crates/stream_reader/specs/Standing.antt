@@ -32,7 +32,7 @@ settings_of r = initiators r.statics.now (limits_of r.quotas)
 -- it reads an initiator's stream
 pub reads_initiators : (r : StreamReader) → IsInitiators (settings_of r)
 unfolding settings_of
-reads_initiators r = record { direction = refl; mode = refl; good = r.quotas.good }
+reads_initiators r = record { direction = refl; mode = refl; endpoint = refl; good = r.quotas.good }
 
 -- how many bytes it has used, or that show its offence
 unfoldable pub taken_of : StreamReader → ℕ

@@ -41,15 +41,18 @@ pub record Settings : Type 0 where
   pub direction : Direction
   -- how the two ends talk
   pub mode : Mode
+  -- the Via that is served, or None where any is; no other Via is refused yet
+  pub endpoint : Option (List ℕ)
   -- the strings that both ends have
   pub statics : List Entry
   pub limits : Limits
 
--- an initiator's stream in duplex mode
+-- an initiator's stream in duplex mode, to any Via
 abbrev pub initiators : List Entry → Limits → Settings
 initiators statics limits = record {
   direction = FromInitiator;
   mode = Duplex;
+  endpoint = None;
   statics = statics;
   limits = limits;
 }
