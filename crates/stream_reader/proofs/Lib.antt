@@ -20,6 +20,8 @@ pub mod PayloadUnits
 -- which bytes give each reason (specs/Reasons), of a prefix and of a whole stream
 pub mod Reasons
 pub mod ReasonsOfStreams
+-- the size of a document's payload
+pub mod PayloadSizes
 -- sessions (specs/Sessions): as scripts, as units, and what has no offence
 pub mod Scripts
 pub mod FromSession

@@ -62,6 +62,16 @@ abbrev pub DocumentsFit : Type 0
 DocumentsFit = (x : Settings) → IsGood x.limits → (p : List ℕ) (e : Envelope)
     → event_at (stream x) p ≡ Some (message e) → FitsIn x.limits e
 
+-- no shorter prefix is refused
+abbrev pub IsUnrefusedBefore : Settings → List ℕ → Type 0
+IsUnrefusedBefore x p = (n : ℕ) → n < length p → refusal_at (stream x) (take n p) ≡ None
+
+-- Its payload is too, where nothing before is refused. Behind a refused head a stream stands as if it
+-- weren't.
+abbrev pub PayloadsFit : Type 0
+PayloadsFit = (x : Settings) (p : List ℕ) (e : Envelope)
+    → event_at (stream x) p ≡ Some (message e) → IsUnrefusedBefore x p → e.size ≤ x.limits.payload
+
 -- what there is of a payload that is open is within the quotas: its document so far, and the strings
 -- behind its bytes; and it has no more items than twice its bytes so far, and no more values than bytes
 pub record IsBoundedIn (quotas : Limits) (o : OpenPayload) : Type 0 where

@@ -5,7 +5,7 @@
 ghost use Rattle.unit_streams.specs.Laws.{StandingsGoOn, AnswersAreFirst, CutsChangeNothing, HistoryIsAnswers, PendingHistories, NoUnitGoesOn, EndsAreClosed, OffencesAreFirst, AcceptedOrOffended};
 ghost use Rattle.unit_streams.specs.Refusals.{RefusalsAreThree};
 ghost use Rattle.stream_reader.specs.Stream.{Settings, stream};
-ghost use Rattle.stream_reader.specs.Laws.{ClosedOrRefused, SessionsAreScripts, SessionsAreTold, DocumentsFit, OpenPayloadsAreBounded, SpellsOneSession, RefusedInRecordOrPayload, UnbuiltByRecord, UnbuiltFirst, TooLargeByHead, TooLargeFirst, InPayloadByBytes, InPayloadFirst, TooLongByLength, TooLongAtQuota, NoPieceCutsOff, CutOffByEnd, EndCutsOff, CutOffUnrefused};
+ghost use Rattle.stream_reader.specs.Laws.{ClosedOrRefused, SessionsAreScripts, SessionsAreTold, DocumentsFit, PayloadsFit, OpenPayloadsAreBounded, SpellsOneSession, RefusedInRecordOrPayload, UnbuiltByRecord, UnbuiltFirst, TooLargeByHead, TooLargeFirst, InPayloadByBytes, InPayloadFirst, TooLongByLength, TooLongAtQuota, NoPieceCutsOff, CutOffByEnd, EndCutsOff, CutOffUnrefused};
 
 /// A stream either is closed or has an offence, which is one: what refuses it is a function of its
 /// bytes. It is closed where its units, of which none is refused, lead to where the input may end,
@@ -31,9 +31,11 @@ pub fn sessions()
 {}
 
 /// Each document that an envelope brings is within the quotas on depth and content, and the strings
-/// that it leaves within theirs, whatever follows.
+/// that it leaves within theirs, whatever follows. Its payload is within its own, unless the stream
+/// is refused before.
 pub fn documents_fit()
-    ensures { DocumentsFit }
+    ensures documents { DocumentsFit }
+    ensures payloads { PayloadsFit }
 {}
 
 /// What there is of a payload of which bytes are still to come is within the quotas: its open
