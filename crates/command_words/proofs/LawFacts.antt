@@ -14,7 +14,7 @@ use Rattle.command_words.specs.declared.option_name.OptionName.{OptionName}
 use Rattle.command_words.specs.declared.option_name.OptionName.TheVariants.{Static, Payload, Depth, Dictionary, Content, Session}
 use Rattle.command_words.specs.Commands.{word_of}
 use Rattle.command_words.specs.Options.{BeginsApart, BeginsJoined, Given, IsOnce, Spells, Text, dashed, is_option, text_of, value_of}
-use Rattle.command_words.specs.Requests.{AskToRead, Asked, IsNumber, IsRequest, usual_content}
+use Rattle.command_words.specs.Requests.{AskFor, AskToRead, Asked, IsNumber, IsRequest, usual_content}
 use Rattle.command_words.proofs.NumberFacts.{limits-same}
 use Rattle.command_words.proofs.OptionFacts.{is_option-same, same-is_option, text_of-injective}
 use Rattle.command_words.proofs.WordFacts.{long_of-dashed, long_of-joined}
@@ -115,6 +115,11 @@ named-word_of Dump = refl
 pub word_of-injective : (one other : Action) → word_of one ≡ word_of other → one ≡ other
 word_of-injective one other e = sym (named-word_of one) ∙ ap named e ∙ named-word_of other
 
+-- each command that there is reads a session
+pub for-reading : (action : Action) (value : OptionName → Option Text) (asked : Asked) → AskFor action value asked → AskToRead value asked.statics asked.limits
+for-reading Check value asked asks = asks
+for-reading Dump value asked asks = asks
+
 pub request-one : (words : List Text) (one other : Asked) → IsRequest words one → IsRequest words other → one ≡ other
 request-one words one other is is_other =
     let same : is.program ∷ word_of one.action ∷ is.options ≡ is_other.program ∷ word_of other.action ∷ is_other.options = sym is.command ∙ is_other.command in
@@ -122,7 +127,7 @@ request-one words one other is is_other =
     let options : is.options ≡ is_other.options = cc same in
     let given : is.given ≡ is_other.given = spells-one is.given is_other.given is_other.options (subst (λ ws. Spells ws is.given) options is.gives.spelled) is_other.gives.spelled in
     let rest = ask-one (value_of is_other.given) one.statics other.statics one.limits other.limits
-    (subst (λ g. AskToRead (value_of g) one.statics one.limits) given is.meant) is_other.meant in
+    (subst (λ g. AskToRead (value_of g) one.statics one.limits) given (for-reading one.action (value_of is.given) one is.meant)) (for-reading other.action (value_of is_other.given) other is_other.meant) in
     λ i. record { action = action i; statics = rest.0 i; limits = rest.1 i }
 
 -- ---- values
@@ -168,4 +173,4 @@ pub request-values : (words : List Text) (asked : Asked) (request : IsRequest wo
 request-values words asked request k d lt =
     let one = slice_index_or request.given k d in
     let at : slice_index_or request.given k one ≡ one = get_or_default request.given k one d lt in
-    value-some (value_of request.given) asked.statics asked.limits request.meant one.0 one.1 (value_of-given request.given k one request.gives.once lt at)
+    value-some (value_of request.given) asked.statics asked.limits (for-reading asked.action (value_of request.given) asked request.meant) one.0 one.1 (value_of-given request.given k one request.gives.once lt at)

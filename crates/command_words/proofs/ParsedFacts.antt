@@ -12,8 +12,8 @@ use Rattle.command_words.specs.declared.words.WordsFault.TheVariants.{Memory, No
 use Rattle.command_words.specs.Commands.{word_of}
 use Rattle.command_words.specs.Options.{Given, Spells, Text, begins_with_hyphen, dashed, value_of}
 use Rattle.command_words.specs.Reading.{HasFound, IsBare, IsReadable, found_values}
-use Rattle.command_words.specs.Requests.{AskToRead, Asked, IsRequest}
-use Rattle.command_words.proofs.LawFacts.{spells-one}
+use Rattle.command_words.specs.Requests.{AskFor, Asked, IsRequest}
+use Rattle.command_words.proofs.LawFacts.{spells-one, word_of-injective}
 use Rattle.command_words.proofs.WordFacts.{long_of-dashed, long_of-joined}
 
 module _ {A : Type 0} where
@@ -80,7 +80,7 @@ words-cut (first ∷ second ∷ rest) command some at =
 
 -- the words of a request give the options that were found
 pub request-asks : (words options : List Text) (program : Text) (action : Action) (matches : ArgMatches) (asked : Asked) → words ≡ program ∷ word_of action ∷ options
-    → HasFound action options matches → IsRequest words asked → AskToRead (found_values matches) asked.statics asked.limits
+    → HasFound action options matches → IsRequest words asked → AskFor action (found_values matches) asked
 request-asks words options program action matches asked is found request =
     let same : program ∷ word_of action ∷ options ≡ request.program ∷ word_of asked.action ∷ request.options = sym is ∙ request.command in
     let same_options : request.options ≡ options = cc same in
@@ -88,4 +88,5 @@ request-asks words options program action matches asked is found request =
     spells-one request.given found.given options (subst (λ ws. Spells ws request.given) same_options request.gives.spelled) found.gives.spelled in
     let values : ◌≡◌ {A = OptionName → Option Text} (value_of request.given) (found_values matches) =
     ap value_of given ∙ (λ i option. sym (found.values option) i) in
-    subst (λ value. AskToRead value asked.statics asked.limits) values request.meant
+    let same_action : asked.action ≡ action = word_of-injective asked.action action (cc same) in
+    subst (λ value. AskFor action value asked) values (subst (λ a. AskFor a (value_of request.given) asked) same_action request.meant)

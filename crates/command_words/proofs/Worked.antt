@@ -16,7 +16,7 @@ use Rattle.command_words.specs.Options.{Given, Spells, Text, value_of}
 use Rattle.command_words.specs.Reading.{app_for, begins_plain}
 use Rattle.command_words.specs.Requests.{Asked, AskToRead, GiveOptions, IsRequest}
 use Rattle.command_words.proofs.ClapFacts.{spelled-takes}
-use Rattle.command_words.proofs.LawFacts.{spells-one, word_of-injective}
+use Rattle.command_words.proofs.LawFacts.{for-reading, spells-one, word_of-injective}
 use Rattle.command_words.proofs.NumberFacts.{decimal-plain}
 
 -- ---- requests
@@ -158,7 +158,7 @@ unmeant_options : (action : Action) (options : List Text) (given : List Given) �
 unmeant_options action options given spelled none asked request =
     let same : codes "nettcp" ∷ word_of action ∷ options ≡ request.program ∷ word_of asked.action ∷ request.options = request.command in
     let same_given = spells-one request.given given options (subst (λ ws. Spells ws request.given) (cc same) request.gives.spelled) spelled in
-    none asked.statics asked.limits (subst (λ g. AskToRead (value_of g) asked.statics asked.limits) same_given request.meant)
+    none asked.statics asked.limits (subst (λ g. AskToRead (value_of g) asked.statics asked.limits) same_given (for-reading asked.action (value_of request.given) asked request.meant))
 
 twice : IsRefused (codes "nettcp" ∷ codes "check" ∷ codes "--static" ∷ codes "S" ∷ codes "--static=S" ∷ [])
 unfolding clap_on_literals

@@ -4,12 +4,13 @@ use Rattle.std.specs.Fmt.{decimal}
 use Rattle.std.specs.List.{list_all, list_any}
 use Rattle.nbfx_values.specs.Limits.{IsGood, Limits, usual_limits}
 use Rattle.command_words.specs.declared.action.Action.{Action}
+use Rattle.command_words.specs.declared.action.Action.TheVariants.{Check, Dump}
 use Rattle.command_words.specs.declared.option_name.OptionName.{OptionName}
 use Rattle.command_words.specs.declared.option_name.OptionName.TheVariants.{Static, Payload, Depth, Dictionary, Content, Session}
 use Rattle.command_words.specs.Options.{Given, IsOnce, Spells, Text, is_option, value_of}
 use Rattle.command_words.specs.Commands.{options_of, word_of}
 
--- what words ask for
+-- what words ask for: a command, and what every command is told
 pub record Asked : Type 0 where
   pub action : Action
   -- the name of the file of the static strings
@@ -44,6 +45,11 @@ pub record AskToRead (value : OptionName → Option Text) (statics : Text)
   pub numbers : AreLimits value limits
   pub good : IsGood limits
 
+-- what the values ask of each command
+abbrev pub AskFor : Action → (OptionName → Option Text) → Asked → Type 0
+AskFor Check value asked = AskToRead value asked.statics asked.limits
+AskFor Dump value asked = AskToRead value asked.statics asked.limits
+
 -- ---- the words of a request
 
 -- each option that is given is one of the command's
@@ -64,4 +70,4 @@ pub record IsRequest (words : List Text) (asked : Asked) : Type 0 where
   pub given : List Given
   pub command : words ≡ program ∷ word_of asked.action ∷ options
   pub gives : GiveOptions asked.action options given
-  pub meant : AskToRead (value_of given) asked.statics asked.limits
+  pub meant : AskFor asked.action (value_of given) asked

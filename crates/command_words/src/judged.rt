@@ -4,7 +4,8 @@ ghost use Rattle.clap.specs.declared.parser.matches.ArgMatches.{ArgMatches};
 ghost use Rattle.nbfx_values.specs.Limits.{IsGood, Limits};
 ghost use Rattle.nbfx_values.specs.QuotasOf.{limits_of};
 ghost use Rattle.command_words.specs.Reading.{found_values, text_behind};
-ghost use Rattle.command_words.specs.Requests.{AreLimits, AskToRead};
+ghost use Rattle.command_words.specs.Asking.{asked_of};
+ghost use Rattle.command_words.specs.Requests.{AreLimits, AskFor, AskToRead, Asked};
 
 use crate::action::Action;
 use crate::number::{number_or, small_or};
@@ -42,8 +43,8 @@ fn quotas_of(matches: &ArgMatches<'_>) -> Option<Quotas>
     Quotas::of(payload, depth, dictionary, content, usual.via, session)
 }
 
-/// What the values ask of a command, where they mean anything.
-pub fn judged<'w>(action: Action, matches: &ArgMatches<'w>) -> Option<Request<'w>>
+// What the values ask of a command that reads a session, where they mean anything.
+fn asked_to_read<'w>(action: Action, matches: &ArgMatches<'w>) -> Option<Request<'w>>
     ensures action { IfSome result (λ request. request.action ≡ action) }
     ensures meant { IfSome result (λ request. AskToRead (found_values matches.now)
         request.statics.now (limits_of request.quotas)) }
@@ -60,4 +61,17 @@ pub fn judged<'w>(action: Action, matches: &ArgMatches<'w>) -> Option<Request<'w
         statics,
         quotas,
     })
+}
+
+/// What the values ask of a command, where they mean anything.
+pub fn judged<'w>(action: Action, matches: &ArgMatches<'w>) -> Option<Request<'w>>
+    ensures action { IfSome result (λ request. request.action ≡ action) }
+    ensures meant { IfSome result (λ request.
+        AskFor action (found_values matches.now) (asked_of request)) }
+    ensures none { IfNone result ((asked : Asked)
+        → ¬ AskFor action (found_values matches.now) asked) }
+{
+    match action {
+        Action::Check | Action::Dump => asked_to_read(action, matches),
+    }
 }
