@@ -1,5 +1,5 @@
 -- What a check that reads a stream piece by piece knows between two pieces, and where it ends.
-use Rattle.std.proofs.Common.{IsErrOf, Bool, true, ◌≡◌, ℕ, ◌-◌, ◌≤◌, ◌<◌, ◌⊎◌, inl, inr, List, [], ◌++◌, length, take, drop, Option, Some, None, Result, Ok, Err, IfOk, OnOk, OnErr, ◌↔◌, lit≤, refl, sym, ap, ◌∙◌, subst, arith, append_assoc, length-append}
+use Rattle.std.proofs.Common.{IsErrOf, Bool, true, ◌≡◌, ℕ, ◌-◌, ◌≤◌, ◌<◌, ◌⊎◌, inl, inr, List, [], ◌++◌, length, take, drop, Option, Some, None, Result, Ok, Err, IfOk, OnOk, OnErr, ◌↔◌, refl, sym, ap, ◌∙◌, subst, arith, append_assoc, length-append}
 use Rattle.std.specs.Option.{option_or}
 use Rattle.std.specs.Prelude.{⊤}
 use Rattle.std.proofs.Math.Seq.{take-nil}
@@ -173,13 +173,15 @@ module _ (d : Detail) (x : Settings) (left left' taken taken' written written' :
       → ((t : List ℕ) → taken ≡ Some t → taken' ≡ Some (t ++ (p ++ y)))
       → Told written written' (Writes d x held p) → ReportsAs d x p y left left' held' result lines → HasReported d x left left' taken taken' written written' held held' result lines
   has_reported result lines short moved took wrote ends = record {
-    before = p;
-    piece = y;
-    pending = pending;
-    short = short;
-    stream = known_told (λ all rest. all ≡ p ++ y ++ rest) left left' moved;
-    took = known_told (λ t t'. t' ≡ t ++ p ++ y) taken taken' (λ t e. (t ++ (p ++ y), took t e, sym (append_assoc t p y)));
-    wrote = wrote;
+    reached = record {
+      before = p;
+      piece = y;
+      pending = pending;
+      short = short;
+      stream = known_told (λ all rest. all ≡ p ++ y ++ rest) left left' moved;
+      took = known_told (λ t t'. t' ≡ t ++ p ++ y) taken taken' (λ t e. (t ++ (p ++ y), took t e, sym (append_assoc t p y)));
+      wrote = wrote;
+    };
     ends = ends;
   }
 

@@ -110,20 +110,25 @@ writes_on d x h before lines (Some w) (Some w1) (Some w2) (inr none) grew all = 
 
 module _ (d : Detail) (x : Settings) (left left' taken taken' w w1 w2 : Option (List ℕ)) (h h1 h2 : List ℕ) (f f2 : ℕ) (m m2 : Bool) (r : Result Ending SinkFault) (lines : List ℕ) (e : Ending)
     (b : HasReported d x left left' taken taken' w w1 h h1 r lines) (z : Finished d x r lines w w1 w2 h h2 f f2 m m2 e) where
+  abbrev reached : Reaches d x left left' taken taken' w w1 h
+  reached = b.reached
+
   -- the lines begin the stream's report
-  due : IsAllRead d x b.before b.piece left left' lines ⊎ AreDue d x (b.before ++ b.piece) [] lines
+  due : IsAllRead d x reached.before reached.piece left left' lines ⊎ AreDue d x (reached.before ++ reached.piece) [] lines
   due = go r b.ends where
-    go : (r : Result Ending SinkFault) → ReportsAs d x b.before b.piece left left' h1 r lines → IsAllRead d x b.before b.piece left left' lines ⊎ AreDue d x (b.before ++ b.piece) [] lines
+    go : (r : Result Ending SinkFault) → ReportsAs d x reached.before reached.piece left left' h1 r lines → IsAllRead d x reached.before reached.piece left left' lines ⊎ AreDue d x (reached.before ++ reached.piece) [] lines
     go (Ok (endings.Judged o)) (inl all) = inl all.0
     go (Ok (endings.Judged o)) (inr known) = inr (λ more. ([], (known more).1 ∙ sym (append-nil lines)))
-    go (Ok endings.ReadFault) ends = inr (rw (ends.0, ends.1) (lines_due d x b.before b.pending))
+    go (Ok endings.ReadFault) ends =
+        inr (subst (λ (y : List ℕ). AreDue d x (reached.before ++ y) [] lines) (sym ends.0)
+        (subst (λ (l : List ℕ). AreDue d x (reached.before ++ []) [] l) (sym ends.1) (lines_due d x reached.before reached.pending)))
     go (Ok endings.WriteFault) ends = absurd ends
     go (Ok endings.Memory) ends = inr ends
     go (Err fault) ends = ends
 
   -- as one that ends so
-  as_ended : (put : Result ⊤ SinkFault) → OnOk put ((r ≡ Ok e) × (h2 ≡ [])) → OnOk put (ReportsAs d x b.before b.piece left left' h1 (Ok e) lines)
-  as_ended (Ok u) whole = subst (λ (v : Result Ending SinkFault). ReportsAs d x b.before b.piece left left' h1 v lines) whole.0 b.ends
+  as_ended : (put : Result ⊤ SinkFault) → OnOk put ((r ≡ Ok e) × (h2 ≡ [])) → OnOk put (ReportsAs d x reached.before reached.piece left left' h1 (Ok e) lines)
+  as_ended (Ok u) whole = subst (λ (v : Result Ending SinkFault). ReportsAs d x reached.before reached.piece left left' h1 v lines) whole.0 b.ends
   as_ended (Err fault) whole = tt
 
   -- all was written
@@ -133,17 +138,17 @@ module _ (d : Detail) (x : Settings) (left left' taken taken' w w1 w2 : Option (
       p.grown ∙ ap (λ k. l ++ k) put ∙ sym (append_assoc l h lines))
 
   -- where it isn't stopped by the output
-  whole_end : ((fault : SinkFault) → e ≡ stopped_by fault → ⊥) → ReportsAs d x b.before b.piece left left' h1 (Ok e) lines × Told w w2 (λ w w'. w' ≡ w ++ h ++ lines)
+  whole_end : ((fault : SinkFault) → e ≡ stopped_by fault → ⊥) → ReportsAs d x reached.before reached.piece left left' h1 (Ok e) lines × Told w w2 (λ w w'. w' ≡ w ++ h ++ lines)
   whole_end never = go z.put z.puts.written z.whole z.stopped where
     go : (put : Result ⊤ SinkFault) → OnOk put (Told w w2 (λ w w'. Passes w w' h h2 lines)) → OnOk put ((r ≡ Ok e) × (h2 ≡ [])) → IfErr put (λ fault. e ≡ stopped_by fault)
-        → ReportsAs d x b.before b.piece left left' h1 (Ok e) lines × Told w w2 (λ w w'. w' ≡ w ++ h ++ lines)
+        → ReportsAs d x reached.before reached.piece left left' h1 (Ok e) lines × Told w w2 (λ w w'. w' ≡ w ++ h ++ lines)
     go (Ok u) written whole stopped = (as_ended (Ok u) whole, all_written written whole.1)
     go (Err fault) written whole stopped = absurd (never fault stopped)
 
-  judged_end : (o : Option Offence) → e ≡ endings.Judged o → ReportsAs d x b.before b.piece left left' h1 (Ok (endings.Judged o)) lines × Told w w2 (λ w w'. w' ≡ w ++ h ++ lines)
+  judged_end : (o : Option Offence) → e ≡ endings.Judged o → ReportsAs d x reached.before reached.piece left left' h1 (Ok (endings.Judged o)) lines × Told w w2 (λ w w'. w' ≡ w ++ h ++ lines)
   judged_end o is =
       let k = whole_end (λ fault by. never_judged fault o (sym is ∙ by)) in
-      (subst (λ (v : Ending). ReportsAs d x b.before b.piece left left' h1 (Ok v) lines) is k.0, k.1)
+      (subst (λ (v : Ending). ReportsAs d x reached.before reached.piece left left' h1 (Ok v) lines) is k.0, k.1)
 
   -- the first bytes of the lines are written, or all
   written_front : Told w w2 (λ w w'. GrowsByPrefix w w' (h ++ lines))
@@ -153,15 +158,15 @@ module _ (d : Detail) (x : Settings) (left left' taken taken' w w1 w2 : Option (
     go (Err fault) written refused whole = refused
 
   module _ (bytes : List ℕ) (is : left ≡ Some bytes) where
-    rest : (rest : List ℕ) × (left' ≡ Some rest) × (bytes ≡ b.before ++ b.piece ++ rest)
-    rest = told_some (λ all rest. all ≡ b.before ++ b.piece ++ rest) left left' bytes is b.stream
+    rest : (rest : List ℕ) × (left' ≡ Some rest) × (bytes ≡ reached.before ++ reached.piece ++ rest)
+    rest = told_some (λ all rest. all ≡ reached.before ++ reached.piece ++ rest) left left' bytes is reached.stream
 
     -- where all was read
-    all_read : IsAllRead d x b.before b.piece left left' lines → bytes ≡ b.before
+    all_read : IsAllRead d x reached.before reached.piece left left' lines → bytes ≡ reached.before
     all_read all =
         let over = told_some (λ all rest. rest ≡ []) left left' bytes is all.2 in
         let same : rest.0 ≡ [] = (let one = rest.1 in let other = over.1 in cc) ∙ over.2 in
-        rest.2 ∙ ap (λ l. b.before ++ l ++ rest.0) all.0 ∙ ap (λ l. b.before ++ [] ++ l) same ∙ append-nil (b.before ++ []) ∙ append-nil b.before
+        rest.2 ∙ ap (λ l. reached.before ++ l ++ rest.0) all.0 ∙ ap (λ l. reached.before ++ [] ++ l) same ∙ append-nil (reached.before ++ []) ∙ append-nil reached.before
 
     -- the report begins with the lines
     report_front : (more : List ℕ) × (report d x bytes ≡ lines ++ more)
@@ -208,53 +213,53 @@ module _ (d : Detail) (x : Settings) (left left' taken taken' w w1 w2 : Option (
       let k = judged_end o ended in
       elim k.0 [
         | inl all ↦ record {
-          bytes = b.before;
+          bytes = reached.before;
           offence_is = all.1;
-          settled = inl b.pending;
-          stream = known_told (λ all rest. (all ≡ b.before ++ rest) × ((rest ≡ []) ⊎ ((more : List ℕ) → offence x (b.before ++ more) ≡ o))) left left' (λ bytes is.
+          settled = inl reached.pending;
+          stream = known_told (λ all rest. (all ≡ reached.before ++ rest) × ((rest ≡ []) ⊎ ((more : List ℕ) → offence x (reached.before ++ more) ≡ o))) left left' (λ bytes is.
               let over = told_some (λ all rest. rest ≡ []) left left' bytes is all.0.2 in
-              (over.0, over.1, (all_read bytes is all.0 ∙ sym (append-nil b.before) ∙ ap (λ l. b.before ++ l) (sym over.2), inl over.2)));
-          took = told_as (λ t t'. t' ≡ t ++ b.before ++ b.piece) (λ t t'. t' ≡ t ++ b.before) taken taken' b.took (λ t t' s. s ∙ ap (λ l. t ++ b.before ++ l) all.0.0 ∙ append-nil (t ++ b.before));
-          wrote = told_as (λ l l'. l' ≡ l ++ h ++ lines) (λ l l'. l' ≡ l ++ h ++ report d x b.before) w w2 k.1 (λ l l' s. s ∙ ap (λ q. l ++ h ++ q) (sym all.0.1));
+              (over.0, over.1, (all_read bytes is all.0 ∙ sym (append-nil reached.before) ∙ ap (λ l. reached.before ++ l) (sym over.2), inl over.2)));
+          took = told_as (λ t t'. t' ≡ t ++ reached.before ++ reached.piece) (λ t t'. t' ≡ t ++ reached.before) taken taken' reached.took (λ t t' s. s ∙ ap (λ l. t ++ reached.before ++ l) all.0.0 ∙ append-nil (t ++ reached.before));
+          wrote = told_as (λ l l'. l' ≡ l ++ h ++ lines) (λ l l'. l' ≡ l ++ h ++ report d x reached.before) w w2 k.1 (λ l l' s. s ∙ ap (λ q. l ++ h ++ q) (sym all.0.1));
         }
         | inr known ↦ record {
-          bytes = b.before ++ b.piece;
-          offence_is = ap (offence x) (sym (append-nil (b.before ++ b.piece))) ∙ (known []).0;
+          bytes = reached.before ++ reached.piece;
+          offence_is = ap (offence x) (sym (append-nil (reached.before ++ reached.piece))) ∙ (known []).0;
           settled = inr (λ more. (known more).0);
-          stream = told_as (λ all rest. all ≡ b.before ++ b.piece ++ rest) (λ all rest. (all ≡ b.before ++ b.piece ++ rest) × ((rest ≡ []) ⊎ ((more : List ℕ) → offence x (b.before ++ b.piece ++ more) ≡ o))) left left' b.stream
+          stream = told_as (λ all rest. all ≡ reached.before ++ reached.piece ++ rest) (λ all rest. (all ≡ reached.before ++ reached.piece ++ rest) × ((rest ≡ []) ⊎ ((more : List ℕ) → offence x (reached.before ++ reached.piece ++ more) ≡ o))) left left' reached.stream
               (λ all rest s. (s, inr (λ more. (known more).0)));
-          took = told_as (λ t t'. t' ≡ t ++ b.before ++ b.piece) (λ t t'. t' ≡ t ++ (b.before ++ b.piece)) taken taken' b.took (λ t t' s. s ∙ append_assoc t b.before b.piece);
-          wrote = told_as (λ l l'. l' ≡ l ++ h ++ lines) (λ l l'. l' ≡ l ++ h ++ report d x (b.before ++ b.piece)) w w2 k.1
-              (λ l l' s. s ∙ ap (λ q. l ++ h ++ q) (sym (ap (report d x) (sym (append-nil (b.before ++ b.piece))) ∙ (known []).1)));
+          took = told_as (λ t t'. t' ≡ t ++ reached.before ++ reached.piece) (λ t t'. t' ≡ t ++ (reached.before ++ reached.piece)) taken taken' reached.took (λ t t' s. s ∙ append_assoc t reached.before reached.piece);
+          wrote = told_as (λ l l'. l' ≡ l ++ h ++ lines) (λ l l'. l' ≡ l ++ h ++ report d x (reached.before ++ reached.piece)) w w2 k.1
+              (λ l l' s. s ∙ ap (λ q. l ++ h ++ q) (sym (ap (report d x) (sym (append-nil (reached.before ++ reached.piece))) ∙ (known []).1)));
         }
       ]
 
   pub breaks : e ≡ endings.ReadFault → Breaks d x left left' taken taken' w w2 h
   breaks ended =
       let k = whole_end (λ fault by. never_read fault (sym ended ∙ by)) in
-      let ends : (b.piece ≡ []) × (lines ≡ event_lines d x b.before) × (h1 ≡ []) = subst (λ (v : Ending). ReportsAs d x b.before b.piece left left' h1 (Ok v) lines) ended k.0 in
+      let ends : (reached.piece ≡ []) × (lines ≡ event_lines d x reached.before) × (h1 ≡ []) = subst (λ (v : Ending). ReportsAs d x reached.before reached.piece left left' h1 (Ok v) lines) ended k.0 in
       record {
-        bytes = b.before;
-        pending = b.pending;
-        stream = told_as (λ all rest. all ≡ b.before ++ b.piece ++ rest) (λ all rest. all ≡ b.before ++ rest) left left' b.stream (λ all rest s. s ∙ ap (λ l. b.before ++ l ++ rest) ends.0 ∙ ap (λ l. l ++ rest) (append-nil b.before));
-        took = told_as (λ t t'. t' ≡ t ++ b.before ++ b.piece) (λ t t'. t' ≡ t ++ b.before) taken taken' b.took (λ t t' s. s ∙ ap (λ l. t ++ b.before ++ l) ends.0 ∙ append-nil (t ++ b.before));
-        wrote = told_as (λ l l'. l' ≡ l ++ h ++ lines) (λ l l'. l' ≡ l ++ h ++ event_lines d x b.before) w w2 k.1 (λ l l' s. s ∙ ap (λ q. l ++ h ++ q) ends.1);
+        bytes = reached.before;
+        pending = reached.pending;
+        stream = told_as (λ all rest. all ≡ reached.before ++ reached.piece ++ rest) (λ all rest. all ≡ reached.before ++ rest) left left' reached.stream (λ all rest s. s ∙ ap (λ l. reached.before ++ l ++ rest) ends.0 ∙ ap (λ l. l ++ rest) (append-nil reached.before));
+        took = told_as (λ t t'. t' ≡ t ++ reached.before ++ reached.piece) (λ t t'. t' ≡ t ++ reached.before) taken taken' reached.took (λ t t' s. s ∙ ap (λ l. t ++ reached.before ++ l) ends.0 ∙ append-nil (t ++ reached.before));
+        wrote = told_as (λ l l'. l' ≡ l ++ h ++ lines) (λ l l'. l' ≡ l ++ h ++ event_lines d x reached.before) w w2 k.1 (λ l l' s. s ∙ ap (λ q. l ++ h ++ q) ends.1);
       }
 
   pub reaches : Reaches d x left left' taken taken' w w2 h
   reaches = record {
-    before = b.before;
-    piece = b.piece;
-    pending = b.pending;
-    short = b.short;
-    stream = b.stream;
-    took = b.took;
-    wrote = writes_on d x h b.before lines w w1 w2 b.wrote z.grew written_front;
+    before = reached.before;
+    piece = reached.piece;
+    pending = reached.pending;
+    short = reached.short;
+    stream = reached.stream;
+    took = reached.took;
+    wrote = writes_on d x h reached.before lines w w1 w2 reached.wrote z.grew written_front;
   }
 
   -- a write failed where the output did
   failed_as : (put : Result ⊤ SinkFault) → OnOk put ((r ≡ Ok e) × (h2 ≡ [])) → IfErr put (λ fault. e ≡ stopped_by fault) → (e ≡ endings.WriteFault) ↔ IsErrOf put faults.Failed
-  failed_as (Ok u) whole stopped = (λ ended. absurd (subst (λ (v : Ending). ReportsAs d x b.before b.piece left left' h1 (Ok v) lines) ended (as_ended (Ok u) whole)), λ no. cc)
+  failed_as (Ok u) whole stopped = (λ ended. absurd (subst (λ (v : Ending). ReportsAs d x reached.before reached.piece left left' h1 (Ok v) lines) ended (as_ended (Ok u) whole)), λ no. cc)
   failed_as (Err fault) whole stopped = (λ ended. ap Err (stopped_failed fault (sym stopped ∙ ended)), λ failed. let same : fault ≡ faults.Failed = cc in stopped ∙ ap stopped_by same)
 
   pub writes_counted : CountsFaults f f2 (e ≡ endings.WriteFault)

@@ -1,8 +1,8 @@
 -- What a status tells of how a check ended.
-use Rattle.std.proofs.Common.{◌≡◌, ℕ, ◌⊎◌, inl, inr, List, ◌++◌, length, true, false, Option, Some, None, refl, sym, ap, ◌∙◌, subst, arith, append_assoc}
+use Rattle.std.proofs.Common.{◌≡◌, ℕ, ◌⊎◌, inl, inr, List, [], ◌++◌, length, true, false, Option, Some, None, refl, sym, ap, ◌∙◌, subst, arith, append_assoc}
 use Rattle.std.proofs.lemmas.List.{take_all}
 use Rattle.std.proofs.lemmas.Bool.{cases_Bool}
-use Rattle.io_edges.specs.Flow.{GrowsByPrefix}
+use Rattle.io_edges.specs.Flow.{GrowsByPrefix, Told}
 use Rattle.io_edges.specs.Store.{Store}
 use Rattle.nbfx_values.specs.declared.refusals.Offence.{Offence}
 use Rattle.dump_replay.specs.declared.check.Ending.{Ending}
@@ -18,9 +18,10 @@ use Rattle.command_words.specs.declared.words.WordsFault.{WordsFault}
 use Rattle.command_words.specs.declared.words.WordsFault.TheVariants as words
 use Rattle.dump_replay.specs.declared.statics.FileFault.{FileFault}
 use Rattle.dump_replay.specs.declared.statics.FileFault.TheVariants as files_faults
-use Rattle.dump_replay.specs.Running.{IsJudged, IsNoTable, status_of, is_session_too_long}
+use Rattle.dump_replay.specs.Running.{IsJudged, IsNoTable, IsNote, note_of, status_of, is_session_too_long}
 use Rattle.dump_replay.specs.Statics.{Has, StaticFile, bad, missing, static_file, table}
 use Rattle.dump_replay.specs.Reading.{Judges, Reports, TellsFile, status_at, status_of_fault, status_of_words}
+use Rattle.dump_replay.proofs.CheckSteps.{told_as}
 
 -- a status that is a number is one that this number is
 pub status_as : (n m k k' : ℕ) → n ≡ m → k ≡ k' → (m ≡ k) ⊎ (m ≡ 3) ⊎ (m ≡ 4) ⊎ (m ≡ 5) → (n ≡ k') ⊎ (n ≡ 3) ⊎ (n ≡ 4) ⊎ (n ≡ 5)
@@ -181,3 +182,11 @@ never_six (endings.Judged o) s = other_status o 6 s (λ e. cc) (λ e. cc) (λ e.
 never_six endings.ReadFault s = cc
 never_six endings.WriteFault s = cc
 never_six endings.Memory s = cc
+
+-- the note that goes with a status by itself
+module _ (words : List (List ℕ)) (files : Option Store) (status : ℕ) (other : status ≡ 6 → ⊥) (w w' : Option (List ℕ)) (h : List ℕ) where
+  pub note_grows : Told w w' (λ w w'. GrowsByPrefix w w' (h ++ note_of status)) → Told w w' (λ w w'. (text : List ℕ) × IsNote words files status text × GrowsByPrefix w w' (h ++ text))
+  note_grows grows = told_as (λ l l'. GrowsByPrefix l l' (h ++ note_of status)) (λ l l'. (text : List ℕ) × IsNote words files status text × GrowsByPrefix l l' (h ++ text)) w w' grows (λ l l' k. (note_of status, inr (other, refl), k))
+
+  pub note_is_whole : Told w w' (λ w w'. (w' ≡ w ++ h ++ note_of status) ⊎ (note_of status ≡ [])) → Told w w' (λ w w'. (text : List ℕ) × IsNote words files status text × ((w' ≡ w ++ h ++ text) ⊎ (text ≡ [])))
+  note_is_whole whole = told_as (λ l l'. (l' ≡ l ++ h ++ note_of status) ⊎ (note_of status ≡ [])) (λ l l'. (text : List ℕ) × IsNote words files status text × ((l' ≡ l ++ h ++ text) ⊎ (text ≡ []))) w w' whole (λ l l' k. (note_of status, inr (other, refl), k))

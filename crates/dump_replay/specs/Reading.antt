@@ -1,6 +1,6 @@
 -- What the parts of a check and of a run answer, of any end that reads a stream. Public contracts cite
 -- none of this.
-use Rattle.std.specs.Prelude.{◌≡◌, ◌≤◌, ◌⊎◌, ⊤, ℕ, List, [], ◌++◌, length, Bool, false, Option, Some, Result, Ok, Err}
+use Rattle.std.specs.Prelude.{◌≡◌, ◌≤◌, ◌⊎◌, ⊤, ℕ, List, [], ◌++◌, Bool, false, Option, Some, Result, Ok, Err}
 use Rattle.io_edges.specs.Faults.{CountsFaults, Rose}
 use Rattle.io_edges.specs.Flow.{GrowsByPrefix, Told}
 use Rattle.io_edges.specs.Store.{Store}
@@ -14,7 +14,6 @@ use Rattle.stream_reader.specs.Judging.{offence}
 use Rattle.stream_reader.specs.Stream.{Settings, stream}
 use Rattle.command_words.specs.declared.words.WordsFault.{WordsFault}
 use Rattle.command_words.specs.declared.words.WordsFault.TheVariants as words
-use Rattle.dump_replay.specs.declared.check.TheConstants.{ROOM}
 use Rattle.dump_replay.specs.declared.report.Detail.{Detail}
 use Rattle.dump_replay.specs.declared.check.Progress.{Progress}
 use Rattle.dump_replay.specs.declared.check.Progress.TheVariants.{Going, Judged, Starved}
@@ -22,7 +21,7 @@ use Rattle.dump_replay.specs.declared.check.Ending.{Ending}
 use Rattle.dump_replay.specs.declared.check.Ending.TheVariants as endings
 use Rattle.dump_replay.specs.declared.statics.FileFault.{FileFault}
 use Rattle.dump_replay.specs.declared.statics.FileFault.TheVariants as file_faults
-use Rattle.dump_replay.specs.Checking.{Breaks, Decides, Reaches, Writes}
+use Rattle.dump_replay.specs.Checking.{Breaks, Decides, Reaches}
 use Rattle.dump_replay.specs.Report.{report, event_lines}
 use Rattle.dump_replay.specs.Running.{file_note, note_of, status_of}
 use Rattle.dump_replay.specs.Statics.{Has, bad, missing}
@@ -81,14 +80,8 @@ ReportsAs d x before piece left left' held (Err fault) lines =
 pub record HasReported (d : Detail) (x : Settings)
     (left left' taken taken' written written' : Option (List ℕ))
     (held held' : List ℕ) (result : Result Ending SinkFault) (lines : List ℕ) : Type 0 where
-  pub before : List ℕ
-  pub piece : List ℕ
-  pub pending : IsPending (stream x) before
-  pub short : length piece ≤ ROOM
-  pub stream : Told left left' (λ all rest. all ≡ before ++ piece ++ rest)
-  pub took : Told taken taken' (λ t t'. t' ≡ t ++ before ++ piece)
-  pub wrote : Told written written' (Writes d x held before)
-  pub ends : ReportsAs d x before piece left left' held' result lines
+  pub reached : Reaches d x left left' taken taken' written written' held
+  pub ends : ReportsAs d x reached.before reached.piece left left' held' result lines
 
 -- what a fault of the output ends a check with
 abbrev pub stopped_by : SinkFault → Ending

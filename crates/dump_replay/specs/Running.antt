@@ -1,5 +1,5 @@
 -- The statuses and notes of a run.
-use Rattle.std.specs.Prelude.{◌≡◌, ◌≢◌, ℕ, ◌⊎◌, List, [], ◌∷◌, ◌++◌, Bool, true, false, Option, Some, None, ◌==◌, if◌then◌else◌, codes}
+use Rattle.std.specs.Prelude.{◌≡◌, ◌≢◌, ℕ, ◌⊎◌, List, [], ◌++◌, Bool, true, false, Option, Some, None, ◌==◌, if◌then◌else◌, codes}
 use Rattle.std.specs.Fmt.{decimal}
 use Rattle.io_edges.specs.Store.{Store}
 use Rattle.nbfx_values.specs.declared.refusals.Offence.{Offence}
@@ -11,6 +11,10 @@ use Rattle.command_words.specs.Requests.{Asked, IsRequest}
 use Rattle.dump_replay.specs.declared.report.Detail.{Detail}
 use Rattle.dump_replay.specs.declared.report.Detail.TheVariants.{Summary, Whole}
 use Rattle.dump_replay.specs.Statics.{Has, StaticFile, bad, kind_name, missing, table}
+
+-- this holds of what the words ask for, if they are a request
+abbrev pub WhereAsked : List (List ℕ) → (Asked → Type 0) → Type 0
+WhereAsked words Holds = (asked : Asked) → IsRequest words asked → Holds asked
 
 -- how much of documents a command's report shows
 abbrev pub detail_of : Action → Detail

@@ -40,6 +40,12 @@ pub record UnderFile (files : Option Store) (asked : Asked) (Holds : Settings �
   pub has : Has files asked.statics (table entries)
   pub holds : Holds (initiators entries asked.limits)
 
+-- this holds of such a stream, if the shelf tells its files and that one gives a table
+abbrev pub UnderTold : Option Store → Asked → (Settings → Type 0) → Type 0
+UnderTold files asked Holds =
+    (store : Store) (entries : List Entry) → files ≡ Some store
+    → static_file store asked.statics ≡ table entries → Holds (initiators entries asked.limits)
+
 abbrev pub kind_name : TableKind → List ℕ
 kind_name kinds.Header = codes "Header"
 kind_name kinds.Fields = codes "Fields"

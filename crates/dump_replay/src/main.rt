@@ -1,15 +1,16 @@
-//! All that the program does, in one call that is proved: [`run::run`]. Its command `check` reads an
-//! initiator's net.tcp stream (MC-NMF, duplex mode) with the documents that its envelopes carry, and
-//! prints a line for each event, and what refuses the stream or that the session ended.
+//! All that the program does, in one call that is proved: [`run::run`]. Its commands `check` and `dump`
+//! read an initiator's net.tcp stream (MC-NMF, duplex mode) with the documents that its envelopes carry,
+//! and print what comes in it, and what refuses the stream or that the session ended: `check` a line for
+//! each event, `dump` the lines of each document too.
 //!
 //! The one idea: what a stream is judged by are its prefixes, which `stream_reader` defines and a
 //! `Receiver` answers by. Here are the lines for that (`report`), the loop that feeds a reading end
-//! and writes what is told before it reads more (`check`), and the words, the file of static strings,
-//! the statuses and the notes of a run. The main contract is the one of `run`: what each status means,
-//! when it comes, and what the output holds then.
+//! and writes what is told before it reads more (`check`), and the file of static strings, the statuses
+//! and the notes of a run; the words are read by `command_words`. The main contract is the one of `run`:
+//! what each status means, when it comes, and what the output holds then.
 //!
 //! The definitions are in `specs/`: `Report` has the lines, `Statics` what the file gives, `Running` the
-//! words, statuses and notes, `Checking` what a check leaves, `Laws` what holds of reports alone.
+//! statuses and notes, `Checking` what the reading of a stream leaves, `Laws` what holds of reports alone.
 #![tactic(auto)]
 
 ghost use Rattle.std.specs.Prelude.{◌≡◌, ◌≢◌, [], IfOk, IfErr, IsErr, IsOkAnd};

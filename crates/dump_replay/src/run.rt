@@ -6,7 +6,6 @@ ghost use Rattle.io_edges.specs.Faults.{Rose};
 ghost use Rattle.io_edges.specs.Flow.{Told, GrowsByPrefix};
 ghost use Rattle.io_edges.specs.Store.{Store};
 ghost use Rattle.nbfx_values.specs.declared.refusals.Offence.{Offence as Refusal};
-ghost use Rattle.string_tables.specs.StaticStrings.{Entry};
 ghost use Rattle.stream_reader.specs.Judging.{offence};
 ghost use Rattle.stream_reader.specs.Sessions.{IsClosed};
 ghost use Rattle.stream_reader.specs.Stream.{initiators};
@@ -15,8 +14,8 @@ ghost use Rattle.command_words.specs.Requests.{Asked, IsRequest};
 ghost use Rattle.dump_replay.specs.Checking.{Decides, Breaks, Reaches};
 ghost use Rattle.dump_replay.specs.Reading.{HasChecked, status_at, status_of_fault, status_of_words};
 ghost use Rattle.dump_replay.specs.Report.{report};
-ghost use Rattle.dump_replay.specs.Running.{IsJudged, IsNoTable, IsNote, IsStatus, detail_of, status_of, is_session_too_long};
-ghost use Rattle.dump_replay.specs.Statics.{Has, StaticFile, UnderFile, static_file, table};
+ghost use Rattle.dump_replay.specs.Running.{IsJudged, IsNoTable, IsNote, IsStatus, WhereAsked, detail_of, status_of, is_session_too_long};
+ghost use Rattle.dump_replay.specs.Statics.{Has, StaticFile, UnderFile, UnderTold, static_file};
 
 use crate::check::{self, Ending};
 use crate::notes;
@@ -55,9 +54,8 @@ pub fn run<F: Shelf, I: Source, O: Sink + Send, N: Sink>(
 ) -> Ran<I, O>
     // Whatever the words are.
     ensures statuses { IsStatus result.status }
-    ensures words { result.status ≡ 2
-        → (asked : Asked) → IsRequest (map string_bytes words.now) asked → ⊥ }
-    ensures no_request { ((asked : Asked) → IsRequest (map string_bytes words.now) asked → ⊥)
+    ensures words { result.status ≡ 2 → WhereAsked (map string_bytes words.now) (λ asked. ⊥) }
+    ensures no_request { WhereAsked (map string_bytes words.now) (λ asked. ⊥)
         → ((result.status ≡ 2) ⊎ (result.status ≡ 5))
         × (result.input ≡ input) × (result.output ≡ output) }
     ensures no_file { result.status ≡ 6 → (asked : Asked) × (file : StaticFile)
@@ -90,76 +88,68 @@ pub fn run<F: Shelf, I: Source, O: Sink + Send, N: Sink>(
     ensures notes_faults { N.faults notes.old ≤ N.faults notes.new }
 
     // Where the words are a request: the file of static strings.
-    ensures no_table { (asked : Asked) (files : Store)
-        → IsRequest (map string_bytes words.now) asked → F.files shelf.old ≡ Some files
-        → IsNoTable (static_file files asked.statics)
-        → (result.status ≡ 6) ⊎ (result.status ≡ 3) ⊎ (result.status ≡ 5) }
-    ensures before_input { (asked : Asked) (files : Store)
-        → IsRequest (map string_bytes words.now) asked → F.files shelf.old ≡ Some files
-        → IsNoTable (static_file files asked.statics)
-        → (result.input ≡ input) × (result.output ≡ output) }
+    ensures no_table { WhereAsked (map string_bytes words.now) (λ asked. (files : Store)
+        → F.files shelf.old ≡ Some files → IsNoTable (static_file files asked.statics)
+        → (result.status ≡ 6) ⊎ (result.status ≡ 3) ⊎ (result.status ≡ 5)) }
+    ensures before_input { WhereAsked (map string_bytes words.now) (λ asked. (files : Store)
+        → F.files shelf.old ≡ Some files → IsNoTable (static_file files asked.statics)
+        → (result.input ≡ input) × (result.output ≡ output)) }
 
     // When each status comes.
-    ensures ended { (asked : Asked) → IsRequest (map string_bytes words.now) asked
-        → result.status ≡ 0 → UnderFile (F.files shelf.old) asked (λ x. (stream : List ℕ)
-        → I.left input ≡ Some stream → IsClosed x stream) }
-    ensures offended { (asked : Asked) → IsRequest (map string_bytes words.now) asked
-        → result.status ≡ 1 → UnderFile (F.files shelf.old) asked (λ x. (stream : List ℕ)
+    ensures ended { WhereAsked (map string_bytes words.now) (λ asked.
+        result.status ≡ 0 → UnderFile (F.files shelf.old) asked (λ x. (stream : List ℕ)
+        → I.left input ≡ Some stream → IsClosed x stream)) }
+    ensures offended { WhereAsked (map string_bytes words.now) (λ asked.
+        result.status ≡ 1 → UnderFile (F.files shelf.old) asked (λ x. (stream : List ℕ)
         → I.left input ≡ Some stream
-        → (o : Refusal) × (offence x stream ≡ Some o) × (is_session_too_long o.reason ≡ false)) }
-    ensures too_long { (asked : Asked) → IsRequest (map string_bytes words.now) asked
-        → result.status ≡ 10 → UnderFile (F.files shelf.old) asked (λ x. (stream : List ℕ)
+        → (o : Refusal) × (offence x stream ≡ Some o) × (is_session_too_long o.reason ≡ false))) }
+    ensures too_long { WhereAsked (map string_bytes words.now) (λ asked.
+        result.status ≡ 10 → UnderFile (F.files shelf.old) asked (λ x. (stream : List ℕ)
         → I.left input ≡ Some stream
-        → (o : Refusal) × (offence x stream ≡ Some o) × (is_session_too_long o.reason ≡ true)) }
-    ensures complete { (asked : Asked) (files : Store) (entries : List Entry) (stream : List ℕ)
-        → IsRequest (map string_bytes words.now) asked → F.files shelf.old ≡ Some files
-        → static_file files asked.statics ≡ table entries → I.left input ≡ Some stream
-        → (result.status ≡ status_of (offence (initiators entries asked.limits) stream))
-        ⊎ (result.status ≡ 3) ⊎ (result.status ≡ 4) ⊎ (result.status ≡ 5) }
-    ensures closed { (asked : Asked) (files : Store) (entries : List Entry) (stream : List ℕ)
-        → IsRequest (map string_bytes words.now) asked → F.files shelf.old ≡ Some files
-        → static_file files asked.statics ≡ table entries → I.left input ≡ Some stream
-        → IsClosed (initiators entries asked.limits) stream
+        → (o : Refusal) × (offence x stream ≡ Some o) × (is_session_too_long o.reason ≡ true))) }
+    ensures complete { WhereAsked (map string_bytes words.now) (λ asked.
+        UnderTold (F.files shelf.old) asked (λ x. (stream : List ℕ) → I.left input ≡ Some stream
+        → (result.status ≡ status_of (offence x stream))
+        ⊎ (result.status ≡ 3) ⊎ (result.status ≡ 4) ⊎ (result.status ≡ 5))) }
+    ensures closed { WhereAsked (map string_bytes words.now) (λ asked.
+        UnderTold (F.files shelf.old) asked (λ x. (stream : List ℕ) → I.left input ≡ Some stream
+        → IsClosed x stream
         → (Rose (F.faults shelf.old) (F.faults shelf.new) → ⊥)
         → (Rose (I.faults input) (I.faults result.input) → ⊥)
         → (Rose (O.faults output) (O.faults result.output) → ⊥)
-        → (result.status ≡ 0) ⊎ (result.status ≡ 5) }
+        → (result.status ≡ 0) ⊎ (result.status ≡ 5))) }
 
     // What each leaves.
-    ensures reported { (asked : Asked) → IsRequest (map string_bytes words.now) asked
-        → IsJudged result.status
+    ensures reported { WhereAsked (map string_bytes words.now) (λ asked. IsJudged result.status
         → UnderFile (F.files shelf.old) asked (λ x. (stream w : List ℕ)
         → I.left input ≡ Some stream → O.written output ≡ Some w
         → O.written result.output
-        ≡ Some (w ++ O.held output ++ report (detail_of asked.action) x stream)) }
-    ensures decided { (asked : Asked) → IsRequest (map string_bytes words.now) asked
-        → IsJudged result.status → UnderFile (F.files shelf.old) asked (λ x.
+        ≡ Some (w ++ O.held output ++ report (detail_of asked.action) x stream))) }
+    ensures decided { WhereAsked (map string_bytes words.now) (λ asked. IsJudged result.status
+        → UnderFile (F.files shelf.old) asked (λ x.
         (o : Option Refusal) × (status_of o ≡ result.status)
         × Decides (detail_of asked.action) x o (I.left input) (I.left result.input)
         (I.taken input) (I.taken result.input)
-        (O.written output) (O.written result.output) (O.held output)) }
-    ensures broken { (asked : Asked) → IsRequest (map string_bytes words.now) asked
-        → result.status ≡ 3
+        (O.written output) (O.written result.output) (O.held output))) }
+    ensures broken { WhereAsked (map string_bytes words.now) (λ asked. result.status ≡ 3
         → ((result.input ≡ input) × (result.output ≡ output)
         × Rose (F.faults shelf.old) (F.faults shelf.new))
         ⊎ (Rose (I.faults input) (I.faults result.input)
         × UnderFile (F.files shelf.old) asked (λ x.
         Breaks (detail_of asked.action) x (I.left input) (I.left result.input)
         (I.taken input) (I.taken result.input)
-        (O.written output) (O.written result.output) (O.held output))) }
-    ensures cut { (asked : Asked) (files : Store) (entries : List Entry) (stream w : List ℕ)
-        → IsRequest (map string_bytes words.now) asked → F.files shelf.old ≡ Some files
-        → static_file files asked.statics ≡ table entries → I.left input ≡ Some stream
-        → O.written output ≡ Some w
+        (O.written output) (O.written result.output) (O.held output)))) }
+    ensures cut { WhereAsked (map string_bytes words.now) (λ asked.
+        UnderTold (F.files shelf.old) asked (λ x. (stream w : List ℕ)
+        → I.left input ≡ Some stream → O.written output ≡ Some w
         → (w' : List ℕ) × (O.written result.output ≡ Some w')
-        × GrowsByPrefix w w' (O.held output
-        ++ report (detail_of asked.action) (initiators entries asked.limits) stream) }
-    ensures reaches { (asked : Asked) → IsRequest (map string_bytes words.now) asked
-        → ((result.input ≡ input) × (result.output ≡ output))
+        × GrowsByPrefix w w' (O.held output ++ report (detail_of asked.action) x stream))) }
+    ensures reaches { WhereAsked (map string_bytes words.now) (λ asked.
+        ((result.input ≡ input) × (result.output ≡ output))
         ⊎ UnderFile (F.files shelf.old) asked (λ x.
         Reaches (detail_of asked.action) x (I.left input) (I.left result.input)
         (I.taken input) (I.taken result.input)
-        (O.written output) (O.written result.output) (O.held output)) }
+        (O.written output) (O.written result.output) (O.held output))) }
 {
     let request = match command_words::read(alloc, words) {
         Ok(request) => request,

@@ -1,10 +1,7 @@
-use Rattle.std.proofs.Common.{◌≡◌, ℕ, List, Option, Result, refl, sym, ap, ◌∙◌, subst, arith}
-use Rattle.io_edges.specs.declared.SinkFault.{SinkFault}
+use Rattle.std.proofs.Common.{◌≡◌, ℕ, List, subst, arith}
 use Rattle.nbfx_values.specs.QuotasOf.{limits_of}
 use Rattle.receiver_machine.specs.Standing.{settings_of}
-use Rattle.stream_reader.specs.Laws.{IsInitiators}
 use Rattle.stream_reader.specs.Stream.{Settings, initiators}
-use Rattle.dump_replay.specs.declared.check.Ending.{Ending}
 use Rattle.dump_replay.specs.declared.report.Detail.{Detail}
 use Rattle.dump_replay.specs.Reading.{HasReported}
 use Rattle.dump_replay.specs.Running.{detail_of}

@@ -1,5 +1,5 @@
 use Rattle.std.proofs.lemmas.Result.{err_from_is_err_and}
-use Rattle.io_edges.proofs.Putting.{PutsAll-cut, PutsAll-then}
+use Rattle.io_edges.proofs.Putting.{PutsAll-then}
 use Rattle.dump_replay.proofs.Telling.{told_cut}
 use Rattle.dump_replay.proofs.check.put_event.Goals as goal
 

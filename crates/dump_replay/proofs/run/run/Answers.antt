@@ -21,7 +21,7 @@ use Rattle.dump_replay.specs.Report.{report}
 use Rattle.dump_replay.specs.Running.{detail_of, status_of}
 use Rattle.dump_replay.specs.Statics.{Has, UnderFile, static_file, table}
 use Rattle.dump_replay.proofs.CheckSteps.{reads_set}
-use Rattle.dump_replay.proofs.RunSteps.{bad_file, has_table, never_six, same_entries, status_as, status_broken, status_closed, status_complete, status_cut, status_ended, status_judged, status_offended, status_reported, status_too_long, unread_status, words_starved, words_two}
+use Rattle.dump_replay.proofs.RunSteps.{bad_file, has_table, never_six, note_grows, note_is_whole, same_entries, status_as, status_broken, status_closed, status_complete, status_cut, status_ended, status_judged, status_offended, status_reported, status_too_long, unread_status, words_starved, words_two}
 use Rattle.dump_replay.proofs.run.run.Given.{Over}
 use Rattle.dump_replay.proofs.run.run.Goals as goal
 use Rattle.dump_replay.proofs.run.run.Goals.{After-drop-table-inside-3, After-file_status, After-note_status}
@@ -84,13 +84,13 @@ pub returns-in-Err-clause-words : goal.returns-in-Err-clause-words
 returns-in-Err-clause-words g c = λ two asked is. c.in-Err.ensures.refused (ap Err (words_two c.in-Err.fault (sym c.words_status-status.ensures ∙ two))) asked is
 
 pub returns-in-Err-clause-no_table : goal.returns-in-Err-clause-no_table
-returns-in-Err-clause-no_table g c = λ asked files is told none. inr (inr (five g c asked is))
+returns-in-Err-clause-no_table g c = λ asked is files told none. inr (inr (five g c asked is))
 
 pub returns-in-Err-clause-complete : goal.returns-in-Err-clause-complete
-returns-in-Err-clause-complete g c = λ asked files entries stream is told there e. inr (inr (inr (five g c asked is)))
+returns-in-Err-clause-complete g c = λ asked is files entries told there stream e. inr (inr (inr (five g c asked is)))
 
 pub returns-in-Err-clause-closed : goal.returns-in-Err-clause-closed
-returns-in-Err-clause-closed g c = λ asked files entries stream is told there e closed file read written. inr (five g c asked is)
+returns-in-Err-clause-closed g c = λ asked is files entries told there stream e closed file read written. inr (five g c asked is)
 
 -- the file isn't read
 module _ (g : Over) (c : After-file_status g) where
@@ -109,14 +109,14 @@ returns-in-Err-read_statics-clause-no_file g c = λ six.
     (asked_of c.in-Ok.request, file.0, c.in-Ok.ensures.understood, file.1, file.2)
 
 pub returns-in-Err-read_statics-clause-complete : goal.returns-in-Err-read_statics-clause-complete
-returns-in-Err-read_statics-clause-complete g c = λ asked files entries stream is told there e.
+returns-in-Err-read_statics-clause-complete g c = λ asked is files entries told there stream e.
     elim (unread g c asked files entries is told there) [
       | inl failed ↦ inr (inl (c.file_status.ensures ∙ ap status_of_fault failed))
       | inr five ↦ inr (inr (inr (c.file_status.ensures ∙ five)))
     ]
 
 pub returns-in-Err-read_statics-clause-closed : goal.returns-in-Err-read_statics-clause-closed
-returns-in-Err-read_statics-clause-closed g c = λ asked files entries stream is told there e closed file read written.
+returns-in-Err-read_statics-clause-closed g c = λ asked is files entries told there stream e closed file read written.
     elim (unread g c asked files entries is told there) [
       | inl failed ↦ absurd (file (c.in-Err-read_statics.ensures.counted.rose (ap Err failed)))
       | inr five ↦ inr (c.file_status.ensures ∙ five)
@@ -129,11 +129,21 @@ returns-clause-no_request g c = λ none. absurd (none (own g c) c.in-Ok.ensures.
 pub returns-clause-no_file : goal.returns-clause-no_file
 returns-clause-no_file g c = λ six. absurd (never_six (ending g c) (status_is g c 6 six))
 
+pub returns-clause-noted : goal.returns-clause-noted
+returns-clause-noted g c =
+    note_grows (map string_bytes c.args.words.now) (g.F.Shelf.files c.args.shelf.now) c.status-status.result (λ six. never_six (ending g c) (status_is g c 6 six)) _ _ (g.N.Sink.held c.args.notes.now)
+    c.note_status-2.ensures.notes.grows
+
+pub returns-clause-noted_whole : goal.returns-clause-noted_whole
+returns-clause-noted_whole g c = λ sure well.
+    note_is_whole (map string_bytes c.args.words.now) (g.F.Shelf.files c.args.shelf.now) c.status-status.result (λ six. never_six (ending g c) (status_is g c 6 six)) _ _ (g.N.Sink.held c.args.notes.now)
+    (c.note_status-2.ensures.notes.whole sure well)
+
 pub returns-clause-no_table : goal.returns-clause-no_table
-returns-clause-no_table g c = λ asked files is told none. absurd (has_table _ files asked.statics (entries g c) told (has_asked g c asked is) none)
+returns-clause-no_table g c = λ asked is files told none. absurd (has_table _ files asked.statics (entries g c) told (has_asked g c asked is) none)
 
 pub returns-clause-before_input : goal.returns-clause-before_input
-returns-clause-before_input g c = λ asked files is told none. absurd (has_table _ files asked.statics (entries g c) told (has_asked g c asked is) none)
+returns-clause-before_input g c = λ asked is files told none. absurd (has_table _ files asked.statics (entries g c) told (has_asked g c asked is) none)
 
 pub returns-clause-ended : goal.returns-clause-ended
 returns-clause-ended g c = λ asked is zero. under g c asked _ is (λ stream e. status_ended (x g c) stream none_is_closed (set g c) (ending g c) (status_is g c 0 zero) (c.check_gathered-ending.ensures.judges stream e))
@@ -145,12 +155,12 @@ pub returns-clause-too_long : goal.returns-clause-too_long
 returns-clause-too_long g c = λ asked is ten. under g c asked _ is (λ stream e. status_too_long (x g c) stream (ending g c) (status_is g c 10 ten) (c.check_gathered-ending.ensures.judges stream e))
 
 pub returns-clause-complete : goal.returns-clause-complete
-returns-clause-complete g c = λ asked files others stream is told there e.
+returns-clause-complete g c = λ asked is files others told there stream e.
     let h = status_complete (x g c) stream (ending g c) (c.check_gathered-ending.ensures.judges stream e) in
     status_as c.status-status.result (status_at (ending g c)) _ _ c.status-status.ensures (ap (λ (s : Settings). status_of (offence s stream)) (settings_are g c asked files others is told there)) h
 
 pub returns-clause-closed : goal.returns-clause-closed
-returns-clause-closed g c = λ asked files others stream is told there e closed file read written.
+returns-clause-closed g c = λ asked is files others told there stream e closed file read written.
     rw c.status-status.ensures
     (status_closed none_is_closed (x g c) (set g c) stream (ending g c) (subst (λ (s : Settings). IsClosed s stream) (sym (settings_are g c asked files others is told there)) closed)
     (c.check_gathered-ending.ensures.judges stream e) (λ r. read (c.check_gathered-ending.ensures.reads_counted.rose r)) (λ w. written (c.check_gathered-ending.ensures.writes_counted.rose w)))
@@ -179,7 +189,7 @@ returns-clause-broken g c = λ asked is three.
     )
 
 pub returns-clause-cut : goal.returns-clause-cut
-returns-clause-cut g c = λ asked files others stream w is told there e before.
+returns-clause-cut g c = λ asked is files others told there stream w e before.
     let h = c.check_gathered-ending.ensures.reports stream w e before in (
       h.0,
       h.1,
