@@ -1,5 +1,5 @@
-//! What holds of words by their definitions alone. Each function does nothing: its contract is a law,
-//! which a caller has where it calls the function.
+//! What holds of words by their definitions alone. Each function does nothing: its contract is a
+//! law, which a caller has where it calls the function.
 
 ghost use Rattle.command_words.specs.Laws.{AskForOne, ValuesAreNotEmpty};
 

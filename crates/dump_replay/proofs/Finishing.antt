@@ -1,4 +1,4 @@
--- How a check ended, by what was put for the bytes that were read, and what was then written.
+-- How the reporting of a stream ended, by what was put for the bytes that were read, and what was then written.
 use Rattle.std.proofs.Common.{IsErrOf, Bool, ◌≡◌, ℕ, ◌-◌, ◌+◌, ◌⊎◌, inl, inr, List, [], ◌++◌, length, take, Option, Some, None, Result, Ok, Err, IfOk, IfErr, OnOk, OnErr, ◌↔◌, refl, sym, ap, ◌∙◌, subst, arith, append_assoc}
 use Rattle.std.specs.Prelude.{⊤}
 use Rattle.std.proofs.Math.Seq.{take-append-add}
@@ -13,15 +13,15 @@ use Rattle.io_edges.specs.declared.SinkFault.TheVariants as faults
 use Rattle.nbfx_values.specs.declared.refusals.Offence.{Offence}
 use Rattle.stream_reader.specs.Judging.{offence}
 use Rattle.stream_reader.specs.Stream.{Settings}
-use Rattle.dump_replay.specs.declared.check.Ending.{Ending}
-use Rattle.dump_replay.specs.declared.check.Ending.TheVariants as endings
+use Rattle.dump_replay.specs.declared.reporting.Ending.{Ending}
+use Rattle.dump_replay.specs.declared.reporting.Ending.TheVariants as endings
 use Rattle.dump_replay.specs.declared.report.Detail.{Detail}
-use Rattle.dump_replay.specs.Checking.{Decides, Breaks, Grows, Reaches, Writes}
+use Rattle.dump_replay.specs.Reporting.{Decides, Breaks, Grows, Reaches, Writes}
 use Rattle.dump_replay.specs.Reading.{AreDue, HasReported, IsAllRead, ReportsAs, done, stopped_by, Judges, Reports}
 use Rattle.dump_replay.specs.Report.{report, event_lines}
 use Rattle.dump_replay.proofs.Lines.{nothing_lines}
 use Rattle.dump_replay.proofs.Writing.{told_some, grown_within, put_either}
-use Rattle.dump_replay.proofs.CheckSteps.{known_told, told_as, counted_with, lines_due, puts_grow}
+use Rattle.dump_replay.proofs.ReportSteps.{known_told, told_as, counted_with, lines_due, puts_grow}
 
 -- what was put and then written, of what was reported so, and how that ends
 pub record Finished (d : Detail) (x : Settings) (r : Result Ending SinkFault) (lines : List ℕ) (w w1 w2 : Option (List ℕ)) (h h2 : List ℕ) (f f2 : ℕ) (m m2 : Bool) (e : Ending) : Type 0 where

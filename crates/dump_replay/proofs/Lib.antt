@@ -1,8 +1,8 @@
--- a check and a run (specs/Reading, Checking, Running): lines, what is written and read, statuses
+-- a run (specs/Reading, Reporting, Running): lines, what is written and read, statuses
 pub mod Lines
 pub mod Writing
 pub mod ReadSteps
-pub mod CheckSteps
+pub mod ReportSteps
 pub mod Finishing
 pub mod Telling
 pub mod Noting

@@ -8,7 +8,7 @@ use Rattle.io_edges.specs.Puts.{PutsAll}
 use Rattle.io_edges.specs.declared.SinkFault.{SinkFault}
 use Rattle.io_edges.specs.declared.SinkFault.TheVariants as faults
 use Rattle.dump_replay.specs.Reading.{NotesText}
-use Rattle.dump_replay.proofs.CheckSteps.{after_flush, told_as}
+use Rattle.dump_replay.proofs.ReportSteps.{after_flush, told_as}
 use Rattle.dump_replay.proofs.Writing.{put_either}
 
 -- a put that failed

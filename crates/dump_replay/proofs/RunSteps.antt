@@ -1,12 +1,12 @@
--- What a status tells of how a check ended.
+-- What a status tells of how the reporting of a stream ended.
 use Rattle.std.proofs.Common.{◌≡◌, ℕ, ◌⊎◌, inl, inr, List, [], ◌++◌, length, true, false, Option, Some, None, refl, sym, ap, ◌∙◌, subst, arith, append_assoc}
 use Rattle.std.proofs.lemmas.List.{take_all}
 use Rattle.std.proofs.lemmas.Bool.{cases_Bool}
 use Rattle.io_edges.specs.Flow.{GrowsByPrefix, Told}
 use Rattle.io_edges.specs.Store.{Store}
 use Rattle.nbfx_values.specs.declared.refusals.Offence.{Offence}
-use Rattle.dump_replay.specs.declared.check.Ending.{Ending}
-use Rattle.dump_replay.specs.declared.check.Ending.TheVariants as endings
+use Rattle.dump_replay.specs.declared.reporting.Ending.{Ending}
+use Rattle.dump_replay.specs.declared.reporting.Ending.TheVariants as endings
 use Rattle.stream_reader.specs.Stream.{Settings}
 use Rattle.string_tables.specs.StaticStrings.{Entry}
 use Rattle.stream_reader.specs.Judging.{offence}
@@ -21,7 +21,7 @@ use Rattle.dump_replay.specs.declared.statics.FileFault.TheVariants as files_fau
 use Rattle.dump_replay.specs.Running.{IsJudged, IsNoTable, IsNote, note_of, status_of, is_session_too_long}
 use Rattle.dump_replay.specs.Statics.{Has, StaticFile, bad, missing, static_file, table}
 use Rattle.dump_replay.specs.Reading.{Judges, Reports, TellsFile, status_at, status_of_fault, status_of_words}
-use Rattle.dump_replay.proofs.CheckSteps.{told_as}
+use Rattle.dump_replay.proofs.ReportSteps.{told_as}
 
 -- a status that is a number is one that this number is
 pub status_as : (n m k k' : ℕ) → n ≡ m → k ≡ k' → (m ≡ k) ⊎ (m ≡ 3) ⊎ (m ≡ 4) ⊎ (m ≡ 5) → (n ≡ k') ⊎ (n ≡ 3) ⊎ (n ≡ 4) ⊎ (n ≡ 5)
@@ -176,7 +176,7 @@ bad_file (files_faults.Bad row kind) e files name tells = (bad row kind, tells, 
 bad_file files_faults.Failed e files name tells = cc
 bad_file files_faults.Memory e files name tells = cc
 
--- which no ending of a check does
+-- which no ending does
 pub never_six : (e : Ending) → status_at e ≡ 6 → ⊥
 never_six (endings.Judged o) s = other_status o 6 s (λ e. cc) (λ e. cc) (λ e. cc)
 never_six endings.ReadFault s = cc

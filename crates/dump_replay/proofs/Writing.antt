@@ -6,7 +6,7 @@ use Rattle.std.proofs.lemmas.List.{take_all, take-append-le}
 use Rattle.std.specs.Prelude.{⊤}
 use Rattle.io_edges.specs.Flow.{Told, GrowsByPrefix}
 use Rattle.io_edges.specs.declared.SinkFault.{SinkFault}
-use Rattle.dump_replay.specs.Checking.{Grows}
+use Rattle.dump_replay.specs.Reporting.{Grows}
 
 -- what was told before, and what it became
 pub told_some : (P : List ℕ → List ℕ → Type 0) (old new : Option (List ℕ)) (w : List ℕ) → old ≡ Some w → Told old new P → (w' : List ℕ) × (new ≡ Some w') × P w w'

@@ -2,7 +2,7 @@
 pub mod Report
 pub mod Statics
 pub mod Running
-pub mod Checking
+pub mod Reporting
 pub mod Laws
 -- cited by private calls
 pub mod Reading

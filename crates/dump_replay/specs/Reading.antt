@@ -1,5 +1,5 @@
--- What the parts of a check and of a run answer, of any end that reads a stream. Public contracts cite
--- none of this.
+-- What the parts of a run answer, of any end that reads a stream. Public contracts cite none of
+-- this.
 use Rattle.std.specs.Prelude.{◌≡◌, ◌≤◌, ◌⊎◌, ⊤, ℕ, List, [], ◌++◌, Bool, false, Option, Some, Result, Ok, Err}
 use Rattle.io_edges.specs.Faults.{CountsFaults, Rose}
 use Rattle.io_edges.specs.Flow.{GrowsByPrefix, Told}
@@ -15,13 +15,13 @@ use Rattle.stream_reader.specs.Stream.{Settings, stream}
 use Rattle.command_words.specs.declared.words.WordsFault.{WordsFault}
 use Rattle.command_words.specs.declared.words.WordsFault.TheVariants as words
 use Rattle.dump_replay.specs.declared.report.Detail.{Detail}
-use Rattle.dump_replay.specs.declared.check.Progress.{Progress}
-use Rattle.dump_replay.specs.declared.check.Progress.TheVariants.{Going, Judged, Starved}
-use Rattle.dump_replay.specs.declared.check.Ending.{Ending}
-use Rattle.dump_replay.specs.declared.check.Ending.TheVariants as endings
+use Rattle.dump_replay.specs.declared.reporting.Progress.{Progress}
+use Rattle.dump_replay.specs.declared.reporting.Progress.TheVariants.{Going, Judged, Starved}
+use Rattle.dump_replay.specs.declared.reporting.Ending.{Ending}
+use Rattle.dump_replay.specs.declared.reporting.Ending.TheVariants as endings
 use Rattle.dump_replay.specs.declared.statics.FileFault.{FileFault}
 use Rattle.dump_replay.specs.declared.statics.FileFault.TheVariants as file_faults
-use Rattle.dump_replay.specs.Checking.{Breaks, Decides, Reaches}
+use Rattle.dump_replay.specs.Reporting.{Breaks, Decides, Reaches}
 use Rattle.dump_replay.specs.Report.{report, event_lines}
 use Rattle.dump_replay.specs.Running.{file_note, note_of, status_of}
 use Rattle.dump_replay.specs.Statics.{Has, bad, missing}
@@ -37,14 +37,15 @@ abbrev pub done : {A : Type 0} → Result A SinkFault → Result ⊤ SinkFault
 done (Ok a) = Ok tt
 done (Err fault) = Err fault
 
--- with these lines the report of a stream begins at whose front these bytes stand, behind other lines
+-- with these lines the report of a stream begins at whose front these bytes stand, behind other
+-- lines
 abbrev pub AreDue : Detail → Settings → (bytes before lines : List ℕ) → Type 0
 AreDue d x bytes before lines =
     (more : List ℕ) → (rest : List ℕ) × (report d x (bytes ++ more) ≡ before ++ lines ++ rest)
 
 -- what is said of a stream of which p is read, when the bytes y came, and which lines are put then
-abbrev pub ReadsOf : Detail → (List ℕ → Type 0) → Settings → List ℕ → List ℕ → Result Progress SinkFault
-    → List ℕ → Type 0
+abbrev pub ReadsOf : Detail → (List ℕ → Type 0) → Settings → List ℕ → List ℕ
+    → Result Progress SinkFault → List ℕ → Type 0
 ReadsOf d stands x p y (Ok Going) lines = stands (p ++ y) × IsPending (stream x) (p ++ y)
     × (event_lines d x (p ++ y) ≡ event_lines d x p ++ lines)
 ReadsOf d stands x p y (Ok (Judged o)) lines =
@@ -83,7 +84,7 @@ pub record HasReported (d : Detail) (x : Settings)
   pub reached : Reaches d x left left' taken taken' written written' held
   pub ends : ReportsAs d x reached.before reached.piece left left' held' result lines
 
--- what a fault of the output ends a check with
+-- what a fault of the output ends the reporting of a stream with
 abbrev pub stopped_by : SinkFault → Ending
 stopped_by faults.Failed = endings.WriteFault
 stopped_by faults.Memory = endings.Memory
@@ -98,9 +99,9 @@ abbrev pub Reports : Detail → Settings → List ℕ → (w held w' : List ℕ)
 Reports d x bytes w held w' (endings.Judged o) = w' ≡ w ++ held ++ report d x bytes
 Reports d x bytes w held w' _ = GrowsByPrefix w w' (held ++ report d x bytes)
 
--- what is known of a check of a stream, which ends so: what was read and written, and what the calls
--- that failed by the outside left of the counts of the input and of the output
-pub record HasChecked (d : Detail) (x : Settings)
+-- what is known of a stream's reporting, which ends so: what was read and written, and what the
+-- calls that failed by the outside left of the counts of the input and of the output
+pub record EndsAs (d : Detail) (x : Settings)
     (left left' taken taken' written written' : Option (List ℕ))
     (held : List ℕ) (reads reads' writes writes' : ℕ) (ending : Ending) : Type 0 where
   pub judges : (bytes : List ℕ) → left ≡ Some bytes → Judges x bytes ending

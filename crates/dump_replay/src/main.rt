@@ -1,16 +1,17 @@
-//! All that the program does, in one call that is proved: [`run::run`]. Its commands `check` and `dump`
-//! read an initiator's net.tcp stream (MC-NMF, duplex mode) with the documents that its envelopes carry,
-//! and print what comes in it, and what refuses the stream or that the session ended: `check` a line for
-//! each event, `dump` the lines of each document too.
+//! All that the program does, in one call that is proved: [`run::run`]. Its commands `check` and
+//! `dump` read an initiator's net.tcp stream (MC-NMF, duplex mode) with the documents that its
+//! envelopes carry, and print what comes in it, and what refuses the stream or that the session
+//! ended: `check` a line for each event, `dump` the lines of each document too.
 //!
 //! The one idea: what a stream is judged by are its prefixes, which `stream_reader` defines and a
 //! `Receiver` answers by. Here are the lines for that (`report`), the loop that feeds a reading end
-//! and writes what is told before it reads more (`check`), and the file of static strings, the statuses
-//! and the notes of a run; the words are read by `command_words`. The main contract is the one of `run`:
-//! what each status means, when it comes, and what the output holds then.
+//! and writes what is told before it reads more (`reporting`), and the file of static strings, the
+//! statuses and the notes of a run; the words are read by `command_words`. The main contract is the
+//! one of `run`: what each status means, when it comes, and what the output holds then.
 //!
-//! The definitions are in `specs/`: `Report` has the lines, `Statics` what the file gives, `Running` the
-//! statuses and notes, `Checking` what the reading of a stream leaves, `Laws` what holds of reports alone.
+//! The definitions are in `specs/`: `Report` has the lines, `Statics` what the file gives,
+//! `Running` the statuses and notes, `Reporting` what the reporting of a stream leaves, `Laws` what
+//! holds of reports alone.
 #![tactic(auto)]
 
 ghost use Rattle.std.specs.Prelude.{◌≡◌, ◌≢◌, [], IfOk, IfErr, IsErr, IsOkAnd};
@@ -18,11 +19,11 @@ ghost use Rattle.std.specs.IoError.{error_kind};
 ghost use Rattle.std.specs.Process.{exit_status};
 ghost use Rattle.std.specs.Vec.Iter.{into_iter_items};
 
-mod check;
 pub mod laws;
 mod notes;
 pub mod reading;
 pub mod report;
+mod reporting;
 pub mod run;
 mod statics;
 
@@ -32,8 +33,8 @@ use std::env::{self, Args};
 use std::io::{self, ErrorKind};
 use std::process::ExitCode;
 
-// The words that the system told. A word that isn't text is none of the program's, and the words are
-// then as none at all. Any other error is want of memory.
+// The words that the system told. A word that isn't text is none of the program's, and the words
+// are then as none at all. Any other error is want of memory.
 fn words_of(alloc: Global, told: io::Result<Args>) -> io::Result<Vec<String>>
     ensures text { IfOk told (λ args. IfOk result (λ words. words.items ≡ into_iter_items args)) }
     ensures no_text { IfErr told

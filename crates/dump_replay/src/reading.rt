@@ -8,7 +8,7 @@ ghost use Rattle.stream_reader.specs.Laws.{IsInitiators};
 ghost use Rattle.stream_reader.specs.Stream.{Settings, StreamEvent, stream};
 ghost use Rattle.dump_replay.specs.Report.{event_line};
 
-use crate::report::{self, Told};
+use crate::report::{self, ReceivedDoc};
 use io_edges::{Sink, SinkFault};
 use nbfx_values::Offence;
 use receiver_machine::{ReadRefusal, Receiver, Step};
@@ -87,13 +87,13 @@ impl<'s> ReadingEnd for Receiver<'s> {
             Step::More => Ok(()),
             Step::Opened { mode, kind } => report::put_open(*mode, *kind, self.via(), output),
             Step::Message { size, doc } => {
-                let told = Told {
+                let received = ReceivedDoc {
                     number: self.messages().saturating_sub(1),
                     size: *size,
                     doc,
                     table: self.table(),
                 };
-                report::put_message(told, output)
+                report::put_message(received, output)
             }
             Step::Ended => report::put_ended(self.taken(), output),
         }

@@ -54,9 +54,9 @@ pub fn put_open<K: Sink>(mode: Mode, kind: Kind, via: &str, output: &mut K) -> R
     put_words("open", &words, output)
 }
 
-/// What is told of an envelope.
+/// A document that an envelope brought, and what its line tells beside.
 #[derive(Clone, Copy)]
-pub struct Told<'a> {
+pub struct ReceivedDoc<'a> {
     pub number: u64,
     /// Bytes of its payload.
     pub size: u32,
@@ -66,26 +66,31 @@ pub struct Told<'a> {
 }
 
 /// Puts the line of an envelope.
-pub fn put_message<K: Sink>(told: Told, output: &mut K) -> Result<(), SinkFault>
-    ensures { content_of told.entry.doc.now < 2 ^ 64
+pub fn put_message<K: Sink>(received: ReceivedDoc, output: &mut K) -> Result<(), SinkFault>
+    ensures { content_of received.entry.doc.now < 2 ^ 64
         → Puts K.written K.held K.faults K.may_want output.old output.new
-        (message_line (record { number = told.entry.number; size = told.entry.size; items = told.entry.doc.now; strings = told.entry.table.now.strings }))
+        (message_line (record {
+          number = received.entry.number;
+          size = received.entry.size;
+          items = received.entry.doc.now;
+          strings = received.entry.table.now.strings;
+        }))
         result }
 {
     let words = [
-        Word::Natural(u128::from(told.number)),
+        Word::Natural(u128::from(received.number)),
         Word::Plain("payload"),
-        Word::Natural(u128::from(told.size)),
+        Word::Natural(u128::from(received.size)),
         Word::Plain("items"),
-        Word::Natural(told.doc.items().len() as u128),
+        Word::Natural(received.doc.items().len() as u128),
         Word::Plain("depth"),
-        Word::Natural(u128::from(told.doc.depth())),
+        Word::Natural(u128::from(received.doc.depth())),
         Word::Plain("content"),
-        Word::Natural(u128::from(told.doc.content())),
+        Word::Natural(u128::from(received.doc.content())),
         Word::Plain("strings"),
-        Word::Natural(u128::from(told.table.len())),
+        Word::Natural(u128::from(received.table.len())),
         Word::Plain("used"),
-        Word::Natural(u128::from(told.table.used())),
+        Word::Natural(u128::from(received.table.used())),
     ];
     put_words("message", &words, output)
 }

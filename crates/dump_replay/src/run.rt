@@ -11,14 +11,14 @@ ghost use Rattle.stream_reader.specs.Sessions.{IsClosed};
 ghost use Rattle.stream_reader.specs.Stream.{initiators};
 ghost use Rattle.nbfx_values.specs.QuotasOf.{limits_of};
 ghost use Rattle.command_words.specs.Requests.{Asked, IsRequest};
-ghost use Rattle.dump_replay.specs.Checking.{Decides, Breaks, Reaches};
-ghost use Rattle.dump_replay.specs.Reading.{HasChecked, status_at, status_of_fault, status_of_words};
+ghost use Rattle.dump_replay.specs.Reporting.{Decides, Breaks, Reaches};
+ghost use Rattle.dump_replay.specs.Reading.{EndsAs, status_at, status_of_fault, status_of_words};
 ghost use Rattle.dump_replay.specs.Report.{report};
 ghost use Rattle.dump_replay.specs.Running.{IsJudged, IsNoTable, IsNote, IsStatus, WhereAsked, detail_of, status_of, is_session_too_long};
 ghost use Rattle.dump_replay.specs.Statics.{Has, StaticFile, UnderFile, UnderTold, static_file};
 
-use crate::check::{self, Ending};
 use crate::notes;
+use crate::reporting::{self, Ending};
 use crate::statics::{FileFault, read_statics};
 use command_words::{Request, WordsFault};
 use io_edges::{GatheringSink, Shelf, Sink, Source, gathering_room};
@@ -37,13 +37,13 @@ pub struct Ran<I, O> {
 
 /// Does all that the program does for these words, the first of which is its name.
 ///
-/// `check` reads an initiator's stream from the input, with the static strings of the shelf's file that
-/// `--static` names and within the quotas that the other options set, and writes its report to the
-/// output; `dump` does too, with the lines of each document behind its envelope's. The status is 0 where
-/// the session ended, 1 where the stream is refused, and 10 where its bytes reach the session quota
-/// first. It is 2 where the words are none of the program's, 3 where a read failed, 4 where a write
-/// failed, 5 where memory ran out, and 6 where the shelf has no such file, or one with a bad row. With 2
-/// to 6 a note says so; that a note can't be put changes nothing else.
+/// `check` reads an initiator's stream from the input, with the static strings of the shelf's file
+/// that `--static` names and within the quotas that the other options set, and writes its report to
+/// the output; `dump` does too, with the lines of each document behind its envelope's. The status
+/// is 0 where the session ended, 1 where the stream is refused, and 10 where its bytes reach the
+/// session quota first. It is 2 where the words are none of the program's, 3 where a read failed, 4
+/// where a write failed, 5 where memory ran out, and 6 where the shelf has no such file, or one
+/// with a bad row. With 2 to 6 a note says so; that a note can't be put changes nothing else.
 pub fn run<F: Shelf, I: Source, O: Sink + Send, N: Sink>(
     alloc: Global,
     words: &[String],
@@ -175,7 +175,7 @@ pub fn run<F: Shelf, I: Source, O: Sink + Send, N: Sink>(
         }
     };
     let mut input = input;
-    let (ending, output) = check_gathered(alloc, &request, &table, &mut input, output);
+    let (ending, output) = report_gathered(alloc, &request, &table, &mut input, output);
     let status = status(ending);
     notes::note_status(status, notes);
     Ran {
@@ -185,15 +185,15 @@ pub fn run<F: Shelf, I: Source, O: Sink + Send, N: Sink>(
     }
 }
 
-// Checks the stream that the input gives, with what is put gathered on its way.
-fn check_gathered<I: Source, O: Sink>(
+// Reports the stream that the input gives, with what is put gathered on its way.
+fn report_gathered<I: Source, O: Sink>(
     alloc: Global,
     request: &Request,
     statics: &StaticTable,
     input: &mut I,
     output: O,
 ) -> (Ending, O)
-    ensures { HasChecked (detail_of request.now.action)
+    ensures { EndsAs (detail_of request.now.action)
         (initiators statics.now (limits_of request.now.quotas))
         (I.left input.old) (I.left input.new)
         (I.taken input.old) (I.taken input.new) (O.written output) (O.written result.1)
@@ -204,7 +204,7 @@ fn check_gathered<I: Source, O: Sink>(
         return (Ending::Memory, output);
     };
     let mut gathered = GatheringSink::new(room, output);
-    let ending = check::check(alloc, request, statics, input, &mut gathered);
+    let ending = reporting::report_stream(alloc, request, statics, input, &mut gathered);
     (ending, gathered.into_sink())
 }
 

@@ -51,8 +51,9 @@ counts_taken r p stands = reader.counts_taken r.reader p stands
 unfoldable pub FailedBehind : Receiver → ReadRefusal → ℕ → List ℕ → Type 0
 FailedBehind r refusal taken p = reader.FailedBehind r.reader refusal taken p
 
--- what a piece y behind p leaves of a receiver that it makes fail: where the stream is refused, it is
--- behind the bytes that show it; where there was no memory, behind some, and none of y counts as used
+-- what a piece y behind p leaves of a receiver that it makes fail: where the stream is refused, it
+-- is behind the bytes that show it; where there was no memory, behind some, and none of y counts as
+-- used
 abbrev pub FailsBy : Receiver → List ℕ → List ℕ → Answer StreamEvent Offence → ReadRefusal
     → Type 0
 FailsBy r p y answer (Refused o) =

@@ -42,7 +42,8 @@ impl<'s> Receiver<'s> {
     ghost use Rattle.receiver_machine.specs.Saying.{Says, said_at_end};
     ghost use Rattle.receiver_machine.specs.Standing.{settings_of, taken_of, messages_of, failure_of, StandsFor, FailedBehind, ShowsVia, ShowsStrings, WhereItStands, WhereItFailed, FailsBy};
 
-    /// A receiver before the first byte. It makes all the room that it needs up to the preamble's end.
+    /// A receiver before the first byte. It makes all the room that it needs up to the preamble's
+    /// end.
     pub fn new(
         alloc: Global,
         statics: &'s StaticTable,
@@ -133,8 +134,8 @@ impl<'s> Receiver<'s> {
         self.reader.via()
     }
 
-    /// How many bytes were used; after an offence of `feed`, how many show it; after want of memory,
-    /// how many the calls before used.
+    /// How many bytes were used; after an offence of `feed`, how many show it; after want of
+    /// memory, how many the calls before used.
     pub fn taken(&self) -> u64
         ensures counted { result ≡ taken_of self.now }
         ensures stands { WhereItStands self.now (λ p. result ≡ length p) }

@@ -22,7 +22,7 @@ use Rattle.stream_reader.specs.declared.reader.StreamReader.{StreamReader}
 use Rattle.stream_reader.specs.declared.reader.StreamStep.{StreamStep}
 use Rattle.stream_reader.specs.declared.reader.StreamStep.TheVariants as steps
 use Rattle.stream_reader.specs.Stream.{Settings, Situation, StreamEvent, record_due, after_record, behind_payload, built, completed_payload, completed_record, kind_of, led, offence_at, payload_begun, payloads, reason_in, refused_head, refused_payload, refused_record, strings_at, strings_in}
-use Rattle.stream_reader.specs.Standing.{Awaits, IsIn, ReadsPayload, Shows}
+use Rattle.stream_reader.specs.Standing.{Awaits, IsIn, ReadsPayload, ShowsTable}
 use Rattle.stream_reader.specs.Stepping.{BehindAnswers, HasDecoded, IsDue, RefusedAs, step_of}
 use Rattle.stream_reader.proofs.Outcomes.{more_behind}
 use Rattle.stream_reader.proofs.Situations.{begun_behind}
@@ -64,8 +64,8 @@ module _ (r : StreamReader) (x : Settings) (z : Situation) (due : Due) (f : Fram
   strings_are : strings_in z ≡ z.strings
   strings_are = ap (strings_at z) h.stage
 
-  shows_now : Shows r.decoder z.strings
-  shows_now = subst (Shows r.decoder) strings_are (shows_in r x z h.at)
+  shows_now : ShowsTable r.decoder z.strings
+  shows_now = subst (ShowsTable r.decoder) strings_are (shows_in r x z h.at)
 
   decoder_now : DecoderStandsFor r.decoder z.strings []
   decoder_now = subst (ReadsPayload r.decoder x z) h.stage h.at.payload
@@ -87,7 +87,7 @@ module _ (r : StreamReader) (x : Settings) (z : Situation) (due : Due) (f : Fram
         refl,
         record {
           messages = messages ∙ h.at.messages ∙ same.0;
-          strings = subst (λ (d : Decoder). Shows d (strings_in (after_record x z from f text))) (sym decoder) (subst (Shows r.decoder) same.1 shows_now);
+          strings = subst (λ (d : Decoder). ShowsTable d (strings_in (after_record x z from f text))) (sym decoder) (subst (ShowsTable r.decoder) same.1 shows_now);
         },
       ))
 

@@ -23,7 +23,7 @@ use Rattle.stream_reader.specs.declared.reader.StreamStep.TheVariants as steps
 use Rattle.stream_reader.specs.Laws.{IsInitiators}
 use Rattle.stream_reader.specs.Stream.{Settings, Stage, StreamEvent, ends, open_from, offence_at, is_over_in, too_long, stream, strings_in}
 use Rattle.stream_reader.specs.Saying.{Says, step_for, said}
-use Rattle.stream_reader.specs.Standing.{Failed, FailsBy, HasPayloads, Reached, Shows, ShowsStrings, ShowsVia, StandsFor, failure_of, messages_of, settings_of, taken_of}
+use Rattle.stream_reader.specs.Standing.{Failed, FailsBy, HasPayloads, Reached, ShowsTable, ShowsStrings, ShowsVia, StandsFor, failure_of, messages_of, settings_of, taken_of}
 use Rattle.stream_reader.specs.Stepping.{KeepsShown, UnitAnswers, taken_since}
 use Rattle.stream_reader.proofs.Grammar.{readable, short_enough}
 use Rattle.stream_reader.proofs.Ending.{tells}
@@ -164,7 +164,7 @@ still_failed mid new x refusal taken now p kept failure taken_is h = record {
   taken_is = taken_is;
   via = subst (λ (f : FrameReader). ShowsText f (standing (stream x) p).situation.via) (sym kept.frames) h.via;
   messages = kept.messages ∙ h.messages;
-  strings = subst (λ (d : Decoder). Shows d (strings_in (standing (stream x) p).situation)) (sym kept.decoder) h.strings;
+  strings = subst (λ (d : Decoder). ShowsTable d (strings_in (standing (stream x) p).situation)) (sym kept.decoder) h.strings;
 }
 
 taken_there : (r : StreamReader) (x : Settings) (refusal : ReadRefusal) (taken : ℕ) (p : List ℕ) → Failed r x refusal taken p → r.taken ≡ taken

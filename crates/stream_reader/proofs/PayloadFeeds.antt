@@ -27,7 +27,7 @@ use Rattle.stream_reader.specs.declared.reader.ReadRefusal.TheVariants.{Offence 
 use Rattle.stream_reader.specs.declared.reader.StreamReader.{StreamReader}
 use Rattle.stream_reader.specs.declared.reader.StreamStep.{StreamStep}
 use Rattle.stream_reader.specs.Stream.{OpenPayload, Settings, Situation, Stage, StreamEvent, opened, message, ended, record_due, payload_open, behind_payload, completed_payload, offence_in, payload_in, payloads, refusal_in, refused_payload, stream, strings_at, strings_in, PayloadStanding}
-use Rattle.stream_reader.specs.Standing.{Awaits, Failed, HasBegun, HasPayloads, IsIn, IsWithinPayload, Reached, ReadsPayload, Shows, ShowsStrings, ShowsVia, failure_of, messages_of, taken_of}
+use Rattle.stream_reader.specs.Standing.{Awaits, Failed, HasBegun, HasPayloads, IsIn, IsWithinPayload, Reached, ReadsPayload, ShowsTable, ShowsStrings, ShowsVia, failure_of, messages_of, taken_of}
 use Rattle.stream_reader.specs.Stepping.{BehindAnswers, HasDecoded, UnitAnswers, more_shown, step_of, told_of}
 use Rattle.stream_reader.proofs.Outcomes.{goes_on as more_come, is_whole, is_refused, outcome, refused_eventless, refused_messages, strings_behind, via_behind}
 use Rattle.stream_reader.proofs.PayloadBytes.{IsWithin, bytes_event, bytes_going, bytes_refused, bytes_stand, more_refusal, last_refusal, payload_behind, payload_quiet, payload_quiet_before, stands_so, within_open}
@@ -229,7 +229,7 @@ module _ (r : StreamReader) (x : Settings) (p : List ℕ) (h : Reached r x p) (l
             taken_is = omega (arith, taken_is, h.taken);
             via = subst (λ (f : FrameReader). ShowsText f (standing (stream x) (p ++ take k c)).situation.via) (sym frames) (subst (ShowsText r.frames) (sym via_there) h.text);
             messages = subst (λ (s : Situation). new.messages ≡ s.messages) (sym situation_there) a.1.messages;
-            strings = subst (λ (s : Situation). Shows new.decoder (strings_in s)) (sym situation_there) a.1.strings;
+            strings = subst (λ (s : Situation). ShowsTable new.decoder (strings_in s)) (sym situation_there) a.1.strings;
           })
 
     -- no byte more
@@ -267,7 +267,7 @@ module _ (r : StreamReader) (x : Settings) (p : List ℕ) (h : Reached r x p) (l
         }
 
     -- what a decoder shows that has failed behind some
-    shows_failed : (d : Decoder) (fault : DecodeFault) (b : List ℕ) → decoder_settings d ≡ decoder_settings r.decoder → DecoderFailedBehind d fault z.strings b → Shows d (situation_of (payloads x z.kind) z.strings b).strings
+    shows_failed : (d : Decoder) (fault : DecodeFault) (b : List ℕ) → decoder_settings d ≡ decoder_settings r.decoder → DecoderFailedBehind d fault z.strings b → ShowsTable d (situation_of (payloads x z.kind) z.strings b).strings
     shows_failed d fault b same failed =
         let is_set : decoder_settings d ≡ payloads x z.kind = same ∙ h.at.decodes in
         record {
@@ -318,7 +318,7 @@ module _ (r : StreamReader) (x : Settings) (p : List ℕ) (h : Reached r x p) (l
         taken_is = taken;
         via = subst (λ (f : FrameReader). ShowsText f (standing (stream x) q).situation.via) (sym frames) (subst (ShowsText r.frames) (sym stays.via) h.text);
         messages = messages ∙ h.at.messages ∙ sym stays.messages;
-        strings = subst (Shows new.decoder) (sym stays.strings) (shows_failed new.decoder fault b same failed);
+        strings = subst (ShowsTable new.decoder) (sym stays.strings) (shows_failed new.decoder fault b same failed);
       }
 
       -- of these bytes some are refused

@@ -21,7 +21,7 @@ use Rattle.stream_reader.specs.declared.awaited.Awaited.TheVariants as awaits
 use Rattle.stream_reader.specs.declared.reader.ReadRefusal.{ReadRefusal}
 use Rattle.stream_reader.specs.declared.reader.StreamReader.{StreamReader}
 use Rattle.stream_reader.specs.Stream.{Settings, Situation, Stage, record_due, payload_open, initiators, is_over_in, offence_at, open_from, payloads, stream, strings_at, strings_in, PayloadStanding}
-use Rattle.stream_reader.specs.Standing.{Awaits, Failed, FailedBehind, IsIn, Reached, ReadsPayload, Shows, ShowsStrings, ShowsVia, begun_in, items_in, failure_of, messages_of, reads_initiators, settings_of, taken_of}
+use Rattle.stream_reader.specs.Standing.{Awaits, Failed, FailedBehind, IsIn, Reached, ReadsPayload, ShowsTable, ShowsStrings, ShowsVia, begun_in, items_in, failure_of, messages_of, reads_initiators, settings_of, taken_of}
 use Rattle.stream_reader.specs.Stepping.{KeepsShown, has_ended, opened_at}
 use Rattle.stream_reader.proofs.Grammar.{readable, quiet_over}
 use Rattle.stream_reader.proofs.ReasonsOfStreams.{cut_is}
@@ -101,7 +101,7 @@ pub comes_in : (r : StreamReader) (x : Settings) (z : Situation) → IsIn r x z 
 comes_in r x z h = has_come r.decoder x z z.stage refl h.decodes h.payload
 
 -- what it shows of them
-pub shows_come : (d : Decoder) (z : Situation) → HasCome d z → Shows d (strings_in z)
+pub shows_come : (d : Decoder) (z : Situation) → HasCome d z → ShowsTable d (strings_in z)
 shows_come d z h = record {
   before = h.before;
   bytes = h.bytes;
@@ -112,7 +112,7 @@ shows_come d z h = record {
       (cost_within (decoder_settings d) h.before h.bytes (stands_as d h.before h.bytes h.stands_for).before);
 }
 
-pub shows_in : (r : StreamReader) (x : Settings) (z : Situation) → IsIn r x z → Shows r.decoder (strings_in z)
+pub shows_in : (r : StreamReader) (x : Settings) (z : Situation) → IsIn r x z → ShowsTable r.decoder (strings_in z)
 shows_in r x z h = shows_come r.decoder z (comes_in r x z h)
 
 -- a decoder that stands for what another does
@@ -128,7 +128,7 @@ module _ (old new : Decoder) (same : decoder_settings new ≡ decoder_settings o
     within = h.within;
   }
 
-  pub shows_too : (strings : List (List ℕ)) → Shows old strings → Shows new strings
+  pub shows_too : (strings : List (List ℕ)) → ShowsTable old strings → ShowsTable new strings
   shows_too strings h = record {
     before = h.before;
     bytes = h.bytes;
@@ -166,7 +166,7 @@ refused_shows old new x p refusal taken h failure taken_is kept = record {
   taken_is = taken_is;
   via = subst (λ (f : FrameReader). ShowsText f (standing (stream x) p).situation.via) (sym kept.frames) h.text;
   messages = kept.messages ∙ h.at.messages;
-  strings = subst (λ (d : Decoder). Shows d (strings_in (standing (stream x) p).situation)) (sym kept.decoder) (shows_in old x (standing (stream x) p).situation h.at);
+  strings = subst (λ (d : Decoder). ShowsTable d (strings_in (standing (stream x) p).situation)) (sym kept.decoder) (shows_in old x (standing (stream x) p).situation h.at);
 }
 
 -- by what it is set to

@@ -46,7 +46,7 @@ use Rattle.stream_reader.specs.declared.reader.StreamReader.{StreamReader}
 use Rattle.stream_reader.specs.declared.reader.StreamStep.{StreamStep}
 use Rattle.stream_reader.specs.declared.reader.StreamStep.TheVariants as steps
 use Rattle.stream_reader.specs.Stream.{Settings, initiators, Situation, Stage, StreamUnit, StreamEvent, opened, message, ended, frame, record_due, payload_open, unexpected, built, reason_of, reason_in, offence_at, unit_in, payload_begun, after_record, completed_record, refused_record, is_over_in, after, completed, refused, refusal_in, offence_in, stream, strings_in}
-use Rattle.stream_reader.specs.Standing.{Awaits, IsIn, Reached, ReadsPayload, HasBegun, HasPayloads, Shows, ShowsVia, ShowsStrings, taken_of, messages_of, failure_of}
+use Rattle.stream_reader.specs.Standing.{Awaits, IsIn, Reached, ReadsPayload, HasBegun, HasPayloads, ShowsTable, ShowsVia, ShowsStrings, taken_of, messages_of, failure_of}
 use Rattle.stream_reader.specs.Stepping.{UnitAnswers, BehindAnswers, IsDue, step_of}
 use Rattle.stream_reader.proofs.Behind.{head_large, refused_by_head}
 use Rattle.stream_reader.proofs.DueRecords.{read_due, chunk_due, encoding_due, envelope_due}
@@ -348,7 +348,7 @@ module _ (r : StreamReader) (statics : List Entry) (l : Limits) (p c : List ℕ)
           taken_is = omega (arith, taken, h.taken);
           via = via_there;
           messages = subst (λ (s : Situation). new.messages ≡ s.messages) (sym situation_there) a.1.messages;
-          strings = subst (λ (s : Situation). Shows new.decoder (strings_in s)) (sym situation_there) a.1.strings;
+          strings = subst (λ (s : Situation). ShowsTable new.decoder (strings_in s)) (sym situation_there) a.1.strings;
         },
       )
 
@@ -372,7 +372,7 @@ module _ (r : StreamReader) (statics : List Entry) (l : Limits) (p c : List ℕ)
       let close_before = λ (i : ℕ) (lt : i < n). close i (let w = d.within in omega (arith, w, lt)) in
       let place = standing_length (stream x) (readable x) p in
       let there = wrong_standing (stream x) (readable x) p c h.going n d close_before _ k is_wrong in
-      let shows = subst (λ (e : Decoder). Shows e (strings_in situation_here)) (sym decoder) (shows_in r x situation_here h.at) in
+      let shows = subst (λ (e : Decoder). ShowsTable e (strings_in situation_here)) (sym decoder) (shows_in r x situation_here h.at) in
       subst (λ (t : ReadRefusal). UnitAnswers x p c new (Err t)) (sym is_told) (
         n,
         wrong_quiet (stream x) (readable x) p c h.going n d close_before _ k is_wrong,

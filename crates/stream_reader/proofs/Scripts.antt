@@ -16,7 +16,7 @@ use Rattle.nmf_records.specs.Records.{IsRecordOf}
 use Rattle.nmf_records.specs.Script.{IsScript}
 use Rattle.string_tables.specs.StaticStrings.{Entry}
 use Rattle.stream_reader.specs.Stream.{Settings, initiators, is_binary, kind_of, reason_in}
-use Rattle.stream_reader.specs.Sessions.{IsBare, Carried, CarriesAll, IsSession, Told, untold, IsFollowedBy, BeginsWith, HasScript}
+use Rattle.stream_reader.specs.Sessions.{IsBare, Carried, CarriesAll, IsSession, Context, first_context, IsFollowedBy, BeginsWith, HasScript}
 
 -- a record that isn't refused
 right_version : (major minor : ℕ) (b : Bool) → ((major == 1) && (minor == 0)) ≡ b → (if b then None else Some reasons.BadVersion) ≡ None → (major ≡ 1) × (minor ≡ 0)
@@ -50,8 +50,8 @@ kind_is Plain = refl
 kind_is Session = refl
 
 -- payloads of this kind, where the direction has had these strings
-abbrev pub told_so : Kind → List (List ℕ) → Told
-told_so kind strings = record { kind = kind; strings = strings }
+abbrev pub context_of : Kind → List (List ℕ) → Context
+context_of kind strings = record { kind = kind; strings = strings }
 
 -- the sizes of payloads
 abbrev sizes_of : List Carried → List ℕ
@@ -64,32 +64,32 @@ module _ (statics : List Entry) (l : Limits) where
   -- from a script
 
   -- a record that nothing stands behind
-  alone : (told : Told) (frame : Frame) (Rest : Told → List ℕ → Type 0) (bytes : List ℕ) (h : BeginsWith x told frame Rest bytes) → h.payload ≡ [] → bytes ≡ h.head ++ h.rest
-  alone told frame Rest bytes h none = h.joined ∙ ap (λ c. (h.head ++ c) ++ h.rest) none ∙ ap (λ c. c ++ h.rest) (append-nil h.head)
+  alone : (context : Context) (frame : Frame) (Rest : Context → List ℕ → Type 0) (bytes : List ℕ) (h : BeginsWith x context frame Rest bytes) → h.payload ≡ [] → bytes ≡ h.head ++ h.rest
+  alone context frame Rest bytes h none = h.joined ∙ ap (λ c. (h.head ++ c) ++ h.rest) none ∙ ap (λ c. c ++ h.rest) (append-nil h.head)
 
   -- envelopes and End
-  record Messages (told : Told) (bytes : List ℕ) : Type 0 where
+  record Messages (context : Context) (bytes : List ℕ) : Type 0 where
     carried : List Carried
     envelopes : List ℕ
     end : List ℕ
     joined : bytes ≡ envelopes ++ end
-    carries_all : CarriesAll x told.kind told.strings carried envelopes
+    carries_all : CarriesAll x context.kind context.strings carried envelopes
     is_end : IsBare frames.End end
 
-  script_messages : (sizes : List ℕ) (told : Told) (bytes : List ℕ) → HasScript x told (map frames.SizedEnvelope sizes ++ frames.End ∷ []) bytes → Messages told bytes
-  script_messages [] told bytes h = record {
+  script_messages : (sizes : List ℕ) (context : Context) (bytes : List ℕ) → HasScript x context (map frames.SizedEnvelope sizes ++ frames.End ∷ []) bytes → Messages context bytes
+  script_messages [] context bytes h = record {
     carried = [];
     envelopes = [];
     end = bytes;
     joined = refl;
     carries_all = refl;
-    is_end = (refl, alone told frames.End _ bytes h h.followed.0 ∙ ap (λ c. h.head ++ c) h.next ∙ append-nil h.head ∙ h.is_record.1);
+    is_end = (refl, alone context frames.End _ bytes h h.followed.0 ∙ ap (λ c. h.head ++ c) h.next ∙ append-nil h.head ∙ h.is_record.1);
   }
-  script_messages (size ∷ sizes) told bytes h =
-      let (own, items, sized, is_whole, then_told) = h.followed in
-      let w = script_messages sizes h.then_told h.rest h.next in
+  script_messages (size ∷ sizes) context bytes h =
+      let (own, items, sized, is_whole, then_context) = h.followed in
+      let w = script_messages sizes h.then_context h.rest h.next in
       let is : IsRecordOf (frames.SizedEnvelope (length h.payload)) h.text h.head = subst (λ n. IsRecordOf (frames.SizedEnvelope n) h.text h.head) (sym sized) h.is_record in
-      let more : CarriesAll x told.kind (told.strings ++ own) w.carried w.envelopes = subst (λ (t : Told). CarriesAll x t.kind t.strings w.carried w.envelopes) then_told w.carries_all in
+      let more : CarriesAll x context.kind (context.strings ++ own) w.carried w.envelopes = subst (λ (t : Context). CarriesAll x t.kind t.strings w.carried w.envelopes) then_context w.carries_all in
       record {
         carried = record { payload = h.payload; items = items; own = own } ∷ w.carried;
         envelopes = (h.head ++ h.payload) ++ w.envelopes;
@@ -99,25 +99,25 @@ module _ (statics : List Entry) (l : Limits) where
         is_end = w.is_end;
       }
 
-  pub script_is : (script : List Frame) (bytes : List ℕ) → IsScript FromInitiator Duplex script → HasScript x untold script bytes → length bytes ≤ x.limits.session
+  pub script_is : (script : List Frame) (bytes : List ℕ) → IsScript FromInitiator Duplex script → HasScript x first_context script bytes → length bytes ≤ x.limits.session
       → (via : List ℕ) × (kind : Kind) × (carried : List Carried) × IsSession x via kind carried bytes
   script_is script bytes r has within =
-      let all : HasScript x untold (frames.Version r.major r.minor ∷ frames.Mode 2 ∷ frames.Via ∷ frames.KnownEncoding r.encoding ∷ frames.PreambleEnd ∷ map frames.SizedEnvelope r.sent.0 ++ frames.End ∷ []) bytes
-      = subst (λ (s : List Frame). HasScript x untold s bytes) (r.joined ∙ ap (λ (e : List Frame). frames.Version r.major r.minor ∷ frames.Mode 2 ∷ frames.Via ∷ frames.KnownEncoding r.encoding ∷ frames.PreambleEnd ∷ e ++ frames.End ∷ []) r.sent.1) has in
+      let all : HasScript x first_context (frames.Version r.major r.minor ∷ frames.Mode 2 ∷ frames.Via ∷ frames.KnownEncoding r.encoding ∷ frames.PreambleEnd ∷ map frames.SizedEnvelope r.sent.0 ++ frames.End ∷ []) bytes
+      = subst (λ (s : List Frame). HasScript x first_context s bytes) (r.joined ∙ ap (λ (e : List Frame). frames.Version r.major r.minor ∷ frames.Mode 2 ∷ frames.Via ∷ frames.KnownEncoding r.encoding ∷ frames.PreambleEnd ∷ e ++ frames.End ∷ []) r.sent.1) has in
       by_records r.major r.minor r.encoding r.sent.0 all
     where
       by_records : (major minor encoding : ℕ) (sizes : List ℕ)
-          → HasScript x untold (frames.Version major minor ∷ frames.Mode 2 ∷ frames.Via ∷ frames.KnownEncoding encoding ∷ frames.PreambleEnd ∷ map frames.SizedEnvelope sizes ++ frames.End ∷ []) bytes
+          → HasScript x first_context (frames.Version major minor ∷ frames.Mode 2 ∷ frames.Via ∷ frames.KnownEncoding encoding ∷ frames.PreambleEnd ∷ map frames.SizedEnvelope sizes ++ frames.End ∷ []) bytes
           → (via : List ℕ) × (kind : Kind) × (carried : List Carried) × IsSession x via kind carried bytes
       by_records major minor encoding sizes h =
           let mode = h.next in
           let via = mode.next in
           let known = via.next in
           let end = known.next in
-          let m = script_messages sizes end.then_told end.rest end.next in
+          let m = script_messages sizes end.then_context end.rest end.next in
           let version_is = right_version major minor _ refl h.unrefused in
           let kind = right_encoding encoding _ refl known.unrefused in
-          let told : end.then_told ≡ told_so kind.0 [] = end.followed.1 ∙ known.followed.1 ∙ ap (λ k. told_so k []) (ap kind_of kind.1 ∙ kind_is kind.0) in
+          let told : end.then_context ≡ context_of kind.0 [] = end.followed.1 ∙ known.followed.1 ∙ ap (λ k. context_of k []) (ap kind_of kind.1 ∙ kind_is kind.0) in
           let preamble : List ℕ = h.head ++ mode.head ++ via.head ++ known.head ++ end.head in
           let parts : bytes ≡ preamble ++ m.envelopes ++ m.end
           = alone _ _ _ bytes h h.followed.0 ∙ ap (λ c. h.head ++ c) (alone _ _ _ h.rest mode mode.followed.0 ∙ ap (λ c. mode.head ++ c) (alone _ _ _ mode.rest via via.followed.0 ∙ ap (λ c. via.head ++ c) (alone _ _ _ via.rest known known.followed.0 ∙ ap (λ c. known.head ++ c) (alone _ _ _ known.rest end end.followed.0 ∙ ap (λ c. end.head ++ c) m.joined))))
@@ -144,7 +144,7 @@ module _ (statics : List Entry) (l : Limits) where
                 is_encoding = (refl, known.is_record.1 ∙ ap (λ n. 3 ∷ n ∷ []) kind.1);
                 is_end = (refl, end.is_record.1);
               };
-              carries_all = subst (λ (t : Told). CarriesAll x t.kind t.strings m.carried m.envelopes) told m.carries_all;
+              carries_all = subst (λ (t : Context). CarriesAll x t.kind t.strings m.carried m.envelopes) told m.carries_all;
               is_end = m.is_end;
               within = within;
             },
@@ -153,14 +153,14 @@ module _ (statics : List Entry) (l : Limits) where
   -- to a script
 
   -- a record that nothing stands behind
-  in_front : (told then_told : Told) (frame : Frame) (text head rest : List ℕ) (Rest : Told → List ℕ → Type 0) → IsRecordOf frame text head → reason_in x frame ≡ None → length text ≤ x.limits.via → IsFollowedBy x told frame [] then_told → Rest then_told rest
-      → BeginsWith x told frame Rest (head ++ rest)
-  in_front told then_told frame text head rest Rest is none low followed next = record {
+  in_front : (context then_context : Context) (frame : Frame) (text head rest : List ℕ) (Rest : Context → List ℕ → Type 0) → IsRecordOf frame text head → reason_in x frame ≡ None → length text ≤ x.limits.via → IsFollowedBy x context frame [] then_context → Rest then_context rest
+      → BeginsWith x context frame Rest (head ++ rest)
+  in_front context then_context frame text head rest Rest is none low followed next = record {
     text = text;
     head = head;
     payload = [];
     rest = rest;
-    then_told = then_told;
+    then_context = then_context;
     joined = ap (λ c. c ++ rest) (sym (append-nil head));
     is_record = is;
     unrefused = none;
@@ -170,10 +170,10 @@ module _ (statics : List Entry) (l : Limits) where
   }
 
   messages_script : (carried : List Carried) (kind : Kind) (strings : List (List ℕ)) (bytes end : List ℕ) → CarriesAll x kind strings carried bytes → IsBare frames.End end
-      → HasScript x (told_so kind strings) (map frames.SizedEnvelope (sizes_of carried) ++ frames.End ∷ []) (bytes ++ end)
+      → HasScript x (context_of kind strings) (map frames.SizedEnvelope (sizes_of carried) ++ frames.End ∷ []) (bytes ++ end)
   messages_script [] kind strings bytes end none is =
       let all : end ++ [] ≡ bytes ++ end = append-nil end ∙ ap (λ c. c ++ end) (sym none) in
-      subst (λ c. HasScript x (told_so kind strings) (frames.End ∷ []) c) all (in_front (told_so kind strings) (told_so kind strings) frames.End [] end [] _ is refl (omega arith) (refl, refl) refl)
+      subst (λ c. HasScript x (context_of kind strings) (frames.End ∷ []) c) all (in_front (context_of kind strings) (context_of kind strings) frames.End [] end [] _ is refl (omega arith) (refl, refl) refl)
   messages_script (one ∷ carried) kind strings bytes end (head, rest, is, is_whole, joined, more) is_end =
       let fits : nat_lt x.limits.payload (length one.payload) ≡ false = le-ltb x.limits.payload (length one.payload) is_whole.within.payload in
       record {
@@ -181,7 +181,7 @@ module _ (statics : List Entry) (l : Limits) where
         head = head;
         payload = one.payload;
         rest = rest ++ end;
-        then_told = told_so kind (strings ++ one.own);
+        then_context = context_of kind (strings ++ one.own);
         joined = ap (λ c. c ++ end) joined ∙ append_assoc (head ++ one.payload) rest end;
         is_record = is;
         unrefused = rw fits refl;
@@ -191,28 +191,28 @@ module _ (statics : List Entry) (l : Limits) where
       }
 
   session_script : (via : List ℕ) (kind : Kind) (carried : List Carried) (bytes : List ℕ) → IsSession x via kind carried bytes
-      → (script : List Frame) × IsScript FromInitiator Duplex script × HasScript x untold script bytes × (length bytes ≤ x.limits.session)
+      → (script : List Frame) × IsScript FromInitiator Duplex script × HasScript x first_context script bytes × (length bytes ≤ x.limits.session)
   session_script via kind carried bytes s =
       let p = s.is_preamble in
       let sizes = sizes_of carried in
       let messages = messages_script carried kind [] s.envelopes s.end s.carries_all s.is_end in
       let parts : p.version ++ (p.mode ++ (p.via_record ++ (p.encoding ++ (p.end ++ (s.envelopes ++ s.end))))) ≡ bytes
       = sym (s.joined ∙ ap (λ c. c ++ s.envelopes ++ s.end) p.joined ∙ simp append_assoc) in
-      let so : Told = told_so kind [] in (
+      let so : Context = context_of kind [] in (
         frames.Version 1 0 ∷ frames.Mode 2 ∷ frames.Via ∷ frames.KnownEncoding (kind_number kind) ∷ frames.PreambleEnd ∷ map frames.SizedEnvelope sizes ++ frames.End ∷ [],
         record { major = 1; minor = 0; encoding = kind_number kind; envelopes = map frames.SizedEnvelope sizes; sent = (sizes, refl); joined = refl },
         subst
-            (λ c. HasScript x untold (frames.Version 1 0 ∷ frames.Mode 2 ∷ frames.Via ∷ frames.KnownEncoding (kind_number kind) ∷ frames.PreambleEnd ∷ map frames.SizedEnvelope sizes ++ frames.End ∷ []) c)
+            (λ c. HasScript x first_context (frames.Version 1 0 ∷ frames.Mode 2 ∷ frames.Via ∷ frames.KnownEncoding (kind_number kind) ∷ frames.PreambleEnd ∷ map frames.SizedEnvelope sizes ++ frames.End ∷ []) c)
             parts
-            (in_front untold untold (frames.Version 1 0) [] p.version _ _ p.is_version refl (omega arith) (refl, refl)
-            (in_front untold untold (frames.Mode 2) [] p.mode _ _ p.is_mode refl (omega arith) (refl, refl)
-            (in_front untold untold frames.Via via p.via_record _ _ p.is_via refl p.via_within (refl, refl)
-            (in_front untold so (frames.KnownEncoding (kind_number kind)) [] p.encoding _ _ p.is_encoding (known x kind) (omega arith) (refl, ap (λ k. told_so k []) (sym (kind_is kind)))
+            (in_front first_context first_context (frames.Version 1 0) [] p.version _ _ p.is_version refl (omega arith) (refl, refl)
+            (in_front first_context first_context (frames.Mode 2) [] p.mode _ _ p.is_mode refl (omega arith) (refl, refl)
+            (in_front first_context first_context frames.Via via p.via_record _ _ p.is_via refl p.via_within (refl, refl)
+            (in_front first_context so (frames.KnownEncoding (kind_number kind)) [] p.encoding _ _ p.is_encoding (known x kind) (omega arith) (refl, ap (λ k. context_of k []) (sym (kind_is kind)))
             (in_front so so frames.PreambleEnd [] p.end _ _ p.is_end refl (omega arith) (refl, refl) messages))))),
         s.within,
       )
 
   pub sessions_are_scripts : (bytes : List ℕ)
       → ((via : List ℕ) × (kind : Kind) × (carried : List Carried) × IsSession x via kind carried bytes)
-      ↔ ((script : List Frame) × IsScript FromInitiator Duplex script × HasScript x untold script bytes × (length bytes ≤ x.limits.session))
+      ↔ ((script : List Frame) × IsScript FromInitiator Duplex script × HasScript x first_context script bytes × (length bytes ≤ x.limits.session))
   sessions_are_scripts bytes = ((λ s. session_script s.0 s.1 s.2 bytes s.3), (λ h. script_is h.0 bytes h.1 h.2 h.3))

@@ -32,14 +32,14 @@ use Rattle.nbfx_decoder.specs.Standing.{situation_of}
 use Rattle.nbfx_decoder.proofs.PayloadAnswers.{finished_where_whole, nothing_is_refused, strings_behind}
 use Rattle.nbfx_decoder.proofs.PayloadReasons.{unrefused_nothing}
 use Rattle.stream_reader.specs.Stream.{OpenPayload, PayloadStanding, Settings, Situation, Stage, record_due, payload_open, initiators, beginning, due_in, StreamUnit, offence_at, offence_in, built, reason_in, after_byte, after_record, after, behind_payload, payload_begun, payload_in, payloads, refusal_in, refused, refused_byte, refused_head, refused_payload, refused_record, with_byte, unit_in, is_over_in, cut_off, stream}
-use Rattle.stream_reader.specs.Sessions.{IsClosed, IsFollowedBy, Told, HasScript}
+use Rattle.stream_reader.specs.Sessions.{IsClosed, IsFollowedBy, Context, HasScript}
 use Rattle.stream_reader.proofs.Grammar.{readable, within_quota}
 use Rattle.stream_reader.proofs.Coming.{unit_of_record, unit_of_payload}
 use Rattle.stream_reader.proofs.Situations.{IsBehind, IsOpenAt, IsSound, begun_behind, byte_behind, sound_unit}
 use Rattle.stream_reader.proofs.DueRecords.{envelope_due}
 use Rattle.stream_reader.proofs.Outcomes.{goes_on, is_whole, is_refused, outcome}
 use Rattle.stream_reader.proofs.PayloadBytes.{behind_is, refusal_all, refusal_before}
-use Rattle.stream_reader.proofs.Scripts.{right_mode, right_size, script_is, told_so}
+use Rattle.stream_reader.proofs.Scripts.{right_mode, right_size, script_is, context_of}
 
 -- of options that are none
 none_mapped : {A B : Type 0} (f : A → B) (v : Option A) → option_map f v ≡ None → v ≡ None
@@ -51,10 +51,10 @@ none_both None w e = (refl, e)
 none_both (Some a) w e = cc
 
 -- what is left of a script where this is due
-record IsLeft (x : Settings) (told : Told) (due : Due) (bytes : List ℕ) : Type 0 where
+record IsLeft (x : Settings) (context : Context) (due : Due) (bytes : List ℕ) : Type 0 where
   script : List Frame
   follows : Follows FromInitiator Duplex due script
-  has : HasScript x told script bytes
+  has : HasScript x context script bytes
 
 -- what is left of one where a payload stands so: the bytes that it has still to come, of which none
 -- is refused, nor is their end, and what is left behind it
@@ -65,11 +65,11 @@ record IsRest (x : Settings) (z : Situation) (o : OpenPayload) (bytes : List ℕ
   size : length part ≡ o.left
   clean : (q : List ℕ) → IsBehind x z o q → (i : ℕ) → 0 < i → i ≤ length part → refusal_at (payload_in x z) (q ++ take i part) ≡ None
   fine : (q : List ℕ) → IsBehind x z o q → ending_at (payload_in x z) (q ++ part) ≡ None
-  next : (q : List ℕ) → IsBehind x z o q → IsLeft x (told_so z.kind (standing (payload_in x z) (q ++ part)).situation.strings) dues.Messages more
+  next : (q : List ℕ) → IsBehind x z o q → IsLeft x (context_of z.kind (standing (payload_in x z) (q ++ part)).situation.strings) dues.Messages more
 
 -- or at a stage
 abbrev IsFrom : Settings → Situation → Stage → List ℕ → Type 0
-IsFrom x z (record_due due) bytes = IsLeft x (told_so z.kind z.strings) due bytes
+IsFrom x z (record_due due) bytes = IsLeft x (context_of z.kind z.strings) due bytes
 IsFrom x z (payload_open o) bytes = IsRest x z o bytes
 
 module _ (x : Settings) (z : Situation) (o : OpenPayload) where
@@ -101,7 +101,7 @@ module _ (x : Settings) (z : Situation) (o : OpenPayload) where
           fine = λ q at. r.fine q (record { standing_is = at.standing_is; counted = at.counted });
           next = λ q at. r.next q (record { standing_is = at.standing_is; counted = at.counted });
         }
-        | is_whole all fine b e ↦ let r : IsLeft x (told_so z.kind o.standing.situation.strings) dues.Messages c = subst (λ (w : Situation). IsFrom x w w.stage c) b h in record {
+        | is_whole all fine b e ↦ let r : IsLeft x (context_of z.kind o.standing.situation.strings) dues.Messages c = subst (λ (w : Situation). IsFrom x w w.stage c) b h in record {
           part = [];
           more = c;
           joined = refl;
@@ -109,8 +109,8 @@ module _ (x : Settings) (z : Situation) (o : OpenPayload) where
           clean = λ q at i some le. absurd (omega arith);
           fine = λ q at. ap (ending_at (payload_in x z)) (append-nil q) ∙ unrefused_end q at all none;
           next = λ q at.
-              subst (λ (p : List ℕ). IsLeft x (told_so z.kind (standing (payload_in x z) p).situation.strings) dues.Messages c) (sym (append-nil q))
-              (subst (λ (s : PayloadStanding). IsLeft x (told_so z.kind s.situation.strings) dues.Messages c) at.standing_is r);
+              subst (λ (p : List ℕ). IsLeft x (context_of z.kind (standing (payload_in x z) p).situation.strings) dues.Messages c) (sym (append-nil q))
+              (subst (λ (s : PayloadStanding). IsLeft x (context_of z.kind s.situation.strings) dues.Messages c) at.standing_is r);
         }
         | is_refused all r is b e ↦ cc
       ]
@@ -125,7 +125,7 @@ byte_first x z o y c some none r = record {
   clean = clean;
   fine = λ q at. ap (ending_at (payload_in x z)) (sym (append_assoc q (y ∷ []) r.part)) ∙ r.fine (q ++ y ∷ []) (longer q at);
   next = λ q at.
-      subst (λ (p : List ℕ). IsLeft x (told_so z.kind (standing (payload_in x z) p).situation.strings) dues.Messages r.more) (append_assoc q (y ∷ []) r.part)
+      subst (λ (p : List ℕ). IsLeft x (context_of z.kind (standing (payload_in x z) p).situation.strings) dues.Messages r.more) (append_assoc q (y ∷ []) r.part)
       (r.next (q ++ y ∷ []) (longer q at));
 } where
   longer : (q : List ℕ) → IsBehind x z o q → IsBehind x z (with_byte x z o y) (q ++ y ∷ [])
@@ -169,12 +169,12 @@ module _ (statics : List Entry) (l : Limits) (good : IsGood l) where
 
   -- a record in front of what is left
   module _ (z : Situation) (from : ℕ) (cheap : used_cost z.strings ≤ x.limits.dictionary) (due : Due) (at : z.stage ≡ record_due due) (t c : List ℕ) where
-    abbrev told : Told
-    told = told_so z.kind z.strings
+    abbrev context : Context
+    context = context_of z.kind z.strings
 
-    one_more : (read : Frame) (text payload rest : List ℕ) (then_told : Told) → MayCome (may_come FromInitiator due) read → IsRecordOf read text t → length text ≤ l.via → reason_in x read ≡ None
-        → c ≡ payload ++ rest → IsFollowedBy x told read payload then_told → IsLeft x then_told (leads FromInitiator Duplex due read) rest → IsLeft x told due (t ++ c)
-    one_more read text payload rest then_told may is low none joined followed next = record {
+    one_more : (read : Frame) (text payload rest : List ℕ) (then_context : Context) → MayCome (may_come FromInitiator due) read → IsRecordOf read text t → length text ≤ l.via → reason_in x read ≡ None
+        → c ≡ payload ++ rest → IsFollowedBy x context read payload then_context → IsLeft x then_context (leads FromInitiator Duplex due read) rest → IsLeft x context due (t ++ c)
+    one_more read text payload rest then_context may is low none joined followed next = record {
       script = read ∷ next.script;
       follows = (may, names_duplex statics l read none, next.follows);
       has = record {
@@ -182,7 +182,7 @@ module _ (statics : List Entry) (l : Limits) (good : IsGood l) where
         head = t;
         payload = payload;
         rest = rest;
-        then_told = then_told;
+        then_context = then_context;
         joined = ap (λ b. t ++ b) joined ∙ sym (append_assoc t payload rest);
         is_record = is;
         unrefused = none;
@@ -193,28 +193,28 @@ module _ (statics : List Entry) (l : Limits) (good : IsGood l) where
     }
 
     -- one that nothing stands behind
-    plain_first : (read : Frame) (text : List ℕ) (then_told : Told) → MayCome (may_come FromInitiator due) read → IsRecordOf read text t → length text ≤ l.via → reason_in x read ≡ None → IsFollowedBy x told read [] then_told
-        → IsLeft x then_told (leads FromInitiator Duplex (due_in z.stage) read) c → IsLeft x told due (t ++ c)
-    plain_first read text then_told may is low none followed h =
-        one_more read text [] c then_told may is low none refl followed (subst (λ (d : Due). IsLeft x then_told (leads FromInitiator Duplex d read) c) (ap due_in at) h)
+    plain_first : (read : Frame) (text : List ℕ) (then_context : Context) → MayCome (may_come FromInitiator due) read → IsRecordOf read text t → length text ≤ l.via → reason_in x read ≡ None → IsFollowedBy x context read [] then_context
+        → IsLeft x then_context (leads FromInitiator Duplex (due_in z.stage) read) c → IsLeft x context due (t ++ c)
+    plain_first read text then_context may is low none followed h =
+        one_more read text [] c then_context may is low none refl followed (subst (λ (d : Due). IsLeft x then_context (leads FromInitiator Duplex d read) c) (ap due_in at) h)
 
     -- the head of an envelope
     head_first : (size : ℕ) (text : List ℕ) → MayCome (may_come FromInitiator due) (frames.SizedEnvelope size) → IsRecordOf (frames.SizedEnvelope size) text t → length text ≤ l.via
-        → reason_in x (frames.SizedEnvelope size) ≡ None → IsRest x z (payload_begun x z from size) c → IsLeft x told due (t ++ c)
+        → reason_in x (frames.SizedEnvelope size) ≡ None → IsRest x z (payload_begun x z from size) c → IsLeft x context due (t ++ c)
     head_first size text may is low none r =
         let q = begun_behind x z from size in
         let w = whole_payload z r.part cheap (let n = r.size in let fits = right_size x.limits.payload size _ refl none in omega (arith, n, fits)) (r.clean [] q) (r.fine [] q) in
-        let next : IsLeft x (told_so z.kind (z.strings ++ w.0)) dues.Messages r.more = subst (λ (s : List (List ℕ)). IsLeft x (told_so z.kind s) dues.Messages r.more) w.3 (r.next [] q) in
-        one_more (frames.SizedEnvelope size) text r.part r.more (told_so z.kind (z.strings ++ w.0)) may is low none r.joined (w.0, w.1, r.size, w.2, refl)
-        (subst (λ (d : Due). IsLeft x (told_so z.kind (z.strings ++ w.0)) d r.more) (sym (envelope_due FromInitiator due size may)) next)
+        let next : IsLeft x (context_of z.kind (z.strings ++ w.0)) dues.Messages r.more = subst (λ (s : List (List ℕ)). IsLeft x (context_of z.kind s) dues.Messages r.more) w.3 (r.next [] q) in
+        one_more (frames.SizedEnvelope size) text r.part r.more (context_of z.kind (z.strings ++ w.0)) may is low none r.joined (w.0, w.1, r.size, w.2, refl)
+        (subst (λ (d : Due). IsLeft x (context_of z.kind (z.strings ++ w.0)) d r.more) (sym (envelope_due FromInitiator due size may)) next)
 
     record_first : (read : Frame) (text : List ℕ) → MayCome (may_come FromInitiator due) read → IsRecordOf read text t → length text ≤ l.via → reason_in x read ≡ None → refused_head x z from read ≡ None
-        → IsFrom x (after_record x z from read text) (after_record x z from read text).stage c → IsLeft x told due (t ++ c)
+        → IsFrom x (after_record x z from read text) (after_record x z from read text).stage c → IsLeft x context due (t ++ c)
     record_first (frames.SizedEnvelope size) text may is low none fine h =
         head_first size text may is low none (rest_behind x z (payload_begun x z from size) c (none_mapped (offence_in z.messages) _ fine) h)
-    record_first frames.Via text may is low none fine h = plain_first frames.Via text told may is low none (refl, refl) h
+    record_first frames.Via text may is low none fine h = plain_first frames.Via text context may is low none (refl, refl) h
     record_first (frames.KnownEncoding encoding) text may is low none fine h = plain_first (frames.KnownEncoding encoding) text _ may is low none (refl, refl) h
-    record_first read text may is low none fine h = plain_first read text told may is low none (refl, refl) h
+    record_first read text may is low none fine h = plain_first read text context may is low none (refl, refl) h
 
   unit_first : (stage : Stage) (z : Situation) (from : ℕ) (bytes : List ℕ) (u : StreamUnit) (n : ℕ) (c : List ℕ) → z.stage ≡ stage → IsSound x z from → IsOpenAt x z stage → unit_in x stage from bytes ≡ whole u n → refused x z from u ≡ None
       → IsFrom x (after x z from u) (after x z from u).stage c → IsFrom x z stage (take n bytes ++ c)

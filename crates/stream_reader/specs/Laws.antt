@@ -1,5 +1,5 @@
--- What holds of streams by their definitions alone, whatever the settings. What is said of sessions,
--- and of streams that are cut off, is said of an initiator's stream in duplex mode.
+-- What holds of streams by their definitions alone, whatever the settings. What is said of
+-- sessions, and of streams that are cut off, is said of an initiator's stream in duplex mode.
 use Rattle.std.specs.Prelude.{◌≡◌, ◌≤◌, ◌<◌, ◌*◌, ◌-◌, ℕ, List, ◌++◌, length, take, false, Some, None, ◌↔◌, ◌⊎◌}
 use Rattle.unit_streams.specs.Grammar.{standing}
 use Rattle.unit_streams.specs.Judging.{event_at, refusal_at, is_over_at, ending_at, history, answer, offends}
@@ -18,7 +18,7 @@ use Rattle.nmf_records.specs.declared.script.Direction.TheVariants.{FromInitiato
 use Rattle.nmf_records.specs.Script.{IsScript}
 use Rattle.stream_reader.specs.Stream.{Settings, Envelope, OpenPayload, message, offence_at, offence_in, payload_open, stream}
 use Rattle.stream_reader.specs.Judging.{offence}
-use Rattle.stream_reader.specs.Sessions.{Carried, IsSession, IsClosed, HasScript, untold}
+use Rattle.stream_reader.specs.Sessions.{Carried, IsSession, IsClosed, HasScript, first_context}
 use Rattle.stream_reader.specs.Events.{session_events}
 use Rattle.stream_reader.specs.Reasons.{ShowsFrom, ShowsUnbuilt, ShowsInPayload, IsTooLong, IsCutOff}
 
@@ -41,7 +41,7 @@ SessionsAreScripts = (x : Settings) → IsInitiators x → (bytes : List ℕ)
     → ((via : List ℕ) × (kind : Kind) × (carried : List Carried)
     × IsSession x via kind carried bytes)
     ↔ ((script : List Frame) × IsScript FromInitiator Duplex script
-    × HasScript x untold script bytes × (length bytes ≤ x.limits.session))
+    × HasScript x first_context script bytes × (length bytes ≤ x.limits.session))
 
 -- Where a session stands at the front of a stream, its parts are the stream's history, whatever
 -- follows.
@@ -66,14 +66,15 @@ DocumentsFit = (x : Settings) → IsGood x.limits → (p : List ℕ) (e : Envelo
 abbrev pub IsUnrefusedBefore : Settings → List ℕ → Type 0
 IsUnrefusedBefore x p = (n : ℕ) → n < length p → refusal_at (stream x) (take n p) ≡ None
 
--- Its payload is too, where nothing before is refused. Behind a refused head a stream stands as if it
--- weren't.
+-- Its payload is too, where nothing before is refused. Behind a refused head a stream stands as if
+-- it weren't.
 abbrev pub PayloadsFit : Type 0
 PayloadsFit = (x : Settings) (p : List ℕ) (e : Envelope)
     → event_at (stream x) p ≡ Some (message e) → IsUnrefusedBefore x p → e.size ≤ x.limits.payload
 
--- what there is of a payload that is open is within the quotas: its document so far, and the strings
--- behind its bytes; and it has no more items than twice its bytes so far, and no more values than bytes
+-- what there is of a payload that is open is within the quotas: its document so far, and the
+-- strings behind its bytes; and it has no more items than twice its bytes so far, and no more
+-- values than bytes
 pub record IsBoundedIn (quotas : Limits) (o : OpenPayload) : Type 0 where
   pub open_elements : opened_by 0 (o.standing.situation.items) ≤ quotas.depth
   pub content : content_of (o.standing.situation.items) ≤ quotas.content

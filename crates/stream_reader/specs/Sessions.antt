@@ -1,6 +1,6 @@
 -- The sessions of MC-NMF in an initiator's direction and duplex mode, as a grammar: a preamble,
--- envelopes whose payloads are documents, each under the strings that the ones before left, and End;
--- and the bytes of a script.
+-- envelopes whose payloads are documents, each under the strings that the ones before left, and
+-- End; and the bytes of a script.
 use Rattle.std.specs.Prelude.{◌≡◌, ℕ, ◌≤◌, List, [], ◌∷◌, ◌++◌, length, None}
 use Rattle.nbfx_values.specs.declared.content.Item.{Item}
 use Rattle.nbfx_values.specs.declared.session.Kind.{Kind}
@@ -68,44 +68,45 @@ pub record IsClosed (x : Settings) (bytes : List ℕ) : Type 0 where
   pub joined : bytes ≡ session ++ rest
   pub is_session : IsSession x via kind carried session
 
--- what payloads are read by behind some records: their kind, and the strings of the direction so far
-pub record Told : Type 0 where
+-- what payloads are read by behind some records: their kind, and the strings of the direction so
+-- far
+pub record Context : Type 0 where
   pub kind : Kind
   pub strings : List (List ℕ)
 
 -- before the first record
-abbrev pub untold : Told
-untold = record { kind = Session; strings = [] }
+abbrev pub first_context : Context
+first_context = record { kind = Session; strings = [] }
 
--- the bytes that stand behind a record before the next, of an envelope its payload, and what is told
+-- the bytes that stand behind a record before the next, of an envelope its payload, and the context
 -- then
-abbrev pub IsFollowedBy : Settings → Told → Frame → List ℕ → Told → Type 0
-IsFollowedBy x told (SizedEnvelope size) bytes then_told =
+abbrev pub IsFollowedBy : Settings → Context → Frame → List ℕ → Context → Type 0
+IsFollowedBy x context (SizedEnvelope size) bytes then_context =
     (own : List (List ℕ)) × (items : List Item) × (length bytes ≡ size)
-    × IsWholePayload (payloads x told.kind) told.strings own items bytes
-    × (then_told ≡ record told { strings = told.strings ++ own })
-IsFollowedBy x told (KnownEncoding encoding) bytes then_told =
-    (bytes ≡ []) × (then_told ≡ record { kind = kind_of encoding; strings = [] })
-IsFollowedBy x told _ bytes then_told = (bytes ≡ []) × (then_told ≡ told)
+    × IsWholePayload (payloads x context.kind) context.strings own items bytes
+    × (then_context ≡ record context { strings = context.strings ++ own })
+IsFollowedBy x context (KnownEncoding encoding) bytes then_context =
+    (bytes ≡ []) × (then_context ≡ record { kind = kind_of encoding; strings = [] })
+IsFollowedBy x context _ bytes then_context = (bytes ≡ []) × (then_context ≡ context)
 
 -- the bytes are this record, which isn't refused by what it says, what follows it, and then such a
 -- rest
-pub record BeginsWith (x : Settings) (told : Told) (frame : Frame)
-    (Rest : Told → List ℕ → Type 0) (bytes : List ℕ) : Type 0 where
+pub record BeginsWith (x : Settings) (context : Context) (frame : Frame)
+    (Rest : Context → List ℕ → Type 0) (bytes : List ℕ) : Type 0 where
   pub text : List ℕ
   pub head : List ℕ
   pub payload : List ℕ
   pub rest : List ℕ
-  pub then_told : Told
+  pub then_context : Context
   pub joined : bytes ≡ head ++ payload ++ rest
   pub is_record : IsRecordOf frame text head
   pub unrefused : reason_in x frame ≡ None
   pub text_within : length text ≤ x.limits.via
-  pub followed : IsFollowedBy x told frame payload then_told
-  pub next : Rest then_told rest
+  pub followed : IsFollowedBy x context frame payload then_context
+  pub next : Rest then_context rest
 
 -- the bytes are these records, one behind the other, each with what follows it
-abbrev pub HasScript : Settings → Told → List Frame → List ℕ → Type 0
-HasScript x told [] bytes = bytes ≡ []
-HasScript x told (frame ∷ script) bytes =
-    BeginsWith x told frame (λ then_told rest. HasScript x then_told script rest) bytes
+abbrev pub HasScript : Settings → Context → List Frame → List ℕ → Type 0
+HasScript x context [] bytes = bytes ≡ []
+HasScript x context (frame ∷ script) bytes =
+    BeginsWith x context frame (λ then_context rest. HasScript x then_context script rest) bytes

@@ -111,7 +111,7 @@ abbrev pub WhereItStands : StreamReader → (List ℕ → Type 0) → Type 0
 WhereItStands r Holds = (p : List ℕ) → StandsFor r p → Holds p
 
 -- what a decoder shows: these strings, of payload bytes that it stands for or has failed behind
-pub record Shows (d : Decoder) (strings : List (List ℕ)) : Type 0 where
+pub record ShowsTable (d : Decoder) (strings : List (List ℕ)) : Type 0 where
   pub before : List (List ℕ)
   pub bytes : List ℕ
   pub there : DecoderStandsFor d before bytes
@@ -121,7 +121,7 @@ pub record Shows (d : Decoder) (strings : List (List ℕ)) : Type 0 where
 
 -- the strings that it shows
 unfoldable pub ShowsStrings : StreamReader → List (List ℕ) → Type 0
-ShowsStrings r strings = Shows r.decoder strings
+ShowsStrings r strings = ShowsTable r.decoder strings
 
 -- what a refused reader shows: the refusal, how many bytes were used or show it, and behind the
 -- bytes p the Via, how many documents were whole, and the strings

@@ -23,7 +23,7 @@ use Rattle.nbfx_decoder.specs.Payload.{refusal}
 use Rattle.nbfx_decoder.specs.Standing.{StandsFor as DecoderStandsFor, settings_of as decoder_settings}
 use Rattle.stream_reader.specs.Stream.{OpenPayload, Settings, Situation, StreamEvent, built, offence_in, payload_in, payload_open, payloads, record_due, stream, strings_in}
 use Rattle.stream_reader.specs.Saying.{step_for}
-use Rattle.stream_reader.specs.Standing.{Awaits, Failed, HasPayloads, IsIn, Reached, Shows}
+use Rattle.stream_reader.specs.Standing.{Awaits, Failed, HasPayloads, IsIn, Reached, ShowsTable}
 
 -- the step that an event is told by, where there is one
 abbrev pub step_of : Option StreamEvent → StreamStep
@@ -105,7 +105,7 @@ pub record IsDue (r : StreamReader) (x : Settings) (z : Situation) (due : Due) (
 -- what it shows of a situation in which it has failed
 pub record IsRefusedIn (r : StreamReader) (x : Settings) (z : Situation) : Type 0 where
   pub messages : r.messages ≡ z.messages
-  pub strings : Shows r.decoder (strings_in z)
+  pub strings : ShowsTable r.decoder (strings_in z)
 
 -- what a unit is answered with behind which this is the situation, and which completes that event
 -- or is refused so; no memory is wanted for it

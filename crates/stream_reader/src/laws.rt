@@ -21,8 +21,8 @@ pub fn sessions_are_scripts()
     ensures { SessionsAreScripts }
 {}
 
-/// Where a session stands at the front of a stream, the stream's events are the session's preamble, a
-/// message for each of its documents, with the strings of the direction behind it, and its end,
+/// Where a session stands at the front of a stream, the stream's events are the session's preamble,
+/// a message for each of its documents, with the strings of the direction behind it, and its end,
 /// whatever follows. So bytes are a session of one list of documents at most, and leave one list of
 /// strings at most behind each.
 pub fn sessions()
@@ -39,8 +39,8 @@ pub fn documents_fit()
 {}
 
 /// What there is of a payload of which bytes are still to come is within the quotas: its open
-/// elements, its content and the strings. Its document has at most twice as many items as the payload
-/// has bytes so far, and at most as many values as bytes.
+/// elements, its content and the strings. Its document has at most twice as many items as the
+/// payload has bytes so far, and at most as many values as bytes.
 pub fn open_payloads()
     ensures { OpenPayloadsAreBounded }
 {}
@@ -54,8 +54,9 @@ pub fn units()
 {}
 
 /// A piece is answered by the first event or refusal that a byte of it brings. Where pieces are cut
-/// changes nothing, and a stream's history is what a reader is answered, piece by piece. That of bytes
-/// of which no prefix is refused or ends the stream is their events, and then what their end brings.
+/// changes nothing, and a stream's history is what a reader is answered, piece by piece. That of
+/// bytes of which no prefix is refused or ends the stream is their events, and then what their end
+/// brings.
 pub fn answers()
     ensures are_first { (x : Settings) → AnswersAreFirst (stream x) }
     ensures cuts_change_nothing { (x : Settings) → CutsChangeNothing (stream x) }
@@ -82,9 +83,10 @@ pub fn reasons_of_records()
     ensures too_large_first { TooLargeFirst }
 {}
 
-/// Which bytes refuse a prefix in a payload, and so a stream where no shorter prefix is refused: those
-/// of the payload that show the reason by the grammar of payloads, or all of them where they show none
-/// and the root hasn't ended. The place is the envelope's number and the offset in its payload.
+/// Which bytes refuse a prefix in a payload, and so a stream where no shorter prefix is refused:
+/// those of the payload that show the reason by the grammar of payloads, or all of them where they
+/// show none and the root hasn't ended. The place is the envelope's number and the offset in its
+/// payload.
 pub fn reasons_of_payloads()
     ensures by_bytes { InPayloadByBytes }
     ensures first { InPayloadFirst }

@@ -5,8 +5,8 @@
 //! which event it completes and why it is refused, as a grammar of `unit_streams`, by whose stream
 //! it is and in which mode. The situation within a payload holds where the payload stands by the
 //! grammar of `nbfx_decoder`, which each byte of it leads on: so a record of the payload is judged
-//! at its own last byte, whatever pieces come. `specs/Sessions` says apart from that which bytes are
-//! a session of which documents, by the standards' tables, and [`laws`] that both are one;
+//! at its own last byte, whatever pieces come. `specs/Sessions` says apart from that which bytes
+//! are a session of which documents, by the standards' tables, and [`laws`] that both are one;
 //! `specs/Reasons` says which bytes give each reason for refusing a stream.
 //!
 //! A [`StreamReader`] takes a stream in any pieces; what it stands for and shows is in

@@ -12,15 +12,15 @@ use Rattle.stream_reader.specs.Laws.{IsInitiators}
 use Rattle.stream_reader.specs.Sessions.{IsClosed}
 use Rattle.stream_reader.specs.Stream.{Settings, initiators}
 use Rattle.stream_reader.proofs.Closed.{none_is_closed}
-use Rattle.dump_replay.specs.declared.check.Ending.{Ending}
+use Rattle.dump_replay.specs.declared.reporting.Ending.{Ending}
 use Rattle.dump_replay.specs.declared.report.Detail.{Detail}
 use Rattle.dump_replay.specs.declared.statics.FileFault.TheVariants as files_faults
-use Rattle.dump_replay.specs.Checking.{Breaks, Decides, Reaches}
+use Rattle.dump_replay.specs.Reporting.{Breaks, Decides, Reaches}
 use Rattle.dump_replay.specs.Reading.{status_at, status_of_fault}
 use Rattle.dump_replay.specs.Report.{report}
 use Rattle.dump_replay.specs.Running.{detail_of, status_of}
 use Rattle.dump_replay.specs.Statics.{Has, UnderFile, static_file, table}
-use Rattle.dump_replay.proofs.CheckSteps.{reads_set}
+use Rattle.dump_replay.proofs.ReportSteps.{reads_set}
 use Rattle.dump_replay.proofs.RunSteps.{bad_file, has_table, never_six, note_grows, note_is_whole, same_entries, status_as, status_broken, status_closed, status_complete, status_cut, status_ended, status_judged, status_offended, status_reported, status_too_long, unread_status, words_starved, words_two}
 use Rattle.dump_replay.proofs.run.run.Given.{Over}
 use Rattle.dump_replay.proofs.run.run.Goals as goal
@@ -38,7 +38,7 @@ module _ (g : Over) (c : After-drop-table-inside-3 g) where
   x = initiators entries own.limits
 
   abbrev ending : Ending
-  ending = c.check_gathered-ending.result.0
+  ending = c.report_gathered-ending.result.0
 
   one : (asked : Asked) → IsRequest (map string_bytes c.args.words.now) asked → own ≡ asked
   one asked is = request-one (map string_bytes c.args.words.now) own asked c.in-Ok.ensures.understood is
@@ -146,51 +146,51 @@ pub returns-clause-before_input : goal.returns-clause-before_input
 returns-clause-before_input g c = λ asked is files told none. absurd (has_table _ files asked.statics (entries g c) told (has_asked g c asked is) none)
 
 pub returns-clause-ended : goal.returns-clause-ended
-returns-clause-ended g c = λ asked is zero. under g c asked _ is (λ stream e. status_ended (x g c) stream none_is_closed (set g c) (ending g c) (status_is g c 0 zero) (c.check_gathered-ending.ensures.judges stream e))
+returns-clause-ended g c = λ asked is zero. under g c asked _ is (λ stream e. status_ended (x g c) stream none_is_closed (set g c) (ending g c) (status_is g c 0 zero) (c.report_gathered-ending.ensures.judges stream e))
 
 pub returns-clause-offended : goal.returns-clause-offended
-returns-clause-offended g c = λ asked is one. under g c asked _ is (λ stream e. status_offended (x g c) stream (ending g c) (status_is g c 1 one) (c.check_gathered-ending.ensures.judges stream e))
+returns-clause-offended g c = λ asked is one. under g c asked _ is (λ stream e. status_offended (x g c) stream (ending g c) (status_is g c 1 one) (c.report_gathered-ending.ensures.judges stream e))
 
 pub returns-clause-too_long : goal.returns-clause-too_long
-returns-clause-too_long g c = λ asked is ten. under g c asked _ is (λ stream e. status_too_long (x g c) stream (ending g c) (status_is g c 10 ten) (c.check_gathered-ending.ensures.judges stream e))
+returns-clause-too_long g c = λ asked is ten. under g c asked _ is (λ stream e. status_too_long (x g c) stream (ending g c) (status_is g c 10 ten) (c.report_gathered-ending.ensures.judges stream e))
 
 pub returns-clause-complete : goal.returns-clause-complete
 returns-clause-complete g c = λ asked is files others told there stream e.
-    let h = status_complete (x g c) stream (ending g c) (c.check_gathered-ending.ensures.judges stream e) in
+    let h = status_complete (x g c) stream (ending g c) (c.report_gathered-ending.ensures.judges stream e) in
     status_as c.status-status.result (status_at (ending g c)) _ _ c.status-status.ensures (ap (λ (s : Settings). status_of (offence s stream)) (settings_are g c asked files others is told there)) h
 
 pub returns-clause-closed : goal.returns-clause-closed
 returns-clause-closed g c = λ asked is files others told there stream e closed file read written.
     rw c.status-status.ensures
     (status_closed none_is_closed (x g c) (set g c) stream (ending g c) (subst (λ (s : Settings). IsClosed s stream) (sym (settings_are g c asked files others is told there)) closed)
-    (c.check_gathered-ending.ensures.judges stream e) (λ r. read (c.check_gathered-ending.ensures.reads_counted.rose r)) (λ w. written (c.check_gathered-ending.ensures.writes_counted.rose w)))
+    (c.report_gathered-ending.ensures.judges stream e) (λ r. read (c.report_gathered-ending.ensures.reads_counted.rose r)) (λ w. written (c.report_gathered-ending.ensures.writes_counted.rose w)))
 
 pub returns-clause-reported : goal.returns-clause-reported
 returns-clause-reported g c = λ asked is judged.
-    shown_under g c asked (λ shown s. (stream w : List ℕ) → g.I.Source.left c.args.input ≡ Some stream → g.O.Sink.written c.args.output ≡ Some w → g.O.Sink.written c.check_gathered-ending.result.1 ≡ Some (w ++ g.O.Sink.held c.args.output ++ report shown s stream)) is
+    shown_under g c asked (λ shown s. (stream w : List ℕ) → g.I.Source.left c.args.input ≡ Some stream → g.O.Sink.written c.args.output ≡ Some w → g.O.Sink.written c.report_gathered-ending.result.1 ≡ Some (w ++ g.O.Sink.held c.args.output ++ report shown s stream)) is
     (λ stream w e before.
-    let h = c.check_gathered-ending.ensures.reports stream w e before in
+    let h = c.report_gathered-ending.ensures.reports stream w e before in
     h.1 ∙ ap Some (status_reported (x g c) stream (detail g c) w (g.O.Sink.held c.args.output) h.0 (ending g c) (rw c.status-status.ensures at judged) h.2))
 
 pub returns-clause-decided : goal.returns-clause-decided
 returns-clause-decided g c = λ asked is judged.
     let j = status_judged (ending g c) (rw c.status-status.ensures at judged) in
     shown_under g c asked (λ shown s. (o : Option Offence) × (status_of o ≡ c.status-status.result)
-    × Decides shown s o (g.I.Source.left c.args.input) (g.I.Source.left c.check_gathered-ending.new.input) (g.I.Source.taken c.args.input) (g.I.Source.taken c.check_gathered-ending.new.input)
-    (g.O.Sink.written c.args.output) (g.O.Sink.written c.check_gathered-ending.result.1) (g.O.Sink.held c.args.output)) is (j.0, ap status_at (sym j.1) ∙ sym c.status-status.ensures, c.check_gathered-ending.ensures.decides j.0 j.1)
+    × Decides shown s o (g.I.Source.left c.args.input) (g.I.Source.left c.report_gathered-ending.new.input) (g.I.Source.taken c.args.input) (g.I.Source.taken c.report_gathered-ending.new.input)
+    (g.O.Sink.written c.args.output) (g.O.Sink.written c.report_gathered-ending.result.1) (g.O.Sink.held c.args.output)) is (j.0, ap status_at (sym j.1) ∙ sym c.status-status.ensures, c.report_gathered-ending.ensures.decides j.0 j.1)
 
 pub returns-clause-broken : goal.returns-clause-broken
 returns-clause-broken g c = λ asked is three.
     let ended = status_broken (ending g c) (status_is g c 3 three) in
     inr (
-      c.check_gathered-ending.ensures.reads_counted.rose ended,
-      shown_under g c asked (λ shown s. Breaks shown s (g.I.Source.left c.args.input) (g.I.Source.left c.check_gathered-ending.new.input) (g.I.Source.taken c.args.input) (g.I.Source.taken c.check_gathered-ending.new.input)
-          (g.O.Sink.written c.args.output) (g.O.Sink.written c.check_gathered-ending.result.1) (g.O.Sink.held c.args.output)) is (c.check_gathered-ending.ensures.breaks ended),
+      c.report_gathered-ending.ensures.reads_counted.rose ended,
+      shown_under g c asked (λ shown s. Breaks shown s (g.I.Source.left c.args.input) (g.I.Source.left c.report_gathered-ending.new.input) (g.I.Source.taken c.args.input) (g.I.Source.taken c.report_gathered-ending.new.input)
+          (g.O.Sink.written c.args.output) (g.O.Sink.written c.report_gathered-ending.result.1) (g.O.Sink.held c.args.output)) is (c.report_gathered-ending.ensures.breaks ended),
     )
 
 pub returns-clause-cut : goal.returns-clause-cut
 returns-clause-cut g c = λ asked is files others told there stream w e before.
-    let h = c.check_gathered-ending.ensures.reports stream w e before in (
+    let h = c.report_gathered-ending.ensures.reports stream w e before in (
       h.0,
       h.1,
       subst (λ (s : Settings). GrowsByPrefix w h.0 (g.O.Sink.held c.args.output ++ report (detail_of asked.action) s stream)) (settings_are g c asked files others is told there)
@@ -199,5 +199,5 @@ returns-clause-cut g c = λ asked is files others told there stream w e before.
 
 pub returns-clause-reaches : goal.returns-clause-reaches
 returns-clause-reaches g c = λ asked is.
-    inr (shown_under g c asked (λ shown s. Reaches shown s (g.I.Source.left c.args.input) (g.I.Source.left c.check_gathered-ending.new.input) (g.I.Source.taken c.args.input) (g.I.Source.taken c.check_gathered-ending.new.input)
-    (g.O.Sink.written c.args.output) (g.O.Sink.written c.check_gathered-ending.result.1) (g.O.Sink.held c.args.output)) is c.check_gathered-ending.ensures.reaches)
+    inr (shown_under g c asked (λ shown s. Reaches shown s (g.I.Source.left c.args.input) (g.I.Source.left c.report_gathered-ending.new.input) (g.I.Source.taken c.args.input) (g.I.Source.taken c.report_gathered-ending.new.input)
+    (g.O.Sink.written c.args.output) (g.O.Sink.written c.report_gathered-ending.result.1) (g.O.Sink.held c.args.output)) is c.report_gathered-ending.ensures.reaches)

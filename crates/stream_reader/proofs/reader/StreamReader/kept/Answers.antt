@@ -8,7 +8,7 @@ use Rattle.nbfx_decoder.specs.declared.decoder.Decoder.{Decoder}
 use Rattle.nbfx_decoder.specs.declared.faults.DecodeFault.{DecodeFault}
 use Rattle.nbfx_decoder.specs.Standing.{settings_of as decoder_settings, StandsFor as DecoderStandsFor, FailedBehind as DecoderFailedBehind, WhereItStands as WhereDecoderStands, WhereItFailed as WhereDecoderFailed}
 use Rattle.stream_reader.specs.Bounds.{IsBounded}
-use Rattle.stream_reader.specs.Standing.{FailedBehind, Shows, ShowsStrings, StandsFor, settings_of}
+use Rattle.stream_reader.specs.Standing.{FailedBehind, ShowsTable, ShowsStrings, StandsFor, settings_of}
 use Rattle.stream_reader.proofs.ReaderFacts.{comes_in, shows_in}
 use Rattle.stream_reader.proofs.reader.StreamReader.kept.Goals as goal
 use Rattle.stream_reader.proofs.reader.StreamReader.kept.Goals.{After-saturating_add}
@@ -28,7 +28,7 @@ returns-clause-content c = λ p h.
 
 -- what a decoder keeps
 kept_within : (d : Decoder) (kept : Kept) → WhereDecoderStands d (λ before bytes. (kept.raw ≤ (decoder_settings d).limits.payload) × (kept.content ≤ (decoder_settings d).limits.content))
-    → WhereDecoderFailed d (λ fault before bytes. kept ≡ record { raw = 0; content = 0 }) → (strings : List (List ℕ)) → Shows d strings
+    → WhereDecoderFailed d (λ fault before bytes. kept ≡ record { raw = 0; content = 0 }) → (strings : List (List ℕ)) → ShowsTable d strings
     → (kept.raw ≤ (decoder_settings d).limits.payload) × (kept.content ≤ (decoder_settings d).limits.content)
 kept_within d kept stands failed strings h = by_there h.there where
   by_there : DecoderStandsFor d h.before h.bytes ⊎ ((fault : DecodeFault) × DecoderFailedBehind d fault h.before h.bytes) → (kept.raw ≤ (decoder_settings d).limits.payload) × (kept.content ≤ (decoder_settings d).limits.content)

@@ -8,14 +8,14 @@ use Rattle.nbfx_decoder.specs.declared.decoder.Decoder.{Decoder}
 use Rattle.nbfx_decoder.specs.declared.faults.DecodeFault.{DecodeFault}
 use Rattle.nbfx_decoder.specs.Standing.{StandsFor as DecoderStandsFor, FailedBehind as DecoderFailedBehind, WhereItStands as WhereDecoderStands, WhereItFailed as WhereDecoderFailed, table_at}
 use Rattle.stream_reader.specs.Bounds.{IsBounded}
-use Rattle.stream_reader.specs.Standing.{Shows, ShowsStrings, StandsFor, FailedBehind, settings_of}
+use Rattle.stream_reader.specs.Standing.{ShowsTable, ShowsStrings, StandsFor, FailedBehind, settings_of}
 use Rattle.stream_reader.proofs.ReaderFacts.{shows_in}
 use Rattle.stream_reader.proofs.reader.StreamReader.table.Goals as goal
 use Rattle.stream_reader.proofs.reader.StreamReader.table.Goals.{After-table}
 
 -- the table that a decoder has
 has_strings : (d : Decoder) (table : LimitedStrings) → WhereDecoderStands d (λ before bytes. table ≡ table_at d before bytes) → WhereDecoderFailed d (λ fault before bytes. table ≡ table_at d before bytes)
-    → (strings : List (List ℕ)) → Shows d strings → table.strings ≡ strings
+    → (strings : List (List ℕ)) → ShowsTable d strings → table.strings ≡ strings
 has_strings d table stands failed strings h = ap (λ (t : LimitedStrings). t.strings) (by_there h.there) ∙ h.same where
   by_there : DecoderStandsFor d h.before h.bytes ⊎ ((fault : DecodeFault) × DecoderFailedBehind d fault h.before h.bytes) → table ≡ table_at d h.before h.bytes
   by_there (inl s) = stands h.before h.bytes s

@@ -5,17 +5,17 @@ use Rattle.stream_reader.specs.Stream.{Settings, initiators}
 use Rattle.dump_replay.specs.declared.report.Detail.{Detail}
 use Rattle.dump_replay.specs.Reading.{HasReported}
 use Rattle.dump_replay.specs.Running.{detail_of}
-use Rattle.dump_replay.proofs.CheckSteps.{not_checked, reads_set}
+use Rattle.dump_replay.proofs.ReportSteps.{not_begun, reads_set}
 use Rattle.dump_replay.proofs.Finishing.{Finishes, finished_by, judges, reports, decides, breaks, reaches, writes_counted, reads_counted}
-use Rattle.dump_replay.proofs.check.check.Given.{Over}
-use Rattle.dump_replay.proofs.check.check.Goals as goal
-use Rattle.dump_replay.proofs.check.check.Goals.{After-written}
+use Rattle.dump_replay.proofs.reporting.report_stream.Given.{Over}
+use Rattle.dump_replay.proofs.reporting.report_stream.Goals as goal
+use Rattle.dump_replay.proofs.reporting.report_stream.Goals.{After-written}
 
 -- there was no memory for a reader
 pub returns-in_default : goal.returns-in_default
 returns-in_default g c =
     let quotas = c.args.request.now.quotas in
-    not_checked (detail_of c.args.request.now.action) (initiators c.args.statics.now (limits_of quotas)) (reads_set c.args.statics.now (limits_of quotas) quotas.good) (let some = quotas.good.session_least in omega (arith, some))
+    not_begun (detail_of c.args.request.now.action) (initiators c.args.statics.now (limits_of quotas)) (reads_set c.args.statics.now (limits_of quotas) quotas.good) (let some = quotas.good.session_least in omega (arith, some))
     (g.I.Source.left c.args.input.now) (g.I.Source.taken c.args.input.now) (g.O.Sink.written c.args.output.now) (g.O.Sink.held c.args.output.now) (g.I.Source.faults c.args.input.now) (g.O.Sink.faults c.args.output.now)
 
 module _ (g : Over) (c : After-written g) where

@@ -5,7 +5,7 @@ use Rattle.io_edges.proofs.Putting.{PutsAll-nothing}
 use Rattle.stream_reader.specs.Stream.{Settings}
 use Rattle.dump_replay.specs.Report.{event_lines, offence_line}
 use Rattle.dump_replay.proofs.ReadSteps.{end_well, end_says}
-use Rattle.dump_replay.proofs.check.finish.Goals as goal
+use Rattle.dump_replay.proofs.reporting.finish.Goals as goal
 
 pub returns-in-Ok : goal.returns-in-Ok
 returns-in-Ok g c = λ d p read pending.

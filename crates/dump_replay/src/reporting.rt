@@ -1,4 +1,4 @@
-//! The commands that read a stream and report what comes in it.
+//! The loop of the commands that report a stream.
 
 ghost use Rattle.std.specs.Prelude.{◌≡◌, ⊤, Result, ℕ, ◌≤◌, ◌<◌, List, [], ◌++◌, Option, Some, None, Err, IfOk, IfErr, OnOk, OnErr, IsErrOf};
 ghost use Rattle.io_edges.specs.Faults.{CountsFaults};
@@ -10,8 +10,8 @@ ghost use Rattle.nbfx_values.specs.declared.refusals.Offence.{Offence as Refusal
 ghost use Rattle.stream_reader.specs.Judging.{offence};
 ghost use Rattle.receiver_machine.specs.Saying.{step_for};
 ghost use Rattle.stream_reader.specs.Stream.{StreamEvent, initiators, stream};
-ghost use Rattle.dump_replay.specs.Checking.{Decides, Breaks, Reaches};
-ghost use Rattle.dump_replay.specs.Reading.{HasChecked, HasRead, ReadsOf, HasReported, done, stopped_by};
+ghost use Rattle.dump_replay.specs.Reporting.{Decides, Breaks, Reaches};
+ghost use Rattle.dump_replay.specs.Reading.{EndsAs, HasRead, ReadsOf, HasReported, done, stopped_by};
 ghost use Rattle.dump_replay.specs.Report.{document_lines, event_lines, report, told_of};
 ghost use Rattle.dump_replay.specs.Running.{detail_of};
 ghost use Rattle.nbfx_values.specs.QuotasOf.{limits_of};
@@ -27,8 +27,8 @@ use receiver_machine::{ReadRefusal, Receiver, Step};
 use static_dictionary::StaticTable;
 use std::alloc::Global;
 
-/// How many bytes are read at a time.
-const ROOM: usize = 65_536;
+/// How many bytes are taken at most at a time.
+const MOST_TAKEN: usize = 65_536;
 
 /// How the reading of a stream ended.
 #[derive(Clone, Copy, Debug)]
@@ -139,8 +139,8 @@ fn finish<E: ReadingEnd, O: Sink>(end: &mut E, output: &mut O) -> Result<Option<
     }
 }
 
-// Reads the stream that the input gives by an end that has read nothing of it, and puts its report. The
-// lines of what came are written before more is taken.
+// Reads the stream that the input gives by an end that has read nothing of it, and puts its report.
+// The lines of what came are written before more is taken.
 fn put_report<I: Source, O: Sink, E: ReadingEnd + Drop>(
     alloc: Global,
     detail: Detail,
@@ -158,7 +158,7 @@ fn put_report<I: Source, O: Sink, E: ReadingEnd + Drop>(
     ensures counted { CountsFaults (I.faults input.old) (I.faults input.new)
         (result ≡ Ok Ending.ReadFault) }
 {
-    let Ok(mut room) = vec![in alloc; 0u8; ROOM] else {
+    let Ok(mut room) = vec![in alloc; 0u8; MOST_TAKEN] else {
         return Ok(Ending::Memory);
     };
     let mut end = end;
@@ -199,17 +199,18 @@ fn written<O: Sink>(ending: Result<Ending, SinkFault>, output: &mut O) -> Ending
     }
 }
 
-/// Reads the initiator's stream that the input gives, with these static strings and as is asked for,
-/// and writes its report.
-pub fn check<I: Source, O: Sink>(
+/// Reads the initiator's stream that the input gives, with these static strings and as is asked
+/// for, and writes its report.
+pub fn report_stream<I: Source, O: Sink>(
     alloc: Global,
     request: &Request,
     statics: &StaticTable,
     input: &mut I,
     output: &mut O,
 ) -> Ending
-    ensures { HasChecked (detail_of request.now.action)
-        (initiators statics.now (limits_of request.now.quotas)) (I.left input.old) (I.left input.new)
+    ensures { EndsAs (detail_of request.now.action)
+        (initiators statics.now (limits_of request.now.quotas))
+        (I.left input.old) (I.left input.new)
         (I.taken input.old) (I.taken input.new) (O.written output.old) (O.written output.new)
         (O.held output.old) (I.faults input.old) (I.faults input.new)
         (O.faults output.old) (O.faults output.new) result }

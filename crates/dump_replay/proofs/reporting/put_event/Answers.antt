@@ -1,7 +1,7 @@
 use Rattle.std.proofs.lemmas.Result.{err_from_is_err_and}
 use Rattle.io_edges.proofs.Putting.{PutsAll-then}
 use Rattle.dump_replay.proofs.Telling.{told_cut}
-use Rattle.dump_replay.proofs.check.put_event.Goals as goal
+use Rattle.dump_replay.proofs.reporting.put_event.Goals as goal
 
 pub returns-in_err-put_line : goal.returns-in_err-put_line
 returns-in_err-put_line g c = λ p event stands here is.

@@ -2,7 +2,7 @@ use Rattle.std.proofs.Common.{◌≡◌, ℕ, ◌-◌, ◌≤◌, List, ◌++◌
 use Rattle.io_edges.specs.Puts.{PutsAll}
 use Rattle.dump_replay.specs.Report.{event_lines}
 use Rattle.dump_replay.specs.Reading.{HasRead}
-use Rattle.dump_replay.proofs.check.read.Given as goal
+use Rattle.dump_replay.proofs.reporting.read.Given as goal
 
 abbrev pub invariant-loop-answer : goal.invariant-loop-answer
 invariant-loop-answer g l = record {

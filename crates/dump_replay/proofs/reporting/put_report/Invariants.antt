@@ -2,15 +2,15 @@ use Rattle.std.proofs.Common.{◌≡◌, ℕ, ◌-◌, List, ◌++◌, length, S
 use Rattle.io_edges.specs.Puts.{PutsAll}
 use Rattle.unit_streams.specs.Going.{IsPending}
 use Rattle.stream_reader.specs.Stream.{stream}
-use Rattle.dump_replay.specs.declared.check.TheConstants.{ROOM}
+use Rattle.dump_replay.specs.declared.reporting.TheConstants.{MOST_TAKEN}
 use Rattle.dump_replay.specs.Report.{event_lines}
 use Rattle.dump_replay.specs.Reading.{HasRead}
-use Rattle.dump_replay.proofs.CheckSteps.{WritesSoFar}
-use Rattle.dump_replay.proofs.check.put_report.Given as goal
+use Rattle.dump_replay.proofs.ReportSteps.{WritesSoFar}
+use Rattle.dump_replay.proofs.reporting.put_report.Given as goal
 
 abbrev pub invariant-loop-end : goal.invariant-loop-end
 invariant-loop-end g l = record {
-  room : length l.room.items ≡ ROOM;
+  room : length l.room.items ≡ MOST_TAKEN;
   settings : g.E.ReadingEnd.settings l.end ≡ g.E.ReadingEnd.settings l.initial.end;
   input_faults : g.I.Source.faults l.input ≡ g.I.Source.faults l.initial.input;
   reads : (p : List ℕ) × HasRead (g.E.ReadingEnd.stands l.end) (g.E.ReadingEnd.settings l.initial.end) p × IsPending (stream (g.E.ReadingEnd.settings l.initial.end)) p

@@ -1,4 +1,4 @@
--- What a check that reads a stream piece by piece knows between two pieces, and where it ends.
+-- What is known between two pieces of a stream that is reported, and where that ends.
 use Rattle.std.proofs.Common.{IsErrOf, Bool, true, ◌≡◌, ℕ, ◌-◌, ◌≤◌, ◌<◌, ◌⊎◌, inl, inr, List, [], ◌++◌, length, take, drop, Option, Some, None, Result, Ok, Err, IfOk, OnOk, OnErr, ◌↔◌, refl, sym, ap, ◌∙◌, subst, arith, append_assoc, length-append}
 use Rattle.std.specs.Option.{option_or}
 use Rattle.std.specs.Prelude.{⊤}
@@ -25,13 +25,13 @@ use Rattle.stream_reader.specs.Laws.{IsInitiators}
 use Rattle.stream_reader.specs.Stream.{Settings, beginning, initiators, ends, too_long, stream}
 use Rattle.stream_reader.proofs.Ending.{tells}
 use Rattle.stream_reader.proofs.Grammar.{within_quota, readable, short_enough}
-use Rattle.dump_replay.specs.declared.check.TheConstants.{ROOM}
-use Rattle.dump_replay.specs.declared.check.Progress.{Progress}
-use Rattle.dump_replay.specs.declared.check.Ending.{Ending}
-use Rattle.dump_replay.specs.declared.check.Ending.TheVariants as endings
+use Rattle.dump_replay.specs.declared.reporting.TheConstants.{MOST_TAKEN}
+use Rattle.dump_replay.specs.declared.reporting.Progress.{Progress}
+use Rattle.dump_replay.specs.declared.reporting.Ending.{Ending}
+use Rattle.dump_replay.specs.declared.reporting.Ending.TheVariants as endings
 use Rattle.dump_replay.specs.declared.report.Detail.{Detail}
-use Rattle.dump_replay.specs.Checking.{Grows, Reaches, Writes}
-use Rattle.dump_replay.specs.Reading.{AreDue, HasChecked, HasRead, HasReported, ReadsOf, ReportsAs}
+use Rattle.dump_replay.specs.Reporting.{Grows, Reaches, Writes}
+use Rattle.dump_replay.specs.Reading.{AreDue, EndsAs, HasRead, HasReported, ReadsOf, ReportsAs}
 use Rattle.dump_replay.specs.Report.{history_lines, report, event_lines}
 use Rattle.dump_replay.proofs.Lines.{open_report}
 use Rattle.dump_replay.proofs.Writing.{told_some}
@@ -134,12 +134,12 @@ taken_grows taken before after p room y n so_far told piece t e =
 pub record Came (left left' taken taken' : Option (List ℕ)) (items new p y : List ℕ) (n : ℕ) : Type 0 where
   pub full : length new ≡ length items
   pub size : length y ≡ n
-  pub short : length y ≤ ROOM
+  pub short : length y ≤ MOST_TAKEN
   pub rest : (bytes : List ℕ) → left ≡ Some bytes → (rest : List ℕ) × (left' ≡ Some rest) × (bytes ≡ p ++ y ++ rest)
   pub handed : (t : List ℕ) → taken ≡ Some t → taken' ≡ Some (t ++ (p ++ y))
 
 pub piece_came : (left before left' taken handed taken' : Option (List ℕ)) (items new room : List ℕ) (len n : ℕ)
-    → length items ≡ ROOM → len ≡ length items → length new ≡ length items → room ≡ take len (new ++ drop (length new) items) → n ≤ length new
+    → length items ≡ MOST_TAKEN → len ≡ length items → length new ≡ length items → room ≡ take len (new ++ drop (length new) items) → n ≤ length new
     → (p : List ℕ)
     → ((bytes : List ℕ) → left ≡ Some bytes → (rest : List ℕ) × (before ≡ Some rest) × (bytes ≡ p ++ rest))
     → ((t : List ℕ) → taken ≡ Some t → handed ≡ Some (t ++ p))
@@ -168,7 +168,7 @@ first_read x set stands room here = read_at x stands [] here (first_pending x se
 -- so many bytes are read, of which a piece is the last, and lines are put for them
 module _ (d : Detail) (x : Settings) (left left' taken taken' written written' : Option (List ℕ)) (held held' : List ℕ) (p y : List ℕ) (pending : IsPending (stream x) p) where
   -- by what is known of the input
-  pub has_reported : (result : Result Ending SinkFault) (lines : List ℕ) → length y ≤ ROOM
+  pub has_reported : (result : Result Ending SinkFault) (lines : List ℕ) → length y ≤ MOST_TAKEN
       → ((bytes : List ℕ) → left ≡ Some bytes → (rest : List ℕ) × (left' ≡ Some rest) × (bytes ≡ p ++ y ++ rest))
       → ((t : List ℕ) → taken ≡ Some t → taken' ≡ Some (t ++ (p ++ y)))
       → Told written written' (Writes d x held p) → ReportsAs d x p y left left' held' result lines → HasReported d x left left' taken taken' written written' held held' result lines
@@ -191,7 +191,7 @@ pub record IsCut (x : Settings) (p : List ℕ) (Holds : List ℕ → Type 0) : T
   pub piece : List ℕ
   pub all : p ≡ before ++ piece
   pub pending : IsPending (stream x) before
-  pub short : length piece ≤ ROOM
+  pub short : length piece ≤ MOST_TAKEN
   pub holds : Holds before
 
 -- the lines of these bytes' events are written, and maybe more
@@ -321,7 +321,7 @@ pub after_flush : {lines : List ℕ} (r : Result ⊤ SinkFault) {w w1 w2 : Optio
     → CountsFaults f1 f2 (IsErrOf r faults.Failed) → (IsErrOf r faults.Memory → m1 ≡ true) → m2 ≡ m1 → PutsAll lines r w w2 h h2 f f2 m m2
 after_flush r p written refused emptied counted wanted settled = rw append-nil at (PutsAll-then r p (flush_puts r written refused emptied counted wanted settled))
 
--- the settings of a check are an initiator's
+-- a stream is reported as an initiator's
 pub reads_set : (entries : List Entry) (quotas : Limits) → IsGood quotas → IsInitiators (initiators entries quotas)
 reads_set entries quotas good = record { direction = refl; mode = refl; endpoint = refl; good = good }
 
@@ -338,9 +338,9 @@ first_reaches d x set room left taken written held = record {
 }
 
 -- where there was no memory to begin with
-pub not_checked : (d : Detail) (x : Settings) → IsInitiators x → 0 < x.limits.session → (left taken written : Option (List ℕ)) (held : List ℕ) (reads writes : ℕ)
-    → HasChecked d x left left taken taken written written held reads reads writes writes endings.Memory
-not_checked d x set room left taken written held reads writes = record {
+pub not_begun : (d : Detail) (x : Settings) → IsInitiators x → 0 < x.limits.session → (left taken written : Option (List ℕ)) (held : List ℕ) (reads writes : ℕ)
+    → EndsAs d x left left taken taken written written held reads reads writes writes endings.Memory
+not_begun d x set room left taken written held reads writes = record {
   judges = λ bytes e. tt;
   reports = λ bytes w e before. (w, before, record { kept = 0; grown = sym (append-nil w) });
   decides = λ o e. cc;

@@ -14,9 +14,9 @@ use Rattle.stream_reader.specs.declared.reader.ReadRefusal.{ReadRefusal}
 use Rattle.dump_replay.specs.Report.{told_of, event_lines, offence_line}
 use Rattle.dump_replay.specs.Reading.{HasRead}
 use Rattle.dump_replay.proofs.ReadSteps.{rest_of, ReadsEvent, further, none_due, read_more, event_answered, offence_read, told_at, due_behind, last_due, joined}
-use Rattle.dump_replay.proofs.check.read.Given.{Over}
-use Rattle.dump_replay.proofs.check.read.Goals as goal
-use Rattle.dump_replay.proofs.check.read.Goals.{After-feed}
+use Rattle.dump_replay.proofs.reporting.read.Given.{Over}
+use Rattle.dump_replay.proofs.reporting.read.Goals as goal
+use Rattle.dump_replay.proofs.reporting.read.Goals.{After-feed}
 
 rest_length : (piece : List ℕ) (used : ℕ) → length (rest_of piece used) ≡ length piece - used
 rest_length piece used = ap length (take_rest piece used) ∙ length-drop used piece

@@ -1,10 +1,10 @@
--- What a check of a stream has read and written, however it ends. The output may have held bytes
--- before, which are written before what it puts.
+-- What was read and written where a stream is reported, however that ends. The output may have held
+-- bytes before, which are written before what is put.
 use Rattle.std.specs.Prelude.{◌≡◌, ℕ, ◌≤◌, ◌⊎◌, List, [], ◌++◌, length, Option}
 use Rattle.io_edges.specs.Flow.{Told, GrowsByPrefix}
 use Rattle.unit_streams.specs.Going.{IsPending}
 use Rattle.nbfx_values.specs.declared.refusals.Offence.{Offence}
-use Rattle.dump_replay.specs.declared.check.TheConstants.{ROOM}
+use Rattle.dump_replay.specs.declared.reporting.TheConstants.{MOST_TAKEN}
 use Rattle.dump_replay.specs.declared.report.Detail.{Detail}
 use Rattle.dump_replay.specs.Report.{report, event_lines}
 use Rattle.stream_reader.specs.Judging.{offence}
@@ -32,7 +32,7 @@ abbrev pub Writes : Detail → Settings → List ℕ → List ℕ → List ℕ �
 Writes d x held bytes w w' =
     Grows (w ++ held ++ event_lines d x bytes) w' ⊎ ((bytes ≡ []) × GrowsByPrefix w w' held)
 
--- what was read and written however a check ends: such bytes, and at most one piece behind them; the
+-- what was read and written however it ends: such bytes, and at most one piece behind them; the
 -- lines of the events of the bytes, and maybe more
 pub record Reaches (d : Detail) (x : Settings)
     (left left' taken taken' written written' : Option (List ℕ))
@@ -40,13 +40,13 @@ pub record Reaches (d : Detail) (x : Settings)
   pub before : List ℕ
   pub piece : List ℕ
   pub pending : IsPending (stream x) before
-  pub short : length piece ≤ ROOM
+  pub short : length piece ≤ MOST_TAKEN
   pub stream : Told left left' (λ all rest. all ≡ before ++ piece ++ rest)
   pub took : Told taken taken' (λ t t'. t' ≡ t ++ before ++ piece)
   pub wrote : Told written written' (Writes d x held before)
 
--- What was read and written of a stream that is judged: bytes that have this offence themselves, and
--- decide it however they go on, unless they are all and only their end does; and their report.
+-- What was read and written of a stream that is judged: bytes that have this offence themselves,
+-- and decide it however they go on, unless they are all and only their end does; and their report.
 pub record Decides (d : Detail) (x : Settings) (judged : Option Offence)
     (left left' taken taken' written written' : Option (List ℕ)) (held : List ℕ) : Type 0 where
   pub bytes : List ℕ
