@@ -6,6 +6,10 @@ use std::collections::BTreeMap;
 use std::process::Abort;
 use std::test::Fail;
 
+mod captures;
+mod read_back;
+mod words;
+
 const SESSION: &[u8] = b"\x00\x01\x00\x01\x02\x02\x0Dnet.tcp://h/e\x03\x08\x0C\x07";
 
 const PREAMBLE: &[u8] = b"\x00\x01\x00\x01\x02\x02\x0Dnet.tcp://h/e\x03\x08\x0C";
@@ -19,6 +23,9 @@ const TOO_LARGE: &[u8] = b"\x00\x01\x00\x01\x02\x02\x0Dnet.tcp://h/e\x03\x08\x0C
 const SIMPLEX: &[u8] = b"\x00\x01\x00\x01\x03";
 
 const OPEN: &str = "open duplex 8 \"net.tcp://h/e\"\n";
+
+// The report of the session.
+const ENDED: &str = "open duplex 8 \"net.tcp://h/e\"\nended 24\n";
 
 const MESSAGE: &str = "message 0 payload 6 items 2 depth 1 content 1 strings 1 used 1\n";
 
@@ -96,8 +103,8 @@ fn note(status: u8) -> &'static str {
     }
 }
 
-// Asserts what these words leave of a stream: the status, with the note of that, the output, and the
-// bytes that weren't taken.
+// Asserts what these words leave of a stream: the status, with the note of that, the output, and
+// the bytes that weren't taken.
 fn assert_ran(
     rt: &(impl Abort + AllocGlobal),
     words: &[&str],
@@ -317,7 +324,8 @@ fn a_take_that_fails_leaves_the_lines_before(rt: HostRuntime) -> Result<(), Fail
         "open duplex 8 \"net.tcp://h/e\"\nmessage 0 payload 6 items 2 depth 1 content 1 strings 1 used 1\n";
     let all =
         "open duplex 8 \"net.tcp://h/e\"\nmessage 0 payload 6 items 2 depth 1 content 1 strings 1 used 1\nended 32\n";
-    // First; in the envelope; behind it, in large pieces and in small ones; behind the session's end.
+    // First; in the envelope; behind it, in large pieces and in small ones; behind the session's
+    // end.
     let table: [(usize, &'static [u64], u8, &str, &[u8]); 5] = [
         (65_536, &[0], 3, "", ONE_ENVELOPE),
         (29, &[1], 3, OPEN, b"\x01\x01\x07"),
@@ -339,7 +347,8 @@ fn a_take_that_fails_leaves_the_lines_before(rt: HostRuntime) -> Result<(), Fail
 #[test]
 fn a_take_that_fails_is_no_end_of_input(rt: HostRuntime) -> Result<(), Fail> {
     let unbuilt = "offence frame 3 0 Unbuilt\n";
-    // Behind a preamble, in large pieces and in small ones; first; within a record; behind a refusal.
+    // Behind a preamble, in large pieces and in small ones; first; within a record; behind a
+    // refusal.
     let table: [(&[u8], usize, &'static [u64], u8, &str, &[u8]); 5] = [
         (PREAMBLE, 65_536, &[1], 3, OPEN, b""),
         (PREAMBLE, 1, &[23], 3, OPEN, b""),
@@ -390,37 +399,6 @@ fn a_put_comes_before_the_next_take(rt: HostRuntime) -> Result<(), Fail> {
     };
     let rest = b"\x06\x06\x02\x01x\x42\x01\x01\x07";
     assert_left(&rt, ONE_ENVELOPE, outside, 4, "", rest)
-}
-
-#[test]
-fn other_words_take_nothing(rt: HostRuntime) -> Result<(), Fail> {
-    let table: [&[&str]; 16] = [
-        &[],
-        &["nettcp"],
-        &["check"],
-        &["nettcp", ""],
-        &["nettcp", "dump"],
-        &["nettcp", "check"],
-        &["nettcp", "check", "S"],
-        &["nettcp", "check", "--static"],
-        &["nettcp", "check", "--static="],
-        &["nettcp", "check", "--static", ""],
-        &["nettcp", "check", "--static", "-S"],
-        &["nettcp", "build", "--static", "S"],
-        &["nettcp", "Check", "--static", "S"],
-        &["nettcp", "check", "--Static", "S"],
-        &["nettcp", "check", "--static", "S", "--depth", "3"],
-        &["nettcp", "check", "--static", "S", "--static", "S"],
-    ];
-    for words in table {
-        let mut notes = sure_sink(rt.alloc());
-        let ran = run_on_fakes(rt.alloc(), words, SESSION, SURE, &mut notes)?;
-        assert_eq!(rt; ran.status, 2);
-        assert_eq!(rt; ran.input.rest(), SESSION);
-        assert_eq!(rt; ran.output.bytes().len(), 0);
-        assert_eq!(rt; notes.bytes(), note(2).as_bytes());
-    }
-    Ok(())
 }
 
 #[test]
