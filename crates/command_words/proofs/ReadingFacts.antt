@@ -29,7 +29,7 @@ open_words (holding given) = dashed given.0 ∷ given.1 ∷ []
 open_words (naming name) = dashed name ∷ []
 
 -- the words from a state on are options, which lead to these rows
-pub record Told (options : List OptionName) (seen : List Given) (state : State) (words : List Text) (rows : List Row) : Type 0 where
+pub record LeadToRows (options : List OptionName) (seen : List Given) (state : State) (words : List Text) (rows : List Row) : Type 0 where
   pub given : List Given
   pub spelled : Spells (open_words state ++ words) given
   pub known : are_known options given ≡ true
@@ -49,12 +49,12 @@ Passes name options walk words = (walk_fault (shape name options) [] walk words 
 -- words that pass are options
 abbrev pub Sound : Text → List OptionName → List Text → Type 0
 Sound name options words = (seen : List Given) (state : State) → Fits options state → AllByRecursion IsReadable words
-    → Passes name options (walk_at seen state) words → Told options seen state words (rows_behind options (walk_at seen state) words)
+    → Passes name options (walk_at seen state) words → LeadToRows options seen state words (rows_behind options (walk_at seen state) words)
 
 -- what the words behind an open option are, with it
 told-behind : (options : List OptionName) (seen : List Given) (state : State) (words : List Text) (rows : List Row) (given : List Given)
     → Fits options state → Rests seen state → Spells words given → are_known options given ≡ true → IsNew (whole seen state) given
-    → rows ≡ map row_for (whole seen state ++ given) → Told options seen state words rows
+    → rows ≡ map row_for (whole seen state ++ given) → LeadToRows options seen state words rows
 told-behind options seen resting words rows given fits rests spelled known new leads = record {
   given = given;
   spelled = spelled;
@@ -77,14 +77,14 @@ readable-not_pair word readable = false_from_ne_true (bytes_eq word (codes "--")
 module _ (name : Text) (options : List OptionName) where
   -- the state after a word
   go_on : (words : List Text) → Sound name options words → (walk : Walk) (seen : List Given) (state : State) → walk ≡ walk_at seen state → Fits options state
-      → AllByRecursion IsReadable words → Passes name options walk words → Told options seen state words (rows_behind options walk words)
+      → AllByRecursion IsReadable words → Passes name options walk words → LeadToRows options seen state words (rows_behind options walk words)
   go_on words sound walk seen state at fits readable =
-      subst (λ (w : Walk). Passes name options w words → Told options seen state words (rows_behind options w words)) (sym at) (sound seen state fits readable)
+      subst (λ (w : Walk). Passes name options w words → LeadToRows options seen state words (rows_behind options w words)) (sym at) (sound seen state fits readable)
 
   module _ (word : Text) (words : List Text) (sound : Sound name options words) (readable : AllByRecursion IsReadable words) (seen : List Given) (state : State) (fits : Fits options state)
       (turned : turn_fault (shape name options) [] (walk_at seen state) word ≡ []) (passes : Passes name options (walked (built_rules options) [] (walk_at seen state) word) words) where
     sound-named : (option : OptionName) → list_any (is_option option) options ≡ true → long_of word ≡ Some (text_of option, None) → word ≡ dashed option
-        → Told options seen state (word ∷ words) (rows_behind options (walk_at seen state) (word ∷ words))
+        → LeadToRows options seen state (word ∷ words) (rows_behind options (walk_at seen state) (word ∷ words))
     sound-named option known is_long is =
         let rests = settle-rests options seen state fits (sym (named-fault name options seen state word option known is_long) ∙ turned) in
         let told = go_on words sound (walked (built_rules options) [] (walk_at seen state) word) (whole seen state) (naming option)
@@ -92,7 +92,7 @@ module _ (name : Text) (options : List OptionName) where
         told-behind options seen state (word ∷ words) _ told.given fits rests (subst (λ w. Spells (w ∷ words) told.given) (sym is) told.spelled) told.known told.new told.leads
 
     sound-joined : (option : OptionName) (value : Text) → list_any (is_option option) options ≡ true → long_of word ≡ Some (text_of option, Some value)
-        → word ≡ dashed option ++ (codes "=" ++ value) → Told options seen state (word ∷ words) (rows_behind options (walk_at seen state) (word ∷ words))
+        → word ≡ dashed option ++ (codes "=" ++ value) → LeadToRows options seen state (word ∷ words) (rows_behind options (walk_at seen state) (word ∷ words))
     sound-joined option value known is_long is =
         let given : Given = (option, value) in
         let rests = joined-tells name options seen state word given known is_long fits turned in
@@ -103,7 +103,7 @@ module _ (name : Text) (options : List OptionName) where
         (told.leads ∙ ap (map row_for) (append_assoc (whole seen state) (given ∷ []) told.given))
 
     sound-long : (text : Text) (value : Option Text) → long_of word ≡ Some (text, value) → IsLong word text value
-        → Told options seen state (word ∷ words) (rows_behind options (walk_at seen state) (word ∷ words))
+        → LeadToRows options seen state (word ∷ words) (rows_behind options (walk_at seen state) (word ∷ words))
     sound-long text None is_long is =
         elim (arg_by_long-is options text) [
           | inl unknown ↦ absurd (unknown-refused name options seen state word text None is_long unknown turned)
@@ -118,7 +118,7 @@ module _ (name : Text) (options : List OptionName) where
   sound-plain : (word : Text) (words : List Text) → Sound name options words → IsReadable word → AllByRecursion IsReadable words → (seen : List Given) (state : State) → Fits options state
       → turn_fault (shape name options) [] (walk_at seen state) word ≡ [] → Passes name options (walked (built_rules options) [] (walk_at seen state) word) words
       → long_of word ≡ None → short_of word ≡ None → begins_with_hyphen word ≡ false
-      → Told options seen state (word ∷ words) (rows_behind options (walk_at seen state) (word ∷ words))
+      → LeadToRows options seen state (word ∷ words) (rows_behind options (walk_at seen state) (word ∷ words))
   sound-plain word words sound read readable seen resting fits turned passes no_long no_short no_hyphen =
       absurd (plain-refused name options seen word no_long no_short (readable-not_pair word read) turned)
   sound-plain word words sound read readable seen (holding given) fits turned passes no_long no_short no_hyphen =

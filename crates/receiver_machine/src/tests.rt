@@ -12,9 +12,9 @@ const PREAMBLE: &[u8] = b"\x00\x01\x00\x01\x02\x02\x0Dnet.tcp://h/e\x03\x08\x0C"
 const ENVELOPES: &[u8] =
     b"\x06\x06\x02\x01x\x42\x01\x01\x06\x06\x02\x01y\x42\x03\x01\x06\x07\x00\x42\x01\x42\x03\x81\x01";
 
-// What a receiver told: an event without its document, of which that is the front of an item.
+// An event that a receiver told, without its document, of which that is the front of an item.
 #[derive(Clone, Copy, Debug, PartialEq, Eq)]
-enum Told {
+enum Event {
     Opened(Kind),
     // How many bytes and items, and how many strings are in the table then.
     Message(u32, usize, u32),
@@ -30,7 +30,7 @@ fn last_told(
     receiver: &mut Receiver,
     bytes: &[u8],
     size: usize,
-) -> Result<Option<Told>, ReadRefusal> {
+) -> Result<Option<Event>, ReadRefusal> {
     let mut last = None;
     let mut rest = bytes;
     for _ in 0..bytes.len() {
@@ -42,12 +42,12 @@ fn last_told(
         rest = rest.get(used..).unwrap_or_default();
         match step {
             Step::More => {}
-            Step::Opened { mode: _, kind } => last = Some(Told::Opened(kind)),
+            Step::Opened { mode: _, kind } => last = Some(Event::Opened(kind)),
             Step::Message { size, doc } => {
-                last = Some(Told::Message(size, doc.items().len(), receiver.table().len()));
+                last = Some(Event::Message(size, doc.items().len(), receiver.table().len()));
                 receiver.reuse(doc);
             }
-            Step::Ended => last = Some(Told::Ended),
+            Step::Ended => last = Some(Event::Ended),
         }
     }
     Ok(last)
@@ -59,7 +59,7 @@ const TOO_LONG: ReadRefusal = ReadRefusal::Offence(Offence {
     reason: Reason::SessionTooLong,
 });
 
-const OPENED: Told = Told::Opened(Kind::Session);
+const OPENED: Event = Event::Opened(Kind::Session);
 
 fn of_session(session: u64) -> Option<Quotas> {
     Quotas::of(65_536, 32, 2_048, 262_144, 2_048, session)
@@ -68,7 +68,7 @@ fn of_session(session: u64) -> Option<Quotas> {
 #[test]
 fn a_session_ends_within_its_quota(rt: HostRuntime) -> Result<(), Fail> {
     let statics = no_statics(rt.alloc())?;
-    for (session, want) in [(23, Err(TOO_LONG)), (24, Ok(Some(Told::Ended)))] {
+    for (session, want) in [(23, Err(TOO_LONG)), (24, Ok(Some(Event::Ended)))] {
         for size in [24, 1] {
             let quotas = of_session(session).ok_or("good quotas")?;
             let mut receiver = Receiver::new(rt.alloc(), &statics, quotas).map_err(
@@ -101,9 +101,9 @@ fn an_event_comes_before_the_session_quota(rt: HostRuntime) -> Result<(), Fail> 
 fn strings_are_carried_from_payload_to_payload(rt: HostRuntime) -> Result<(), Fail> {
     let statics = no_statics(rt.alloc())?;
     let table = [
-        (8, Told::Message(6, 2, 1)),
-        (16, Told::Message(6, 2, 2)),
-        (25, Told::Message(7, 5, 2)),
+        (8, Event::Message(6, 2, 1)),
+        (16, Event::Message(6, 2, 2)),
+        (25, Event::Message(7, 5, 2)),
     ];
     for size in [64, 5, 1] {
         let mut receiver = Receiver::new(rt.alloc(), &statics, Quotas::usual()).map_err(
@@ -120,7 +120,7 @@ fn strings_are_carried_from_payload_to_payload(rt: HostRuntime) -> Result<(), Fa
         assert_eq!(rt; receiver.table().text(3), Some("y"));
         assert_eq!(rt;
             last_told(&mut receiver, b"\x07", size),
-            Ok(Some(Told::Ended))
+            Ok(Some(Event::Ended))
         );
     }
     Ok(())
