@@ -40,7 +40,7 @@ mod sure_source;
 mod write_sink;
 
 pub use file_shelf::FileShelf;
-pub use gathering_sink::{GatheringSink, gather, gathering_room, put_gathered};
+pub use gathering_sink::{GatheringSink, gathering_room};
 pub use memory_shelf::MemoryShelf;
 pub use memory_sink::MemorySink;
 pub use memory_source::MemorySource;

@@ -1,7 +1,7 @@
 use Rattle.std.proofs.Common.{[]}
 use Rattle.std.proofs.lemmas.Result.{err_from_is_err_and}
 use Rattle.io_edges.proofs.Putting.{PutsAll-then, PutsAll-cut, beside_no_room}
-use Rattle.io_edges.proofs.gathering_sink.gather.Goals as goal
+use Rattle.io_edges.proofs.gathering_sink.gather_anew.Goals as goal
 
 pub returns-in_err-put_gathered-clause-adds : goal.returns-in_err-put_gathered-clause-adds
 returns-in_err-put_gathered-clause-adds g c =
