@@ -16,7 +16,9 @@ ghost use Rattle.std.specs.Prelude.{All};
 
 use crate::arrays::array_kind_word;
 use crate::line::Keyword;
-use crate::puts::{Word, put_bytes, put_spaced_words, put_words};
+use crate::puts::{
+    Word, put_bytes, put_spaced_word, put_spaced_words, put_within_quotes, put_words,
+};
 use crate::scalars::ScalarKind;
 use io_edges::{Sink, SinkFault};
 use nbfx_values::{
@@ -37,12 +39,15 @@ fn sign_word(negative: bool) -> &'static str
 }
 
 // Puts a value of one word.
+#[inline(always)]
 fn put_one<K: Sink>(kind: ScalarKind, word: Word, sink: &mut K) -> Result<(), SinkFault>
     requires { IsPuttable word }
     ensures { Puts K.written K.held K.faults K.may_want sink.old sink.new
         (behind_spaces (scalar_kind_word kind ∷ word_bytes word.entry ∷ [])) result }
 {
-    put_spaced_words(&[Word::Plain(kind.word()), word], sink)
+    put_bytes(b" ", sink)?;
+    put_bytes(kind.word().as_bytes(), sink)?;
+    put_spaced_word(&word, sink)
 }
 
 fn put_decimal<K: Sink>(dec: Dec, sink: &mut K) -> Result<(), SinkFault>
@@ -147,16 +152,6 @@ fn put_value<K: Sink>(value: &Value, sink: &mut K) -> Result<(), SinkFault>
     }
 }
 
-// Puts a keyword and words.
-fn put_front<K: Sink>(keyword: Keyword, words: &[Word], sink: &mut K) -> Result<(), SinkFault>
-    requires { All IsPuttable words.now }
-    ensures { Puts K.written K.held K.faults K.may_want sink.old sink.new
-        (keyword_word keyword ++ spaced_words words.now) result }
-{
-    put_bytes(keyword.word().as_bytes(), sink)?;
-    put_spaced_words(words, sink)
-}
-
 // Puts a line of a keyword and words.
 fn put_line<K: Sink>(keyword: Keyword, words: &[Word], sink: &mut K) -> Result<(), SinkFault>
     requires { All IsPuttable words.now }
@@ -166,36 +161,22 @@ fn put_line<K: Sink>(keyword: Keyword, words: &[Word], sink: &mut K) -> Result<(
     put_words(keyword.word(), words, sink)
 }
 
-// Puts a line of a keyword, words and a value.
-fn put_valued<K: Sink>(
+// Puts a keyword and two texts.
+fn put_names<K: Sink>(
     keyword: Keyword,
-    words: &[Word],
-    value: &Value,
+    first: &Txt,
+    second: &Txt,
     sink: &mut K,
 ) -> Result<(), SinkFault>
-    requires puttable { All IsPuttable words.now }
-    requires valid { IsTrue (is_valid_value value.now) }
     ensures { Puts K.written K.held K.faults K.may_want sink.old sink.new
-        (with_line_feed (keyword_word keyword ++ spaced_words words.now
-        ++ behind_spaces (value_words (written_value value.now)))) result }
+        (spaced (keyword_word keyword ∷ quoted first.now ∷ quoted second.now ∷ [])) result }
 {
-    put_front(keyword, words, sink)?;
-    put_value(value, sink)?;
-    put_bytes(b"\n", sink)
-}
-
-fn put_attribute<K: Sink>(
-    prefix: &Txt,
-    local: &Txt,
-    value: &Value,
-    sink: &mut K,
-) -> Result<(), SinkFault>
-    requires { IsTrue (is_valid_value value.now) }
-    ensures { Puts K.written K.held K.faults K.may_want sink.old sink.new
-        (form_text (attr prefix.now local.now (written_value value.now))) result }
-{
-    let names = [Word::Quoted(prefix.as_str()), Word::Quoted(local.as_str())];
-    put_valued(Keyword::Attr, &names, value, sink)
+    put_bytes(keyword.word().as_bytes(), sink)?;
+    put_bytes(b" \"", sink)?;
+    put_within_quotes(first.as_str(), sink)?;
+    put_bytes(b"\" \"", sink)?;
+    put_within_quotes(second.as_str(), sink)?;
+    put_bytes(b"\"", sink)
 }
 
 // Puts a line of a keyword and two texts.
@@ -209,11 +190,33 @@ fn put_named<K: Sink>(
         (with_line_feed (spaced (keyword_word keyword ∷ quoted first.now ∷ quoted second.now ∷ [])))
         result }
 {
-    put_line(
-        keyword,
-        &[Word::Quoted(first.as_str()), Word::Quoted(second.as_str())],
-        sink,
-    )
+    put_names(keyword, first, second, sink)?;
+    put_bytes(b"\n", sink)
+}
+
+fn put_attribute<K: Sink>(
+    prefix: &Txt,
+    local: &Txt,
+    value: &Value,
+    sink: &mut K,
+) -> Result<(), SinkFault>
+    requires { IsTrue (is_valid_value value.now) }
+    ensures { Puts K.written K.held K.faults K.may_want sink.old sink.new
+        (form_text (attr prefix.now local.now (written_value value.now))) result }
+{
+    put_names(Keyword::Attr, prefix, local, sink)?;
+    put_value(value, sink)?;
+    put_bytes(b"\n", sink)
+}
+
+fn put_text<K: Sink>(value: &Value, sink: &mut K) -> Result<(), SinkFault>
+    requires { IsTrue (is_valid_value value.now) }
+    ensures { Puts K.written K.held K.faults K.may_want sink.old sink.new
+        (form_text (text (written_value value.now))) result }
+{
+    put_bytes(b"text", sink)?;
+    put_value(value, sink)?;
+    put_bytes(b"\n", sink)
 }
 
 fn put_array_attribute<K: Sink>(one: &AttrItem, sink: &mut K) -> Result<(), SinkFault>
@@ -247,7 +250,7 @@ fn put_array_values<K: Sink>(scalars: &[Scalar], sink: &mut K) -> Result<(), Sin
     ensures { Puts K.written K.held K.faults K.may_want sink.old sink.new
         (form_text (values (written_scalars scalars.now))) result }
 {
-    put_bytes(Keyword::Values.word().as_bytes(), sink)?;
+    put_bytes(b"values", sink)?;
     put_scalars(scalars, sink)?;
     put_bytes(b"\n", sink)
 }
@@ -291,10 +294,10 @@ fn put_item<K: Sink>(item: &Item, sink: &mut K) -> Result<(), SinkFault>
             local,
             value,
         } => put_attribute(prefix, local, value, sink),
-        Item::Text(value) => put_valued(Keyword::Text, &[], value, sink),
+        Item::Text(value) => put_text(value, sink),
         Item::Comment(text) => put_line(Keyword::Comment, &[Word::Quoted(text.as_str())], sink),
         Item::Array(array) => put_array(array, sink),
-        Item::Close => put_line(Keyword::Close, &[], sink),
+        Item::Close => put_bytes(b"close\n", sink),
     }
 }
 

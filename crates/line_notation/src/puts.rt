@@ -1,7 +1,7 @@
 // Words that go out.
 ghost use Rattle.std.specs.Prelude.{◌≡◌, ◌≤◌, ◌<◌, ◌^◌, ◌∷◌, ◌++◌, [], false, length, take_while, All};
 ghost use Rattle.std.specs.Fmt.{decimal, digit_glyph, signed_decimal};
-ghost use Rattle.std.specs.List.{flat_map};
+ghost use Rattle.std.specs.List.{flat_map, list_all};
 ghost use Rattle.hex.specs.Hex.{encode_lower};
 ghost use Rattle.io_edges.specs.Puts.{Puts};
 ghost use Rattle.line_notation.specs.Lines.{with_line_feed};
@@ -74,7 +74,19 @@ pub fn plain_count(bytes: &[u8]) -> usize
     bytes.iter().take_while(|byte| is_plain(**byte)).count()
 }
 
-// Puts the bytes of a quoted text.
+// Whether a quoted text shows all bytes as they are. No byte ends the loop, so that many are looked at
+// at once.
+fn are_plain(bytes: &[u8]) -> bool
+    ensures { result ≡ list_all is_plain bytes.now }
+{
+    let mut plain = true;
+    for byte in bytes {
+        plain &= is_plain(*byte);
+    }
+    plain
+}
+
+// Puts what a text has between its quotes, by pieces that are plain or escaped.
 fn put_pieces<K: Sink>(bytes: &[u8], sink: &mut K) -> Result<(), SinkFault>
     ensures { Puts K.written K.held K.faults K.may_want sink.old sink.new
         (flat_map quoted_byte bytes.now) result }
@@ -95,6 +107,18 @@ fn put_pieces<K: Sink>(bytes: &[u8], sink: &mut K) -> Result<(), SinkFault>
     Ok(())
 }
 
+// Puts what a text has between its quotes.
+pub fn put_within_quotes<K: Sink>(text: &str, sink: &mut K) -> Result<(), SinkFault>
+    ensures { Puts K.written K.held K.faults K.may_want sink.old sink.new
+        (flat_map quoted_byte text.now) result }
+{
+    let bytes = text.as_bytes();
+    if are_plain(bytes) {
+        return put_bytes(bytes, sink);
+    }
+    put_pieces(bytes, sink)
+}
+
 /// Puts a text in double quotes. A printable byte of ASCII stands as it is, and any other, the
 /// quote and the backslash as a backslash and two hexadecimal digits. The text goes in several puts:
 /// where a put is dear, give a sink that gathers, as `io_edges::GatheringSink` does. A refusal has
@@ -103,7 +127,7 @@ pub fn quote<K: Sink>(text: &str, sink: &mut K) -> Result<(), SinkFault>
     ensures { Puts K.written K.held K.faults K.may_want sink.old sink.new (quoted text.now) result }
 {
     put_bytes(b"\"", sink)?;
-    put_pieces(text.as_bytes(), sink)?;
+    put_within_quotes(text, sink)?;
     put_bytes(b"\"", sink)
 }
 
@@ -187,7 +211,7 @@ fn put_word<K: Sink>(word: &Word, sink: &mut K) -> Result<(), SinkFault>
 }
 
 // Puts a space and a word.
-fn put_spaced_word<K: Sink>(word: &Word, sink: &mut K) -> Result<(), SinkFault>
+pub fn put_spaced_word<K: Sink>(word: &Word, sink: &mut K) -> Result<(), SinkFault>
     requires { IsPuttable word.now }
     ensures { Puts K.written K.held K.faults K.may_want sink.old sink.new
         (spaced_word word.now) result }

@@ -10,13 +10,13 @@ returns-in_err-put_bytes g c =
     let p = err_from_is_err_and c.from_residual.result c.from_residual.ensures.1 in
     rw (p.1, p.2) (PutsAll-cut _ c.in_err-put_bytes.ensures)
 
-pub returns-in_err-put_pieces : goal.returns-in_err-put_pieces
+pub returns-in_err-put_within_quotes : goal.returns-in_err-put_within_quotes
 unfolding quoted
-returns-in_err-put_pieces g c =
-    let p = err_from_is_err_and c.from_residual-in_err-put_pieces.result c.from_residual-in_err-put_pieces.ensures.1 in
-    rw (p.1, p.2) (PutsAll-cut (34 ∷ []) (PutsAll-then _ c.in_ok-put_bytes.ensures (rw c.as_bytes.ensures.value at c.in_err-put_pieces.ensures)))
+returns-in_err-put_within_quotes g c =
+    let p = err_from_is_err_and c.from_residual-in_err-put_within_quotes.result c.from_residual-in_err-put_within_quotes.ensures.1 in
+    rw (p.1, p.2) (PutsAll-cut (34 ∷ []) (PutsAll-then _ c.in_ok-put_bytes.ensures c.in_err-put_within_quotes.ensures))
 
 pub returns : goal.returns
 unfolding quoted
 returns g c =
-    PutsAll-then _ c.in_ok-put_bytes.ensures (PutsAll-then _ (rw c.as_bytes.ensures.value at c.in_ok-put_pieces.ensures) c.put_bytes-2.ensures)
+    PutsAll-then _ c.in_ok-put_bytes.ensures (PutsAll-then _ c.in_ok-put_within_quotes.ensures c.put_bytes-2.ensures)
