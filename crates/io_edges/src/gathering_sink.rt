@@ -46,8 +46,8 @@ fn put_gathered<K: Sink>(room: &[u8], used: &mut usize, sink: &mut K) -> Result<
     sink.put(&room[..gathered])
 }
 
-// Puts the first so many bytes of a room, and gathers others in it. Where these are too many for it,
-// they are put as they are. Where a put fails, none stands there any more.
+// Puts the first so many bytes of a room, and gathers others in it. Where these are too many for
+// it, they are put as they are. Where a put fails, none stands there any more.
 #[inline(never)]
 fn gather_anew<K: Sink>(
     bytes: &[u8],

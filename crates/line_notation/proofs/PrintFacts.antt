@@ -10,7 +10,7 @@ use Rattle.nbfx_values.specs.declared.scalars.Value.{Value}
 use Rattle.std.proofs.lemmas.List.Folds.{flat_map-map}
 use Rattle.nbfx_values.specs.declared.content.Item.{Item}
 use Rattle.line_notation.specs.Forms.{array, attr, line_of, values}
-use Rattle.line_notation.specs.Lines.{attribute_form, form_text, forms_of, item_forms, item_text, text_of, with_line_feed}
+use Rattle.line_notation.specs.Lines.{attribute_form, form_text, forms_of, item_forms, item_text, items_text, with_line_feed}
 use Rattle.line_notation.specs.Numerals.{counted}
 use Rattle.line_notation.specs.Scalars.{scalar_words}
 use Rattle.nbfx_values.specs.declared.scalars.Value.TheVariants.{List as ListOf}
@@ -49,8 +49,8 @@ list_words ss small =
     ∙ flat_map-append (λ word. 32 ∷ word) (codes "list" ∷ decimal (length ss) ∷ []) (flat_map scalar_words ss)
 
 -- the lines of items, item by item
-pub text-items : (items : List Item) → text_of items ≡ flat_map item_text items
-unfolding text_of
+pub text-items : (items : List Item) → items_text items ≡ flat_map item_text items
+unfolding items_text
 text-items items = flat_map-map with_line_feed line_of (forms_of items) ∙ flat_map-flat_map form_text item_forms items
 
 -- an array's lines

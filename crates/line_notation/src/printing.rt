@@ -5,7 +5,7 @@ ghost use Rattle.hex.specs.Hex.{encode_lower};
 ghost use Rattle.nbfx_values.specs.Items.{is_valid_array, is_valid_attribute, is_valid_item};
 ghost use Rattle.nbfx_values.specs.Scalars.{is_valid_scalar, is_valid_value};
 ghost use Rattle.line_notation.specs.Forms.{array, attr, form_words, keyword_word, line_of, text, values};
-ghost use Rattle.line_notation.specs.Lines.{attribute_form, form_text, item_text, text_of, with_line_feed};
+ghost use Rattle.line_notation.specs.Lines.{attribute_form, form_text, item_text, items_text, with_line_feed};
 ghost use Rattle.io_edges.specs.Puts.{Puts};
 ghost use Rattle.line_notation.specs.Puts.{IsPuttable, spaced_words, word_bytes};
 ghost use Rattle.line_notation.specs.Quoted.{quoted};
@@ -284,7 +284,8 @@ fn put_array<K: Sink>(array: &ArrayItem, sink: &mut K) -> Result<(), SinkFault>
 
 fn put_item<K: Sink>(item: &Item, sink: &mut K) -> Result<(), SinkFault>
     requires { IsTrue (is_valid_item item.now) }
-    ensures { Puts K.written K.held K.faults K.may_want sink.old sink.new (item_text item.now) result }
+    ensures { Puts K.written K.held K.faults K.may_want sink.old sink.new
+        (item_text item.now) result }
 {
     match item {
         Item::Start { prefix, local } => put_named(Keyword::Start, prefix, local, sink),
@@ -303,7 +304,8 @@ fn put_item<K: Sink>(item: &Item, sink: &mut K) -> Result<(), SinkFault>
 
 fn put_items<K: Sink>(items: &[Item], sink: &mut K) -> Result<(), SinkFault>
     requires { IsTrue (list_all is_valid_item items.now) }
-    ensures { Puts K.written K.held K.faults K.may_want sink.old sink.new (text_of items.now) result }
+    ensures { Puts K.written K.held K.faults K.may_want sink.old sink.new
+        (items_text items.now) result }
 {
     for item in items {
         put_item(item, sink)?;
@@ -311,11 +313,12 @@ fn put_items<K: Sink>(items: &[Item], sink: &mut K) -> Result<(), SinkFault>
     Ok(())
 }
 
-/// Puts the lines of a document, each with its line feed. A line goes in several puts: where a put is
-/// dear, give a sink that gathers, as `io_edges::GatheringSink` does. A refusal has put the first
-/// bytes of them. No memory is taken but the sink's.
+/// Puts the lines of a document, each with its line feed. A line goes in several puts: where a put
+/// is dear, give a sink that gathers, as `io_edges::GatheringSink` does. A refusal has put the
+/// first bytes of them. No memory is taken but the sink's.
 pub fn print<K: Sink>(doc: &Doc, sink: &mut K) -> Result<(), SinkFault>
-    ensures { Puts K.written K.held K.faults K.may_want sink.old sink.new (text_of doc.now) result }
+    ensures { Puts K.written K.held K.faults K.may_want sink.old sink.new
+        (items_text doc.now) result }
 {
     put_items(doc.items().as_slice(), sink)
 }

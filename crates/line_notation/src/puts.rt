@@ -74,8 +74,8 @@ pub fn plain_count(bytes: &[u8]) -> usize
     bytes.iter().take_while(|byte| is_plain(**byte)).count()
 }
 
-// Whether a quoted text shows all bytes as they are. No byte ends the loop, so that many are looked at
-// at once.
+// Whether a quoted text shows all bytes as they are. No byte ends the loop, so that many are looked
+// at at once.
 fn are_plain(bytes: &[u8]) -> bool
     ensures { result ≡ list_all is_plain bytes.now }
 {
@@ -87,6 +87,7 @@ fn are_plain(bytes: &[u8]) -> bool
 }
 
 // Puts what a text has between its quotes, by pieces that are plain or escaped.
+#[inline(never)]
 fn put_pieces<K: Sink>(bytes: &[u8], sink: &mut K) -> Result<(), SinkFault>
     ensures { Puts K.written K.held K.faults K.may_want sink.old sink.new
         (flat_map quoted_byte bytes.now) result }
@@ -120,9 +121,9 @@ pub fn put_within_quotes<K: Sink>(text: &str, sink: &mut K) -> Result<(), SinkFa
 }
 
 /// Puts a text in double quotes. A printable byte of ASCII stands as it is, and any other, the
-/// quote and the backslash as a backslash and two hexadecimal digits. The text goes in several puts:
-/// where a put is dear, give a sink that gathers, as `io_edges::GatheringSink` does. A refusal has
-/// put the first bytes. No memory is taken but the sink's.
+/// quote and the backslash as a backslash and two hexadecimal digits. The text goes in several
+/// puts: where a put is dear, give a sink that gathers, as `io_edges::GatheringSink` does. A
+/// refusal has put the first bytes. No memory is taken but the sink's.
 pub fn quote<K: Sink>(text: &str, sink: &mut K) -> Result<(), SinkFault>
     ensures { Puts K.written K.held K.faults K.may_want sink.old sink.new (quoted text.now) result }
 {
@@ -193,6 +194,7 @@ fn put_identifier<K: Sink>(bytes: &[u8; 16], sink: &mut K) -> Result<(), SinkFau
     put_bytes(id.hyphenated().encode_lower(&mut buffer).as_bytes(), sink)
 }
 
+#[inline(always)]
 fn put_word<K: Sink>(word: &Word, sink: &mut K) -> Result<(), SinkFault>
     requires { IsPuttable word.now }
     ensures { Puts K.written K.held K.faults K.may_want sink.old sink.new
@@ -211,6 +213,7 @@ fn put_word<K: Sink>(word: &Word, sink: &mut K) -> Result<(), SinkFault>
 }
 
 // Puts a space and a word.
+#[inline(always)]
 pub fn put_spaced_word<K: Sink>(word: &Word, sink: &mut K) -> Result<(), SinkFault>
     requires { IsPuttable word.now }
     ensures { Puts K.written K.held K.faults K.may_want sink.old sink.new
