@@ -32,7 +32,7 @@ pub enum Word<'a> {
     Letter(u8),
 }
 
-// Puts bytes.
+// Puts bytes, and says of one put what is said of several.
 #[inline(always)]
 pub fn put_bytes<K: Sink>(bytes: &[u8], sink: &mut K) -> Result<(), SinkFault>
     ensures { Puts K.written K.held K.faults K.may_want sink.old sink.new bytes.now result }
@@ -61,8 +61,7 @@ fn digit(bits: u8) -> u8
 
 // Puts a backslash and the byte's digits.
 fn put_escape<K: Sink>(byte: u8, sink: &mut K) -> Result<(), SinkFault>
-    ensures { Puts K.written K.held K.faults K.may_want sink.old sink.new
-        (escape byte) result }
+    ensures { Puts K.written K.held K.faults K.may_want sink.old sink.new (escape byte) result }
 {
     put_bytes(&[b'\\', digit(byte / 16), digit(byte % 16)], sink)
 }
@@ -74,8 +73,8 @@ pub fn plain_count(bytes: &[u8]) -> usize
     bytes.iter().take_while(|byte| is_plain(**byte)).count()
 }
 
-// Whether a quoted text shows all bytes as they are. No byte ends the loop, so that many are looked
-// at at once.
+// Whether a quoted text shows all bytes as they are. No byte ends the loop, so that it goes over
+// many at a time.
 fn are_plain(bytes: &[u8]) -> bool
     ensures { result ≡ list_all is_plain bytes.now }
 {
@@ -170,8 +169,7 @@ fn put_digits_in_quotes<K: Sink>(bytes: &[u8], sink: &mut K) -> Result<(), SinkF
 }
 
 fn put_natural<K: Sink>(n: u128, sink: &mut K) -> Result<(), SinkFault>
-    ensures { Puts K.written K.held K.faults K.may_want sink.old sink.new
-        (decimal n) result }
+    ensures { Puts K.written K.held K.faults K.may_want sink.old sink.new (decimal n) result }
 {
     let mut buffer = Buffer::new();
     put_bytes(buffer.format(n).as_bytes(), sink)
