@@ -3,7 +3,7 @@ use Rattle.std.specs.Prelude.{ℕ, List, [], ◌∷◌, ◌++◌, length, Option
 use Rattle.std.specs.List.{flat_map}
 use Rattle.std.specs.Fmt.{decimal}
 use Rattle.line_notation.specs.Quoted.{quoted}
-use Rattle.line_notation.specs.Lines.{text_of, with_line_feed}
+use Rattle.line_notation.specs.Lines.{items_text, with_line_feed}
 use Rattle.line_notation.specs.Words.{spaced}
 use Rattle.nbfx_values.specs.Measures.{content_of, depth_of}
 use Rattle.nbfx_values.specs.Refusals.{reason_number, reason_name}
@@ -62,7 +62,7 @@ event_line (ended n) = ended_line n
 
 -- the lines of the document that an event brings
 abbrev pub document_lines : StreamEvent → List ℕ
-document_lines (message envelope) = text_of envelope.items
+document_lines (message envelope) = items_text envelope.items
 document_lines _ = []
 
 -- what is told of an event: its line, and where documents are shown whole, theirs behind it

@@ -36,10 +36,12 @@ pub record AppendsPrefix (old new : Option (List ℕ)) (piece : List ℕ) : Type
   pub kept : ℕ
   pub grown : Appends old new (take kept piece)
 
--- what a fetch answers where a file was to be opened: `None` where there is none, else a fault, or all
--- that the file gives, where it tells that
-pub record AnswersOpened {F : Type 0} (remaining : F → Option (List ℕ)) (opened : Result F Error) (answer : Result (Option (Vec ℕ Global)) ShelfFault) : Type 0 where
+-- what a fetch answers where a file was to be opened: `None` where there is none, else a fault, or
+-- all that the file gives, where it tells that
+pub record AnswersOpened {F : Type 0} (remaining : F → Option (List ℕ)) (opened : Result F Error)
+    (answer : Result (Option (Vec ℕ Global)) ShelfFault) : Type 0 where
   pub missing : IfErr opened (λ e. error_kind e ≡ NotFound → answer ≡ Ok None)
   pub broken : IfErr opened (λ e. error_kind e ≢ NotFound → answer ≡ Err Failed)
   pub found : OnOk opened (IfOk answer IsSome)
-  pub whole : IfOk opened (λ file. IfOk answer (λ found. IfSome found (λ bytes. IfSome (remaining file) (λ left. bytes.items ≡ left))))
+  pub whole : IfOk opened (λ file. IfOk answer (λ found. IfSome found (λ bytes.
+      IfSome (remaining file) (λ left. bytes.items ≡ left))))

@@ -27,7 +27,8 @@ pub record PlannedSource : Type 0 where
 
 -- before the first take
 abbrev pub new_source : List ℕ → ℕ → List ℕ → PlannedSource
-new_source bytes most failing = record { tape = new_tape bytes; most = most; plan = new_plan failing }
+new_source bytes most failing =
+    record { tape = new_tape bytes; most = most; plan = new_plan failing }
 
 -- how many bytes the next take puts into a room of that length, if it doesn't fail
 abbrev pub next_count : PlannedSource → ℕ → ℕ

@@ -3,7 +3,8 @@ use Rattle.std.specs.Prelude.{ℕ, ◌==◌, Bool, List, if◌then◌else◌}
 use Rattle.std.specs.List.{list_any}
 use Rattle.io_edges.specs.Faults.{one_more}
 
--- the numbers of the calls that fail, counted from 0; how many calls there were; how many of them failed
+-- the numbers of the calls that fail, counted from 0; how many calls there were; how many of them
+-- failed
 pub record Plan : Type 0 where
   pub failing : List ℕ
   pub calls : ℕ

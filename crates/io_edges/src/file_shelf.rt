@@ -40,7 +40,8 @@ impl<R: Files + AllocGlobal> Shelf for FileShelf<R> {
 
     fn fetch(&mut self, name: &str) -> Result<Option<Vec<u8>>, ShelfFault>
         ensures most { IfOk result (λ found. IfSome found (λ bytes. length bytes.items ≤ 2 ^ 30)) }
-        ensures answer { (opened : Result R.File Error) × AnswersOpened R.File.remaining opened result }
+        ensures answer { (opened : Result R.File Error)
+            × AnswersOpened R.File.remaining opened result }
         ensures counted { CountsOne (shelf_faults self.old) (shelf_faults self.new)
             (IsErrOf result ShelfFault.Failed) }
     {

@@ -19,6 +19,7 @@ pub fn gathering_room(alloc: Global) -> Result<Vec<u8>, AllocError>
 }
 
 // Copies bytes behind the first so many of the room.
+#[inline(always)]
 fn keep(bytes: &[u8], room: &mut [u8], used: &mut usize)
     requires { used.old + length bytes.now ≤ length room.old }
     ensures kept { take used.new room.new ≡ take used.old room.old ++ bytes.now }
@@ -30,9 +31,9 @@ fn keep(bytes: &[u8], room: &mut [u8], used: &mut usize)
     *used = end;
 }
 
-/// Puts the first so many bytes of a room by one put, or by none where there are none. None stands
-/// there then, also where the put fails.
-pub fn put_gathered<K: Sink>(room: &[u8], used: &mut usize, sink: &mut K) -> Result<(), SinkFault>
+// Puts the first so many bytes of a room by one put, or by none where there are none. None stands
+// there then, also where the put fails.
+fn put_gathered<K: Sink>(room: &[u8], used: &mut usize, sink: &mut K) -> Result<(), SinkFault>
     requires { used.old ≤ length room.now }
     ensures puts { Adds K.written K.held K.faults K.may_want sink.old sink.new
         (take used.old room.now) [] [] result }
@@ -45,10 +46,10 @@ pub fn put_gathered<K: Sink>(room: &[u8], used: &mut usize, sink: &mut K) -> Res
     sink.put(&room[..gathered])
 }
 
-/// Adds bytes behind the first so many of a room. Where they have no room, what stands there is put
-/// first; and where they are too many for it, they are put as they are. Where a put fails, none
-/// stands there any more.
-pub fn gather<K: Sink>(
+// Puts the first so many bytes of a room, and gathers others in it. Where these are too many for
+// it, they are put as they are. Where a put fails, none stands there any more.
+#[inline(never)]
+fn gather_anew<K: Sink>(
     bytes: &[u8],
     room: &mut [u8],
     used: &mut usize,
@@ -57,15 +58,9 @@ pub fn gather<K: Sink>(
     requires { used.old ≤ length room.old }
     ensures adds { Adds K.written K.held K.faults K.may_want sink.old sink.new
         (take used.old room.old) (take used.new room.new) bytes.now result }
-    ensures fits { used.old + length bytes.now ≤ length room.old → IsOk result
-        × (sink.new ≡ sink.old) × (take used.new room.new ≡ take used.old room.old ++ bytes.now) }
     ensures within { used.new ≤ length room.new }
     ensures room { length room.new ≡ length room.old }
 {
-    if bytes.len() <= room.len() - *used {
-        keep(bytes, room, used);
-        return Ok(());
-    }
     put_gathered(room, used, sink)?;
     if bytes.len() <= room.len() {
         keep(bytes, room, used);
@@ -137,6 +132,7 @@ impl<K: Sink> Sink for GatheringSink<K> {
 
     ghost may_want = { λ s. K.may_want s.sink };
 
+    #[inline(always)]
     fn put(&mut self, bytes: &[u8]) -> Result<(), SinkFault>
         ensures adds { Adds K.written K.held K.faults K.may_want self.old.sink self.new.sink
             self.old.gathered self.new.gathered bytes.now result }
@@ -146,7 +142,11 @@ impl<K: Sink> Sink for GatheringSink<K> {
         ensures within { length self.new.gathered ≤ self.new.room }
         ensures room { self.new.room ≡ self.old.room }
     {
-        gather(bytes, &mut self.room, &mut self.used, &mut self.sink)
+        if bytes.len() <= self.room.len() - self.used {
+            keep(bytes, &mut self.room, &mut self.used);
+            return Ok(());
+        }
+        gather_anew(bytes, &mut self.room, &mut self.used, &mut self.sink)
     }
 
     fn flush(&mut self) -> Result<(), SinkFault>

@@ -1,24 +1,25 @@
 //! The outside, as traits: where bytes come from ([`Source`]), where they go ([`Sink`]), and where
-//! files stand by name ([`Shelf`]). What reads and writes a stream is generic over them, so that its
-//! contract can speak of the bytes that moved.
+//! files stand by name ([`Shelf`]). What reads and writes a stream is generic over them, so that
+//! its contract can speak of the bytes that moved.
 //!
 //! The contracts of the traits say two things. Where an implementation tells its content, they say
 //! which bytes a call moved and what an error leaves. At every implementation they count the calls
-//! that met an outside fault: the count rises, up to the last value of its type, in a call that fails
-//! by the outside, and in no other. Want of memory is an answer of its own, which is no fault.
+//! that met an outside fault: the count rises, up to the last value of its type, in a call that
+//! fails by the outside, and in no other. Want of memory is an answer of its own, which is no
+//! fault.
 //!
 //! Each trait has implementations in memory, for tests and for work without an outside: `Memory..`
 //! ones, which meet a fault at the calls that they are told to, and for sources and sinks `Sure..`
 //! ones, which never meet one. A put to one of these sinks may want memory, and so may a fetch that
 //! isn't to fail. All tell their content, and hold nothing back. [`ReadSource`], [`WriteSink`] and
-//! [`FileShelf`] stand over the readers, the writers and the files of std, and tell none: that a file
-//! or a socket gave or took these bytes is trusted. A [`GatheringSink`] stands over any other sink, and
-//! holds back what has room.
+//! [`FileShelf`] stand over the readers, the writers and the files of std, and tell none: that a
+//! file or a socket gave or took these bytes is trusted. A [`GatheringSink`] stands over any other
+//! sink, and holds back what has room.
 //!
-//! The definitions are in `specs/`: `Faults` has the count, `Flow` what moves at a call, `Puts` what
-//! several puts leave, `Store` what a shelf holds, `Plan` and `InMemory` what the implementations in
-//! memory do call by call, `Gathering` what is seen of a sink that gathers, and `Adapters` what is
-//! seen of the ones over std.
+//! The definitions are in `specs/`: `Faults` has the count, `Flow` what moves at a call, `Puts`
+//! what several puts leave, `Store` what a shelf holds, `Plan` and `InMemory` what the
+//! implementations in memory do call by call, `Gathering` what is seen of a sink that gathers, and
+//! `Adapters` what is seen of the ones over std.
 #![tactic(auto)]
 
 ghost use Rattle.std.specs.Prelude.{◌≡◌, ◌≤◌, ◌<◌, ℕ, List, [], ◌++◌, length, take, Bool, true, Option, IfSome, IfOk, OnOk, OnErr, IsErr, IsErrOf, ◌↔◌};
@@ -40,7 +41,7 @@ mod sure_source;
 mod write_sink;
 
 pub use file_shelf::FileShelf;
-pub use gathering_sink::{GatheringSink, gather, gathering_room, put_gathered};
+pub use gathering_sink::{GatheringSink, gathering_room};
 pub use memory_shelf::MemoryShelf;
 pub use memory_sink::MemorySink;
 pub use memory_source::MemorySource;
@@ -64,9 +65,9 @@ pub trait Source {
     /// How many calls met an outside fault, up to 2^64 - 1.
     ghost faults: { Self → ℕ };
 
-    /// Puts the next bytes at the front of the room, and answers how many they are. 0 for a room that
-    /// isn't empty is the end of the input. A take that fails moves nothing, and may be followed by
-    /// one that doesn't.
+    /// Puts the next bytes at the front of the room, and answers how many they are. 0 for a room
+    /// that isn't empty is the end of the input. A take that fails moves nothing, and may be
+    /// followed by one that doesn't.
     fn take(&mut self, room: &mut [u8]) -> Result<usize, Failed>
         ensures within { IfOk result (λ n. n ≤ length room.new) }
         ensures moved { IfOk result (λ n. Told (left self.old) (left self.new)

@@ -65,7 +65,8 @@ impl Shelf for MemoryShelf {
 
 fn copy_of(files: &BTreeMap<String, Vec<u8>>, name: &str) -> Result<Option<Vec<u8>>, ShelfFault>
     ensures found { IfOk result (λ found.
-        option_map (λ v. v.items) found ≡ option_map (λ v. v.items) (get_by_text files.now name.now)) }
+        option_map (λ v. v.items) found
+        ≡ option_map (λ v. v.items) (get_by_text files.now name.now)) }
     ensures memory { IsOkUnless result ShelfFault.Memory }
 {
     let Some(bytes) = files.get(name) else {

@@ -62,8 +62,10 @@ impl Sink for MemorySink {
         ensures front { IsErrOf result SinkFault.Failed
             → self.new.written ≡ self.old.written ++ take self.old.kept bytes.now }
         ensures memory { IsErrOf result SinkFault.Memory → self.new.written ≡ self.old.written }
-        ensures counted { (IsErrOf result SinkFault.Memory → ⊥) → self.new.plan ≡ after_call self.old.plan }
-        ensures passed { IsErrOf result SinkFault.Memory → self.new.plan ≡ counted false self.old.plan }
+        ensures counted { (IsErrOf result SinkFault.Memory → ⊥)
+            → self.new.plan ≡ after_call self.old.plan }
+        ensures passed { IsErrOf result SinkFault.Memory
+            → self.new.plan ≡ counted false self.old.plan }
         ensures kept { self.new.kept ≡ self.old.kept }
         ensures faults { self.old.plan.faults < 2 ^ 64 }
     {

@@ -24,7 +24,11 @@ impl Model for MemorySource {
 
     ghost Value = { PlannedSource };
 
-    ghost view = { λ s. record { tape = tape_at s.at s.bytes.items; most = s.most; plan = s.plan } };
+    ghost view = { λ s. record {
+      tape = tape_at s.at s.bytes.items;
+      most = s.most;
+      plan = s.plan;
+    } };
 
     ghost invariant = { λ s. (s.at ≤ vec_len s.bytes) × (1 ≤ s.most) };
 }

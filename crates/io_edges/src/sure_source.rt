@@ -52,7 +52,8 @@ impl Source for SureSource {
         ensures sure { IsOk result }
         ensures count { IfOk result (λ n. n ≡ min (length room.old) (length self.old.left)) }
         ensures given { IfOk result (λ n. room.new ≡ take n self.old.left ++ drop n room.old) }
-        ensures after { self.new ≡ advanced (min (length room.old) (length self.old.left)) self.old }
+        ensures after { self.new
+            ≡ advanced (min (length room.old) (length self.old.left)) self.old }
     {
         let n = copy_front(&self.bytes[self.at..], usize::MAX, room);
         self.at += n;

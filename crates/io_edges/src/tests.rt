@@ -28,8 +28,9 @@ fn pass_on<I: Source, N: Sink>(
     output: &mut N,
     room: &mut [u8],
 ) -> Result<usize, Lost>
-    ensures given { IfOk result (λ n. IfSome (I.left input.old) (λ left. IfSome (N.written output.old)
-        (λ written. N.written output.new ≡ Some (written ++ N.held output.old ++ take n left)))) }
+    ensures given { IfOk result (λ n. IfSome (I.left input.old) (λ left.
+        IfSome (N.written output.old) (λ written.
+        N.written output.new ≡ Some (written ++ N.held output.old ++ take n left)))) }
     ensures source { IsErrOf result Lost.Source → Rose (I.faults input.old) (I.faults input.new) }
     ensures sink { IsErrOf result Lost.Sink → Rose (N.faults output.old) (N.faults output.new) }
     ensures memory { IsErrOf result Lost.Memory → (I.faults input.new ≡ I.faults input.old)

@@ -9,8 +9,8 @@ use crate::{Failed, Sink, SinkFault};
 use std::io::Write;
 
 /// A sink over a writer. A put writes until the whole piece is taken, and a flush flushes the
-/// writer. A write that fails, one that was interrupted too, one that takes nothing and a flush that
-/// fails each count as a fault and end the call.
+/// writer. A write that fails, one that was interrupted too, one that takes nothing and a flush
+/// that fails each count as a fault and end the call.
 #[derive(Debug, Drop)]
 pub struct WriteSink<W> {
     writer: W,
@@ -75,7 +75,8 @@ impl<W: Write> Sink for WriteSink<W> {
 
 // Writes until the whole piece is taken. std's `write_all` doesn't say what an error has written.
 fn write_whole<W: Write>(writer: &mut W, bytes: &[u8]) -> Result<(), Failed>
-    ensures written { OnOk result (Appends (W.contents writer.old) (W.contents writer.new) bytes.now) }
+    ensures written { OnOk result
+        (Appends (W.contents writer.old) (W.contents writer.new) bytes.now) }
     ensures refused { OnErr result
         (AppendsPrefix (W.contents writer.old) (W.contents writer.new) bytes.now) }
 {

@@ -2,10 +2,10 @@
 use Rattle.std.specs.Prelude.{⊤}
 use Rattle.hex.proofs.OnLiterals.{hex_on_literals}
 use Rattle.nbfx_values.proofs.OnLiterals.{values_on_literals}
-use Rattle.line_notation.specs.Lines.{text_of}
+use Rattle.line_notation.specs.Lines.{items_text}
 use Rattle.line_notation.specs.Quoted.{quoted}
 use Rattle.line_notation.specs.Values.{tokens_within}
 
 unfoldable pub lines_on_literals : ⊤
-unfolding hex_on_literals values_on_literals text_of quoted tokens_within
+unfolding hex_on_literals values_on_literals items_text quoted tokens_within
 lines_on_literals = tt

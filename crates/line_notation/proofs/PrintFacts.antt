@@ -6,15 +6,17 @@ use Rattle.std.proofs.lemmas.Grind.{flat_map-append}
 use Rattle.nbfx_values.specs.declared.content.ArrayItem.{ArrayItem}
 use Rattle.nbfx_values.specs.declared.content.Item.TheVariants.{Array}
 use Rattle.nbfx_values.specs.declared.scalars.Scalar.{Scalar}
+use Rattle.nbfx_values.specs.declared.scalars.Value.{Value}
 use Rattle.std.proofs.lemmas.List.Folds.{flat_map-map}
 use Rattle.nbfx_values.specs.declared.content.Item.{Item}
-use Rattle.line_notation.specs.Forms.{array, line_of, values}
-use Rattle.line_notation.specs.Lines.{attribute_form, form_text, forms_of, item_forms, item_text, text_of, with_line_feed}
+use Rattle.line_notation.specs.Forms.{array, attr, line_of, values}
+use Rattle.line_notation.specs.Lines.{attribute_form, form_text, forms_of, item_forms, item_text, items_text, with_line_feed}
 use Rattle.line_notation.specs.Numerals.{counted}
 use Rattle.line_notation.specs.Scalars.{scalar_words}
 use Rattle.nbfx_values.specs.declared.scalars.Value.TheVariants.{List as ListOf}
 use Rattle.line_notation.specs.Values.{how_many, value_words, written_scalars, written_value}
-use Rattle.line_notation.specs.Words.{behind_spaces}
+use Rattle.line_notation.specs.Words.{behind_spaces, spaced}
+use Rattle.line_notation.specs.Quoted.{quoted, quoted_byte}
 
 -- a list of lists, and what is made of each
 pub flat_map-flat_map : {A B C : Type 0} (f : B → List C) (g : A → List B) (xs : List A) → flat_map f (flat_map g xs) ≡ flat_map (λ x. flat_map f (g x)) xs
@@ -47,8 +49,8 @@ list_words ss small =
     ∙ flat_map-append (λ word. 32 ∷ word) (codes "list" ∷ decimal (length ss) ∷ []) (flat_map scalar_words ss)
 
 -- the lines of items, item by item
-pub text-items : (items : List Item) → text_of items ≡ flat_map item_text items
-unfolding text_of
+pub text-items : (items : List Item) → items_text items ≡ flat_map item_text items
+unfolding items_text
 text-items items = flat_map-map with_line_feed line_of (forms_of items) ∙ flat_map-flat_map form_text item_forms items
 
 -- an array's lines
@@ -61,3 +63,21 @@ array_text a =
     ap (λ l. start ++ l) (flat_map-append form_text (map attribute_form a.attrs) (values (written_scalars a.values) ∷ []))
     ∙ ap (λ l. start ++ (attributes ++ l)) (append-nil (form_text (values (written_scalars a.values))))
     ∙ sym (append_assoc start attributes (form_text (values (written_scalars a.values))))
+
+-- a word and two texts in quotes
+pub two_quoted : (word first second : List ℕ)
+    → spaced (word ∷ quoted first ∷ quoted second ∷ [])
+    ≡ word ++ (32 ∷ 34 ∷ (flat_map quoted_byte first ++ (34 ∷ 32 ∷ 34 ∷ (flat_map quoted_byte second ++ (34 ∷ [])))))
+unfolding quoted
+two_quoted word first second =
+    let own = flat_map quoted_byte first in
+    let last = flat_map quoted_byte second ++ (34 ∷ []) in
+    ap (λ l. word ++ (32 ∷ 34 ∷ l)) (append_assoc own (34 ∷ []) (32 ∷ 34 ∷ (last ++ [])) ∙ ap (λ l. own ++ (34 ∷ 32 ∷ 34 ∷ l)) (append-nil last))
+
+-- an attribute's line: its names, and then its value
+pub attribute_line : (prefix local : List ℕ) (value : Value)
+    → form_text (attr prefix local (written_value value))
+    ≡ with_line_feed (spaced (codes "attr" ∷ quoted prefix ∷ quoted local ∷ []) ++ behind_spaces (value_words (written_value value)))
+attribute_line prefix local value =
+    let names = quoted prefix ∷ quoted local ∷ [] in
+    ap (λ l. with_line_feed (codes "attr" ++ l)) (flat_map-append (λ word. 32 ∷ word) names (value_words (written_value value)))

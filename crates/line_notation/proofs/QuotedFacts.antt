@@ -1,5 +1,6 @@
 -- Plain bytes in quotes.
-use Rattle.std.specs.List.{prefix_len}
+use Rattle.std.specs.List.{list_all, prefix_len}
+use Rattle.std.proofs.lemmas.Bool.{and_parts}
 use Rattle.std.proofs.lemmas.List.Folds.{length-prefix_len}
 use Rattle.std.proofs.Common.{arith, get_or, ◌≡◌, ◌∙◌, ◌<◌, ◌+◌, ℕ, suc, List, [], ◌∷◌, length, take, take_while, Bool, true, false, if◌then◌else◌, refl, sym, ap, flat_map}
 use Rattle.line_notation.specs.Quoted.{is_plain, quoted_byte, escape}
@@ -32,3 +33,10 @@ none-plain b bytes false e h = refl
 pub first-escaped : (bytes : List ℕ) → 0 < length bytes → length (take_while is_plain bytes) ≡ 0 → flat_map quoted_byte (take 1 bytes) ≡ escape (get_or (take 1 bytes) 0 0)
 first-escaped [] some none = absurd (omega arith)
 first-escaped (b ∷ bytes) some none = rw (quoted_byte-other b (none-plain b bytes (is_plain b) refl none)) refl
+
+-- all are plain
+pub all-shown : (bytes : List ℕ) → list_all is_plain bytes ≡ true → flat_map quoted_byte bytes ≡ bytes
+all-shown [] h = refl
+all-shown (b ∷ bytes) h =
+    let p = and_parts (is_plain b) (list_all is_plain bytes) h in
+    rw (quoted_byte-plain b p.0) (ap (λ l. b ∷ l) (all-shown bytes p.1))

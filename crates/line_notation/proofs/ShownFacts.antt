@@ -7,7 +7,7 @@ use Rattle.std.proofs.lemmas.List.Folds.{list_all-append}
 use Rattle.nbfx_values.specs.declared.content.Item.{Item}
 use Rattle.nbfx_values.specs.Items.{is_valid_item}
 use Rattle.line_notation.specs.Forms.{Form, IsLine}
-use Rattle.line_notation.specs.Lines.{AreLines, cut, cut_before, forms_of, has_no_feed, lines_of, text_of, with_line_feed}
+use Rattle.line_notation.specs.Lines.{AreLines, cut, cut_before, forms_of, has_no_feed, lines_of, items_text, with_line_feed}
 use Rattle.line_notation.specs.Quoted.{ArePieces, IsPiece, IsQuoted, is_plain}
 use Rattle.line_notation.specs.Words.{behind_spaces, spaced}
 use Rattle.line_notation.proofs.LineWords.{AreWords, IsWord, glyph-solid, line-words}
@@ -109,6 +109,6 @@ lines-no_feed : (forms : List Form) (lines : List (List ℕ)) → AreLines forms
 lines-no_feed [] lines h = ap (list_all has_no_feed) h
 lines-no_feed (form ∷ forms) lines (line, rest, e, is, h) = ap (list_all has_no_feed) e ∙ rw (line-no_feed form line is, lines-no_feed forms rest h) refl
 
-pub text-cut : (items : List Item) → list_all is_valid_item items ≡ true → ◌≡◌ {A = Cut} (cut (text_of items)) (lines_of items, [])
-unfolding text_of
+pub text-cut : (items : List Item) → list_all is_valid_item items ≡ true → ◌≡◌ {A = Cut} (cut (items_text items)) (lines_of items, [])
+unfolding items_text
 text-cut items h = cut-lines (lines_of items) (lines-no_feed (forms_of items) (lines_of items) (lines_of-lines items h))

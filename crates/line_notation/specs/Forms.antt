@@ -41,15 +41,21 @@ AreQuoted first second a b = IsQuoted first a × IsQuoted second b
 
 -- the words as they may be written
 abbrev pub IsForm : Form → List (List ℕ) → Type 0
-IsForm (start prefix local) words = (a b : List ℕ) × (words ≡ codes "start" ∷ a ∷ b ∷ []) × AreQuoted prefix local a b
-IsForm (ns prefix uri) words = (a b : List ℕ) × (words ≡ codes "ns" ∷ a ∷ b ∷ []) × AreQuoted prefix uri a b
+IsForm (start prefix local) words =
+    (a b : List ℕ) × (words ≡ codes "start" ∷ a ∷ b ∷ []) × AreQuoted prefix local a b
+IsForm (ns prefix uri) words =
+    (a b : List ℕ) × (words ≡ codes "ns" ∷ a ∷ b ∷ []) × AreQuoted prefix uri a b
 IsForm (attr prefix local written) words =
-    (a b : List ℕ) × (own : List (List ℕ)) × (words ≡ codes "attr" ∷ a ∷ b ∷ own) × AreQuoted prefix local a b × IsOneValue written own
-IsForm (text written) words = (own : List (List ℕ)) × (words ≡ codes "text" ∷ own) × IsOneValue written own
+    (a b : List ℕ) × (own : List (List ℕ)) × (words ≡ codes "attr" ∷ a ∷ b ∷ own)
+    × AreQuoted prefix local a b × IsOneValue written own
+IsForm (text written) words =
+    (own : List (List ℕ)) × (words ≡ codes "text" ∷ own) × IsOneValue written own
 IsForm (comment bytes) words = (a : List ℕ) × (words ≡ codes "comment" ∷ a ∷ []) × IsQuoted bytes a
 IsForm (array kind prefix local) words =
-    (a b : List ℕ) × (words ≡ codes "array" ∷ array_kind_word kind ∷ a ∷ b ∷ []) × AreQuoted prefix local a b
-IsForm (values written) words = (own : List (List ℕ)) × (words ≡ codes "values" ∷ own) × AreSomeValues written own
+    (a b : List ℕ) × (words ≡ codes "array" ∷ array_kind_word kind ∷ a ∷ b ∷ [])
+    × AreQuoted prefix local a b
+IsForm (values written) words =
+    (own : List (List ℕ)) × (words ≡ codes "values" ∷ own) × AreSomeValues written own
 IsForm close words = words ≡ codes "close" ∷ []
 
 -- the lines that say it
@@ -60,10 +66,12 @@ IsLine form line = (words : List (List ℕ)) × (line ≡ spaced words) × IsFor
 abbrev pub form_words : Form → List (List ℕ)
 form_words (start prefix local) = codes "start" ∷ quoted prefix ∷ quoted local ∷ []
 form_words (ns prefix uri) = codes "ns" ∷ quoted prefix ∷ quoted uri ∷ []
-form_words (attr prefix local written) = codes "attr" ∷ quoted prefix ∷ quoted local ∷ value_words written
+form_words (attr prefix local written) =
+    codes "attr" ∷ quoted prefix ∷ quoted local ∷ value_words written
 form_words (text written) = codes "text" ∷ value_words written
 form_words (comment bytes) = codes "comment" ∷ quoted bytes ∷ []
-form_words (array kind prefix local) = codes "array" ∷ array_kind_word kind ∷ quoted prefix ∷ quoted local ∷ []
+form_words (array kind prefix local) =
+    codes "array" ∷ array_kind_word kind ∷ quoted prefix ∷ quoted local ∷ []
 form_words (values written) = codes "values" ∷ value_words written
 form_words close = codes "close" ∷ []
 
@@ -82,15 +90,16 @@ keyword_word keywords.Close = codes "close"
 
 abbrev pub keywords_of_lines : List Keyword
 keywords_of_lines =
-    keywords.Start ∷ keywords.Ns ∷ keywords.Attr ∷ keywords.Text ∷ keywords.Comment ∷ keywords.Array ∷ keywords.Values ∷ keywords.Close ∷ []
+    keywords.Start ∷ keywords.Ns ∷ keywords.Attr ∷ keywords.Text ∷ keywords.Comment ∷ keywords.Array
+    ∷ keywords.Values ∷ keywords.Close ∷ []
 
 abbrev pub keyword_in : List ℕ → Option Keyword
 keyword_in word = find (λ keyword. bytes_eq (keyword_word keyword) word) keywords_of_lines
 
 abbrev pub array_kinds : List ArrayKind
 array_kinds =
-    arrays.Bool ∷ arrays.Int16 ∷ arrays.Int32 ∷ arrays.Int64 ∷ arrays.Float ∷ arrays.Double ∷ arrays.Decimal ∷ arrays.DateTime
-    ∷ arrays.TimeSpan ∷ arrays.Uuid ∷ []
+    arrays.Bool ∷ arrays.Int16 ∷ arrays.Int32 ∷ arrays.Int64 ∷ arrays.Float ∷ arrays.Double
+    ∷ arrays.Decimal ∷ arrays.DateTime ∷ arrays.TimeSpan ∷ arrays.Uuid ∷ []
 
 abbrev pub array_kind_in : List ℕ → Option ArrayKind
 array_kind_in word = find (λ kind. bytes_eq (array_kind_word kind) word) array_kinds
@@ -116,11 +125,13 @@ array_in words = do
 
 -- what the words behind a keyword say
 abbrev pub form_behind : Keyword → List (List ℕ) → Option Form
-form_behind keywords.Start words = alone (two_texts_at words) >>= λ names. Some (start names.0 names.1)
+form_behind keywords.Start words =
+    alone (two_texts_at words) >>= λ names. Some (start names.0 names.1)
 form_behind keywords.Ns words = alone (two_texts_at words) >>= λ names. Some (ns names.0 names.1)
 form_behind keywords.Attr words = attribute_in words
 form_behind keywords.Text words = value_in words >>= λ written. Some (text written)
-form_behind keywords.Comment words = alone (one_word quoted_in words) >>= λ bytes. Some (comment bytes)
+form_behind keywords.Comment words =
+    alone (one_word quoted_in words) >>= λ bytes. Some (comment bytes)
 form_behind keywords.Array words = array_in words
 form_behind keywords.Values words = values_in words >>= if_some >>= λ written. Some (values written)
 form_behind keywords.Close [] = Some close

@@ -76,7 +76,8 @@ value_of (list within more) = ListOf (scalars_of within)
 
 -- an array of which there is no value yet
 abbrev pub begun_array : ArrayKind → (prefix local : List ℕ) → ArrayItem
-begun_array kind prefix local = record { prefix = prefix; local = local; attrs = []; kind = kind; values = [] }
+begun_array kind prefix local =
+    record { prefix = prefix; local = local; attrs = []; kind = kind; values = [] }
 
 -- what a form says where an array of the kind is open, or none is
 abbrev pub said : Option ArrayKind → Form → Result Line LineKind
@@ -92,4 +93,7 @@ said kind close = Ok (says.Item Close)
 
 -- the same, unless a text isn't UTF-8, or else a value is out of range
 abbrev pub judged : Option ArrayKind → Form → Result Line LineKind
-judged kind form = if has_bad_text form then Err BadText else if is_out_of_range kind form then Err OutOfRange else said kind form
+judged kind form =
+    if has_bad_text form then Err BadText
+    else if is_out_of_range kind form then Err OutOfRange
+    else said kind form

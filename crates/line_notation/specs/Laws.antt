@@ -9,7 +9,7 @@ use Rattle.line_notation.specs.declared.reader.LineFault.{LineFault}
 use Rattle.line_notation.specs.declared.reader.LineFault.TheVariants.{Bad}
 use Rattle.line_notation.specs.declared.reader.LineKind.{LineKind}
 use Rattle.line_notation.specs.Forms.{Form, array, IsLine, form_of}
-use Rattle.line_notation.specs.Lines.{AreLines, AreLinesOf, attribute_form, cut, forms_of, has_no_feed, lines_of, text_of}
+use Rattle.line_notation.specs.Lines.{AreLines, AreLinesOf, attribute_form, cut, forms_of, has_no_feed, lines_of, items_text}
 use Rattle.line_notation.specs.Standing.{Standing, after, documents_of, ending, failed, going, outcome, standing}
 
 -- a line has the form that is read out of it, and no other
@@ -21,9 +21,12 @@ abbrev pub BringTheirDocument : Type 0
 BringTheirDocument = (doc : List Item) → IsDocument doc → documents_of (lines_of doc) ≡ doc ∷ []
 
 abbrev pub LeaveNothingUnfinished : Type 0
-LeaveNothingUnfinished = (doc : List Item) → IsDocument doc → standing (lines_of doc) ≡ going (length (lines_of doc)) [] None
+LeaveNothingUnfinished =
+    (doc : List Item) → IsDocument doc
+    → standing (lines_of doc) ≡ going (length (lines_of doc)) [] None
 
--- lines bring documents and end with the last of them exactly where they are the lines of these documents
+-- lines bring documents and end with the last of them exactly where they are the lines of these
+-- documents
 abbrev pub AreOfWhatTheyBring : Type 0
 AreOfWhatTheyBring = (docs : List (List Item)) (lines : List (List ℕ))
     → AreLinesOf docs lines ↔ ((documents_of lines ≡ docs) × (ending (standing lines) ≡ Ok tt))
@@ -31,10 +34,12 @@ AreOfWhatTheyBring = (docs : List (List Item)) (lines : List (List ℕ))
 -- what the lines of an unfinished document say so far
 abbrev pub begun_forms : List Item → Option ArrayItem → List Form
 begun_forms items None = forms_of items
-begun_forms items (Some a) = forms_of items ++ array a.kind a.prefix a.local ∷ map attribute_form a.attrs
+begun_forms items (Some a) =
+    forms_of items ++ array a.kind a.prefix a.local ∷ map attribute_form a.attrs
 
 -- so many lines: those of whole documents, and those of an unfinished one
-pub record AreReadTo (lines : List (List ℕ)) (docs : List (List Item)) (n : ℕ) (items : List Item) (opened : Option ArrayItem) : Type 0 where
+pub record AreReadTo (lines : List (List ℕ)) (docs : List (List Item)) (n : ℕ) (items : List Item)
+    (opened : Option ArrayItem) : Type 0 where
   pub whole : List (List ℕ)
   pub own : List (List ℕ)
   pub lines_are : lines ≡ whole ++ own
@@ -64,11 +69,15 @@ pub record IsRefusedAt (lines : List (List ℕ)) (fault : LineFault) : Type 0 wh
   pub fault_is : fault ≡ Bad (length front + 1) kind
 
 abbrev pub AreRefusedAtALine : Type 0
-AreRefusedAtALine = (lines : List (List ℕ)) (fault : LineFault) → standing lines ≡ failed fault → IsRefusedAt lines fault
+AreRefusedAtALine =
+    (lines : List (List ℕ)) (fault : LineFault) → standing lines ≡ failed fault
+    → IsRefusedAt lines fault
 
 -- a line more leads from where the lines before it lead
 abbrev pub LeadOn : Type 0
-LeadOn = (lines : List (List ℕ)) (line : List ℕ) → standing (lines ++ line ∷ []) ≡ after (standing lines) line
+LeadOn =
+    (lines : List (List ℕ)) (line : List ℕ)
+    → standing (lines ++ line ∷ []) ≡ after (standing lines) line
 
 -- no line of a form has a line feed in it
 abbrev pub HoldNoFeed : Type 0
@@ -76,4 +85,6 @@ HoldNoFeed = (form : Form) (line : List ℕ) → IsLine form line → has_no_fee
 
 -- the text of items is cut into their lines, and nothing is left
 abbrev pub AreCutAgain : Type 0
-AreCutAgain = (items : List Item) → list_all is_valid_item items ≡ true → cut (text_of items) ≡ (lines_of items, [])
+AreCutAgain =
+    (items : List Item) → list_all is_valid_item items ≡ true
+    → cut (items_text items) ≡ (lines_of items, [])

@@ -1,6 +1,6 @@
--- cited by public contracts: the words of a line (Words, Quoted, Numerals, Scalars, Values), its form
--- (Forms), the lines of documents (Lines), what a form is refused for and says (Judging), where a reader
--- stands (Standing), what is put (Puts), and the laws (Laws, Refusals)
+-- cited by public contracts: the words of a line (Words, Quoted, Numerals, Scalars, Values), its
+-- form (Forms), the lines of documents (Lines), what a form is refused for and says (Judging),
+-- where a reader stands (Standing), what is put (Puts), and the laws (Laws, Refusals)
 pub mod Forms
 pub mod Judging
 pub mod Laws
@@ -14,8 +14,8 @@ pub mod Scalars
 pub mod Standing
 pub mod Values
 pub mod Words
--- cited by private calls: what a step of reading gives (Steps), the same read and judged at once (Parts,
--- Reading), and where a line is placed (Placing)
+-- cited by private calls: what a step of reading gives (Steps), the same read and judged at once
+-- (Parts, Reading), and where a line is placed (Placing)
 pub mod Parts
 pub mod Placing
 pub mod Reading

@@ -21,7 +21,9 @@ item_forms (Xmlns prefix uri) = ns prefix uri ∷ []
 item_forms (Attr prefix local value) = attr prefix local (written_value value) ∷ []
 item_forms (Text value) = text (written_value value) ∷ []
 item_forms (Comment bytes) = comment bytes ∷ []
-item_forms (Array a) = array a.kind a.prefix a.local ∷ map attribute_form a.attrs ++ values (written_scalars a.values) ∷ []
+item_forms (Array a) =
+    array a.kind a.prefix a.local ∷ map attribute_form a.attrs
+    ++ values (written_scalars a.values) ∷ []
 item_forms Close = close ∷ []
 
 -- what the lines of items say
@@ -36,8 +38,8 @@ lines_of items = map line_of (forms_of items)
 abbrev pub with_line_feed : List ℕ → List ℕ
 with_line_feed line = line ++ 10 ∷ []
 
-unfoldable pub text_of : List Item → List ℕ
-text_of items = flat_map with_line_feed (lines_of items)
+unfoldable pub items_text : List Item → List ℕ
+items_text items = flat_map with_line_feed (lines_of items)
 
 -- whether no byte is a line feed
 abbrev pub has_no_feed : List ℕ → Bool
@@ -51,7 +53,8 @@ cut_before b (line ∷ lines, rest) = ((b ∷ line) ∷ lines, rest)
 -- the lines of a text, each up to its line feed, and what is left behind the last
 abbrev pub cut : List ℕ → List (List ℕ) × List ℕ
 cut [] = ([], [])
-cut (b ∷ bytes) = let more = cut bytes in if b == 10 then ([] ∷ more.0, more.1) else cut_before b more
+cut (b ∷ bytes) =
+    let more = cut bytes in if b == 10 then ([] ∷ more.0, more.1) else cut_before b more
 
 -- the bytes of a line, by what it says, and of an item's lines
 abbrev pub form_text : Form → List ℕ
@@ -63,7 +66,9 @@ item_text item = flat_map form_text (item_forms item)
 -- a line for each form, in any spelling
 abbrev pub AreLines : List Form → List (List ℕ) → Type 0
 AreLines [] lines = lines ≡ []
-AreLines (form ∷ forms) lines = (line : List ℕ) × (rest : List (List ℕ)) × (lines ≡ line ∷ rest) × IsLine form line × AreLines forms rest
+AreLines (form ∷ forms) lines =
+    (line : List ℕ) × (rest : List (List ℕ)) × (lines ≡ line ∷ rest) × IsLine form line
+    × AreLines forms rest
 
 -- empty lines
 abbrev pub AreBlank : List (List ℕ) → Type 0

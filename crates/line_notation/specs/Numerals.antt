@@ -1,4 +1,5 @@
--- Numbers as words: in decimal digits without zeros in front, and in a fixed number of hexadecimal digits.
+-- Numbers as words: in decimal digits without zeros in front, and in a fixed number of hexadecimal
+-- digits.
 use Rattle.std.specs.Prelude.{◌≡◌, ℕ, suc, zero, List, [], ◌∷◌, length, ℤ, pos, negsuc, Bool, false, nat_lt, not, ◌==◌, ◌&&◌, ◌||◌, Option, None, Some, Ok, Err, Result, slice_index, if◌then◌else◌}
 use Rattle.std.specs.Char.{is_ascii_digit}
 use Rattle.std.specs.Fmt.{digits_onto}
@@ -43,7 +44,8 @@ less_than_zero (suc n) = Some (negsuc n)
 
 abbrev pub integer_in : List ℕ → Option ℤ
 integer_in [] = None
-integer_in (c ∷ more) = if c == 45 then (natural_in more >>= less_than_zero) else option_map pos (natural_in (c ∷ more))
+integer_in (c ∷ more) =
+    if c == 45 then (natural_in more >>= less_than_zero) else option_map pos (natural_in (c ∷ more))
 
 -- all digits of a number of so many bits, the highest first
 abbrev pub hexadecimal : Width → ℕ → List ℕ

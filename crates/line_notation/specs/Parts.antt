@@ -30,7 +30,8 @@ abbrev pub natural_up_to : ℕ → List ℕ → Option (Result ℕ LineKind)
 natural_up_to most word = natural_in word >>= λ n. Some (kept OutOfRange (λ n. nat_le n most) n)
 
 abbrev pub integer_up_to : ℕ → List ℕ → Option (Result ℤ LineKind)
-integer_up_to most word = integer_in word >>= λ n. Some (kept OutOfRange (is_between (least_signed 64) (pos most)) n)
+integer_up_to most word =
+    integer_in word >>= λ n. Some (kept OutOfRange (is_between (least_signed 64) (pos most)) n)
 
 -- the byte that an escape in front of pieces writes
 abbrev pub escape_at : List ℕ → Option ℕ
@@ -48,7 +49,8 @@ judged_text_in word = quoted_in word >>= λ text. Some (judged_text text)
 abbrev pub judged_scalar : Scalar → Result Scalar LineKind
 judged_scalar s = if has_good_text s then kept OutOfRange is_valid_scalar s else Err BadText
 
-abbrev pub judged_at : Option (Scalar × List (List ℕ)) → Option (Result Scalar LineKind × List (List ℕ))
+abbrev pub judged_at : Option (Scalar × List (List ℕ))
+    → Option (Result Scalar LineKind × List (List ℕ))
 judged_at read = read >>= λ one. Some (judged_scalar one.0, one.1)
 
 -- of two refusals the one that goes first: a text's
@@ -69,7 +71,8 @@ mapped make (Ok a) = Ok (make a)
 mapped make (Err kind) = Err kind
 
 -- two texts in front of words
-abbrev pub judged_texts_at : List (List ℕ) → Option (Result (List ℕ × List ℕ) LineKind × List (List ℕ))
+abbrev pub judged_texts_at : List (List ℕ)
+    → Option (Result (List ℕ × List ℕ) LineKind × List (List ℕ))
 judged_texts_at words = do
   a ← one_word judged_text_in words
   b ← one_word judged_text_in a.1
@@ -113,21 +116,28 @@ abbrev pub judged_by : (good taken : Bool) → List Scalar → Result (List Scal
 judged_by good taken ss = if good then (if taken then Ok ss else Err OutOfRange) else Err BadText
 
 abbrev pub judged_due : Holder → ℕ → Written → Result (List Scalar) LineKind
-judged_due holder due written = judged_by (have_good_texts written) (are_taken holder due written) (scalars_of written)
+judged_due holder due written =
+    judged_by (have_good_texts written) (are_taken holder due written) (scalars_of written)
 
 -- an array's values, or a list's, or those where no array is open
 abbrev pub judged_scalars : Holder → Written → Result (List Scalar) LineKind
 judged_scalars holder = judged_due holder 0
 
 abbrev pub judged_value : Written → Result Value LineKind
-judged_value written = if have_good_texts written then (if are_in_range written then Ok (value_of written) else Err OutOfRange) else Err BadText
+judged_value written =
+    if have_good_texts written
+    then (if are_in_range written then Ok (value_of written) else Err OutOfRange)
+    else Err BadText
 
 -- one value more, with so many due in it
 abbrev pub tallied : Tally → ℕ → Tally
-tallied t n = if t.due == 0 then record { count = t.count + 1; due = n } else record { count = t.count; due = t.due - 1 + n }
+tallied t n =
+    if t.due == 0 then record { count = t.count + 1; due = n }
+    else record { count = t.count; due = t.due - 1 + n }
 
 -- one value more in front of what is left
-abbrev pub with_scalar : Result (List Scalar) LineKind → Result Scalar LineKind → Result (List Scalar) LineKind
+abbrev pub with_scalar : Result (List Scalar) LineKind → Result Scalar LineKind
+    → Result (List Scalar) LineKind
 with_scalar values s = mapped (λ p. p.0 ++ p.1 ∷ []) (both values s)
 
 -- whether a list may come where so many values are due in lists
@@ -154,8 +164,11 @@ no_values = record { tally = record { count = 0; due = 0 }; values = Ok [] }
 
 -- a token more
 abbrev pub with_token : Holder → Gathering → JudgedToken → Option Gathering
-with_token holder g (tokens.Scalar s) = Some (record { tally = tallied g.tally 0; values = with_scalar g.values (refit holder s) })
-with_token holder g (tokens.Count (Ok n)) = Some (record { tally = tallied g.tally n; values = with_list (may_hold_a_list holder g.tally.due) g.values })
+with_token holder g (tokens.Scalar s) =
+    Some (record { tally = tallied g.tally 0; values = with_scalar g.values (refit holder s) })
+with_token holder g (tokens.Count (Ok n)) =
+    let may_come = may_hold_a_list holder g.tally.due in
+    Some (record { tally = tallied g.tally n; values = with_list may_come g.values })
 with_token holder g (tokens.Count (Err refusal)) = None
 
 -- no value can have come, or too many are due
@@ -165,10 +178,12 @@ IsTooMuch (Some g) = 2 ^ 64 ≤ g.tally.due
 
 -- all values in words, judged
 abbrev pub gathered_in : Holder → List (List ℕ) → Option (ℕ × Result (List Scalar) LineKind)
-gathered_in holder words = values_in words >>= λ written. Some (how_many written, judged_scalars holder written)
+gathered_in holder words =
+    values_in words >>= λ written. Some (how_many written, judged_scalars holder written)
 
 -- a value, by its first token and all that is behind it
-abbrev pub value_from : JudgedToken → ℕ → Result (List Scalar) LineKind → Option (Result Value LineKind)
+abbrev pub value_from : JudgedToken → ℕ → Result (List Scalar) LineKind
+    → Option (Result Value LineKind)
 value_from (tokens.Scalar s) n values = if n == 0 then Some (mapped One s) else None
 value_from (tokens.Count (Ok m)) n values = if n == m then Some (mapped ListOf values) else None
 value_from (tokens.Count (Err refusal)) n values = None

@@ -46,7 +46,8 @@ abbrev pub IsHeld : Option ArrayKind → Line → Type 0
 IsHeld kind (says.Item item) = IsTrue (is_valid_item item)
 IsHeld kind (says.Array a) = IsTrue (is_held a)
 IsHeld None (says.Values values) = Unit {0}
-IsHeld (Some kind) (says.Values values) = IsTrue (nat_lt 0 (length values) && list_all (fits_kind kind) values)
+IsHeld (Some kind) (says.Values values) =
+    IsTrue (nat_lt 0 (length values) && list_all (fits_kind kind) values)
 
 -- an item within an array's element
 abbrev pub attribute_of : Item → Option AttrItem
@@ -55,7 +56,8 @@ attribute_of (Attr prefix local value) = Some (AttrOn prefix local value)
 attribute_of _ = None
 
 -- a line led where these items and this array are, unless memory ran out
-abbrev pub Places : Result LineStep Refusal → Result Placed LineKind → List Item → Option ArrayItem → Type 0
+abbrev pub Places : Result LineStep Refusal → Result Placed LineKind → List Item → Option ArrayItem
+    → Type 0
 Places (Ok More) placed items array = placed ≡ Ok (on items array)
 Places (Ok (Done doc)) placed items array = (placed ≡ Ok (ends doc)) × (items ≡ []) × (array ≡ None)
 Places (Err (Kind kind)) placed items array = placed ≡ Err kind

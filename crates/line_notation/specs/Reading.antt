@@ -19,7 +19,8 @@ use Rattle.line_notation.specs.Scalars.{one_word}
 abbrev pub judged_form : Option ArrayKind → List ℕ → Option (Result Line LineKind)
 judged_form kind line = form_of line >>= λ form. Some (judged kind form)
 
-abbrev pub judged_behind : Option ArrayKind → Keyword → List (List ℕ) → Option (Result Line LineKind)
+abbrev pub judged_behind : Option ArrayKind → Keyword → List (List ℕ)
+    → Option (Result Line LineKind)
 judged_behind kind keyword words = form_behind keyword words >>= λ form. Some (judged kind form)
 
 -- two texts and no more
@@ -27,10 +28,12 @@ abbrev pub texts_alone : List (List ℕ) → Option (Result (List ℕ × List �
 texts_alone words = alone (judged_texts_at words)
 
 abbrev pub read_start : List (List ℕ) → Option (Result Line LineKind)
-read_start words = texts_alone words >>= λ texts. Some (mapped (λ t. says.Item (Start t.0 t.1)) texts)
+read_start words =
+    texts_alone words >>= λ texts. Some (mapped (λ t. says.Item (Start t.0 t.1)) texts)
 
 abbrev pub read_declaration : List (List ℕ) → Option (Result Line LineKind)
-read_declaration words = texts_alone words >>= λ texts. Some (mapped (λ t. says.Item (Xmlns t.0 t.1)) texts)
+read_declaration words =
+    texts_alone words >>= λ texts. Some (mapped (λ t. says.Item (Xmlns t.0 t.1)) texts)
 
 abbrev pub as_attribute : (List ℕ × List ℕ) × Value → Line
 as_attribute one = says.Item (Attr one.0.0 one.0.1 one.1)
@@ -45,7 +48,9 @@ abbrev pub read_text : List (List ℕ) → Option (Result Line LineKind)
 read_text words = judged_value_in words >>= λ value. Some (mapped (λ v. says.Item (Text v)) value)
 
 abbrev pub read_comment : List (List ℕ) → Option (Result Line LineKind)
-read_comment words = alone (one_word judged_text_in words) >>= λ text. Some (mapped (λ t. says.Item (Comment t)) text)
+read_comment words =
+    alone (one_word judged_text_in words)
+    >>= λ text. Some (mapped (λ t. says.Item (Comment t)) text)
 
 abbrev pub read_array : List (List ℕ) → Option (Result Line LineKind)
 read_array words = do

@@ -17,7 +17,8 @@ CannotStand items item = IsFront (items ++ item ∷ []) → ⊥
 abbrev pub CannotFollow : List Item → Option ArrayItem → Form → Type 0
 CannotFollow items None (start prefix local) = CannotStand items (Start prefix local)
 CannotFollow items None (ns prefix uri) = CannotStand items (Xmlns prefix uri)
-CannotFollow items None (attr prefix local written) = CannotStand items (Attr prefix local (value_of written))
+CannotFollow items None (attr prefix local written) =
+    CannotStand items (Attr prefix local (value_of written))
 CannotFollow items None (text written) = CannotStand items (Text (value_of written))
 CannotFollow items None (comment bytes) = CannotStand items (Comment bytes)
 CannotFollow items None (array kind prefix local) = (a : ArrayItem) → CannotStand items (Array a)
@@ -25,7 +26,8 @@ CannotFollow items None (values written) = Unit {0}
 CannotFollow items None close = CannotStand items Close
 CannotFollow items (Some a) (ns prefix uri) = ⊥
 CannotFollow items (Some a) (attr prefix local written) = ⊥
-CannotFollow items (Some a) (values written) = CannotStand items (Array (record a { values = scalars_of written }))
+CannotFollow items (Some a) (values written) =
+    CannotStand items (Array (record a { values = scalars_of written }))
 CannotFollow items (Some a) _ = Unit {0}
 
 -- the line isn't passed over, and has no form
@@ -47,7 +49,8 @@ pub record IsOutOfRange (opened : Option ArrayItem) (line : List ℕ) : Type 0 w
   pub range : is_out_of_range (kind_of opened) form ≡ true
 
 -- else, it can't follow
-pub record IsOutOfPlace (items : List Item) (opened : Option ArrayItem) (line : List ℕ) : Type 0 where
+pub record IsOutOfPlace (items : List Item) (opened : Option ArrayItem) (line : List ℕ)
+    : Type 0 where
   pub form : Form
   pub is : IsLine form line
   pub texts : has_bad_text form ≡ false
@@ -72,9 +75,12 @@ RefusedForPlace = (items : List Item) (opened : Option ArrayItem) (line : List �
     → (outcome items opened line ≡ Err OutOfPlace) ↔ IsOutOfPlace items opened line
 
 -- no line is refused otherwise
-pub record IsRefusedForNothingElse (items : List Item) (opened : Option ArrayItem) (line : List ℕ) : Type 0 where
+pub record IsRefusedForNothingElse (items : List Item) (opened : Option ArrayItem) (line : List ℕ)
+    : Type 0 where
   pub cut : outcome items opened line ≡ Err Cut → ⊥
   pub count : outcome items opened line ≡ Err WrongCount → ⊥
 
 abbrev pub RefusedForNothingElse : Type 0
-RefusedForNothingElse = (items : List Item) (opened : Option ArrayItem) (line : List ℕ) → IsRefusedForNothingElse items opened line
+RefusedForNothingElse =
+    (items : List Item) (opened : Option ArrayItem) (line : List ℕ)
+    → IsRefusedForNothingElse items opened line

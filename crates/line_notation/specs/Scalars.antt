@@ -1,4 +1,5 @@
--- The words of one value: as they are put, in every way that they may be written, and how they are read.
+-- The words of one value: as they are put, in every way that they may be written, and how they are
+-- read.
 use Rattle.std.specs.Prelude.{◌≡◌, ◌≤◌, ◌+◌, ◌-◌, ℕ, List, [], ◌∷◌, ◌++◌, Bool, true, false, nat_lt, nat_le, ◌&&◌, IsTrue, Option, None, Some, codes, if◌then◌else◌}
 use Rattle.std.specs.Fmt.{decimal, signed_decimal}
 use Rattle.std.specs.Int.{w32, w64}
@@ -43,7 +44,8 @@ scalar_words (Number n) = codes "number" ∷ signed_decimal n ∷ []
 scalar_words (Truth truth) = codes "truth" ∷ truth_word truth ∷ []
 scalar_words (Float bits) = codes "float" ∷ hexadecimal w32 bits ∷ []
 scalar_words (Double bits) = codes "double" ∷ hexadecimal w64 bits ∷ []
-scalar_words (Decimal d) = codes "decimal" ∷ decimal d.scale ∷ sign_word d.negative ∷ decimal d.magnitude ∷ []
+scalar_words (Decimal d) =
+    codes "decimal" ∷ decimal d.scale ∷ sign_word d.negative ∷ decimal d.magnitude ∷ []
 scalar_words (DateTime pattern) = codes "datetime" ∷ hexadecimal w64 pattern ∷ []
 scalar_words (TimeSpan span) = codes "timespan" ∷ signed_decimal span ∷ []
 scalar_words (Text text) = codes "string" ∷ quoted text ∷ []
@@ -54,21 +56,32 @@ scalar_words (QName letter name) = codes "qname" ∷ letter_word letter ∷ quot
 
 -- the words as they may be written. A text need not be UTF-8, and a number may have any size
 abbrev pub IsScalar : Scalar → List (List ℕ) → Type 0
-IsScalar (Number n) words = (word : List ℕ) × (words ≡ codes "number" ∷ word ∷ []) × IsInteger n word
+IsScalar (Number n) words =
+    (word : List ℕ) × (words ≡ codes "number" ∷ word ∷ []) × IsInteger n word
 IsScalar (Truth truth) words = words ≡ codes "truth" ∷ truth_word truth ∷ []
-IsScalar (Float bits) words = IsTrue (is_unsigned 32 bits) × (words ≡ codes "float" ∷ hexadecimal w32 bits ∷ [])
-IsScalar (Double bits) words = IsTrue (is_unsigned 64 bits) × (words ≡ codes "double" ∷ hexadecimal w64 bits ∷ [])
+IsScalar (Float bits) words =
+    IsTrue (is_unsigned 32 bits) × (words ≡ codes "float" ∷ hexadecimal w32 bits ∷ [])
+IsScalar (Double bits) words =
+    IsTrue (is_unsigned 64 bits) × (words ≡ codes "double" ∷ hexadecimal w64 bits ∷ [])
 IsScalar (Decimal d) words =
-    (scale magnitude : List ℕ) × (words ≡ codes "decimal" ∷ scale ∷ sign_word d.negative ∷ magnitude ∷ [])
+    (scale magnitude : List ℕ)
+    × (words ≡ codes "decimal" ∷ scale ∷ sign_word d.negative ∷ magnitude ∷ [])
     × IsNatural d.scale scale × IsNatural d.magnitude magnitude
-IsScalar (DateTime pattern) words = IsTrue (is_unsigned 64 pattern) × (words ≡ codes "datetime" ∷ hexadecimal w64 pattern ∷ [])
-IsScalar (TimeSpan span) words = (word : List ℕ) × (words ≡ codes "timespan" ∷ word ∷ []) × IsInteger span word
-IsScalar (Text text) words = (word : List ℕ) × (words ≡ codes "string" ∷ word ∷ []) × IsQuoted text word
-IsScalar (Bytes bytes) words = IsTrue (are_bytes bytes) × (words ≡ codes "bytes" ∷ digits_in_quotes bytes ∷ [])
-IsScalar (UniqueId bytes) words = IsTrue (is_identifier bytes) × (words ≡ codes "id" ∷ identifier_word bytes ∷ [])
-IsScalar (Uuid bytes) words = IsTrue (is_identifier bytes) × (words ≡ codes "uuid" ∷ identifier_word bytes ∷ [])
+IsScalar (DateTime pattern) words =
+    IsTrue (is_unsigned 64 pattern) × (words ≡ codes "datetime" ∷ hexadecimal w64 pattern ∷ [])
+IsScalar (TimeSpan span) words =
+    (word : List ℕ) × (words ≡ codes "timespan" ∷ word ∷ []) × IsInteger span word
+IsScalar (Text text) words =
+    (word : List ℕ) × (words ≡ codes "string" ∷ word ∷ []) × IsQuoted text word
+IsScalar (Bytes bytes) words =
+    IsTrue (are_bytes bytes) × (words ≡ codes "bytes" ∷ digits_in_quotes bytes ∷ [])
+IsScalar (UniqueId bytes) words =
+    IsTrue (is_identifier bytes) × (words ≡ codes "id" ∷ identifier_word bytes ∷ [])
+IsScalar (Uuid bytes) words =
+    IsTrue (is_identifier bytes) × (words ≡ codes "uuid" ∷ identifier_word bytes ∷ [])
 IsScalar (QName letter name) words =
-    (letter ≤ 25) × (word : List ℕ) × (words ≡ codes "qname" ∷ letter_word letter ∷ word ∷ []) × IsQuoted name word
+    (letter ≤ 25) × (word : List ℕ) × (words ≡ codes "qname" ∷ letter_word letter ∷ word ∷ [])
+    × IsQuoted name word
 
 abbrev pub scalar_kind_word : ScalarKind → List ℕ
 scalar_kind_word kinds.Number = codes "number"
@@ -86,8 +99,8 @@ scalar_kind_word kinds.QName = codes "qname"
 
 abbrev pub scalar_kinds : List ScalarKind
 scalar_kinds =
-    kinds.Number ∷ kinds.Truth ∷ kinds.Float ∷ kinds.Double ∷ kinds.Decimal ∷ kinds.DateTime ∷ kinds.TimeSpan ∷ kinds.Text ∷ kinds.Bytes
-    ∷ kinds.UniqueId ∷ kinds.Uuid ∷ kinds.QName ∷ []
+    kinds.Number ∷ kinds.Truth ∷ kinds.Float ∷ kinds.Double ∷ kinds.Decimal ∷ kinds.DateTime
+    ∷ kinds.TimeSpan ∷ kinds.Text ∷ kinds.Bytes ∷ kinds.UniqueId ∷ kinds.Uuid ∷ kinds.QName ∷ []
 
 abbrev pub scalar_kind_in : List ℕ → Option ScalarKind
 scalar_kind_in word = find (λ kind. bytes_eq (scalar_kind_word kind) word) scalar_kinds
@@ -112,7 +125,8 @@ letter_in (c ∷ d ∷ more) = None
 
 -- of the forms that `uuid` reads, the hyphenated one in lower case alone
 abbrev pub if_identifier : List ℕ → List ℕ → Option (List ℕ)
-if_identifier word fields = if bytes_eq (hyphenated_text lower fields) word then Some (swap_fields fields) else None
+if_identifier word fields =
+    if bytes_eq (hyphenated_text lower fields) word then Some (swap_fields fields) else None
 
 abbrev pub identifier_in : List ℕ → Option (List ℕ)
 identifier_in word = parsed word >>= if_identifier word
@@ -121,17 +135,20 @@ abbrev pub bytes_in_quotes : List ℕ → Option (List ℕ)
 bytes_in_quotes word = between_quotes word >>= bytes_in
 
 abbrev pub decimal_of : ℕ → Bool → ℕ → Dec
-decimal_of scale negative magnitude = record { scale = scale; negative = negative; magnitude = magnitude }
+decimal_of scale negative magnitude =
+    record { scale = scale; negative = negative; magnitude = magnitude }
 
 -- what the next word writes, and the words behind it
-abbrev pub one_word : {A : Type 0} → (List ℕ → Option A) → List (List ℕ) → Option (A × List (List ℕ))
+abbrev pub one_word : {A : Type 0} → (List ℕ → Option A) → List (List ℕ)
+    → Option (A × List (List ℕ))
 one_word read words = do
   next ← next_in words
   a ← read next.0
   Some (a, next.1)
 
 -- the same of a value
-abbrev pub valued : {A : Type 0} → (A → Scalar) → (List ℕ → Option A) → List (List ℕ) → Option (Scalar × List (List ℕ))
+abbrev pub valued : {A : Type 0} → (A → Scalar) → (List ℕ → Option A) → List (List ℕ)
+    → Option (Scalar × List (List ℕ))
 valued make read words = do
   one ← one_word read words
   Some (make one.0, one.1)

@@ -21,7 +21,8 @@ use Rattle.line_notation.specs.declared.reader.LineStep.TheVariants.{More, Done}
 use Rattle.line_notation.specs.Forms.{Form, form_of}
 use Rattle.line_notation.specs.Judging.{judged}
 
--- refused, or behind so many lines, with the items of the unfinished document and the array that is open
+-- refused, or behind so many lines, with the items of the unfinished document and the array that is
+-- open
 pub data Standing : Type 0 where
   failed : LineFault → Standing
   going : (lines : ℕ) → (items : List Item) → (array : Option ArrayItem) → Standing
@@ -56,9 +57,12 @@ abbrev pub placed : List Item → Option ArrayItem → Line → Result Placed Li
 placed items None (says.Item item) = placed_item items item
 placed items None (says.Array a) = placed_array (position_of items) items a
 placed items None (says.Values scalars) = Err OutOfPlace
-placed items (Some a) (says.Item (Xmlns prefix uri)) = Ok (on items (Some (with_attribute a (DeclaresOn prefix uri))))
-placed items (Some a) (says.Item (Attr prefix local value)) = Ok (on items (Some (with_attribute a (AttrOn prefix local value))))
-placed items (Some a) (says.Values scalars) = placed_item items (Array (record a { values = scalars }))
+placed items (Some a) (says.Item (Xmlns prefix uri)) =
+    Ok (on items (Some (with_attribute a (DeclaresOn prefix uri))))
+placed items (Some a) (says.Item (Attr prefix local value)) =
+    Ok (on items (Some (with_attribute a (AttrOn prefix local value))))
+placed items (Some a) (says.Values scalars) =
+    placed_item items (Array (record a { values = scalars }))
 placed items (Some a) _ = Err OutOfPlace
 
 abbrev pub kind_of : Option ArrayItem → Option ArrayKind
@@ -80,7 +84,9 @@ is_passed_over _ _ _ = false
 
 -- where a line leads. One that is passed over leads nowhere
 abbrev pub outcome : List Item → Option ArrayItem → List ℕ → Result Placed LineKind
-outcome items array line = if is_passed_over items array line then Ok (on items array) else outcome_of items array (form_of line)
+outcome items array line =
+    if is_passed_over items array line then Ok (on items array)
+    else outcome_of items array (form_of line)
 
 -- what the line of a number brings, by where it leads
 abbrev pub answer_of : ℕ → Result Placed LineKind → Result LineStep LineFault

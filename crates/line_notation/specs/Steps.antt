@@ -8,8 +8,10 @@ abbrev pub Stops : {A : Type 0} → Stop → Option A → Type 0
 Stops NotALine read = read ≡ None
 Stops Memory read = Unit {0}
 
--- what is seen by `view` of what a step returned, and the words that it left, is what reading gives, unless memory ran out
-abbrev pub Gives : {X A : Type 0} → (X → A) → Result X Stop → List (List ℕ) → Option (A × List (List ℕ)) → Type 0
+-- what is seen by `view` of what a step returned, and the words that it left, is what reading
+-- gives, unless memory ran out
+abbrev pub Gives : {X A : Type 0} → (X → A) → Result X Stop → List (List ℕ)
+    → Option (A × List (List ℕ)) → Type 0
 Gives view (Ok x) left read = read ≡ Some (view x, left)
 Gives view (Err stop) left read = Stops stop read
 

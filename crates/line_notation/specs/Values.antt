@@ -23,9 +23,11 @@ how_many (list within more) = suc (how_many more)
 -- the words as they may be written
 abbrev pub AreValues : Written → List (List ℕ) → Type 0
 AreValues no_more words = words ≡ []
-AreValues (one s more) words = (own rest : List (List ℕ)) × (words ≡ own ++ rest) × IsScalar s own × AreValues more rest
+AreValues (one s more) words =
+    (own rest : List (List ℕ)) × (words ≡ own ++ rest) × IsScalar s own × AreValues more rest
 AreValues (list within more) words =
-    (count : List ℕ) × (own rest : List (List ℕ)) × (words ≡ codes "list" ∷ count ∷ own ++ rest) × IsNatural (how_many within) count
+    (count : List ℕ) × (own rest : List (List ℕ)) × (words ≡ codes "list" ∷ count ∷ own ++ rest)
+    × IsNatural (how_many within) count
     × AreValues within own × AreValues more rest
 
 pub record IsOneValue (written : Written) (words : List (List ℕ)) : Type 0 where
@@ -40,7 +42,8 @@ pub record AreSomeValues (written : Written) (words : List (List ℕ)) : Type 0 
 abbrev pub value_words : Written → List (List ℕ)
 value_words no_more = []
 value_words (one s more) = scalar_words s ++ value_words more
-value_words (list within more) = codes "list" ∷ counted (how_many within) ∷ value_words within ++ value_words more
+value_words (list within more) =
+    codes "list" ∷ counted (how_many within) ∷ value_words within ++ value_words more
 
 -- values without a list among them, and a value that a record can hold
 abbrev pub written_scalars : List Scalar → Written

@@ -8,12 +8,12 @@
 //! refused for by itself, and what it says else, is in `specs/Judging.antt`; where that leads is
 //! in `specs/Standing.antt`, by the positions of `nbfx_values`.
 //!
-//! `print` puts a document's lines and `quote` a quoted text, byte for byte, a line of some hundred
-//! bytes by one call (`src/room.rt`). They take no memory but the sink's. A `LineReader` reads line
-//! after line, and is proved to answer what the definitions bring: a document at its last line, or
-//! the first refusal, with the line's number. `laws` has that reading what was put gives the
-//! document back, that documents come from their own lines alone, and which lines are refused for
-//! what.
+//! `print` puts a document's lines and `quote` a quoted text, byte for byte. A line goes in several
+//! puts: where a put is dear, give a sink that gathers, as `io_edges::GatheringSink` does. They
+//! take no memory but the sink's. A `LineReader` reads line after line, and is proved to answer
+//! what the definitions bring: a document at its last line, or the first refusal, with the line's
+//! number. `laws` has that reading what was put gives the document back, that documents come from
+//! their own lines alone, and which lines are refused for what.
 #![tactic(auto)]
 
 mod arrays;
@@ -27,7 +27,6 @@ mod placing;
 mod printing;
 mod puts;
 mod reader;
-mod room;
 mod scalar_words;
 mod scalars;
 mod texts;

@@ -1,15 +1,14 @@
 // Words that go out.
 ghost use Rattle.std.specs.Prelude.{◌≡◌, ◌≤◌, ◌<◌, ◌^◌, ◌∷◌, ◌++◌, [], false, length, take_while, All};
 ghost use Rattle.std.specs.Fmt.{decimal, digit_glyph, signed_decimal};
-ghost use Rattle.std.specs.List.{flat_map};
+ghost use Rattle.std.specs.List.{flat_map, list_all};
 ghost use Rattle.hex.specs.Hex.{encode_lower};
-ghost use Rattle.io_edges.specs.Puts.{Adds, Puts};
+ghost use Rattle.io_edges.specs.Puts.{Puts};
 ghost use Rattle.line_notation.specs.Lines.{with_line_feed};
 ghost use Rattle.line_notation.specs.Puts.{joined_words, IsPuttable, spaced_word, spaced_words, word_bytes};
 ghost use Rattle.line_notation.specs.Quoted.{escape, is_plain, quoted, quoted_byte};
 ghost use Rattle.line_notation.specs.Scalars.{digits_in_quotes, identifier_word, letter_word};
 
-use crate::room::{Room, add, end_line};
 use io_edges::{Sink, SinkFault};
 use itoa::Buffer;
 use uuid::Uuid;
@@ -33,6 +32,14 @@ pub enum Word<'a> {
     Letter(u8),
 }
 
+// Puts bytes, and says of one put what is said of several.
+#[inline(always)]
+pub fn put_bytes<K: Sink>(bytes: &[u8], sink: &mut K) -> Result<(), SinkFault>
+    ensures { Puts K.written K.held K.faults K.may_want sink.old sink.new bytes.now result }
+{
+    sink.put(bytes)
+}
+
 // Whether a quoted text shows the byte as it is.
 pub fn is_plain(byte: u8) -> bool
     ensures { result ≡ is_plain byte }
@@ -52,12 +59,11 @@ fn digit(bits: u8) -> u8
     }
 }
 
-// Adds a backslash and the byte's digits.
-fn add_escape<K: Sink>(byte: u8, room: &mut Room, sink: &mut K) -> Result<(), SinkFault>
-    ensures { Adds K.written K.held K.faults K.may_want sink.old sink.new room.old room.new
-        (escape byte) result }
+// Puts a backslash and the byte's digits.
+fn put_escape<K: Sink>(byte: u8, sink: &mut K) -> Result<(), SinkFault>
+    ensures { Puts K.written K.held K.faults K.may_want sink.old sink.new (escape byte) result }
 {
-    add(&[b'\\', digit(byte / 16), digit(byte % 16)], room, sink)
+    put_bytes(&[b'\\', digit(byte / 16), digit(byte % 16)], sink)
 }
 
 // How many bytes at the front are plain.
@@ -67,9 +73,22 @@ pub fn plain_count(bytes: &[u8]) -> usize
     bytes.iter().take_while(|byte| is_plain(**byte)).count()
 }
 
-// Adds the bytes of a quoted text.
-fn add_pieces<K: Sink>(bytes: &[u8], room: &mut Room, sink: &mut K) -> Result<(), SinkFault>
-    ensures { Adds K.written K.held K.faults K.may_want sink.old sink.new room.old room.new
+// Whether a quoted text shows all bytes as they are. No byte ends the loop, so that it goes over
+// many at a time.
+fn are_plain(bytes: &[u8]) -> bool
+    ensures { result ≡ list_all is_plain bytes.now }
+{
+    let mut plain = true;
+    for byte in bytes {
+        plain &= is_plain(*byte);
+    }
+    plain
+}
+
+// Puts what a text has between its quotes, by pieces that are plain or escaped.
+#[inline(never)]
+fn put_pieces<K: Sink>(bytes: &[u8], sink: &mut K) -> Result<(), SinkFault>
+    ensures { Puts K.written K.held K.faults K.may_want sink.old sink.new
         (flat_map quoted_byte bytes.now) result }
 {
     let mut rest = bytes;
@@ -77,179 +96,164 @@ fn add_pieces<K: Sink>(bytes: &[u8], room: &mut Room, sink: &mut K) -> Result<()
         let plain = plain_count(rest);
         if plain == 0 {
             let (escaped, behind) = rest.split_at(1);
-            add_escape(escaped[0], room, sink)?;
+            put_escape(escaped[0], sink)?;
             rest = behind;
         } else {
             let (shown, behind) = rest.split_at(plain);
-            add(shown, room, sink)?;
+            put_bytes(shown, sink)?;
             rest = behind;
         }
     }
     Ok(())
 }
 
-fn add_quoted<K: Sink>(text: &str, room: &mut Room, sink: &mut K) -> Result<(), SinkFault>
-    ensures { Adds K.written K.held K.faults K.may_want sink.old sink.new room.old room.new
-        (quoted text.now) result }
+// Puts what a text has between its quotes.
+pub fn put_within_quotes<K: Sink>(text: &str, sink: &mut K) -> Result<(), SinkFault>
+    ensures { Puts K.written K.held K.faults K.may_want sink.old sink.new
+        (flat_map quoted_byte text.now) result }
 {
-    add(b"\"", room, sink)?;
-    add_pieces(text.as_bytes(), room, sink)?;
-    add(b"\"", room, sink)
+    let bytes = text.as_bytes();
+    if are_plain(bytes) {
+        return put_bytes(bytes, sink);
+    }
+    put_pieces(bytes, sink)
 }
 
 /// Puts a text in double quotes. A printable byte of ASCII stands as it is, and any other, the
-/// quote and the backslash as a backslash and two hexadecimal digits. A text of some hundred bytes
-/// is put by one call. A refusal has put the first bytes. No memory is taken but the sink's.
+/// quote and the backslash as a backslash and two hexadecimal digits. The text goes in several
+/// puts: where a put is dear, give a sink that gathers, as `io_edges::GatheringSink` does. A
+/// refusal has put the first bytes. No memory is taken but the sink's.
 pub fn quote<K: Sink>(text: &str, sink: &mut K) -> Result<(), SinkFault>
     ensures { Puts K.written K.held K.faults K.may_want sink.old sink.new (quoted text.now) result }
 {
-    let mut room = Room::new();
-    add_quoted(text, &mut room, sink)?;
-    room.put(sink)
+    put_bytes(b"\"", sink)?;
+    put_within_quotes(text, sink)?;
+    put_bytes(b"\"", sink)
 }
 
 const CHUNK: usize = 32;
 
-// Adds the hexadecimal digits of a few bytes.
-fn add_chunk<K: Sink>(bytes: &[u8], room: &mut Room, sink: &mut K) -> Result<(), SinkFault>
+// Puts the hexadecimal digits of a few bytes.
+fn put_chunk<K: Sink>(bytes: &[u8], sink: &mut K) -> Result<(), SinkFault>
     requires { length bytes.now ≤ CHUNK }
-    ensures { Adds K.written K.held K.faults K.may_want sink.old sink.new room.old room.new
+    ensures { Puts K.written K.held K.faults K.may_want sink.old sink.new
         (encode_lower bytes.now) result }
 {
     let mut digits = [0; 2 * CHUNK];
     let spelled = &mut digits[..2 * bytes.len()];
     hex::encode_to_slice(bytes, spelled).unwrap();
-    add(spelled, room, sink)
+    put_bytes(spelled, sink)
 }
 
-// Adds the hexadecimal digits of bytes.
-fn add_digits<K: Sink>(bytes: &[u8], room: &mut Room, sink: &mut K) -> Result<(), SinkFault>
-    ensures { Adds K.written K.held K.faults K.may_want sink.old sink.new room.old room.new
+// Puts the hexadecimal digits of bytes.
+fn put_digits<K: Sink>(bytes: &[u8], sink: &mut K) -> Result<(), SinkFault>
+    ensures { Puts K.written K.held K.faults K.may_want sink.old sink.new
         (encode_lower bytes.now) result }
 {
     let mut rest = bytes;
     while !rest.is_empty() {
         let (chunk, behind) = rest.split_at(rest.len().min(CHUNK));
-        add_chunk(chunk, room, sink)?;
+        put_chunk(chunk, sink)?;
         rest = behind;
     }
     Ok(())
 }
 
-fn add_digits_in_quotes<K: Sink>(
-    bytes: &[u8],
-    room: &mut Room,
-    sink: &mut K,
-) -> Result<(), SinkFault>
-    ensures { Adds K.written K.held K.faults K.may_want sink.old sink.new room.old room.new
+fn put_digits_in_quotes<K: Sink>(bytes: &[u8], sink: &mut K) -> Result<(), SinkFault>
+    ensures { Puts K.written K.held K.faults K.may_want sink.old sink.new
         (digits_in_quotes bytes.now) result }
 {
-    add(b"\"", room, sink)?;
-    add_digits(bytes, room, sink)?;
-    add(b"\"", room, sink)
+    put_bytes(b"\"", sink)?;
+    put_digits(bytes, sink)?;
+    put_bytes(b"\"", sink)
 }
 
-fn add_natural<K: Sink>(n: u128, room: &mut Room, sink: &mut K) -> Result<(), SinkFault>
-    ensures { Adds K.written K.held K.faults K.may_want sink.old sink.new room.old room.new
-        (decimal n) result }
+fn put_natural<K: Sink>(n: u128, sink: &mut K) -> Result<(), SinkFault>
+    ensures { Puts K.written K.held K.faults K.may_want sink.old sink.new (decimal n) result }
 {
     let mut buffer = Buffer::new();
-    add(buffer.format(n).as_bytes(), room, sink)
+    put_bytes(buffer.format(n).as_bytes(), sink)
 }
 
-fn add_integer<K: Sink>(n: i128, room: &mut Room, sink: &mut K) -> Result<(), SinkFault>
-    ensures { Adds K.written K.held K.faults K.may_want sink.old sink.new room.old room.new
+fn put_integer<K: Sink>(n: i128, sink: &mut K) -> Result<(), SinkFault>
+    ensures { Puts K.written K.held K.faults K.may_want sink.old sink.new
         (signed_decimal n) result }
 {
     let mut buffer = Buffer::new();
-    add(buffer.format(n).as_bytes(), room, sink)
+    put_bytes(buffer.format(n).as_bytes(), sink)
 }
 
-fn add_identifier<K: Sink>(bytes: &[u8; 16], room: &mut Room, sink: &mut K) -> Result<(), SinkFault>
-    ensures { Adds K.written K.held K.faults K.may_want sink.old sink.new room.old room.new
+fn put_identifier<K: Sink>(bytes: &[u8; 16], sink: &mut K) -> Result<(), SinkFault>
+    ensures { Puts K.written K.held K.faults K.may_want sink.old sink.new
         (identifier_word bytes.now) result }
 {
     let mut buffer = Uuid::encode_buffer();
     let id = Uuid::from_bytes_le(*bytes);
-    add(
-        id.hyphenated().encode_lower(&mut buffer).as_bytes(),
-        room,
-        sink,
-    )
+    put_bytes(id.hyphenated().encode_lower(&mut buffer).as_bytes(), sink)
 }
 
-fn add_word<K: Sink>(word: &Word, room: &mut Room, sink: &mut K) -> Result<(), SinkFault>
+#[inline(always)]
+fn put_word<K: Sink>(word: &Word, sink: &mut K) -> Result<(), SinkFault>
     requires { IsPuttable word.now }
-    ensures { Adds K.written K.held K.faults K.may_want sink.old sink.new room.old room.new
+    ensures { Puts K.written K.held K.faults K.may_want sink.old sink.new
         (word_bytes word.now) result }
 {
     match word {
-        Word::Plain(text) => add(text.as_bytes(), room, sink),
-        Word::Quoted(text) => add_quoted(text, room, sink),
-        Word::Natural(n) => add_natural(*n, room, sink),
-        Word::Integer(n) => add_integer(*n, room, sink),
-        Word::Digits(bytes) => add_digits(bytes, room, sink),
-        Word::DigitsInQuotes(bytes) => add_digits_in_quotes(bytes, room, sink),
-        Word::Identifier(bytes) => add_identifier(bytes, room, sink),
-        Word::Letter(letter) => add(&[b'a' + *letter], room, sink),
+        Word::Plain(text) => put_bytes(text.as_bytes(), sink),
+        Word::Quoted(text) => quote(text, sink),
+        Word::Natural(n) => put_natural(*n, sink),
+        Word::Integer(n) => put_integer(*n, sink),
+        Word::Digits(bytes) => put_digits(bytes, sink),
+        Word::DigitsInQuotes(bytes) => put_digits_in_quotes(bytes, sink),
+        Word::Identifier(bytes) => put_identifier(bytes, sink),
+        Word::Letter(letter) => put_bytes(&[b'a' + *letter], sink),
     }
 }
 
-// Adds a space and a word.
-fn add_spaced_word<K: Sink>(word: &Word, room: &mut Room, sink: &mut K) -> Result<(), SinkFault>
+// Puts a space and a word.
+#[inline(always)]
+pub fn put_spaced_word<K: Sink>(word: &Word, sink: &mut K) -> Result<(), SinkFault>
     requires { IsPuttable word.now }
-    ensures { Adds K.written K.held K.faults K.may_want sink.old sink.new room.old room.new
+    ensures { Puts K.written K.held K.faults K.may_want sink.old sink.new
         (spaced_word word.now) result }
 {
-    add(b" ", room, sink)?;
-    add_word(word, room, sink)
+    put_bytes(b" ", sink)?;
+    put_word(word, sink)
 }
 
-// Adds words, each behind a space.
-pub fn add_words<K: Sink>(words: &[Word], room: &mut Room, sink: &mut K) -> Result<(), SinkFault>
+// Puts words, each behind a space.
+pub fn put_spaced_words<K: Sink>(words: &[Word], sink: &mut K) -> Result<(), SinkFault>
     requires { All IsPuttable words.now }
-    ensures { Adds K.written K.held K.faults K.may_want sink.old sink.new room.old room.new
+    ensures { Puts K.written K.held K.faults K.may_want sink.old sink.new
         (spaced_words words.now) result }
 {
     for word in words {
-        add_spaced_word(word, room, sink)?;
+        put_spaced_word(word, sink)?;
     }
     Ok(())
 }
 
-// Adds words, one right behind the other.
-fn add_joined<K: Sink>(words: &[Word], room: &mut Room, sink: &mut K) -> Result<(), SinkFault>
-    requires { All IsPuttable words.now }
-    ensures { Adds K.written K.held K.faults K.may_want sink.old sink.new room.old room.new
-        (joined_words words.now) result }
-{
-    for word in words {
-        add_word(word, room, sink)?;
-    }
-    Ok(())
-}
-
-/// Puts words, one right behind the other, by one call where they have some hundred bytes. A refusal
-/// has put the first bytes. No memory is taken but the sink's.
+/// Puts words, one right behind the other, in several puts. A refusal has put the first bytes of
+/// them. No memory is taken but the sink's.
 pub fn put_joined<K: Sink>(words: &[Word], sink: &mut K) -> Result<(), SinkFault>
     requires { All IsPuttable words.now }
     ensures { Puts K.written K.held K.faults K.may_want sink.old sink.new
         (joined_words words.now) result }
 {
-    let mut room = Room::new();
-    add_joined(words, &mut room, sink)?;
-    room.put(sink)
+    for word in words {
+        put_word(word, sink)?;
+    }
+    Ok(())
 }
 
-/// Puts a line: a keyword, words, each behind a space, and a line feed; by one call where it has some
-/// hundred bytes. A refusal has put the first bytes. No memory is taken but the sink's.
+/// Puts a line: a keyword, words, each behind a space, and a line feed, in several puts. A refusal
+/// has put the first bytes. No memory is taken but the sink's.
 pub fn put_words<K: Sink>(keyword: &str, words: &[Word], sink: &mut K) -> Result<(), SinkFault>
     requires { All IsPuttable words.now }
     ensures { Puts K.written K.held K.faults K.may_want sink.old sink.new
         (with_line_feed (keyword.now ++ spaced_words words.now)) result }
 {
-    let mut room = Room::new();
-    add(keyword.as_bytes(), &mut room, sink)?;
-    add_words(words, &mut room, sink)?;
-    end_line(&mut room, sink)
+    put_bytes(keyword.as_bytes(), sink)?;
+    put_spaced_words(words, sink)?;
+    put_bytes(b"\n", sink)
 }

@@ -114,8 +114,8 @@ impl OpenFile for Flaky {
     }
 }
 
-// The files of a system that has one file, which can just be read. The first opening may fail, or the
-// first file that is opened fail at a read.
+// The files of a system that has one file, which can just be read. The first opening may fail, or
+// the first file that is opened fail at a read.
 #[derive(Drop)]
 pub(super) struct OneFile {
     name: &'static str,

@@ -1,10 +1,10 @@
 use Rattle.std.proofs.Common.{drop, flat_map}
 use Rattle.line_notation.specs.Lines.{attribute_form, form_text}
-use Rattle.line_notation.proofs.PutsFacts.{HaveAdded}
+use Rattle.line_notation.proofs.PutsFacts.{HavePut}
 use Rattle.line_notation.proofs.printing.put_array_attributes.Given as goal
 
 abbrev pub invariant-loop-one : goal.invariant-loop-one
 invariant-loop-one g l =
-    HaveAdded (flat_map (λ one. form_text (attribute_form one))) l.all (drop l.one-index l.all)
+    HavePut (flat_map (λ one. form_text (attribute_form one))) l.all (drop l.one-index l.all)
     (g.K.Sink.written l.fn.sink) (g.K.Sink.written l.sink)
     (g.K.Sink.held l.fn.sink) (g.K.Sink.held l.sink) (g.K.Sink.faults l.fn.sink) (g.K.Sink.faults l.sink) (g.K.Sink.may_want l.fn.sink) (g.K.Sink.may_want l.sink)

@@ -1,25 +1,25 @@
 use Rattle.std.proofs.lemmas.Result.{err_from_is_err_and}
 use Rattle.line_notation.specs.Lines.{item_text}
 use Rattle.line_notation.proofs.PrintFacts.{text-items}
-use Rattle.line_notation.proofs.PutsFacts.{HaveAdded-item, HaveAdded-item_cut, HaveAdded-list, HaveAdded-none, flat_map-joins}
+use Rattle.line_notation.proofs.PutsFacts.{HavePut-item, HavePut-item_cut, HavePut-list, HavePut-none, flat_map-joins}
 use Rattle.line_notation.proofs.printing.put_items.Goals as goal
 
 pub returns-in_err-put_item : goal.returns-in_err-put_item
 returns-in_err-put_item g c =
     let p = err_from_is_err_and c.from_residual.result c.from_residual.ensures.1 in
     rw (p.1, p.2, text-items c.args.items.now)
-    (HaveAdded-item_cut item_text c.loop-item.item-index c.item-item.result c.loop-item-test.true c.item-item.is
+    (HavePut-item_cut item_text c.loop-item.item-index c.item-item.result c.loop-item-test.true c.item-item.is
     c.loop-item.invariant c.in_err-put_item.ensures)
 
 pub loop-item-preserved : goal.loop-item-preserved
 loop-item-preserved g c =
-    HaveAdded-item item_text c.loop-item.item-index c.item-item.result c.loop-item-test.true c.item-item.is
+    HavePut-item item_text c.loop-item.item-index c.item-item.result c.loop-item-test.true c.item-item.is
     c.loop-item.invariant c.in_ok-put_item.ensures
 
 pub returns : goal.returns
 returns g c =
     rw (text-items c.args.items.now)
-    (HaveAdded-list item_text c.loop-item.item-index c.loop-item-test.false c.loop-item.invariant)
+    (HavePut-list item_text c.loop-item.item-index c.loop-item-test.false c.loop-item.invariant)
 
 pub loop-item-init : goal.loop-item-init
-loop-item-init g c = HaveAdded-none _ _ _ _ _ (flat_map-joins item_text)
+loop-item-init g c = HavePut-none _ _ _ _ _ (flat_map-joins item_text)

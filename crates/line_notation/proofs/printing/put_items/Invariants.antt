@@ -1,10 +1,10 @@
 use Rattle.std.proofs.Common.{drop, flat_map}
 use Rattle.line_notation.specs.Lines.{item_text}
-use Rattle.line_notation.proofs.PutsFacts.{HaveAdded}
+use Rattle.line_notation.proofs.PutsFacts.{HavePut}
 use Rattle.line_notation.proofs.printing.put_items.Given as goal
 
 abbrev pub invariant-loop-item : goal.invariant-loop-item
 invariant-loop-item g l =
-    HaveAdded (flat_map item_text) l.items (drop l.item-index l.items)
+    HavePut (flat_map item_text) l.items (drop l.item-index l.items)
     (g.K.Sink.written l.fn.sink) (g.K.Sink.written l.sink)
     (g.K.Sink.held l.fn.sink) (g.K.Sink.held l.sink) (g.K.Sink.faults l.fn.sink) (g.K.Sink.faults l.sink) (g.K.Sink.may_want l.fn.sink) (g.K.Sink.may_want l.sink)

@@ -1,11 +1,12 @@
 use Rattle.std.proofs.lemmas.Result.{err_from_is_err_and}
-use Rattle.line_notation.proofs.PutsFacts.{as_put, line_ends, room_cut}
+use Rattle.line_notation.specs.Puts.{word_bytes}
+use Rattle.line_notation.proofs.PutsFacts.{HavePut-one, HavePut-one_cut}
 use Rattle.line_notation.proofs.puts.put_joined.Goals as goal
 
-pub returns-in_err-add_joined : goal.returns-in_err-add_joined
-returns-in_err-add_joined g c =
+pub returns-in_err-put_word : goal.returns-in_err-put_word
+returns-in_err-put_word g c =
     let p = err_from_is_err_and c.from_residual.result c.from_residual.ensures.1 in
-    rw (p.1, p.2) (as_put _ (room_cut _ _ (rw c.new-room.ensures at c.in_err-add_joined.ensures)))
+    rw (p.1, p.2) (HavePut-one_cut word_bytes c.loop-word.word-index _ c.loop-word-test.true c.loop-word.invariant c.in_err-put_word.ensures)
 
-pub returns : goal.returns
-returns g c = as_put _ (line_ends _ (rw c.new-room.ensures at c.in_ok-add_joined.ensures) c.put.ensures.puts)
+pub loop-word-preserved : goal.loop-word-preserved
+loop-word-preserved g c = HavePut-one word_bytes c.loop-word.word-index _ c.loop-word-test.true c.loop-word.invariant c.in_ok-put_word.ensures

@@ -1,11 +1,22 @@
+use Rattle.std.proofs.Common.{◌∷◌, []}
 use Rattle.std.proofs.lemmas.Result.{err_from_is_err_and}
-use Rattle.line_notation.proofs.PutsFacts.{as_put, line_ends, room_cut}
+use Rattle.line_notation.specs.Quoted.{quoted}
+use Rattle.io_edges.proofs.Putting.{PutsAll-then, PutsAll-cut}
 use Rattle.line_notation.proofs.puts.quote.Goals as goal
 
-pub returns-in_err-add_quoted : goal.returns-in_err-add_quoted
-returns-in_err-add_quoted g c =
+pub returns-in_err-put_bytes : goal.returns-in_err-put_bytes
+unfolding quoted
+returns-in_err-put_bytes g c =
     let p = err_from_is_err_and c.from_residual.result c.from_residual.ensures.1 in
-    rw (p.1, p.2) (as_put _ (room_cut _ _ (rw c.new-room.ensures at c.in_err-add_quoted.ensures)))
+    rw (p.1, p.2) (PutsAll-cut _ c.in_err-put_bytes.ensures)
+
+pub returns-in_err-put_within_quotes : goal.returns-in_err-put_within_quotes
+unfolding quoted
+returns-in_err-put_within_quotes g c =
+    let p = err_from_is_err_and c.from_residual-in_err-put_within_quotes.result c.from_residual-in_err-put_within_quotes.ensures.1 in
+    rw (p.1, p.2) (PutsAll-cut (34 ∷ []) (PutsAll-then _ c.in_ok-put_bytes.ensures c.in_err-put_within_quotes.ensures))
 
 pub returns : goal.returns
-returns g c = as_put _ (line_ends _ (rw c.new-room.ensures at c.in_ok-add_quoted.ensures) c.put.ensures.puts)
+unfolding quoted
+returns g c =
+    PutsAll-then _ c.in_ok-put_bytes.ensures (PutsAll-then _ c.in_ok-put_within_quotes.ensures c.put_bytes-2.ensures)

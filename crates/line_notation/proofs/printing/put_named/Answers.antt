@@ -1,0 +1,12 @@
+use Rattle.std.proofs.Common.{◌∷◌, []}
+use Rattle.std.proofs.lemmas.Result.{err_from_is_err_and}
+use Rattle.io_edges.proofs.Putting.{PutsAll-then, PutsAll-cut}
+use Rattle.line_notation.proofs.printing.put_named.Goals as goal
+
+pub returns-in_err-put_names : goal.returns-in_err-put_names
+returns-in_err-put_names g c =
+    let p = err_from_is_err_and c.from_residual.result c.from_residual.ensures.1 in
+    rw (p.1, p.2) (PutsAll-cut (10 ∷ []) c.in_err-put_names.ensures)
+
+pub returns : goal.returns
+returns g c = PutsAll-then _ c.in_ok-put_names.ensures c.put_bytes.ensures
