@@ -11,9 +11,7 @@ use unit_streams::Memory;
 
 // Drops a value that is refused, apart from the code that seldom refuses one.
 #[inline(never)]
-pub(crate) fn discard<T: Drop>(refused: T) {
-    drop(refused);
-}
+pub(crate) fn discard<T: Drop>(_refused: T) {}
 
 /// A list that grows at its end, which contracts see as the list of its values.
 #[derive(Debug, Drop)]
