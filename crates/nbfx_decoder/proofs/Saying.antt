@@ -1,6 +1,6 @@
 -- A whole record is read where it stands, and what it means is put behind the items.
 use Rattle.std.proofs.Common.{◌≡◌, ℕ, ◌<◌, ◌≤◌, List, [], ◌++◌, length, Result, Ok, Err, inr, refl, sym, ap, ◌∙◌, subst, arith}
-use Rattle.std.specs.Prelude.{IsErrAnd, IsTrue}
+use Rattle.std.specs.Prelude.{IfOk, IsErrAnd, IsTrue}
 use Rattle.std.proofs.lemmas.Result.{err_from_is_err_and}
 use Rattle.std.proofs.lemmas.List.{append-nil}
 use Rattle.unit_streams.specs.Front.{begun, whole}
@@ -37,7 +37,8 @@ use Rattle.nbfx_decoder.specs.declared.units.UnitRead.{UnitRead}
 use Rattle.nbfx_decoder.specs.declared.units.UnitReader.{UnitReader}
 use Rattle.nbfx_decoder.specs.Faults.{unmade}
 use Rattle.nbfx_decoder.specs.Payload.{Settings, Situation, node, place_of}
-use Rattle.nbfx_decoder.specs.Units.{AddAnswers, HasShape, IsAt, SayAnswers, UnitAnswers}
+use Rattle.nbfx_decoder.specs.declared.units.UnitRead.TheVariants as units_read
+use Rattle.nbfx_decoder.specs.Units.{AddAnswers, Counts, HasShape, IsAt, SayAnswers, UnitAnswers}
 use Rattle.nbfx_decoder.proofs.UnitSteps.{node_stands, node_unread, node_whole}
 
 -- a record of any shape has some bytes
@@ -102,3 +103,8 @@ pub unsaid : (x : Settings) (z : Situation) (from : ℕ) (bytes : List ℕ) (use
 unsaid x z from bytes used new fault r e h =
     let p = err_from_is_err_and r e in
     subst (λ (q : Result UnitRead UnitFault). UnitAnswers x z from bytes new q) (ap Err (sym p.2) ∙ sym p.1) h
+
+-- a whole unit has some of so many bytes
+pub done_counts : (r : Result UnitRead UnitFault) (used len : ℕ) → IfOk r (λ read. read ≡ units_read.Done used) → (0 < used) × (used ≤ len) → IfOk r (Counts len)
+done_counts (Ok read) used len is size = subst (Counts len) (sym is) size
+done_counts (Err fault) used len is size = tt

@@ -9,11 +9,11 @@ ghost use Rattle.nbfx_values.specs.QuotasOf.{limits_of};
 ghost use Rattle.nbfx_values.specs.Items.{is_valid_item};
 ghost use Rattle.nbfx_decoder.specs.Meant.{items_in};
 ghost use Rattle.multibyte_ints.specs.Integer.{IsBytes};
+ghost use Rattle.nbfx_records.specs.Beginning.{Begins};
 ghost use Rattle.nbfx_records.specs.Contents.{contents};
 ghost use Rattle.nbfx_records.specs.Judged.{Makes};
 ghost use Rattle.nbfx_records.specs.Places.{Stands};
 ghost use Rattle.nbfx_records.specs.Shapes.{Shape};
-ghost use Rattle.nbfx_records.specs.Views.{IsSoundRecord, record_seen};
 ghost use Rattle.nbfx_records.specs.Answers.{Answers, ReadsValid, Wants};
 ghost use Rattle.nbfx_records.specs.Valid.{is_valid_node};
 ghost use Rattle.nbfx_decoder.specs.Sections.{first_section, left_in};
@@ -25,8 +25,10 @@ use crate::section::Section;
 use crate::strings::{StringRead, string_at};
 use multibyte_ints::{IntRead, read_int};
 use nbfx_records::{
-    Node, NodePlace, NodeRead, ReadFault, RecordPart, Resume, Stop, Unfit, attribute_node,
-    element_node, node, shape_at, text_node,
+    AttributePart, NameForm, Node, NodePlace, NodeRead, PrefixForm, ReadFault, RecordKind, Resume,
+    Stop, TextKind, Unfit, ValuePart, attribute_node, attribute_parts, declaration_node,
+    declaration_parts, element_node, element_parts, kind_at, node, scalar_parts, shape_at,
+    text_node,
 };
 use nbfx_values::{Doc, DocBuilder, Item, Kind, Position, PushFault, Quotas, Reason};
 use session_dictionary::{AddFault, SessionTable};
@@ -219,7 +221,8 @@ impl<'s> UnitReader<'s> {
         }
     }
 
-    // Reads the record at the front of the bytes, and puts what it means behind the items.
+    // Reads the record at the front of the bytes, and puts what it means behind the items. The kinds
+    // that come most have ways of their own, by their parts; any other record has one for all.
     #[inline(always)]
     fn record(&mut self, bytes: &[u8]) -> Result<UnitRead, UnitFault>
         requires here { self.old.section ≡ Section.Nodes }
@@ -230,11 +233,133 @@ impl<'s> UnitReader<'s> {
         ensures from { IfOk result (λ read. self.new.from ≡ self.old.from + counted read) }
         ensures kept { KeepsSettings self.old self.new }
     {
-        match shape_at(self.place(), bytes, &mut Resume::new()) {
-            Ok((part, used)) => {
-                self.say(&part, used)?;
-                Ok(self.pass(used))
+        match kind_at(self.place(), bytes) {
+            Some(RecordKind::EndElement) => self.pass_record(Ok(Node::EndElement), 1),
+            Some(RecordKind::Element(prefix, name)) => self.element(prefix, name, bytes),
+            Some(RecordKind::Attribute(prefix, name)) => self.attribute(prefix, name, bytes),
+            Some(RecordKind::Declaration(prefix, uri)) => self.declaration(prefix, uri, bytes),
+            Some(RecordKind::Text(kind, ends)) => self.text(kind, ends, bytes),
+            _ => self.any_record(bytes),
+        }
+    }
+
+    #[inline(never)]
+    fn element(
+        &mut self,
+        prefix: PrefixForm,
+        name: NameForm,
+        bytes: &[u8],
+    ) -> Result<UnitRead, UnitFault>
+        requires here { self.old.section ≡ Section.Nodes }
+        requires few { self.old.from + length bytes.now < 2 ^ 32 }
+        requires begins { Begins (place_of self.old.quotas.depth (position_of self.old.document))
+            bytes.now (RecordKind.Element prefix name) }
+        ensures answers { (x : Settings) (z : Situation) (from : ℕ) → IsAt self.old x z from
+            → UnitAnswers x z from bytes.now self.new result }
+        ensures counts { IfOk result (Counts (length bytes.now)) }
+        ensures from { IfOk result (λ read. self.new.from ≡ self.old.from + counted read) }
+        ensures kept { KeepsSettings self.old self.new }
+    {
+        match element_parts(prefix, name, bytes) {
+            Ok((part, used)) => self.pass_record(element_node(self.alloc, &part), used),
+            Err(_) => self.any_record(bytes),
+        }
+    }
+
+    #[inline(never)]
+    fn attribute(
+        &mut self,
+        prefix: PrefixForm,
+        name: NameForm,
+        bytes: &[u8],
+    ) -> Result<UnitRead, UnitFault>
+        requires here { self.old.section ≡ Section.Nodes }
+        requires few { self.old.from + length bytes.now < 2 ^ 32 }
+        requires begins { Begins (place_of self.old.quotas.depth (position_of self.old.document))
+            bytes.now (RecordKind.Attribute prefix name) }
+        ensures answers { (x : Settings) (z : Situation) (from : ℕ) → IsAt self.old x z from
+            → UnitAnswers x z from bytes.now self.new result }
+        ensures counts { IfOk result (Counts (length bytes.now)) }
+        ensures from { IfOk result (λ read. self.new.from ≡ self.old.from + counted read) }
+        ensures kept { KeepsSettings self.old self.new }
+    {
+        match attribute_parts(prefix, name, bytes) {
+            Ok(
+                (
+                    AttributePart::Attribute {
+                        prefix,
+                        name,
+                        value,
+                    },
+                    used,
+                ),
+            ) => self.pass_record(attribute_node(self.alloc, &prefix, &name, &value), used),
+            _ => self.any_record(bytes),
+        }
+    }
+
+    #[inline(never)]
+    fn declaration(
+        &mut self,
+        prefix: PrefixForm,
+        uri: NameForm,
+        bytes: &[u8],
+    ) -> Result<UnitRead, UnitFault>
+        requires here { self.old.section ≡ Section.Nodes }
+        requires few { self.old.from + length bytes.now < 2 ^ 32 }
+        requires begins { Begins (place_of self.old.quotas.depth (position_of self.old.document))
+            bytes.now (RecordKind.Declaration prefix uri) }
+        ensures answers { (x : Settings) (z : Situation) (from : ℕ) → IsAt self.old x z from
+            → UnitAnswers x z from bytes.now self.new result }
+        ensures counts { IfOk result (Counts (length bytes.now)) }
+        ensures from { IfOk result (λ read. self.new.from ≡ self.old.from + counted read) }
+        ensures kept { KeepsSettings self.old self.new }
+    {
+        match declaration_parts(prefix, uri, bytes) {
+            Ok((AttributePart::Declaration { prefix, uri }, used)) => {
+                self.pass_record(declaration_node(self.alloc, &prefix, &uri), used)
             }
+            _ => self.any_record(bytes),
+        }
+    }
+
+    // A text, of which lists go the way of any record.
+    #[inline(never)]
+    fn text(&mut self, kind: TextKind, ends: bool, bytes: &[u8]) -> Result<UnitRead, UnitFault>
+        requires here { self.old.section ≡ Section.Nodes }
+        requires few { self.old.from + length bytes.now < 2 ^ 32 }
+        requires begins { Begins (place_of self.old.quotas.depth (position_of self.old.document))
+            bytes.now (RecordKind.Text kind ends) }
+        ensures answers { (x : Settings) (z : Situation) (from : ℕ) → IsAt self.old x z from
+            → UnitAnswers x z from bytes.now self.new result }
+        ensures counts { IfOk result (Counts (length bytes.now)) }
+        ensures from { IfOk result (λ read. self.new.from ≡ self.old.from + counted read) }
+        ensures kept { KeepsSettings self.old self.new }
+    {
+        if kind == TextKind::StartList {
+            return self.any_record(bytes);
+        }
+        match scalar_parts(kind, ends, bytes) {
+            Ok((part, used)) => {
+                self.pass_record(text_node(self.alloc, &ValuePart::One(part), ends), used)
+            }
+            Err(_) => self.any_record(bytes),
+        }
+    }
+
+    // A record of any kind, or none.
+    #[inline(never)]
+    fn any_record(&mut self, bytes: &[u8]) -> Result<UnitRead, UnitFault>
+        requires here { self.old.section ≡ Section.Nodes }
+        requires few { self.old.from + length bytes.now < 2 ^ 32 }
+        ensures answers { (x : Settings) (z : Situation) (from : ℕ) → IsAt self.old x z from
+            → UnitAnswers x z from bytes.now self.new result }
+        ensures counts { IfOk result (Counts (length bytes.now)) }
+        ensures from { IfOk result (λ read. self.new.from ≡ self.old.from + counted read) }
+        ensures kept { KeepsSettings self.old self.new }
+    {
+        match shape_at(self.place(), bytes, &mut Resume::new()) {
+            Ok((part, used)) => self.pass_record(node(self.alloc, &part), used),
             Err(Stop::More { wants }) => Ok(UnitRead::More { wants }),
             Err(Stop::Fault { fault, shown_by }) => {
                 Err(unread(ReadFault::Fault { fault, shown_by }))
@@ -242,48 +367,24 @@ impl<'s> UnitReader<'s> {
         }
     }
 
-    // Puts what a whole record of so many bytes means behind the items. Each kind of record has a
-    // way of its own, so that none pays for the room of another.
+    // Puts what is made of a whole record of so many bytes behind the items, and goes behind it.
     #[inline(always)]
-    fn say(&mut self, part: &RecordPart, used: usize) -> Result<(), UnitFault>
+    fn pass_record(&mut self, made: Result<Node, Unfit>, used: usize) -> Result<UnitRead, UnitFault>
         requires here { self.old.section ≡ Section.Nodes }
-        requires sound { IsSoundRecord part.now }
-        requires stands { (bytes : List ℕ) × HasShape (place_of self.old.quotas.depth
-            (position_of self.old.document)) (record_seen part.now) used bytes × IsBytes bytes }
-        ensures answers { (x : Settings) (z : Situation) (from : ℕ) (bytes : List ℕ)
-            → IsAt self.old x z from → HasShape (place_of self.old.quotas.depth
-            (position_of self.old.document)) (record_seen part.now) used bytes
-            → SayAnswers x z from bytes used self.new result }
-        ensures section { self.new.section ≡ self.old.section }
-        ensures from { self.new.from ≡ self.old.from }
+        requires few { self.old.from + used < 2 ^ 32 }
+        requires stands { (shape : Shape) × (bytes : List ℕ) × HasShape (place_of
+            self.old.quotas.depth (position_of self.old.document)) shape used bytes
+            × IsBytes bytes × Makes made (contents shape) }
+        ensures answers { (x : Settings) (z : Situation) (from : ℕ) (shape : Shape)
+            (bytes : List ℕ) → IsAt self.old x z from → HasShape (place_of self.old.quotas.depth
+            (position_of self.old.document)) shape used bytes → Makes made (contents shape)
+            → UnitAnswers x z from bytes self.new result }
+        ensures done { IfOk result (λ read. read ≡ UnitRead.Done used) }
+        ensures from { IfOk result (λ read. self.new.from ≡ self.old.from + counted read) }
         ensures kept { KeepsSettings self.old self.new }
     {
-        match part {
-            RecordPart::EndElement => self.put(Ok(Node::EndElement), used),
-            RecordPart::Element(part) => self.put(element_node(self.alloc, part), used),
-            RecordPart::Attribute(part) => self.put(attribute_node(self.alloc, part), used),
-            RecordPart::Text(part, ends) => self.put(text_node(self.alloc, part, *ends), used),
-            RecordPart::Comment(_) | RecordPart::Array(_) => self.say_any(*part, used),
-        }
-    }
-
-    // The same for any record, in one way: for those that seldom come.
-    #[inline(never)]
-    fn say_any(&mut self, part: RecordPart, used: usize) -> Result<(), UnitFault>
-        requires here { self.old.section ≡ Section.Nodes }
-        requires sound { IsSoundRecord part }
-        requires stands { (bytes : List ℕ) × HasShape (place_of self.old.quotas.depth
-            (position_of self.old.document)) (record_seen part) used bytes × IsBytes bytes }
-        ensures answers { (x : Settings) (z : Situation) (from : ℕ) (bytes : List ℕ)
-            → IsAt self.old x z from → HasShape (place_of self.old.quotas.depth
-            (position_of self.old.document)) (record_seen part.entry) used bytes
-            → SayAnswers x z from bytes used self.new result }
-        ensures section { self.new.section ≡ self.old.section }
-        ensures from { self.new.from ≡ self.old.from }
-        ensures kept { KeepsSettings self.old self.new }
-    {
-        let made = node(self.alloc, &part);
-        self.put(made, used)
+        self.put(made, used)?;
+        Ok(self.pass(used))
     }
 
     // Puts what is made of a whole record behind the items, if a node is.

@@ -1,5 +1,5 @@
 -- Parts that are read from an offset on, by what their readers say of the bytes there.
-use Rattle.std.proofs.Common.{◌≡◌, ℕ, ◌+◌, ◌-◌, ◌<◌, ◌≤◌, List, [], ◌∷◌, ◌++◌, length, take, drop, get_or, Result, Ok, Err, refl, sym, ap, ◌∙◌, subst, arith, append_assoc, length-append, length-drop}
+use Rattle.std.proofs.Common.{◌≡◌, ℕ, ◌+◌, ◌*◌, ◌%◌, ◌-◌, ◌<◌, ◌≤◌, List, [], ◌∷◌, ◌++◌, length, take, drop, get_or, Result, Ok, Err, refl, sym, ap, ◌∙◌, subst, arith, append_assoc, length-append, length-drop}
 use Rattle.std.proofs.lemmas.List.{append-nil, length-take-le, take-append-drop, drop-append-le, drop-drop, take_more, get_or-drop}
 use Rattle.std.specs.Prelude.{IsErrAnd}
 use Rattle.std.proofs.lemmas.Result.{err_from_is_err_and}
@@ -8,7 +8,9 @@ use Rattle.unit_streams.specs.Parts.{Reader, given, refuse, further, ◌>>=◌, 
 use Rattle.unit_streams.proofs.Peeling.{extent}
 use Rattle.unit_streams.proofs.Parts.{then_begun, then_wrong, then_whole}
 use Rattle.unit_streams.proofs.Taken.{at_last}
-use Rattle.multibyte_ints.specs.Integer.{int_at}
+use Rattle.multibyte_ints.specs.Integer.{int_at, value_of}
+use Rattle.multibyte_ints.proofs.IntegerFacts.{whole_is}
+use Rattle.std.proofs.Math.Nat.{mod-eq_of_lt}
 use Rattle.multibyte_ints.proofs.IntegerBytes.{int_peels}
 use Rattle.nbfx_records.specs.declared.cursor.Stop.{Stop}
 use Rattle.nbfx_records.specs.declared.cursor.Stop.TheVariants.{More, Fault}
@@ -201,6 +203,19 @@ module _ (bytes : List ℕ) (from at : ℕ) (after : from ≤ at) (lt : at < len
       sym (ap extent e) ∙ at_last int_at int_peels so_far (get_or bytes at 0) begins (λ h. cc) ∙ omega (arith, size_so_far, length-append so_far (get_or bytes at 0 ∷ [])) in
       wrong_by an_integer reads_integer bytes from (at + 1) (omega arith) (omega arith) faults.BadInt
       (ap an_integer (sym (one_more bytes from at after lt)) ∙ ap (seen (λ n. n) (λ _. faults.BadInt)) e ∙ ap (wrong faults.BadInt) five)
+
+-- an integer of one byte
+small_value : (b : ℕ) → b < 128 → value_of (b ∷ []) ≡ b
+unfolding value_of
+small_value b lt = let same : b % 128 ≡ b = mod-eq_of_lt lt in omega (arith, same)
+
+pub one_byte_whole : (bytes : List ℕ) (from : ℕ) → from < length bytes → get_or bytes from 0 < 128 → IsWhole an_integer bytes from (get_or bytes from 0) (from + 1)
+one_byte_whole bytes from lt small =
+    let none : from - from ≡ 0 = omega arith in
+    let b = get_or bytes from 0 in
+    let there : int_at (b ∷ []) ≡ whole b 1 =
+    whole_is 0 (b ∷ []) (record { within = omega arith; at_most_five = omega arith; continued = λ i h. absurd (omega (arith, h)); ended = small; fifth = λ h. cc }) ∙ ap (λ v. whole v 1) (small_value b small) in
+    integer_whole bytes from from (omega arith) lt b (rw none there)
 
 -- what a `?` hands on
 pub exit : {X A : Type 0} {see : X → A} {reader : Reader A NodeFault} {asked : List ℕ → ℕ → Type 0} {bytes : List ℕ} {at : ℕ} {stop : Stop} {r : Result (X × ℕ) Stop} → IsErrAnd r (λ y. y ≡ stop) → Stops reader asked bytes at stop

@@ -20,6 +20,7 @@ pub mod ValidFacts
 -- What the functions of reading do: parts, lists, attributes of an array, and what they say.
 pub mod CursorFacts
 pub mod PartFacts
+pub mod BegunFacts
 pub mod ManyFacts
 pub mod ListFacts
 pub mod PartsFacts

@@ -20,6 +20,7 @@ pub mod Resuming
 pub mod Laws
 -- What contracts of private functions cite.
 pub mod Cursor
+pub mod Beginning
 pub mod Views
 pub mod Judged
 pub mod Putting

@@ -332,14 +332,41 @@ pub fn element_node(alloc: Global, part: &NamedPart) -> Result<Node, Unfit>
     })
 }
 
-/// The node of an attribute or a declaration.
+/// The node of an attribute with these parts.
 #[inline(always)]
 #[tactic(auto, unfolding(crate::specs::Contents::contents))]
-pub fn attribute_node(alloc: Global, part: &AttributePart) -> Result<Node, Unfit>
-    requires { IsSoundAttribute part.now }
-    ensures { Makes result (spec.contents (record_seen (RecordPart.Attribute part.now))) }
+pub fn attribute_node(
+    alloc: Global,
+    prefix_part: &PrefixPart,
+    name_part: &NamePart,
+    value_part: &ValuePart,
+) -> Result<Node, Unfit>
+    requires { HoldsLists value_part.now }
+    ensures { Makes result (spec.contents (record_seen (RecordPart.Attribute
+        (AttributePart.Attribute prefix_part.now name_part.now value_part.now)))) }
 {
-    Ok(Node::from(attribute(alloc, part)?))
+    Ok(Node::Attribute {
+        prefix: prefix(alloc, prefix_part)?,
+        name: name(alloc, name_part)?,
+        value: value(alloc, value_part)?,
+    })
+}
+
+/// The node of a declaration with these parts.
+#[inline(always)]
+#[tactic(auto, unfolding(crate::specs::Contents::contents))]
+pub fn declaration_node(
+    alloc: Global,
+    prefix_part: &PrefixPart,
+    uri_part: &NamePart,
+) -> Result<Node, Unfit>
+    ensures { Makes result (spec.contents (record_seen (RecordPart.Attribute
+        (AttributePart.Declaration prefix_part.now uri_part.now)))) }
+{
+    Ok(Node::Xmlns {
+        prefix: prefix(alloc, prefix_part)?,
+        uri: name(alloc, uri_part)?,
+    })
 }
 
 /// The node of a text.
@@ -365,7 +392,16 @@ pub fn node(alloc: Global, part: &RecordPart) -> Result<Node, Unfit>
         RecordPart::EndElement => Ok(Node::EndElement),
         RecordPart::Comment(bytes) => Ok(Node::Comment(text(alloc, bytes)?)),
         RecordPart::Element(part) => element_node(alloc, part),
-        RecordPart::Attribute(part) => attribute_node(alloc, part),
+        RecordPart::Attribute(
+            AttributePart::Attribute {
+                prefix,
+                name,
+                value,
+            },
+        ) => attribute_node(alloc, prefix, name, value),
+        RecordPart::Attribute(AttributePart::Declaration { prefix, uri }) => {
+            declaration_node(alloc, prefix, uri)
+        }
         RecordPart::Text(part, ends) => text_node(alloc, part, *ends),
         RecordPart::Array(part) => Ok(Node::Array(array(alloc, part)?)),
     }

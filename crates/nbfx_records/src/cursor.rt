@@ -55,8 +55,23 @@ pub fn bytes_at(bytes: &[u8], at: usize, count: usize) -> Result<(&[u8], usize),
     Ok((&bytes[at..to], to))
 }
 
-/// An integer.
+/// An integer. Most have one byte.
+#[inline(always)]
 pub fn integer_at(bytes: &[u8], from: usize) -> Result<(u32, usize), Stop>
+    requires { from ≤ length bytes.now }
+    ensures tells { Tells (λ n. n) an_integer
+        asked.an_integer bytes.now from result }
+    ensures small { IfOk result (λ read. read.0 < 2 ^ 31) }
+{
+    if from < bytes.len() && bytes[from] < 128 {
+        return Ok((bytes[from] as u32, from + 1));
+    }
+    any_integer_at(bytes, from)
+}
+
+// An integer of any number of bytes.
+#[inline(never)]
+fn any_integer_at(bytes: &[u8], from: usize) -> Result<(u32, usize), Stop>
     requires { from ≤ length bytes.now }
     ensures tells { Tells (λ n. n) an_integer
         asked.an_integer bytes.now from result }

@@ -10,6 +10,7 @@
 
 mod arrays;
 mod attributes;
+mod begun;
 mod building;
 mod cursor;
 mod kinds;
@@ -28,9 +29,10 @@ mod values;
 
 pub use arrays::{ArrayPart, CellsPart};
 pub use attributes::{AttributePart, ValuePart};
-pub use building::{attribute_node, element_node, node, text_node};
+pub use begun::{attribute_parts, declaration_parts, element_parts, kind_at, scalar_parts};
+pub use building::{attribute_node, declaration_node, element_node, node, text_node};
 pub use cursor::Stop;
-pub use kinds::TextKind;
+pub use kinds::{NameForm, PrefixForm, RecordKind, TextKind};
 pub use nodes::{
     ArrayNode, AttrNode, AttrNodes, NameRef, Node, NodeFault, NodePlace, RawScalar, RawValue,
     RawValues,

@@ -138,28 +138,6 @@ pub enum NodeFault {
     BadValue,
 }
 
-impl From<AttrNode> for Node {
-    ghost use Rattle.std.specs.Prelude.{◌≡◌};
-    ghost use Rattle.nbfx_records.specs.Contents.{attribute_node};
-
-    ghost from_gives = { λ attribute node. node ≡ attribute_node attribute };
-
-    fn from(attribute: AttrNode) -> Node {
-        match attribute {
-            AttrNode::Attribute {
-                prefix,
-                name,
-                value,
-            } => Node::Attribute {
-                prefix,
-                name,
-                value,
-            },
-            AttrNode::Xmlns { prefix, uri } => Node::Xmlns { prefix, uri },
-        }
-    }
-}
-
 impl Copied for NameRef {
     fn copy(&self) -> Result<NameRef, Memory> {
         Ok(match self {

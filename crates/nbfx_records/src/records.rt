@@ -215,7 +215,8 @@ fn misplaced_within(attributes: bool, deeper: bool, kind: RecordKind) -> Option<
 }
 
 // Why a record may not come at a place, by its kind.
-fn misplaced(place: NodePlace, kind: RecordKind) -> Option<NodeFault>
+#[inline(always)]
+pub(crate) fn misplaced(place: NodePlace, kind: RecordKind) -> Option<NodeFault>
     ensures { result ≡ spec.misplaced place kind }
 {
     match place {

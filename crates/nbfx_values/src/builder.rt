@@ -8,6 +8,7 @@ ghost use Rattle.nbfx_values.specs.Positions.{position_of};
 
 use crate::content::{Item, Items};
 use crate::document::Doc;
+use crate::lists::discard;
 use crate::measures::Measures;
 use crate::position::Position;
 use std::alloc::Global;
@@ -119,6 +120,7 @@ impl DocBuilder {
     {
         let before = self.position();
         let Some(position) = before.moved(&item) else {
+            discard(item);
             return Err(PushFault::OutOfPlace);
         };
         let measures = self.measures.with(before.open_count(), &item);

@@ -13,7 +13,7 @@ use unit_streams::Memory;
 
 /// One item of a document, in the order in which a payload's records give them. The empty prefix
 /// means none.
-#[derive(Debug, Drop)]
+#[derive(Debug)]
 pub enum Item {
     /// An element begins.
     Start {
@@ -37,6 +37,27 @@ pub enum Item {
     Array(ArrayItem),
     /// The element that began last, of those that are open, ends.
     Close,
+}
+
+// Where a document is done with, each of its items is dropped: most hold no memory of their own, and
+// are not to be moved for that.
+impl Drop for Item {
+    #[inline(always)]
+    fn drop(self) {
+        match self {
+            Item::Start { prefix, local } => drop((prefix, local)),
+            Item::Xmlns { prefix, uri } => drop((prefix, uri)),
+            Item::Attr {
+                prefix,
+                local,
+                value,
+            } => drop((prefix, local, value)),
+            Item::Text(value) => drop(value),
+            Item::Comment(text) => drop(text),
+            Item::Array(array) => drop(array),
+            Item::Close => {}
+        }
+    }
 }
 
 /// A declaration or an attribute of an array's element.

@@ -9,6 +9,10 @@ use std::marker::Model;
 use std::mem;
 use unit_streams::Memory;
 
+// Drops a value that is refused, apart from the code that seldom refuses one.
+#[inline(never)]
+pub(crate) fn discard<T: Drop>(_refused: T) {}
+
 /// A list that grows at its end, which contracts see as the list of its values.
 #[derive(Debug, Drop)]
 pub struct Sequence<T> {
@@ -88,7 +92,10 @@ impl<T: Drop> Sequence<T> {
         ensures pushed { OnOk result (self.new ≡ self.old ++ one ∷ []) }
         ensures unchanged { OnErr result (self.new ≡ self.old) }
     {
-        self.items.reserve(1)?;
+        if self.items.reserve(1).is_err() {
+            discard(one);
+            return Err(Memory);
+        }
         self.items.push_reserved(one);
         Ok(())
     }

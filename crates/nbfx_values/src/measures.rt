@@ -18,7 +18,7 @@ fn bytes_of(first: &Txt, second: &Txt) -> u64
 
 impl Scalar {
     /// How much the value counts in a document's content.
-    #[inline]
+    #[inline(always)]
     pub fn content(&self) -> u64
         ensures { result ≡ scalar_content self.now }
     {
@@ -45,7 +45,7 @@ fn content_of_scalars(scalars: &[Scalar]) -> u64
 
 impl Value {
     /// How much the value counts in a document's content, up to 2^64 - 1.
-    #[inline]
+    #[inline(always)]
     pub fn content(&self) -> u64
         ensures { result ≡ capped (value_content self.now) }
     {

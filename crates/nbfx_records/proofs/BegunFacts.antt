@@ -1,0 +1,106 @@
+-- The parts of a record whose kind is known stand behind its type byte.
+use Rattle.std.proofs.Common.{◌≡◌, ◌≤◌, length, ℕ, List, [], ◌∷◌, get_or, Bool, Option, Some, None, Result, Ok, Err, refl, sym, ap, ◌∙◌, subst}
+use Rattle.std.specs.Prelude.{slice_get}
+use Rattle.unit_streams.specs.Parts.{Reader, a_byte, seen}
+use Rattle.nbfx_records.specs.declared.cursor.Stop.{Stop}
+use Rattle.nbfx_records.specs.declared.kinds.RecordKind.{RecordKind}
+use Rattle.nbfx_records.specs.declared.kinds.RecordKind.TheVariants as records
+use Rattle.nbfx_records.specs.declared.kinds.TextKind.{TextKind}
+use Rattle.nbfx_records.specs.declared.kinds.TextKind.TheVariants as texts
+use Rattle.nbfx_records.specs.declared.kinds.PrefixForm.{PrefixForm}
+use Rattle.nbfx_records.specs.declared.kinds.NameForm.{NameForm}
+use Rattle.nbfx_records.specs.declared.nodes.NodeFault.{NodeFault}
+use Rattle.nbfx_records.specs.declared.nodes.NodePlace.{NodePlace}
+use Rattle.nbfx_records.specs.declared.nodes.NodePlace.TheVariants.{BeforeRoot, Within, AfterRoot}
+use Rattle.nbfx_records.specs.declared.attributes.AttributePart.{AttributePart}
+use Rattle.nbfx_records.specs.declared.attributes.ValuePart.TheVariants.{One}
+use Rattle.nbfx_records.specs.declared.parts.NamedPart.{NamedPart}
+use Rattle.nbfx_records.specs.declared.parts.ScalarPart.{ScalarPart}
+use Rattle.nbfx_records.specs.declared.records.RecordPart.TheVariants as parts
+use Rattle.nbfx_records.specs.Asked as asked
+use Rattle.nbfx_records.specs.Beginning.{Begins}
+use Rattle.nbfx_records.specs.Cursor.{IsWhole, Tells}
+use Rattle.nbfx_records.specs.Kinds.{record_kind}
+use Rattle.nbfx_records.specs.Shapes.{Shape, NamedShape, ScalarShape, adds, attribute_at, begins_element, declaration_at, element_at, ends_element, has_text, misplaced, one, placed, record_at, scalar_at, shape_at, text_at, unless_misplaced}
+use Rattle.nbfx_records.specs.Views.{attribute_seen, named_seen, record_seen, scalar_seen}
+use Rattle.nbfx_records.proofs.CursorFacts.{given_tells, seen_stops, seen_tells, then_tells}
+
+-- what may come is read by its kind
+placed_is : (place : NodePlace) (kind : RecordKind) → misplaced place kind ≡ None → placed place (Some kind) ≡ record_at kind
+placed_is BeforeRoot kind e = ap (λ m. unless_misplaced m kind) e
+placed_is (Within attributes deeper) kind e = ap (λ m. unless_misplaced m kind) e
+placed_is AfterRoot kind e = cc
+
+asked_is : (place : NodePlace) (kind : RecordKind) → misplaced place kind ≡ None → asked.placed place (Some kind) ≡ asked.record_at kind
+asked_is BeforeRoot kind e = ap (λ m. asked.unless_misplaced m kind) e
+asked_is (Within attributes deeper) kind e = ap (λ m. asked.unless_misplaced m kind) e
+asked_is AfterRoot kind e = cc
+
+module _ {place : NodePlace} {bytes : List ℕ} {kind : RecordKind} (b : Begins place bytes kind) {X : Type 0} {see : X → Shape} {r : Result (X × ℕ) Stop} where
+  pub begun_tells : Tells see (record_at kind) (asked.record_at kind) bytes 1 r → Tells see (shape_at place) (asked.shape_at place) bytes 0 r
+  unfolding shape_at
+  begun_tells h =
+      let read = subst (λ (f : Reader Shape NodeFault). Tells see f (asked.record_at kind) bytes 1 r) (sym (placed_is place kind b.may_come)) h in
+      let wants = subst (λ (f : List ℕ → ℕ → Type 0). Tells see (placed place (Some kind)) f bytes 1 r) (sym (asked_is place kind b.may_come)) read in
+      then_tells (λ byte. placed place (record_kind byte)) {see' = λ byte. byte} {x = b.byte} {to = 1} (record { told = b.first })
+      (subst (λ (k : Option RecordKind). Tells see (placed place k) (asked.placed place k) bytes 1 r) (sym b.kind_is) wants)
+
+-- a part seen otherwise, whatever is told of it
+seen_told : {A B X : Type 0} (see : A → B) {reader : Reader A NodeFault} {asked : List ℕ → ℕ → Type 0} {bytes : List ℕ} {at : ℕ} {see' : X → A} (r : Result (X × ℕ) Stop) → Tells see' reader asked bytes at r
+    → Tells (λ x. see (see' x)) (λ b. seen see (λ fault. fault) (reader b)) asked bytes at r
+seen_told see (Ok read) h = seen_tells see h refl
+seen_told see (Err stop) h = record { told = seen_stops see h.told }
+
+module _ (prefix : PrefixForm) (name : NameForm) {bytes : List ℕ} where
+  pub element_tells : (r : Result (NamedPart × ℕ) Stop) → Tells named_seen (element_at prefix name) (asked.element_at prefix name) bytes 1 r
+      → Tells (λ part. record_seen (parts.Element part)) (record_at (records.Element prefix name)) (asked.record_at (records.Element prefix name)) bytes 1 r
+  unfolding record_at
+  element_tells r h = seen_told (λ (it : NamedShape). begins_element it.prefix it.name) r h
+
+  pub attribute_tells : (r : Result (AttributePart × ℕ) Stop) → Tells attribute_seen (attribute_at prefix name) (asked.attribute_at prefix name) bytes 1 r
+      → Tells (λ part. record_seen (parts.Attribute part)) (record_at (records.Attribute prefix name)) (asked.record_at (records.Attribute prefix name)) bytes 1 r
+  unfolding record_at
+  attribute_tells r h = seen_told adds r h
+
+  pub declaration_tells : (r : Result (AttributePart × ℕ) Stop) → Tells attribute_seen (declaration_at prefix name) (asked.declaration_at prefix name) bytes 1 r
+      → Tells (λ part. record_seen (parts.Attribute part)) (record_at (records.Declaration prefix name)) (asked.record_at (records.Declaration prefix name)) bytes 1 r
+  unfolding record_at
+  declaration_tells r h = seen_told adds r h
+
+-- a text that is no list has one value
+text_of_one : (kind : TextKind) (ends : Bool) → (kind ≡ texts.StartList → ⊥) → text_at kind ends ≡ λ bytes. seen (λ scalar. has_text (one scalar) ends) (λ fault. fault) (scalar_at kind bytes)
+text_of_one texts.StartList ends other = absurd (other refl)
+text_of_one _ ends other = refl
+
+asked_of_one : (kind : TextKind) (ends : Bool) → (kind ≡ texts.StartList → ⊥) → asked.text_at kind ends ≡ asked.scalar_at kind
+asked_of_one texts.StartList ends other = absurd (other refl)
+asked_of_one _ ends other = refl
+
+pub text_tells : (kind : TextKind) (ends : Bool) → (kind ≡ texts.StartList → ⊥) → {bytes : List ℕ} (r : Result (ScalarPart × ℕ) Stop) → Tells scalar_seen (scalar_at kind) (asked.scalar_at kind) bytes 1 r
+    → Tells (λ part. record_seen (parts.Text (One part) ends)) (record_at (records.Text kind ends)) (asked.record_at (records.Text kind ends)) bytes 1 r
+unfolding record_at
+text_tells kind ends other {bytes} r h =
+    let view : ScalarPart → Shape = λ part. record_seen (parts.Text (One part) ends) in
+    let one_seen = seen_told (λ (scalar : ScalarShape). has_text (one scalar) ends) r h in
+    let read = subst (λ (f : Reader Shape NodeFault). Tells view f (asked.scalar_at kind) bytes 1 r) (sym (text_of_one kind ends other)) one_seen in
+    subst (λ (f : List ℕ → ℕ → Type 0). Tells view (text_at kind ends) f bytes 1 r) (sym (asked_of_one kind ends other)) read
+
+-- the first byte is one byte, so one kind at most begins there
+first_byte : (bytes : List ℕ) (byte : ℕ) → IsWhole a_byte bytes 0 byte 1 → get_or bytes 0 0 ≡ byte
+first_byte [] byte h = let e = h.stands [] in cc
+first_byte (b ∷ rest) byte h = let e = h.stands [] in cc
+
+pub begun_kind : {place : NodePlace} {bytes : List ℕ} {kind : RecordKind} → Begins place bytes kind → (first : ℕ) → Some first ≡ slice_get bytes 0 → record_kind first ≡ Some kind
+begun_kind {bytes = []} b first e = cc
+begun_kind {bytes = x ∷ rest} b first e =
+    let here : x ≡ b.byte = first_byte (x ∷ rest) b.byte b.first in
+    let same : first ≡ x = cc in
+    ap record_kind (same ∙ here) ∙ b.kind_is
+
+-- an end is whole with its type byte
+end_tells : (bytes : List ℕ) → 1 ≤ length bytes → Tells (λ (u : Unit {0}). ends_element) (record_at records.EndElement) (asked.record_at records.EndElement) bytes 1 (Ok (tt, 1))
+unfolding record_at
+end_tells bytes within = given_tells (λ (u : Unit {0}). ends_element) tt bytes 1 within
+
+pub end_begun : {place : NodePlace} {bytes : List ℕ} → Begins place bytes records.EndElement → IsWhole (shape_at place) bytes 0 ends_element 1
+end_begun {place} {bytes} b = (begun_tells b {see = λ (u : Unit {0}). ends_element} {r = Ok (tt, 1)} (end_tells bytes b.first.within)).told

@@ -1,0 +1,15 @@
+-- Which record some bytes begin.
+use Rattle.std.specs.Prelude.{◌≡◌, ℕ, List, Some, None}
+use Rattle.unit_streams.specs.Parts.{a_byte}
+use Rattle.nbfx_records.specs.declared.kinds.RecordKind.{RecordKind}
+use Rattle.nbfx_records.specs.declared.nodes.NodePlace.{NodePlace}
+use Rattle.nbfx_records.specs.Cursor.{IsWhole}
+use Rattle.nbfx_records.specs.Kinds.{record_kind}
+use Rattle.nbfx_records.specs.Shapes.{misplaced}
+
+-- their first is the type byte of a record of this kind, which may come at this place
+pub record Begins (place : NodePlace) (bytes : List ℕ) (kind : RecordKind) : Type 0 where
+  pub byte : ℕ
+  pub first : IsWhole a_byte bytes 0 byte 1
+  pub kind_is : record_kind byte ≡ Some kind
+  pub may_come : misplaced place kind ≡ None
