@@ -3,10 +3,7 @@ use Rattle.std.specs.Prelude.{◌≡◌, ℕ, List, [], Bool, ◌&&◌, Option, 
 use Rattle.std.specs.List.{list_all}
 use Rattle.nbfx_values.specs.declared.content.ArrayItem.{ArrayItem}
 use Rattle.nbfx_values.specs.declared.content.ArrayKind.{ArrayKind}
-use Rattle.nbfx_values.specs.declared.content.AttrItem.{AttrItem}
-use Rattle.nbfx_values.specs.declared.content.AttrItem.TheVariants.{Xmlns as DeclaresOn, Attr as AttrOn}
 use Rattle.nbfx_values.specs.declared.content.Item.{Item}
-use Rattle.nbfx_values.specs.declared.content.Item.TheVariants.{Xmlns, Attr}
 use Rattle.nbfx_values.specs.Items.{are_texts, fits_kind, is_valid_attribute, is_valid_item}
 use Rattle.line_notation.specs.declared.line.Line.{Line}
 use Rattle.line_notation.specs.declared.line.Line.TheVariants as says
@@ -48,12 +45,6 @@ IsHeld kind (says.Array a) = IsTrue (is_held a)
 IsHeld None (says.Values values) = Unit {0}
 IsHeld (Some kind) (says.Values values) =
     IsTrue (nat_lt 0 (length values) && list_all (fits_kind kind) values)
-
--- an item within an array's element
-abbrev pub attribute_of : Item → Option AttrItem
-attribute_of (Xmlns prefix uri) = Some (DeclaresOn prefix uri)
-attribute_of (Attr prefix local value) = Some (AttrOn prefix local value)
-attribute_of _ = None
 
 -- a line led where these items and this array are, unless memory ran out
 abbrev pub Places : Result LineStep Refusal → Result Placed LineKind → List Item → Option ArrayItem

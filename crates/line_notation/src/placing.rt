@@ -2,7 +2,7 @@
 ghost use Rattle.std.specs.Prelude.{◌≡◌, None, Some, Ok, Err, IfErr, IfOk, IsTrue};
 ghost use Rattle.nbfx_values.specs.Items.{is_valid_attribute, is_valid_item};
 ghost use Rattle.nbfx_values.specs.Positions.{position_of};
-ghost use Rattle.line_notation.specs.Placing.{IsHeld, IsOpen, Places, attribute_of, is_held};
+ghost use Rattle.line_notation.specs.Placing.{IsHeld, IsOpen, Places, is_held};
 ghost use Rattle.line_notation.specs.Standing as spec;
 ghost use Rattle.line_notation.specs.Standing.{is_passed_over, kind_of, on, outcome, placed, placed_array, placed_item, with_attribute};
 
@@ -86,25 +86,6 @@ fn opened(builder: &DocBuilder, begun: ArrayItem) -> Result<ArrayItem, Refusal>
     }
 }
 
-// An attribute of an array, where the item is one.
-fn attribute_of(item: Item) -> Option<AttrItem>
-    ensures { result ≡ attribute_of item }
-{
-    match item {
-        Item::Xmlns { prefix, uri } => Some(AttrItem::Xmlns { prefix, uri }),
-        Item::Attr {
-            prefix,
-            local,
-            value,
-        } => Some(AttrItem::Attr {
-            prefix,
-            local,
-            value,
-        }),
-        _ => None,
-    }
-}
-
 // The array with one attribute more.
 fn with_attribute(array: ArrayItem, one: AttrItem) -> Result<ArrayItem, Memory>
     requires held { IsTrue (is_held array) }
@@ -135,7 +116,7 @@ fn place(
             Ok(LineStep::More)
         }
         (Some(open), Line::Item(item)) => {
-            let one = attribute_of(item).ok_or(LineKind::OutOfPlace)?;
+            let one = item.into_attribute().ok_or(LineKind::OutOfPlace)?;
             *array = Some(with_attribute(open, one)?);
             Ok(LineStep::More)
         }

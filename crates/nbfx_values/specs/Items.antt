@@ -1,5 +1,5 @@
 -- Which items a document can hold.
-use Rattle.std.specs.Prelude.{ℕ, List, Bool, true, false, ◌&&◌, nat_lt, length}
+use Rattle.std.specs.Prelude.{ℕ, List, Option, Some, None, Bool, true, false, ◌&&◌, nat_lt, length}
 use Rattle.std.specs.List.{list_all}
 use Rattle.std.specs.Str.{is_utf8}
 use Rattle.nbfx_values.specs.declared.content.ArrayItem.{ArrayItem}
@@ -50,3 +50,9 @@ is_valid_item (Text value) = is_valid_value value
 is_valid_item (Comment bytes) = is_utf8 bytes
 is_valid_item (Array a) = is_valid_array a
 is_valid_item Close = true
+
+-- the declaration or the attribute that an item is, as an array's element has it
+abbrev pub attribute_in : Item → Option AttrItem
+attribute_in (Xmlns prefix uri) = Some (DeclaresOn prefix uri)
+attribute_in (Attr prefix local value) = Some (AttrOn prefix local value)
+attribute_in _ = None
