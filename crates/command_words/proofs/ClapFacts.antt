@@ -14,7 +14,7 @@ use Rattle.clap.specs.declared.error.Error.{Error}
 use Rattle.clap.specs.declared.error.kind.ErrorKind.TheVariants.{OutOfMemory}
 use Rattle.command_words.specs.declared.action.Action.{Action}
 use Rattle.command_words.specs.declared.option_name.OptionName.{OptionName}
-use Rattle.command_words.specs.Options.{Given, IsOnce, Spells, Text, text_of, value_of}
+use Rattle.command_words.specs.Options.{Given, IsOnce, SpellOptions, Text, option_text, value_of}
 use Rattle.command_words.specs.Commands.{options_of, word_of}
 use Rattle.command_words.specs.Reading.{HasFound, IsReadable, app_for, app_with, found_values}
 use Rattle.command_words.specs.Requests.{GiveOptions}
@@ -49,7 +49,7 @@ module _ (name : Text) (options : List OptionName) (words : List Text) where
   -- words that a parse takes
   pub parse-takes : (matches : ArgMatches) → AllByRecursion IsReadable words → fault_of (app_with name options) words ≡ []
       → HasMatchesOf (app_with name options) words matches
-      → (given : List Given) × Spells words given × (are_known options given ≡ true) × IsOnce given
+      → (given : List Given) × SpellOptions words given × (are_known options given ≡ true) × IsOnce given
       × ((option : OptionName) → found_values matches option ≡ value_of given option)
   parse-takes matches readable none has =
       let told = reading-sound name options words [] resting tt readable (passes-from_fault none) in
@@ -58,12 +58,12 @@ module _ (name : Text) (options : List OptionName) (words : List Text) where
         told.spelled,
         told.known,
         once-from_new told.given told.new,
-        λ option. first_value-rows (found_of matches) (text_of option)
-            ∙ ap (first_of (text_of option)) ((has simple).0 ∙ matches_of-is ∙ told.leads) ∙ first_of-given told.given option,
+        λ option. first_value-rows (found_of matches) (option_text option)
+            ∙ ap (first_of (option_text option)) ((has simple).0 ∙ matches_of-is ∙ told.leads) ∙ first_of-given told.given option,
       )
 
   -- words that spell options, none of them twice, have no fault
-  pub spelled-takes : (given : List Given) → Spells words given → are_known options given ≡ true → IsOnce given → fault_of (app_with name options) words ≡ []
+  pub spelled-takes : (given : List Given) → SpellOptions words given → are_known options given ≡ true → IsOnce given → fault_of (app_with name options) words ≡ []
   spelled-takes given spelled known once =
       fault-from_passes (reading-complete name options given words [] resting tt tt spelled known (new-from_once given once))
 

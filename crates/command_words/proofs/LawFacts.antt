@@ -13,10 +13,10 @@ use Rattle.command_words.specs.declared.action.Action.TheVariants.{Check, Dump}
 use Rattle.command_words.specs.declared.option_name.OptionName.{OptionName}
 use Rattle.command_words.specs.declared.option_name.OptionName.TheVariants.{Static, Payload, Depth, Dictionary, Content, Session}
 use Rattle.command_words.specs.Commands.{word_of}
-use Rattle.command_words.specs.Options.{BeginsApart, BeginsJoined, Given, IsOnce, Spells, Text, dashed, is_option, text_of, value_of}
+use Rattle.command_words.specs.Options.{BeginsApart, BeginsJoined, Given, IsOnce, SpellOptions, Text, dashed, is_option, option_text, value_of}
 use Rattle.command_words.specs.Requests.{AskFor, AskToRead, Asked, IsNumber, IsRequest, usual_content}
 use Rattle.command_words.proofs.NumberFacts.{limits-same}
-use Rattle.command_words.proofs.OptionFacts.{is_option-same, same-is_option, text_of-injective}
+use Rattle.command_words.proofs.OptionFacts.{is_option-same, same-is_option, option_text-injective}
 use Rattle.command_words.proofs.WordFacts.{long_of-dashed, long_of-joined}
 
 -- ---- options
@@ -49,28 +49,28 @@ begins-one : (words : List Text) (one other : Given) (rest more : List Text) →
 begins-one words one other rest more (inl (is_one, plain)) (inl (is_other, plain2)) =
     let same : dashed one.0 ∷ one.1 ∷ rest ≡ dashed other.0 ∷ other.1 ∷ more = sym is_one ∙ is_other in
     let word : dashed one.0 ≡ dashed other.0 = cc in
-    let looks : looks_like (text_of one.0) None ≡ looks_like (text_of other.0) None = sym (long_of-dashed one.0) ∙ ap long_of word ∙ long_of-dashed other.0 in
-    let name : one.0 ≡ other.0 = text_of-injective one.0 other.0 (same_text _ _ _ _ looks) in
+    let looks : looks_like (option_text one.0) None ≡ looks_like (option_text other.0) None = sym (long_of-dashed one.0) ∙ ap long_of word ∙ long_of-dashed other.0 in
+    let name : one.0 ≡ other.0 = option_text-injective one.0 other.0 (same_text _ _ _ _ looks) in
     let value : one.1 ≡ other.1 = cc in
     (λ i. (name i, value i), cc)
 begins-one words one other rest more (inl (is_one, plain)) (inr is_other) =
     let same : dashed one.0 ∷ one.1 ∷ rest ≡ (dashed other.0 ++ (codes "=" ++ other.1)) ∷ more = sym is_one ∙ is_other in
     let word : dashed one.0 ≡ dashed other.0 ++ (codes "=" ++ other.1) = cc in
-    let looks : looks_like (text_of one.0) None ≡ looks_like (text_of other.0) (Some other.1) = sym (long_of-dashed one.0) ∙ ap long_of word ∙ long_of-joined other.0 other.1 in
+    let looks : looks_like (option_text one.0) None ≡ looks_like (option_text other.0) (Some other.1) = sym (long_of-dashed one.0) ∙ ap long_of word ∙ long_of-joined other.0 other.1 in
     let value : None ≡ Some other.1 = same_value _ _ _ _ looks in
     absurd (none≢some other.1 value)
 begins-one words one other rest more (inr is_one) (inl (is_other, plain)) =
     let same : (dashed one.0 ++ (codes "=" ++ one.1)) ∷ rest ≡ dashed other.0 ∷ other.1 ∷ more = sym is_one ∙ is_other in
     let word : dashed one.0 ++ (codes "=" ++ one.1) ≡ dashed other.0 = cc in
-    let looks : looks_like (text_of one.0) (Some one.1) ≡ looks_like (text_of other.0) None = sym (long_of-joined one.0 one.1) ∙ ap long_of word ∙ long_of-dashed other.0 in
+    let looks : looks_like (option_text one.0) (Some one.1) ≡ looks_like (option_text other.0) None = sym (long_of-joined one.0 one.1) ∙ ap long_of word ∙ long_of-dashed other.0 in
     let value : None ≡ Some one.1 = sym (same_value _ _ _ _ looks) in
     absurd (none≢some one.1 value)
 begins-one words one other rest more (inr is_one) (inr is_other) =
     let same : (dashed one.0 ++ (codes "=" ++ one.1)) ∷ rest ≡ (dashed other.0 ++ (codes "=" ++ other.1)) ∷ more = sym is_one ∙ is_other in
     let word : dashed one.0 ++ (codes "=" ++ one.1) ≡ dashed other.0 ++ (codes "=" ++ other.1) = cc in
-    let looks : looks_like (text_of one.0) (Some one.1) ≡ looks_like (text_of other.0) (Some other.1) =
+    let looks : looks_like (option_text one.0) (Some one.1) ≡ looks_like (option_text other.0) (Some other.1) =
     sym (long_of-joined one.0 one.1) ∙ ap long_of word ∙ long_of-joined other.0 other.1 in
-    let name : one.0 ≡ other.0 = text_of-injective one.0 other.0 (same_text _ _ _ _ looks) in
+    let name : one.0 ≡ other.0 = option_text-injective one.0 other.0 (same_text _ _ _ _ looks) in
     let value : one.1 ≡ other.1 = cc (same_value _ _ _ _ looks) in
     (λ i. (name i, value i), cc)
 
@@ -79,13 +79,13 @@ no_words words given rest none (inl (is, plain)) = cc
 no_words words given rest none (inr is) = cc
 
 -- words spell options in one way
-pub spells-one : (one other : List Given) (words : List Text) → Spells words one → Spells words other → one ≡ other
+pub spells-one : (one other : List Given) (words : List Text) → SpellOptions words one → SpellOptions words other → one ≡ other
 spells-one [] [] words is_one is_other = refl
 spells-one [] (given ∷ other) words none (rest, begins, spelled) = absurd (no_words words given rest none begins)
 spells-one (given ∷ one) [] words (rest, begins, spelled) none = absurd (no_words words given rest none begins)
 spells-one (given ∷ one) (next ∷ other) words (rest, begins, spelled) (more, begins_other, spelled_other) =
     let first = begins-one words given next rest more begins begins_other in
-    ap₂ (λ (g : Given) (gs : List Given). g ∷ gs) first.0 (spells-one one other rest spelled (subst (λ ws. Spells ws other) (sym first.1) spelled_other))
+    ap₂ (λ (g : Given) (gs : List Given). g ∷ gs) first.0 (spells-one one other rest spelled (subst (λ ws. SpellOptions ws other) (sym first.1) spelled_other))
 
 -- ---- requests
 
@@ -125,7 +125,7 @@ request-one words one other is is_other =
     let same : is.program ∷ word_of one.action ∷ is.options ≡ is_other.program ∷ word_of other.action ∷ is_other.options = sym is.command ∙ is_other.command in
     let action = word_of-injective one.action other.action (cc same) in
     let options : is.options ≡ is_other.options = cc same in
-    let given : is.given ≡ is_other.given = spells-one is.given is_other.given is_other.options (subst (λ ws. Spells ws is.given) options is.gives.spelled) is_other.gives.spelled in
+    let given : is.given ≡ is_other.given = spells-one is.given is_other.given is_other.options (subst (λ ws. SpellOptions ws is.given) options is.gives.spelled) is_other.gives.spelled in
     let rest = ask-one (value_of is_other.given) one.statics other.statics one.limits other.limits
     (subst (λ g. AskToRead (value_of g) one.statics one.limits) given (for-reading one.action (value_of is.given) one is.meant)) (for-reading other.action (value_of is_other.given) other is_other.meant) in
     λ i. record { action = action i; statics = rest.0 i; limits = rest.1 i }

@@ -6,7 +6,7 @@ use Rattle.std.proofs.lemmas.Bool.{cases_Bool}
 use Rattle.std.proofs.lemmas.Slice.Eq.{bytes_eq-Decides}
 use Rattle.command_words.specs.declared.option_name.OptionName.{OptionName}
 use Rattle.command_words.specs.declared.option_name.OptionName.TheVariants.{Static, Payload, Depth, Dictionary, Content, Session}
-use Rattle.command_words.specs.Options.{Given, IsOnce, Text, is_option, text_of, value_of}
+use Rattle.command_words.specs.Options.{Given, IsOnce, Text, is_option, option_text, value_of}
 
 -- ---- options by their texts
 
@@ -20,25 +20,25 @@ named text =
     else if bytes_eq text (codes "content") then Content
     else Session
 
-named-text_of : (option : OptionName) → named (text_of option) ≡ option
-named-text_of Static = refl
-named-text_of Payload = refl
-named-text_of Depth = refl
-named-text_of Dictionary = refl
-named-text_of Content = refl
-named-text_of Session = refl
+named-option_text : (option : OptionName) → named (option_text option) ≡ option
+named-option_text Static = refl
+named-option_text Payload = refl
+named-option_text Depth = refl
+named-option_text Dictionary = refl
+named-option_text Content = refl
+named-option_text Session = refl
 
-pub text_of-injective : (one other : OptionName) → text_of one ≡ text_of other → one ≡ other
-text_of-injective one other e = sym (named-text_of one) ∙ ap named e ∙ named-text_of other
+pub option_text-injective : (one other : OptionName) → option_text one ≡ option_text other → one ≡ other
+option_text-injective one other e = sym (named-option_text one) ∙ ap named e ∙ named-option_text other
 
 pub bytes_eq-same : (text : Text) → bytes_eq text text ≡ true
 bytes_eq-same text = (bytes_eq-Decides text text).1 refl
 
 pub is_option-same : (option : OptionName) → is_option option option ≡ true
-is_option-same option = bytes_eq-same (text_of option)
+is_option-same option = bytes_eq-same (option_text option)
 
 pub same-is_option : (one other : OptionName) → is_option one other ≡ true → one ≡ other
-same-is_option one other e = text_of-injective one other ((bytes_eq-Decides (text_of one) (text_of other)).0 e)
+same-is_option one other e = option_text-injective one other ((bytes_eq-Decides (option_text one) (option_text other)).0 e)
 
 pub is_option-flips : (one other : OptionName) → is_option one other ≡ false → is_option other one ≡ false
 is_option-flips one other e = go (cases_Bool (is_option other one))

@@ -10,8 +10,8 @@ use Rattle.clap.specs.declared.parser.matches.ArgMatches.{ArgMatches}
 use Rattle.command_words.specs.declared.action.Action.{Action}
 use Rattle.command_words.specs.declared.words.WordsFault.TheVariants.{Memory, NotUnderstood}
 use Rattle.command_words.specs.Commands.{word_of}
-use Rattle.command_words.specs.Options.{Given, Spells, Text, begins_with_hyphen, dashed, value_of}
-use Rattle.command_words.specs.Reading.{HasFound, IsBare, IsReadable, found_values}
+use Rattle.command_words.specs.Options.{Given, SpellOptions, Text, begins_with_hyphen, dashed, value_of}
+use Rattle.command_words.specs.Reading.{HasFound, IsLoneHyphens, IsReadable, found_values}
 use Rattle.command_words.specs.Requests.{AskFor, Asked, IsRequest}
 use Rattle.command_words.proofs.LawFacts.{spells-one, word_of-injective}
 use Rattle.command_words.proofs.WordFacts.{long_of-dashed, long_of-joined}
@@ -35,32 +35,32 @@ module _ {A : Type 0} where
             subst (λ w. IsReadable (string_bytes w)) (sym is) readable
       ]
 
-  none-of : (words : List (String A)) (k : ℕ) (word : String A) → k < length words → slice_index_or words k word ≡ word → IsBare (string_bytes word)
-      → AllByRecursion (λ w. ¬ IsBare w) (map string_bytes words) → ⊥
+  none-of : (words : List (String A)) (k : ℕ) (word : String A) → k < length words → slice_index_or words k word ≡ word → IsLoneHyphens (string_bytes word)
+      → AllByRecursion (λ w. ¬ IsLoneHyphens w) (map string_bytes words) → ⊥
   none-of [] k word lt at bare none = absurd (omega arith)
-  none-of (one ∷ words) zero word lt at bare none = none.0 (subst (λ w. IsBare (string_bytes w)) (sym at) bare)
+  none-of (one ∷ words) zero word lt at bare none = none.0 (subst (λ w. IsLoneHyphens (string_bytes w)) (sym at) bare)
   none-of (one ∷ words) (suc k) word lt at bare none = none-of words k word (omega arith) at bare none.1
 
 -- a word with a name isn't bare
-long-not_bare : (word : Text) (long : Text × Option Text) → long_of word ≡ Some long → ¬ IsBare word
+long-not_bare : (word : Text) (long : Text × Option Text) → long_of word ≡ Some long → ¬ IsLoneHyphens word
 long-not_bare word long is (inl one) = cc (rw one at is)
 long-not_bare word long is (inr two) = cc (rw two at is)
 
-plain-not_bare : (word : Text) → begins_with_hyphen word ≡ false → ¬ IsBare word
+plain-not_bare : (word : Text) → begins_with_hyphen word ≡ false → ¬ IsLoneHyphens word
 plain-not_bare word plain (inl one) = cc (rw one at plain)
 plain-not_bare word plain (inr two) = cc (rw two at plain)
 
-spelled-not_bare : (given : List Given) (words : List Text) → Spells words given → AllByRecursion (λ w. ¬ IsBare w) words
-spelled-not_bare [] words none = subst (AllByRecursion (λ w. ¬ IsBare w)) (sym none) tt
+spelled-not_bare : (given : List Given) (words : List Text) → SpellOptions words given → AllByRecursion (λ w. ¬ IsLoneHyphens w) words
+spelled-not_bare [] words none = subst (AllByRecursion (λ w. ¬ IsLoneHyphens w)) (sym none) tt
 spelled-not_bare (one ∷ given) words (rest, inl (is, plain), spelled) =
-    subst (AllByRecursion (λ w. ¬ IsBare w)) (sym is)
+    subst (AllByRecursion (λ w. ¬ IsLoneHyphens w)) (sym is)
     (long-not_bare (dashed one.0) _ (long_of-dashed one.0), (plain-not_bare one.1 plain, spelled-not_bare given rest spelled))
 spelled-not_bare (one ∷ given) words (rest, inr is, spelled) =
-    subst (AllByRecursion (λ w. ¬ IsBare w)) (sym is)
+    subst (AllByRecursion (λ w. ¬ IsLoneHyphens w)) (sym is)
     (long-not_bare (dashed one.0 ++ (codes "=" ++ one.1)) _ (long_of-joined one.0 one.1), spelled-not_bare given rest spelled)
 
 -- words among which one is bare spell no options
-pub bare-refused : {A : Type 0} (words : List (String A)) (given : List Given) → Any (λ word. IsBare (string_bytes word)) words → Spells (map string_bytes words) given → ⊥
+pub bare-refused : {A : Type 0} (words : List (String A)) (given : List Given) → Any (λ word. IsLoneHyphens (string_bytes word)) words → SpellOptions (map string_bytes words) given → ⊥
 bare-refused words given (k, word, lt, at, bare) spelled = none-of words k word lt at bare (spelled-not_bare given (map string_bytes words) spelled)
 
 pub memory≢not_understood : Memory ≡ NotUnderstood → ⊥
@@ -85,7 +85,7 @@ request-asks words options program action matches asked is found request =
     let same : program ∷ word_of action ∷ options ≡ request.program ∷ word_of asked.action ∷ request.options = sym is ∙ request.command in
     let same_options : request.options ≡ options = cc same in
     let given : request.given ≡ found.given =
-    spells-one request.given found.given options (subst (λ ws. Spells ws request.given) same_options request.gives.spelled) found.gives.spelled in
+    spells-one request.given found.given options (subst (λ ws. SpellOptions ws request.given) same_options request.gives.spelled) found.gives.spelled in
     let values : ◌≡◌ {A = OptionName → Option Text} (value_of request.given) (found_values matches) =
     ap value_of given ∙ (λ i option. sym (found.values option) i) in
     let same_action : asked.action ≡ action = word_of-injective asked.action action (cc same) in

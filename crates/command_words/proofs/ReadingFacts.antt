@@ -10,7 +10,7 @@ use Rattle.clap.specs.Walk.{Held, Row, Walk, settled_rows, walked}
 use Rattle.clap.proofs.WalkLemmas.{both}
 use Rattle.clap.specs.Faults.{settle_fault, turn_fault, walk_fault}
 use Rattle.command_words.specs.declared.option_name.OptionName.{OptionName}
-use Rattle.command_words.specs.Options.{BeginsApart, BeginsJoined, Given, Spells, Text, begins_with_hyphen, dashed, is_option, text_of, value_of}
+use Rattle.command_words.specs.Options.{BeginsApart, BeginsJoined, Given, SpellOptions, Text, begins_with_hyphen, dashed, is_option, option_text, value_of}
 use Rattle.command_words.specs.Reading.{IsReadable}
 use Rattle.command_words.proofs.OptionFacts.{IsNew, IsNew-cons, IsNew-head, IsNew-nil, IsNew-tail}
 use Rattle.command_words.proofs.RuleFacts.{arg_by_long-is, row_for, built_rules, shape}
@@ -31,7 +31,7 @@ open_words (naming name) = dashed name ∷ []
 -- the words from a state on are options, which lead to these rows
 pub record LeadToRows (options : List OptionName) (seen : List Given) (state : State) (words : List Text) (rows : List Row) : Type 0 where
   pub given : List Given
-  pub spelled : Spells (open_words state ++ words) given
+  pub spelled : SpellOptions (open_words state ++ words) given
   pub known : are_known options given ≡ true
   pub new : IsNew seen given
   pub leads : rows ≡ map row_for (seen ++ given)
@@ -53,7 +53,7 @@ Sound name options words = (seen : List Given) (state : State) → Fits options 
 
 -- what the words behind an open option are, with it
 told-behind : (options : List OptionName) (seen : List Given) (state : State) (words : List Text) (rows : List Row) (given : List Given)
-    → Fits options state → Rests seen state → Spells words given → are_known options given ≡ true → IsNew (whole seen state) given
+    → Fits options state → Rests seen state → SpellOptions words given → are_known options given ≡ true → IsNew (whole seen state) given
     → rows ≡ map row_for (whole seen state ++ given) → LeadToRows options seen state words rows
 told-behind options seen resting words rows given fits rests spelled known new leads = record {
   given = given;
@@ -83,15 +83,15 @@ module _ (name : Text) (options : List OptionName) where
 
   module _ (word : Text) (words : List Text) (sound : Sound name options words) (readable : AllByRecursion IsReadable words) (seen : List Given) (state : State) (fits : Fits options state)
       (turned : turn_fault (shape name options) [] (walk_at seen state) word ≡ []) (passes : Passes name options (walked (built_rules options) [] (walk_at seen state) word) words) where
-    sound-named : (option : OptionName) → list_any (is_option option) options ≡ true → long_of word ≡ Some (text_of option, None) → word ≡ dashed option
+    sound-named : (option : OptionName) → list_any (is_option option) options ≡ true → long_of word ≡ Some (option_text option, None) → word ≡ dashed option
         → LeadToRows options seen state (word ∷ words) (rows_behind options (walk_at seen state) (word ∷ words))
     sound-named option known is_long is =
         let rests = settle-rests options seen state fits (sym (named-fault name options seen state word option known is_long) ∙ turned) in
         let told = go_on words sound (walked (built_rules options) [] (walk_at seen state) word) (whole seen state) (naming option)
         (named-walks name options seen state word option known is_long fits rests) known readable passes in
-        told-behind options seen state (word ∷ words) _ told.given fits rests (subst (λ w. Spells (w ∷ words) told.given) (sym is) told.spelled) told.known told.new told.leads
+        told-behind options seen state (word ∷ words) _ told.given fits rests (subst (λ w. SpellOptions (w ∷ words) told.given) (sym is) told.spelled) told.known told.new told.leads
 
-    sound-joined : (option : OptionName) (value : Text) → list_any (is_option option) options ≡ true → long_of word ≡ Some (text_of option, Some value)
+    sound-joined : (option : OptionName) (value : Text) → list_any (is_option option) options ≡ true → long_of word ≡ Some (option_text option, Some value)
         → word ≡ dashed option ++ (codes "=" ++ value) → LeadToRows options seen state (word ∷ words) (rows_behind options (walk_at seen state) (word ∷ words))
     sound-joined option value known is_long is =
         let given : Given = (option, value) in
@@ -195,7 +195,7 @@ module _ (name : Text) (options : List OptionName) where
       (joined-passes name options seen state word given known is_long fits rests new)
       (joined-walks name options seen state word given known is_long fits rests new) behind_joined)
 
-  pub reading-complete : (given : List Given) (words : List Text) (seen : List Given) (state : State) → Fits options state → Rests seen state → Spells words given
+  pub reading-complete : (given : List Given) (words : List Text) (seen : List Given) (state : State) → Fits options state → Rests seen state → SpellOptions words given
       → are_known options given ≡ true → IsNew (whole seen state) given → Passes name options (walk_at seen state) words
   reading-complete [] words seen state fits rests spelled known new =
       subst (Passes name options (walk_at seen state)) (sym spelled) (passes-nil seen state fits rests)

@@ -12,7 +12,7 @@ use Rattle.clap.specs.Faults.{check_fault, defaults_fault, is_free_app, is_simpl
 use Rattle.clap.specs.declared.builder.value_parser.Reading.TheVariants as reading
 use Rattle.clap.specs.declared.parser.matches.ValueSource.TheVariants.{CommandLine}
 use Rattle.command_words.specs.declared.option_name.OptionName.{OptionName}
-use Rattle.command_words.specs.Options.{Given, Text, is_option, text_of, value_of}
+use Rattle.command_words.specs.Options.{Given, Text, is_option, option_text, value_of}
 use Rattle.command_words.specs.Reading.{app_with, app_without_options, option_rule, with_option}
 use Rattle.command_words.proofs.OptionFacts.{is_option-flips, is_option-same, same-is_option}
 
@@ -67,7 +67,7 @@ none_passes p (option ∷ options) fails = rw (fails option) (none_passes p opti
 -- ---- looking options up
 
 pub arg_by_id-known : (options : List OptionName) (option : OptionName) → list_any (is_option option) options ≡ true
-    → arg_by_id (built_rules options) (text_of option) ≡ Some (built_rule option)
+    → arg_by_id (built_rules options) (option_text option) ≡ Some (built_rule option)
 arg_by_id-known [] option known = cc known
 arg_by_id-known (one ∷ options) option known =
     elim (cases_Bool (is_option one option)) [
@@ -76,7 +76,7 @@ arg_by_id-known (one ∷ options) option known =
     ]
 
 pub arg_by_long-known : (options : List OptionName) (option : OptionName) → list_any (is_option option) options ≡ true
-    → arg_by_long (built_rules options) (text_of option) ≡ Some (built_rule option)
+    → arg_by_long (built_rules options) (option_text option) ≡ Some (built_rule option)
 arg_by_long-known [] option known = cc known
 arg_by_long-known (one ∷ options) option known =
     elim (cases_Bool (is_option one option)) [
@@ -90,11 +90,11 @@ or_right false b e = e
 
 -- the name is one of the options, or clap knows none by it
 pub arg_by_long-is : (options : List OptionName) (name : Text)
-    → (arg_by_long (built_rules options) name ≡ None) ⊎ ((option : OptionName) × (name ≡ text_of option) × (list_any (is_option option) options ≡ true))
+    → (arg_by_long (built_rules options) name ≡ None) ⊎ ((option : OptionName) × (name ≡ option_text option) × (list_any (is_option option) options ≡ true))
 arg_by_long-is [] name = inl refl
 arg_by_long-is (one ∷ options) name =
-    elim (cases_Bool (bytes_eq (text_of one) name)) [
-      | inl same ↦ inr (one, sym ((bytes_eq-Decides (text_of one) name).0 same), rw (is_option-same one) refl)
+    elim (cases_Bool (bytes_eq (option_text one) name)) [
+      | inl same ↦ inr (one, sym ((bytes_eq-Decides (option_text one) name).0 same), rw (is_option-same one) refl)
       | inr other ↦ elim (arg_by_long-is options name) [
         | inl none ↦ inl (rw other none)
         | inr found ↦ inr (found.0, found.1, or_right (is_option found.0 one) _ found.2)
@@ -114,14 +114,14 @@ arg_by_index-none (one ∷ options) i = arg_by_index-none options i
 -- what clap finds of an option
 abbrev pub row_for : Given → Row
 row_for given = record {
-  id = text_of given.0;
+  id = option_text given.0;
   values = given.1 ∷ [];
   count = None;
   source = Some CommandLine;
   reading = reading.AsWritten;
 }
 
-pub has_row-given : (seen : List Given) (option : OptionName) → has_row (text_of option) (map row_for seen) ≡ is_some (value_of seen option)
+pub has_row-given : (seen : List Given) (option : OptionName) → has_row (option_text option) (map row_for seen) ≡ is_some (value_of seen option)
 has_row-given [] option = refl
 has_row-given (given ∷ seen) option =
     elim (cases_Bool (is_option given.0 option)) [
@@ -129,7 +129,7 @@ has_row-given (given ∷ seen) option =
       | inr other ↦ rw other (has_row-given seen option)
     ]
 
-pub first_of-given : (given : List Given) (option : OptionName) → first_of (text_of option) (map row_for given) ≡ value_of given option
+pub first_of-given : (given : List Given) (option : OptionName) → first_of (option_text option) (map row_for given) ≡ value_of given option
 first_of-given [] option = refl
 first_of-given (one ∷ given) option =
     elim (cases_Bool (is_option one.0 option)) [
@@ -150,10 +150,10 @@ at_row-new id change missing (row ∷ rows) none =
 pub used-new : (seen : List Given) (given : Given) → value_of seen given.0 ≡ None
     → used (built_rule given.0) (given.1 ∷ []) (map row_for seen) ≡ map row_for (seen ++ given ∷ [])
 used-new seen given new =
-    let none : has_row (text_of given.0) (map row_for seen) ≡ false = has_row-given seen given.0 ∙ ap is_some new in
-    ap (with_values (text_of given.0) reading.AsWritten CommandLine (given.1 ∷ []))
-    (at_row-new (text_of given.0) (λ _. []) [] (map row_for seen) none ∙ append-nil (map row_for seen))
-    ∙ at_row-new (text_of given.0) (more_values CommandLine (given.1 ∷ [])) (row_for given ∷ []) (map row_for seen) none
+    let none : has_row (option_text given.0) (map row_for seen) ≡ false = has_row-given seen given.0 ∙ ap is_some new in
+    ap (with_values (option_text given.0) reading.AsWritten CommandLine (given.1 ∷ []))
+    (at_row-new (option_text given.0) (λ _. []) [] (map row_for seen) none ∙ append-nil (map row_for seen))
+    ∙ at_row-new (option_text given.0) (more_values CommandLine (given.1 ∷ [])) (row_for given ∷ []) (map row_for seen) none
     ∙ sym (map-append row_for seen (given ∷ []))
 
 -- ---- after the words
@@ -163,14 +163,14 @@ pub defaults-none : (seen : List Row) (options : List OptionName) → defaults_f
 unfolding defaults_fault
 defaults-none seen [] = refl
 defaults-none seen (option ∷ options) =
-    elim (cases_Bool (has_row (text_of option) seen)) [
+    elim (cases_Bool (has_row (option_text option) seen)) [
       | inl there ↦ rw there (defaults-none seen options)
       | inr missing ↦ rw missing (defaults-none seen options)
     ]
 
 without_default : (rows : List Row) (option : OptionName) → with_default rows (built_rule option) ≡ rows
 without_default rows option =
-    elim (cases_Bool (has_row (text_of option) rows)) [
+    elim (cases_Bool (has_row (option_text option) rows)) [
       | inl there ↦ rw there refl
       | inr missing ↦ rw missing refl
     ]

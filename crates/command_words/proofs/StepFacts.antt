@@ -9,7 +9,7 @@ use Rattle.clap.specs.Lexer.{long_of, short_of}
 use Rattle.clap.specs.Walk.{Held, Waiting, arg_by_long, has_row, idle, option, positional, settled_rows, subcommand_met, used, walked}
 use Rattle.clap.specs.Faults.{flags_fault, settle_fault, turn_fault, use_fault}
 use Rattle.command_words.specs.declared.option_name.OptionName.{OptionName}
-use Rattle.command_words.specs.Options.{Given, Text, is_option, text_of, value_of}
+use Rattle.command_words.specs.Options.{Given, Text, is_option, option_text, value_of}
 use Rattle.command_words.proofs.OptionFacts.{bytes_eq-same}
 use Rattle.command_words.proofs.RuleFacts.{arg_by_id-known, arg_by_index-none, arg_by_long-known, arg_by_short-none, built_rule, has_row-given, row_for, built_rules, shape, used-new}
 use Rattle.command_words.proofs.WalkFacts.{Fits, Rests, State, held_at, held_with, holding, missing_row, naming, none-from_is_some, or_else-empty, or_else-nil, pending_of, resting, rests-settle, settle-rests, settled_rows-whole, waiting_of, walk_at, walk_with, whole}
@@ -39,29 +39,29 @@ module _ (name : Text) (options : List OptionName) (seen : List Given) (state : 
 
   module _ (name_is : OptionName) (known : list_any (is_option name_is) options ≡ true) where
     -- `--name`
-    pub named-fault : long_of word ≡ Some (text_of name_is, None)
+    pub named-fault : long_of word ≡ Some (option_text name_is, None)
         → turn_fault (shape name options) [] (walk_at seen state) word ≡ settle_fault (built_rules options) false (held_at seen state)
     named-fault is_long =
-        rw (no_subcommand (waiting_of state) word, not_pair (text_of name_is) None is_long, is_long, arg_by_long-known options name_is known)
+        rw (no_subcommand (waiting_of state) word, not_pair (option_text name_is) None is_long, is_long, arg_by_long-known options name_is known)
         (or_else-nil (settle_fault (built_rules options) false (held_at seen state)))
 
-    named-walked : long_of word ≡ Some (text_of name_is, None) → walked (built_rules options) [] (walk_at seen state) word
-        ≡ walk_with (held_with (settled_rows (built_rules options) (pending_of state) (map row_for seen)) (Some (text_of name_is, []))) (option (text_of name_is))
+    named-walked : long_of word ≡ Some (option_text name_is, None) → walked (built_rules options) [] (walk_at seen state) word
+        ≡ walk_with (held_with (settled_rows (built_rules options) (pending_of state) (map row_for seen)) (Some (option_text name_is, []))) (option (option_text name_is))
     unfolding walked
     named-walked is_long =
-        rw (no_subcommand (waiting_of state) word, not_pair (text_of name_is) None is_long, is_long, arg_by_long-known options name_is known) refl
+        rw (no_subcommand (waiting_of state) word, not_pair (option_text name_is) None is_long, is_long, arg_by_long-known options name_is known) refl
 
-    pub named-walks : long_of word ≡ Some (text_of name_is, None) → Fits options state → Rests seen state
+    pub named-walks : long_of word ≡ Some (option_text name_is, None) → Fits options state → Rests seen state
         → walked (built_rules options) [] (walk_at seen state) word ≡ walk_at (whole seen state) (naming name_is)
     named-walks is_long fits rests =
         named-walked is_long
-        ∙ ap (λ rows. walk_with (held_with rows (Some (text_of name_is, []))) (option (text_of name_is))) (settled_rows-whole options seen state fits rests)
+        ∙ ap (λ rows. walk_with (held_with rows (Some (option_text name_is, []))) (option (option_text name_is))) (settled_rows-whole options seen state fits rests)
 
-  module _ (given : Given) (known : list_any (is_option given.0) options ≡ true) (is_long : long_of word ≡ Some (text_of given.0, Some given.1)) where
+  module _ (given : Given) (known : list_any (is_option given.0) options ≡ true) (is_long : long_of word ≡ Some (option_text given.0, Some given.1)) where
     -- `--name=value`
     joined-fault : turn_fault (shape name options) [] (walk_at seen state) word ≡ or_else (settle_fault (built_rules options) false (held_at seen state))
         (use_fault false (built_rule given.0) (given.1 ∷ []) (settled_rows (built_rules options) (pending_of state) (map row_for seen)))
-    joined-fault = rw (no_subcommand (waiting_of state) word, not_pair (text_of given.0) (Some given.1) is_long, is_long, arg_by_long-known options given.0 known) (or_else-nil _)
+    joined-fault = rw (no_subcommand (waiting_of state) word, not_pair (option_text given.0) (Some given.1) is_long, is_long, arg_by_long-known options given.0 known) (or_else-nil _)
 
     settled-use : Fits options state → Rests seen state
         → use_fault false (built_rule given.0) (given.1 ∷ []) (settled_rows (built_rules options) (pending_of state) (map row_for seen))
@@ -74,7 +74,7 @@ module _ (name : Text) (options : List OptionName) (seen : List Given) (state : 
         let parts = or_else-empty (settle_fault (built_rules options) false (held_at seen state)) _ (sym joined-fault ∙ e) in
         let rests = settle-rests options seen state fits parts.0 in
         let once = sym (settled-use fits rests) ∙ parts.1 in
-        elim (cases_Bool (has_row (text_of given.0) (map row_for (whole seen state)))) [
+        elim (cases_Bool (has_row (option_text given.0) (map row_for (whole seen state)))) [
           | inl there ↦ cc (rw there at once)
           | inr missing ↦ (rests, none-from_is_some (value_of (whole seen state) given.0) (sym (has_row-given (whole seen state) given.0) ∙ missing))
         ]
@@ -91,7 +91,7 @@ module _ (name : Text) (options : List OptionName) (seen : List Given) (state : 
     joined-walked : walked (built_rules options) [] (walk_at seen state) word
         ≡ walk_with (held_with (used (built_rule given.0) (given.1 ∷ []) (settled_rows (built_rules options) (pending_of state) (map row_for seen))) None) idle
     unfolding walked
-    joined-walked = rw (no_subcommand (waiting_of state) word, not_pair (text_of given.0) (Some given.1) is_long, is_long, arg_by_long-known options given.0 known) refl
+    joined-walked = rw (no_subcommand (waiting_of state) word, not_pair (option_text given.0) (Some given.1) is_long, is_long, arg_by_long-known options given.0 known) refl
 
     pub joined-walks : Fits options state → Rests seen state → value_of (whole seen state) given.0 ≡ None
         → walked (built_rules options) [] (walk_at seen state) word ≡ walk_at (whole seen state ++ given ∷ []) resting
@@ -124,4 +124,4 @@ module _ (name : Text) (options : List OptionName) (seen : List Given) (word : T
 
     pub value-walks : walked (built_rules options) [] (walk_at seen (naming name_is)) word ≡ walk_at seen (holding (name_is, word))
     unfolding walked
-    value-walks = rw (not_pair, no_long, no_short, arg_by_id-known options name_is known, bytes_eq-same (text_of name_is)) refl
+    value-walks = rw (not_pair, no_long, no_short, arg_by_id-known options name_is known, bytes_eq-same (option_text name_is)) refl

@@ -7,7 +7,7 @@ use Rattle.clap.specs.Kinds.{Kinds, or_else}
 use Rattle.clap.specs.Walk.{Held, Row, Waiting, Walk, has_row, idle, option, settled_rows}
 use Rattle.clap.specs.Faults.{settle_fault}
 use Rattle.command_words.specs.declared.option_name.OptionName.{OptionName}
-use Rattle.command_words.specs.Options.{Given, Text, begins_with_hyphen, is_option, text_of, value_of}
+use Rattle.command_words.specs.Options.{Given, Text, begins_with_hyphen, is_option, option_text, value_of}
 use Rattle.command_words.proofs.RuleFacts.{arg_by_id-known, has_row-given, row_for, built_rules, used-new}
 
 -- ---- kinds of errors
@@ -30,13 +30,13 @@ pub data State : Type 0 where
 
 abbrev pub pending_of : State → Option (Text × List Text)
 pending_of resting = None
-pending_of (holding given) = Some (text_of given.0, given.1 ∷ [])
-pending_of (naming name) = Some (text_of name, [])
+pending_of (holding given) = Some (option_text given.0, given.1 ∷ [])
+pending_of (naming name) = Some (option_text name, [])
 
 abbrev pub waiting_of : State → Waiting
 waiting_of resting = idle
 waiting_of (holding given) = idle
-waiting_of (naming name) = option (text_of name)
+waiting_of (naming name) = option (option_text name)
 
 abbrev pub held_with : List Row → Option (Text × List Text) → Held
 held_with rows pending = record { rows = rows; pending = pending; skip = 0 }
@@ -85,13 +85,13 @@ module _ (options : List OptionName) where
   settle-rests seen resting fits e = tt
   settle-rests seen (holding given) fits e =
       let used = rw (arg_by_id-known options given.0 fits.0) at e in
-      elim (cases_Bool (has_row (text_of given.0) (map row_for seen))) [
+      elim (cases_Bool (has_row (option_text given.0) (map row_for seen))) [
         | inl there ↦ cc (rw there at used)
         | inr missing ↦ none-from_is_some (value_of seen given.0) (sym (has_row-given seen given.0) ∙ missing)
       ]
   settle-rests seen (naming name) fits e = cc (rw (arg_by_id-known options name fits) at e)
 
-  pub missing_row : (seen : List Given) (name : OptionName) → value_of seen name ≡ None → has_row (text_of name) (map row_for seen) ≡ false
+  pub missing_row : (seen : List Given) (name : OptionName) → value_of seen name ≡ None → has_row (option_text name) (map row_for seen) ≡ false
   missing_row seen name new = has_row-given seen name ∙ ap is_some new
 
   pub rests-settle : (seen : List Given) (state : State) → Fits options state → Rests seen state → settle_fault (built_rules options) false (held_at seen state) ≡ []

@@ -11,12 +11,12 @@ use Rattle.clap.proofs.CutLemmas.{Lacks}
 use Rattle.clap.proofs.LexerLemmas.{name_and_value-at, name_and_value-without}
 use Rattle.command_words.specs.declared.option_name.OptionName.{OptionName}
 use Rattle.command_words.specs.declared.option_name.OptionName.TheVariants.{Static, Payload, Depth, Dictionary, Content, Session}
-use Rattle.command_words.specs.Options.{Text, begins_with_hyphen, dashed, text_of}
+use Rattle.command_words.specs.Options.{Text, begins_with_hyphen, dashed, option_text}
 use Rattle.command_words.specs.Reading.{IsReadable}
 
 -- ---- the words of options
 
-pub long_of-dashed : (option : OptionName) → long_of (dashed option) ≡ Some (text_of option, None)
+pub long_of-dashed : (option : OptionName) → long_of (dashed option) ≡ Some (option_text option, None)
 long_of-dashed Static = refl
 long_of-dashed Payload = refl
 long_of-dashed Depth = refl
@@ -24,7 +24,7 @@ long_of-dashed Dictionary = refl
 long_of-dashed Content = refl
 long_of-dashed Session = refl
 
-pub long_of-joined : (option : OptionName) (value : Text) → long_of (dashed option ++ (codes "=" ++ value)) ≡ Some (text_of option, Some value)
+pub long_of-joined : (option : OptionName) (value : Text) → long_of (dashed option ++ (codes "=" ++ value)) ≡ Some (option_text option, Some value)
 long_of-joined Static value = refl
 long_of-joined Payload value = refl
 long_of-joined Depth value = refl

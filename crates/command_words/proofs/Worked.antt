@@ -12,7 +12,7 @@ use Rattle.command_words.specs.declared.action.Action.{Action}
 use Rattle.command_words.specs.declared.action.Action.TheVariants.{Check, Dump}
 use Rattle.command_words.specs.declared.option_name.OptionName.TheVariants.{Static, Payload, Depth}
 use Rattle.command_words.specs.Commands.{options_of, word_of}
-use Rattle.command_words.specs.Options.{Given, Spells, Text, value_of}
+use Rattle.command_words.specs.Options.{Given, SpellOptions, Text, value_of}
 use Rattle.command_words.specs.Reading.{app_for, begins_plain}
 use Rattle.command_words.specs.Requests.{Asked, AskToRead, GiveOptions, IsRequest}
 use Rattle.command_words.proofs.ClapFacts.{spelled-takes}
@@ -153,11 +153,11 @@ refused_options action options kind fault asked request =
     cc (sym fault ∙ none)
 
 -- options whose values mean nothing
-unmeant_options : (action : Action) (options : List Text) (given : List Given) → Spells options given
+unmeant_options : (action : Action) (options : List Text) (given : List Given) → SpellOptions options given
     → ((statics : Text) (limits : Limits) → ¬ AskToRead (value_of given) statics limits) → IsRefused (codes "nettcp" ∷ word_of action ∷ options)
 unmeant_options action options given spelled none asked request =
     let same : codes "nettcp" ∷ word_of action ∷ options ≡ request.program ∷ word_of asked.action ∷ request.options = request.command in
-    let same_given = spells-one request.given given options (subst (λ ws. Spells ws request.given) (cc same) request.gives.spelled) spelled in
+    let same_given = spells-one request.given given options (subst (λ ws. SpellOptions ws request.given) (cc same) request.gives.spelled) spelled in
     none asked.statics asked.limits (subst (λ g. AskToRead (value_of g) asked.statics asked.limits) same_given (for-reading asked.action (value_of request.given) asked request.meant))
 
 twice : IsRefused (codes "nettcp" ∷ codes "check" ∷ codes "--static" ∷ codes "S" ∷ codes "--static=S" ∷ [])

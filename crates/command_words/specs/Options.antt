@@ -9,20 +9,20 @@ abbrev pub Text : Type 0
 Text = List ℕ
 
 -- what stands behind the two hyphens of each option
-abbrev pub text_of : OptionName → Text
-text_of Static = codes "static"
-text_of Payload = codes "payload"
-text_of Depth = codes "depth"
-text_of Dictionary = codes "dictionary"
-text_of Content = codes "content"
-text_of Session = codes "session"
+abbrev pub option_text : OptionName → Text
+option_text Static = codes "static"
+option_text Payload = codes "payload"
+option_text Depth = codes "depth"
+option_text Dictionary = codes "dictionary"
+option_text Content = codes "content"
+option_text Session = codes "session"
 
 abbrev pub is_option : OptionName → OptionName → Bool
-is_option one other = bytes_eq (text_of one) (text_of other)
+is_option one other = bytes_eq (option_text one) (option_text other)
 
 -- `--name`
 abbrev pub dashed : OptionName → Text
-dashed option = codes "--" ++ text_of option
+dashed option = codes "--" ++ option_text option
 
 -- ---- options that are given
 
@@ -58,7 +58,7 @@ abbrev pub BeginsJoined : List Text → Given → List Text → Type 0
 BeginsJoined words given rest = words ≡ (dashed given.0 ++ (codes "=" ++ given.1)) ∷ rest
 
 -- the words are these options with their values, in this order
-abbrev pub Spells : List Text → List Given → Type 0
-Spells words [] = words ≡ []
-Spells words (given ∷ more) = (rest : List Text)
-    × (BeginsApart words given rest ⊎ BeginsJoined words given rest) × Spells rest more
+abbrev pub SpellOptions : List Text → List Given → Type 0
+SpellOptions words [] = words ≡ []
+SpellOptions words (given ∷ more) = (rest : List Text)
+    × (BeginsApart words given rest ⊎ BeginsJoined words given rest) × SpellOptions rest more

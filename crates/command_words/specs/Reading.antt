@@ -9,14 +9,14 @@ use Rattle.clap.specs.declared.parser.matches.ArgMatches.{ArgMatches}
 use Rattle.command_words.specs.declared.action.Action.{Action}
 use Rattle.command_words.specs.declared.option_name.OptionName.{OptionName}
 use Rattle.command_words.specs.Commands.{options_of, word_of}
-use Rattle.command_words.specs.Options.{Given, Text, text_of, value_of}
+use Rattle.command_words.specs.Options.{Given, Text, option_text, value_of}
 use Rattle.command_words.specs.Requests.{GiveOptions}
 
 -- ---- words that are given to clap
 
 -- a single or double hyphen that stands alone
-abbrev pub IsBare : Text → Type 0
-IsBare word = (word ≡ codes "-") ⊎ (word ≡ codes "--")
+abbrev pub IsLoneHyphens : Text → Type 0
+IsLoneHyphens word = (word ≡ codes "-") ⊎ (word ≡ codes "--")
 
 -- any other text
 pub record IsReadable (word : Text) : Type 0 where
@@ -34,7 +34,7 @@ begins_plain (digit ∷ next ∷ rest) = nat_lt 48 digit && nat_le digit 57
 
 -- an option, which takes one value as text
 abbrev pub option_rule : OptionName → Rule
-option_rule option = record (new_rule (text_of option)) { long = Some (text_of option) }
+option_rule option = record (new_rule (option_text option)) { long = Some (option_text option) }
 
 abbrev pub with_option : App → OptionName → App
 with_option app option = with_rule app (option_rule option)
@@ -61,7 +61,7 @@ text_behind = option_map (λ text. text.now)
 
 -- the value of each option that a parse found
 abbrev pub found_values : ArgMatches → OptionName → Option Text
-found_values matches option = first_value (found_of matches) (text_of option)
+found_values matches option = first_value (found_of matches) (option_text option)
 
 -- the words give options, with the values that a parse found
 pub record HasFound (action : Action) (words : List Text) (matches : ArgMatches) : Type 0 where

@@ -7,7 +7,7 @@ use Rattle.command_words.specs.declared.action.Action.{Action}
 use Rattle.command_words.specs.declared.action.Action.TheVariants.{Check, Dump}
 use Rattle.command_words.specs.declared.option_name.OptionName.{OptionName}
 use Rattle.command_words.specs.declared.option_name.OptionName.TheVariants.{Static, Payload, Depth, Dictionary, Content, Session}
-use Rattle.command_words.specs.Options.{Given, IsOnce, Spells, Text, is_option, value_of}
+use Rattle.command_words.specs.Options.{Given, IsOnce, SpellOptions, Text, is_option, value_of}
 use Rattle.command_words.specs.Commands.{options_of, word_of}
 
 -- what words ask for: a command, and what every command is told
@@ -59,7 +59,7 @@ AreOptionsOf action given =
 
 -- the words are options of the command with their values, none of them twice
 pub record GiveOptions (action : Action) (words : List Text) (given : List Given) : Type 0 where
-  pub spelled : Spells words given
+  pub spelled : SpellOptions words given
   pub known : AreOptionsOf action given
   pub once : IsOnce given
 

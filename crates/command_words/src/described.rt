@@ -5,7 +5,7 @@ ghost use Rattle.command_words.specs.Commands.{word_of};
 ghost use Rattle.command_words.specs.Reading.{app_for, app_without_options, with_option};
 
 use crate::action::{Action, options_of, word_of};
-use crate::option_name::{OptionName, text_of};
+use crate::option_name::{OptionName, option_text};
 use clap::{Arg, Command};
 use std::alloc::{AllocError, Global};
 
@@ -27,7 +27,7 @@ fn with_option<'w>(
 ) -> Result<Command<'w>, AllocError>
     ensures { IfOk result (λ more. app_of more ≡ with_option (app_of command.entry) option) }
 {
-    let name: &'w str = text_of(option);
+    let name: &'w str = option_text(option);
     command.arg(Arg::new(alloc, name).long(name))
 }
 

@@ -9,7 +9,7 @@ ghost use Rattle.command_words.specs.Requests.{AreLimits, AskFor, AskToRead, Ask
 
 use crate::action::Action;
 use crate::number::{number_or, small_or};
-use crate::option_name::{OptionName, text_of};
+use crate::option_name::{OptionName, option_text};
 use crate::request::Request;
 use clap::ArgMatches;
 use nbfx_values::Quotas;
@@ -18,12 +18,13 @@ use nbfx_values::Quotas;
 fn value_of<'w>(matches: &ArgMatches<'w>, option: OptionName) -> Option<&'w str>
     ensures { text_behind result ≡ found_values matches.now option }
 {
-    matches.get_str(text_of(option))
+    matches.get_str(option_text(option))
 }
 
 // The quotas that the values set, where they are good.
 fn quotas_of(matches: &ArgMatches<'_>) -> Option<Quotas>
-    ensures set { IfSome result (λ quotas. AreLimits (found_values matches.now) (limits_of quotas)) }
+    ensures set { IfSome result
+        (λ quotas. AreLimits (found_values matches.now) (limits_of quotas)) }
     ensures none { IfNone result ((limits : Limits) → AreLimits (found_values matches.now) limits
         → ¬ IsGood limits) }
 {

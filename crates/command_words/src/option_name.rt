@@ -1,6 +1,6 @@
 // The options by name.
 ghost use Rattle.std.specs.Prelude.{◌≡◌};
-ghost use Rattle.command_words.specs.Options.{text_of};
+ghost use Rattle.command_words.specs.Options.{option_text};
 
 /// An option that a command may be given.
 #[derive(Clone, Copy, Debug, PartialEq, Eq)]
@@ -20,8 +20,8 @@ pub enum OptionName {
 }
 
 /// What stands behind the two hyphens of an option.
-pub fn text_of(option: OptionName) -> &'static str
-    ensures { result.now ≡ text_of option }
+pub fn option_text(option: OptionName) -> &'static str
+    ensures { result.now ≡ option_text option }
 {
     match option {
         OptionName::Static => "static",

@@ -3,7 +3,7 @@ ghost use Rattle.std.specs.Prelude.{◌≡◌, ◌↔◌, All, Any, IfOk, IsErrO
 ghost use Rattle.std.specs.Bool.{OnFalse, OnTrue};
 ghost use Rattle.clap.specs.Values.{kind_of};
 ghost use Rattle.command_words.specs.Options.{Given};
-ghost use Rattle.command_words.specs.Reading.{HasFound, IsBare, IsReadable};
+ghost use Rattle.command_words.specs.Reading.{HasFound, IsLoneHyphens, IsReadable};
 ghost use Rattle.command_words.specs.Requests.{GiveOptions};
 
 use crate::action::Action;
@@ -15,7 +15,7 @@ use std::alloc::Global;
 
 // Whether a word is a hyphen or two alone, of which clap has a use of its own.
 fn is_bare(word: &str) -> bool
-    ensures { IsTrue result ↔ IsBare word.now }
+    ensures { IsTrue result ↔ IsLoneHyphens word.now }
 {
     word == "-" || word == "--"
 }
@@ -23,7 +23,7 @@ fn is_bare(word: &str) -> bool
 // Whether no word is bare.
 fn are_readable(words: &[String]) -> bool
     ensures readable { OnTrue result (All (λ word. IsReadable (string_bytes word)) words.now) }
-    ensures bare { OnFalse result (Any (λ word. IsBare (string_bytes word)) words.now) }
+    ensures bare { OnFalse result (Any (λ word. IsLoneHyphens (string_bytes word)) words.now) }
 {
     for word in words {
         if is_bare(word.as_str()) {

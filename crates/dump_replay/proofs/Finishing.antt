@@ -17,7 +17,7 @@ use Rattle.dump_replay.specs.declared.reporting.Ending.{Ending}
 use Rattle.dump_replay.specs.declared.reporting.Ending.TheVariants as endings
 use Rattle.dump_replay.specs.declared.report.Detail.{Detail}
 use Rattle.dump_replay.specs.Reporting.{Decides, Breaks, Grows, Reaches, Writes}
-use Rattle.dump_replay.specs.Reading.{AreDue, HasReported, IsAllRead, ReportsAs, done, stopped_by, Judges, Reports}
+use Rattle.dump_replay.specs.Reading.{AreDue, HasReported, IsAllRead, ReportsAs, done, ended_by, Judges, Reports}
 use Rattle.dump_replay.specs.Report.{report, event_lines}
 use Rattle.dump_replay.proofs.Lines.{nothing_lines}
 use Rattle.dump_replay.proofs.Writing.{told_some, grown_within, put_either}
@@ -29,7 +29,7 @@ pub record Finished (d : Detail) (x : Settings) (r : Result Ending SinkFault) (l
   pub puts : PutsAll lines put w w2 h h2 f f2 m m2
   pub grew : Told w1 w2 Grows
   pub whole : OnOk put ((r ≡ Ok e) × (h2 ≡ []))
-  pub stopped : IfErr put (λ fault. e ≡ stopped_by fault)
+  pub stopped : IfErr put (λ fault. e ≡ ended_by fault)
   pub kept : r ≡ Ok endings.ReadFault → e ≡ endings.ReadFault
 
 -- nothing more is written
@@ -43,7 +43,7 @@ module _ (d : Detail) (x : Settings) (S : Type 0) (wr : S → Option (List ℕ))
   Finishes r = Finished d x r lines (wr first) (wr old) (wr new) (hd first) (hd new) (ft first) (ft new) (mw first) (mw new) e
 
   abbrev Flushes : Ending → Type 0
-  Flushes k = (flush : Result ⊤ SinkFault) × PutsAll [] flush (wr old) (wr new) (hd old) (hd new) (ft old) (ft new) (mw old) (mw new) × OnOk flush ((e ≡ k) × (hd new ≡ [])) × IfErr flush (λ fault. e ≡ stopped_by fault)
+  Flushes k = (flush : Result ⊤ SinkFault) × PutsAll [] flush (wr old) (wr new) (hd old) (hd new) (ft old) (ft new) (mw old) (mw new) × OnOk flush ((e ≡ k) × (hd new ≡ [])) × IfErr flush (λ fault. e ≡ ended_by fault)
 
   flushed_whole : (k : Ending) (r : Result Ending SinkFault) → r ≡ Ok k → (flush : Result ⊤ SinkFault) → OnOk flush ((e ≡ k) × (hd new ≡ [])) → OnOk flush ((r ≡ Ok e) × (hd new ≡ []))
   flushed_whole k r is (Ok u) h = (is ∙ ap Ok (sym h.0), h.1)
@@ -63,7 +63,7 @@ module _ (d : Detail) (x : Settings) (S : Type 0) (wr : S → Option (List ℕ))
   pub finished_by : (r : Result Ending SinkFault) → PutsAll lines (done r) (wr first) (wr old) (hd first) (hd old) (ft first) (ft old) (mw first) (mw old)
       → HasReported d x left left' taken taken' (wr first) (wr old) (hd first) (hd old) r lines
       → (r ≡ Ok endings.ReadFault → (e ≡ endings.ReadFault) × (new ≡ old))
-      → IfErr r (λ fault. (e ≡ stopped_by fault) × (new ≡ old))
+      → IfErr r (λ fault. (e ≡ ended_by fault) × (new ≡ old))
       → IfOk r (λ k. (k ≡ endings.ReadFault → ⊥) → Flushes k)
       → Finishes r
   finished_by (Err fault) puts b kept failed flushed = rw failed.1 (record { put = Err fault; puts = puts; grew = grows_not (wr old); whole = tt; stopped = failed.0; kept = λ is. cc })
@@ -75,15 +75,15 @@ module _ (d : Detail) (x : Settings) (S : Type 0) (wr : S → Option (List ℕ))
   finished_by (Ok endings.Memory) puts b kept failed flushed = by_flush endings.Memory puts (λ no. cc) (flushed (λ no. cc))
 
 -- a stop by the output is none of these
-never_judged : (fault : SinkFault) (o : Option Offence) → endings.Judged o ≡ stopped_by fault → ⊥
+never_judged : (fault : SinkFault) (o : Option Offence) → endings.Judged o ≡ ended_by fault → ⊥
 never_judged faults.Failed o e = cc
 never_judged faults.Memory o e = cc
 
-never_read : (fault : SinkFault) → endings.ReadFault ≡ stopped_by fault → ⊥
+never_read : (fault : SinkFault) → endings.ReadFault ≡ ended_by fault → ⊥
 never_read faults.Failed e = cc
 never_read faults.Memory e = cc
 
-stopped_failed : (fault : SinkFault) → stopped_by fault ≡ endings.WriteFault → fault ≡ faults.Failed
+stopped_failed : (fault : SinkFault) → ended_by fault ≡ endings.WriteFault → fault ≡ faults.Failed
 stopped_failed faults.Failed e = refl
 stopped_failed faults.Memory e = cc
 
@@ -138,9 +138,9 @@ module _ (d : Detail) (x : Settings) (left left' taken taken' w w1 w2 : Option (
       p.grown ∙ ap (λ k. l ++ k) put ∙ sym (append_assoc l h lines))
 
   -- where it isn't stopped by the output
-  whole_end : ((fault : SinkFault) → e ≡ stopped_by fault → ⊥) → ReportsAs d x reached.before reached.piece left left' h1 (Ok e) lines × Told w w2 (λ w w'. w' ≡ w ++ h ++ lines)
+  whole_end : ((fault : SinkFault) → e ≡ ended_by fault → ⊥) → ReportsAs d x reached.before reached.piece left left' h1 (Ok e) lines × Told w w2 (λ w w'. w' ≡ w ++ h ++ lines)
   whole_end never = go z.put z.puts.written z.whole z.stopped where
-    go : (put : Result ⊤ SinkFault) → OnOk put (Told w w2 (λ w w'. Passes w w' h h2 lines)) → OnOk put ((r ≡ Ok e) × (h2 ≡ [])) → IfErr put (λ fault. e ≡ stopped_by fault)
+    go : (put : Result ⊤ SinkFault) → OnOk put (Told w w2 (λ w w'. Passes w w' h h2 lines)) → OnOk put ((r ≡ Ok e) × (h2 ≡ [])) → IfErr put (λ fault. e ≡ ended_by fault)
         → ReportsAs d x reached.before reached.piece left left' h1 (Ok e) lines × Told w w2 (λ w w'. w' ≡ w ++ h ++ lines)
     go (Ok u) written whole stopped = (as_ended (Ok u) whole, all_written written whole.1)
     go (Err fault) written whole stopped = absurd (never fault stopped)
@@ -258,9 +258,9 @@ module _ (d : Detail) (x : Settings) (left left' taken taken' w w1 w2 : Option (
   }
 
   -- a write failed where the output did
-  failed_as : (put : Result ⊤ SinkFault) → OnOk put ((r ≡ Ok e) × (h2 ≡ [])) → IfErr put (λ fault. e ≡ stopped_by fault) → (e ≡ endings.WriteFault) ↔ IsErrOf put faults.Failed
+  failed_as : (put : Result ⊤ SinkFault) → OnOk put ((r ≡ Ok e) × (h2 ≡ [])) → IfErr put (λ fault. e ≡ ended_by fault) → (e ≡ endings.WriteFault) ↔ IsErrOf put faults.Failed
   failed_as (Ok u) whole stopped = (λ ended. absurd (subst (λ (v : Ending). ReportsAs d x reached.before reached.piece left left' h1 (Ok v) lines) ended (as_ended (Ok u) whole)), λ no. cc)
-  failed_as (Err fault) whole stopped = (λ ended. ap Err (stopped_failed fault (sym stopped ∙ ended)), λ failed. let same : fault ≡ faults.Failed = cc in stopped ∙ ap stopped_by same)
+  failed_as (Err fault) whole stopped = (λ ended. ap Err (stopped_failed fault (sym stopped ∙ ended)), λ failed. let same : fault ≡ faults.Failed = cc in stopped ∙ ap ended_by same)
 
   pub writes_counted : CountsFaults f f2 (e ≡ endings.WriteFault)
   writes_counted =
@@ -268,7 +268,7 @@ module _ (d : Detail) (x : Settings) (left left' taken taken' w w1 w2 : Option (
       counted_with _ _ _ _ _ refl z.puts.counted same.0 same.1
 
   -- a read did where reading did
-  read_as : (put : Result ⊤ SinkFault) → OnOk put ((r ≡ Ok e) × (h2 ≡ [])) → IfErr put (λ fault. e ≡ stopped_by fault) → e ≡ endings.ReadFault → r ≡ Ok endings.ReadFault
+  read_as : (put : Result ⊤ SinkFault) → OnOk put ((r ≡ Ok e) × (h2 ≡ [])) → IfErr put (λ fault. e ≡ ended_by fault) → e ≡ endings.ReadFault → r ≡ Ok endings.ReadFault
   read_as (Ok u) whole stopped ended = whole.0 ∙ ap Ok ended
   read_as (Err fault) whole stopped ended = absurd (never_read fault (sym ended ∙ stopped))
 

@@ -85,9 +85,9 @@ pub record HasReported (d : Detail) (x : Settings)
   pub ends : ReportsAs d x reached.before reached.piece left left' held' result lines
 
 -- what a fault of the output ends the reporting of a stream with
-abbrev pub stopped_by : SinkFault → Ending
-stopped_by faults.Failed = endings.WriteFault
-stopped_by faults.Memory = endings.Memory
+abbrev pub ended_by : SinkFault → Ending
+ended_by faults.Failed = endings.WriteFault
+ended_by faults.Memory = endings.Memory
 
 -- a judgement is the stream's offence
 abbrev pub Judges : Settings → List ℕ → Ending → Type 0

@@ -11,7 +11,7 @@ ghost use Rattle.stream_reader.specs.Judging.{offence};
 ghost use Rattle.receiver_machine.specs.Saying.{step_for};
 ghost use Rattle.stream_reader.specs.Stream.{StreamEvent, initiators, stream};
 ghost use Rattle.dump_replay.specs.Reporting.{Decides, Breaks, Reaches};
-ghost use Rattle.dump_replay.specs.Reading.{EndsAs, HasRead, ReadsOf, HasReported, done, stopped_by};
+ghost use Rattle.dump_replay.specs.Reading.{EndsAs, HasRead, ReadsOf, HasReported, done, ended_by};
 ghost use Rattle.dump_replay.specs.Report.{document_lines, event_lines, report, told_of};
 ghost use Rattle.dump_replay.specs.Running.{detail_of};
 ghost use Rattle.nbfx_values.specs.QuotasOf.{limits_of};
@@ -182,12 +182,12 @@ fn put_report<I: Source, O: Sink, E: ReadingEnd + Drop>(
 fn written<O: Sink>(ending: Result<Ending, SinkFault>, output: &mut O) -> Ending
     ensures kept { ending ≡ Ok Ending.ReadFault → (result ≡ Ending.ReadFault)
         × (output.new ≡ output.old) }
-    ensures failed { IfErr ending (λ fault. (result ≡ stopped_by fault)
+    ensures failed { IfErr ending (λ fault. (result ≡ ended_by fault)
         × (output.new ≡ output.old)) }
     ensures flushed { IfOk ending (λ e. (e ≡ Ending.ReadFault → ⊥) → (flush : Result ⊤ Fault)
         × Puts O.written O.held O.faults O.may_want output.old output.new [] flush
         × OnOk flush ((result ≡ e) × (O.held output.new ≡ []))
-        × IfErr flush (λ fault. result ≡ stopped_by fault)) }
+        × IfErr flush (λ fault. result ≡ ended_by fault)) }
 {
     match ending {
         Err(fault) => stopped(fault),
@@ -223,7 +223,7 @@ pub fn report_stream<I: Source, O: Sink>(
 }
 
 fn stopped(fault: SinkFault) -> Ending
-    ensures { result ≡ stopped_by fault }
+    ensures { result ≡ ended_by fault }
 {
     match fault {
         SinkFault::Failed => Ending::WriteFault,

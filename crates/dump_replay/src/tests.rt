@@ -9,6 +9,7 @@ use std::test::Fail;
 mod captures;
 mod read_back;
 mod words;
+mod worked_streams;
 
 const SESSION: &[u8] = b"\x00\x01\x00\x01\x02\x02\x0Dnet.tcp://h/e\x03\x08\x0C\x07";
 
@@ -31,7 +32,7 @@ const MESSAGE: &str = "message 0 payload 6 items 2 depth 1 content 1 strings 1 u
 
 // Static strings of an addressed envelope.
 const STATICS: &[u8] =
-    b"id,string\n0,mustUnderstand\n2,Envelope\n4,http://www.w3.org/2003/05/soap-envelope\n6,http://www.w3.org/2005/08/addressing\n8,Header\n10,Action\n12,To\n14,Body\n26,MessageID\n";
+    b"id,string\n0,mustUnderstand\n2,Envelope\n4,http://www.w3.org/2003/05/soap-envelope\n6,http://www.w3.org/2005/08/addressing\n8,Header\n10,Action\n12,To\n14,Body\n18,RelatesTo\n20,http://www.w3.org/2005/08/addressing/anonymous\n26,MessageID\n42,Address\n44,ReplyTo\n";
 
 // What the fakes give and take: at most so many bytes a take, the takes and the puts that fail, and
 // how many bytes of its piece a failing put keeps.

@@ -27,6 +27,10 @@ failure_of d = d.failure
 unfoldable pub taken_of : Decoder → ℕ
 taken_of d = d.units.from + length d.begun
 
+-- how many bytes of the payload it holds
+unfoldable pub held_of : Decoder → ℕ
+held_of d = length d.begun
+
 -- where its payload stands, behind payloads that left these strings
 abbrev pub situation_of : Settings → List (List ℕ) → List ℕ → Situation
 situation_of x strings p = (standing (payload x strings) p).situation

@@ -2,6 +2,7 @@
 -- may come, what it waits for and the strings that it has read.
 use Rattle.std.specs.Prelude.{◌≡◌, ℕ, ◌+◌, ◌-◌, ◌<◌, ◌≤◌, ◌⊎◌, max, List, ◌++◌, length, Option, Some, None, Result, Ok, Err}
 use Rattle.unit_streams.specs.Front.{Front, begun, whole, wrong}
+use Rattle.nbfx_values.specs.Positions.{position_of}
 use Rattle.nbfx_values.specs.QuotasOf.{limits_of}
 use Rattle.string_tables.specs.SessionStrings.{cost}
 use Rattle.nbfx_values.specs.declared.refusals.Reason.{Reason}
@@ -18,7 +19,7 @@ use Rattle.nbfx_decoder.specs.declared.units.UnitRead.{UnitRead}
 use Rattle.nbfx_decoder.specs.declared.units.UnitRead.TheVariants.{More, Done}
 use Rattle.nbfx_decoder.specs.declared.units.UnitReader.{UnitReader}
 use Rattle.nbfx_decoder.specs.Tables.{StringHead, head_at, table_string_at}
-use Rattle.nbfx_decoder.specs.Payload.{Settings, Situation, PayloadUnit, node, refusal, unit_in, after, refused}
+use Rattle.nbfx_decoder.specs.Payload.{Settings, Situation, PayloadUnit, node, place_of, refusal, unit_in, after, refused}
 
 -- it has begun, and fewer than so many bytes in all decide nothing, however they go on
 pub record AwaitsBytes {A R : Type 0} (reader : List ℕ
@@ -70,6 +71,10 @@ pub record Keeps (old new : UnitReader) : Type 0 where
   pub quotas : new.quotas ≡ old.quotas
   pub kind : new.kind ≡ old.kind
   pub table : new.table ≡ old.table
+
+-- where its next node stands
+abbrev pub place_in : UnitReader → NodePlace
+place_in r = place_of r.quotas.depth (position_of r.document)
 
 -- it is in this situation
 pub record IsAt (r : UnitReader) (x : Settings) (z : Situation) (from : ℕ) : Type 0 where

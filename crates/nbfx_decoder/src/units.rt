@@ -9,7 +9,7 @@ ghost use Rattle.nbfx_values.specs.QuotasOf.{limits_of};
 ghost use Rattle.nbfx_values.specs.Items.{is_valid_item};
 ghost use Rattle.nbfx_decoder.specs.Meant.{items_in};
 ghost use Rattle.multibyte_ints.specs.Integer.{IsBytes};
-ghost use Rattle.nbfx_records.specs.Beginning.{Begins};
+ghost use Rattle.nbfx_records.specs.Beginning.{BeginsKind};
 ghost use Rattle.nbfx_records.specs.Contents.{contents};
 ghost use Rattle.nbfx_records.specs.Judged.{Makes};
 ghost use Rattle.nbfx_records.specs.Places.{Stands};
@@ -60,8 +60,8 @@ pub(crate) struct UnitReader<'s> {
 }
 
 impl<'s> UnitReader<'s> {
-    ghost use Rattle.nbfx_decoder.specs.Payload.{Settings, Situation, beginning, place_of};
-    ghost use Rattle.nbfx_decoder.specs.Units.{IsAt, Keeps, KeepsSettings, Counts, counted, AddAnswers, HasShape, SayAnswers, UnitAnswers};
+    ghost use Rattle.nbfx_decoder.specs.Payload.{Settings, Situation, beginning};
+    ghost use Rattle.nbfx_decoder.specs.Units.{IsAt, Keeps, KeepsSettings, Counts, counted, place_in, AddAnswers, HasShape, SayAnswers, UnitAnswers};
 
     /// Before a payload's first byte, with no strings.
     pub(crate) fn new(alloc: Global, statics: &'s StaticTable, quotas: Quotas, kind: Kind) -> Self
@@ -181,7 +181,7 @@ impl<'s> UnitReader<'s> {
     // Where the next node stands.
     #[inline(always)]
     fn place(&self) -> NodePlace
-        ensures { result ≡ place_of self.now.quotas.depth (position_of self.now.document) }
+        ensures { result ≡ place_in self.now }
     {
         match self.document.position() {
             Position::Before => NodePlace::BeforeRoot,
@@ -200,12 +200,12 @@ impl<'s> UnitReader<'s> {
         requires few { self.old.from + len < 2 ^ 32 }
         requires valid { ReadsValid read }
         requires there { (bytes : List ℕ) × (length bytes ≡ len)
-            × Answers (place_of self.old.quotas.depth (position_of self.old.document)) bytes read
-            × Wants (place_of self.old.quotas.depth (position_of self.old.document)) bytes read }
+            × Answers (place_in self.old) bytes read
+            × Wants (place_in self.old) bytes read }
         ensures answers { (x : Settings) (z : Situation) (from : ℕ) (bytes : List ℕ)
             → IsAt self.old x z from
-            → Answers (place_of self.old.quotas.depth (position_of self.old.document)) bytes read
-            → Wants (place_of self.old.quotas.depth (position_of self.old.document)) bytes read
+            → Answers (place_in self.old) bytes read
+            → Wants (place_in self.old) bytes read
             → UnitAnswers x z from bytes self.new result }
         ensures counts { IfOk result (Counts len) }
         ensures from { IfOk result (λ read. self.new.from ≡ self.old.from + counted read) }
@@ -252,8 +252,8 @@ impl<'s> UnitReader<'s> {
     ) -> Result<UnitRead, UnitFault>
         requires here { self.old.section ≡ Section.Nodes }
         requires few { self.old.from + length bytes.now < 2 ^ 32 }
-        requires begins { Begins (place_of self.old.quotas.depth (position_of self.old.document))
-            bytes.now (RecordKind.Element prefix name) }
+        requires begins { BeginsKind (place_in self.old) bytes.now
+            (RecordKind.Element prefix name) }
         ensures answers { (x : Settings) (z : Situation) (from : ℕ) → IsAt self.old x z from
             → UnitAnswers x z from bytes.now self.new result }
         ensures counts { IfOk result (Counts (length bytes.now)) }
@@ -275,8 +275,8 @@ impl<'s> UnitReader<'s> {
     ) -> Result<UnitRead, UnitFault>
         requires here { self.old.section ≡ Section.Nodes }
         requires few { self.old.from + length bytes.now < 2 ^ 32 }
-        requires begins { Begins (place_of self.old.quotas.depth (position_of self.old.document))
-            bytes.now (RecordKind.Attribute prefix name) }
+        requires begins { BeginsKind (place_in self.old) bytes.now
+            (RecordKind.Attribute prefix name) }
         ensures answers { (x : Settings) (z : Situation) (from : ℕ) → IsAt self.old x z from
             → UnitAnswers x z from bytes.now self.new result }
         ensures counts { IfOk result (Counts (length bytes.now)) }
@@ -307,8 +307,8 @@ impl<'s> UnitReader<'s> {
     ) -> Result<UnitRead, UnitFault>
         requires here { self.old.section ≡ Section.Nodes }
         requires few { self.old.from + length bytes.now < 2 ^ 32 }
-        requires begins { Begins (place_of self.old.quotas.depth (position_of self.old.document))
-            bytes.now (RecordKind.Declaration prefix uri) }
+        requires begins { BeginsKind (place_in self.old) bytes.now
+            (RecordKind.Declaration prefix uri) }
         ensures answers { (x : Settings) (z : Situation) (from : ℕ) → IsAt self.old x z from
             → UnitAnswers x z from bytes.now self.new result }
         ensures counts { IfOk result (Counts (length bytes.now)) }
@@ -328,8 +328,8 @@ impl<'s> UnitReader<'s> {
     fn text(&mut self, kind: TextKind, ends: bool, bytes: &[u8]) -> Result<UnitRead, UnitFault>
         requires here { self.old.section ≡ Section.Nodes }
         requires few { self.old.from + length bytes.now < 2 ^ 32 }
-        requires begins { Begins (place_of self.old.quotas.depth (position_of self.old.document))
-            bytes.now (RecordKind.Text kind ends) }
+        requires begins { BeginsKind (place_in self.old) bytes.now
+            (RecordKind.Text kind ends) }
         ensures answers { (x : Settings) (z : Situation) (from : ℕ) → IsAt self.old x z from
             → UnitAnswers x z from bytes.now self.new result }
         ensures counts { IfOk result (Counts (length bytes.now)) }
@@ -372,12 +372,12 @@ impl<'s> UnitReader<'s> {
     fn pass_record(&mut self, made: Result<Node, Unfit>, used: usize) -> Result<UnitRead, UnitFault>
         requires here { self.old.section ≡ Section.Nodes }
         requires few { self.old.from + used < 2 ^ 32 }
-        requires stands { (shape : Shape) × (bytes : List ℕ) × HasShape (place_of
-            self.old.quotas.depth (position_of self.old.document)) shape used bytes
-            × IsBytes bytes × Makes made (contents shape) }
+        requires stands { (shape : Shape) × (bytes : List ℕ)
+            × HasShape (place_in self.old) shape used bytes × IsBytes bytes
+            × Makes made (contents shape) }
         ensures answers { (x : Settings) (z : Situation) (from : ℕ) (shape : Shape)
-            (bytes : List ℕ) → IsAt self.old x z from → HasShape (place_of self.old.quotas.depth
-            (position_of self.old.document)) shape used bytes → Makes made (contents shape)
+            (bytes : List ℕ) → IsAt self.old x z from → HasShape (place_in self.old) shape used bytes
+            → Makes made (contents shape)
             → UnitAnswers x z from bytes self.new result }
         ensures done { IfOk result (λ read. read ≡ UnitRead.Done used) }
         ensures from { IfOk result (λ read. self.new.from ≡ self.old.from + counted read) }
@@ -391,12 +391,12 @@ impl<'s> UnitReader<'s> {
     #[inline(always)]
     fn put(&mut self, made: Result<Node, Unfit>, used: usize) -> Result<(), UnitFault>
         requires here { self.old.section ≡ Section.Nodes }
-        requires stands { (shape : Shape) × (bytes : List ℕ) × HasShape (place_of
-            self.old.quotas.depth (position_of self.old.document)) shape used bytes
-            × IsBytes bytes × Makes made (contents shape) }
+        requires stands { (shape : Shape) × (bytes : List ℕ)
+            × HasShape (place_in self.old) shape used bytes × IsBytes bytes
+            × Makes made (contents shape) }
         ensures answers { (x : Settings) (z : Situation) (from : ℕ) (shape : Shape)
-            (bytes : List ℕ) → IsAt self.old x z from → HasShape (place_of self.old.quotas.depth
-            (position_of self.old.document)) shape used bytes → Makes made (contents shape)
+            (bytes : List ℕ) → IsAt self.old x z from → HasShape (place_in self.old) shape used bytes
+            → Makes made (contents shape)
             → SayAnswers x z from bytes used self.new result }
         ensures section { self.new.section ≡ self.old.section }
         ensures from { self.new.from ≡ self.old.from }
@@ -412,7 +412,7 @@ impl<'s> UnitReader<'s> {
     #[inline(always)]
     fn add(&mut self, node: Node, used: usize) -> Result<(), UnitFault>
         requires valid { IsTrue (is_valid_node node) }
-        requires stands { Stands (place_of self.old.quotas.depth (position_of self.old.document)) node }
+        requires stands { Stands (place_in self.old) node }
         ensures answers { (x : Settings) (z : Situation) (from : ℕ) → IsAt self.old x z from
             → AddAnswers x z from node used self.new result }
         ensures section { self.new.section ≡ self.old.section }

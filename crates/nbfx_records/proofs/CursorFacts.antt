@@ -19,7 +19,7 @@ use Rattle.nbfx_records.specs.declared.nodes.NodeFault.TheVariants as faults
 use Rattle.nbfx_records.specs.Shapes.{an_integer}
 use Rattle.nbfx_records.proofs.ShapeFronts.{reads_integer}
 use Rattle.nbfx_records.specs.Asked.{Either, here, later}
-use Rattle.nbfx_records.specs.Cursor.{read_from, IsWhole, IsWrong, Why, AsksAt, Stops, Told, Tells}
+use Rattle.nbfx_records.specs.Cursor.{read_from, IsWhole, IsWrong, Why, AsksAt, Stops, PartTold, Tells}
 
 -- bytes that follow, behind an offset
 drop_more : (bytes more : List ℕ) (at : ℕ) → at ≤ length bytes → drop at (bytes ++ more) ≡ drop at bytes ++ more
@@ -113,8 +113,8 @@ module _ {A B : Type 0} (reader : Reader A NodeFault) (next : A → Reader B Nod
         let rest = ap (λ n. drop n bytes) k.2 ∙ sym (drop-drop k.0 at bytes) in
         (k.0 + m, omega (arith, e, k.2), later (a, k.0, m, ap (λ b. reader (drop at b)) (sym (append-nil bytes)) ∙ k.1, refl, subst (λ (b : List ℕ). behind a b m) rest h))
 
-  told_behind : (asked : List ℕ → ℕ → Type 0) (behind : A → List ℕ → ℕ → Type 0) {X : Type 0} (see : X → B) (a : A) (to : ℕ) (r : Result (X × ℕ) Stop) → IsWhole reader bytes at a to → Told see (next a) (behind a) bytes to r
-      → Told see (reader >>= next) (Either reader asked behind) bytes at r
+  told_behind : (asked : List ℕ → ℕ → Type 0) (behind : A → List ℕ → ℕ → Type 0) {X : Type 0} (see : X → B) (a : A) (to : ℕ) (r : Result (X × ℕ) Stop) → IsWhole reader bytes at a to → PartTold see (next a) (behind a) bytes to r
+      → PartTold see (reader >>= next) (Either reader asked behind) bytes at r
   told_behind asked behind see a to (Ok x) first then = record {
     after = let e = first.after in let f = then.after in omega arith;
     within = then.within;

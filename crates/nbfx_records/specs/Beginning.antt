@@ -8,7 +8,7 @@ use Rattle.nbfx_records.specs.Kinds.{record_kind}
 use Rattle.nbfx_records.specs.Shapes.{misplaced}
 
 -- their first is the type byte of a record of this kind, which may come at this place
-pub record Begins (place : NodePlace) (bytes : List ℕ) (kind : RecordKind) : Type 0 where
+pub record BeginsKind (place : NodePlace) (bytes : List ℕ) (kind : RecordKind) : Type 0 where
   pub byte : ℕ
   pub first : IsWhole a_byte bytes 0 byte 1
   pub kind_is : record_kind byte ≡ Some kind

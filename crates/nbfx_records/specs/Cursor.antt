@@ -46,10 +46,10 @@ pub record Stops {A : Type 0} (reader : Reader A NodeFault) (asked : List ℕ �
   pub asks : AsksAt asked bytes at stop
 
 -- what it is, of which see is what the reader has, or why it isn't whole
-abbrev pub Told : {X A : Type 0} → (X → A) → Reader A NodeFault → (List ℕ → ℕ → Type 0) → List ℕ → ℕ
-    → Result (X × ℕ) Stop → Type 0
-Told see reader asked bytes at (Ok read) = IsWhole reader bytes at (see read.0) read.1
-Told see reader asked bytes at (Err stop) = Stops reader asked bytes at stop
+abbrev pub PartTold : {X A : Type 0} → (X → A) → Reader A NodeFault → (List ℕ → ℕ → Type 0)
+    → List ℕ → ℕ → Result (X × ℕ) Stop → Type 0
+PartTold see reader asked bytes at (Ok read) = IsWhole reader bytes at (see read.0) read.1
+PartTold see reader asked bytes at (Err stop) = Stops reader asked bytes at stop
 
 -- where it wants more bytes
 abbrev pub OnMore : {T : Type 0} → Result T Stop → Type 0 → Type 0
@@ -60,4 +60,4 @@ OnMore _ P = ⊤
 pub record Tells {X A : Type 0} (see : X → A) (reader : Reader A NodeFault)
     (asked : List ℕ → ℕ → Type 0) (bytes : List ℕ) (at : ℕ)
     (result : Result (X × ℕ) Stop) : Type 0 where
-  pub told : Told see reader asked bytes at result
+  pub told : PartTold see reader asked bytes at result

@@ -18,9 +18,10 @@ pub mod Asked
 pub mod Answers
 pub mod Resuming
 pub mod Laws
--- What contracts of private functions cite.
+-- What is told of the parts of a record, and of what is made of them.
 pub mod Cursor
 pub mod Beginning
 pub mod Views
 pub mod Judged
+-- What contracts of private functions cite.
 pub mod Putting

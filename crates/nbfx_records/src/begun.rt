@@ -2,7 +2,7 @@
 
 ghost use Rattle.std.specs.Prelude.{◌≡◌, ◌≢◌, ◌<◌, IfNone, IfOk, IfSome, length};
 ghost use Rattle.nbfx_records.specs.Asked as asked;
-ghost use Rattle.nbfx_records.specs.Beginning.{Begins};
+ghost use Rattle.nbfx_records.specs.Beginning.{BeginsKind};
 ghost use Rattle.nbfx_records.specs.Cursor.{Tells};
 ghost use Rattle.nbfx_records.specs.Shapes as spec;
 ghost use Rattle.nbfx_records.specs.Views.{IsSoundAttribute, record_seen};
@@ -19,8 +19,8 @@ use crate::type_bytes::record_kind;
 /// The kind of the record that the bytes begin, if one of it may come at this place.
 #[inline(always)]
 pub fn kind_at(place: NodePlace, bytes: &[u8]) -> Option<RecordKind>
-    ensures begins { IfSome result (Begins place bytes.now) }
-    ensures none { IfNone result ((kind : RecordKind) → Begins place bytes.now kind → ⊥) }
+    ensures begins { IfSome result (BeginsKind place bytes.now) }
+    ensures none { IfNone result ((kind : RecordKind) → BeginsKind place bytes.now kind → ⊥) }
 {
     let kind = record_kind(*bytes.first()?)?;
     match misplaced(place, kind) {
@@ -37,7 +37,7 @@ pub fn element_parts(
     bytes: &[u8],
 ) -> Result<(NamedPart<'_>, usize), Stop>
     requires { 0 < length bytes.now }
-    ensures { (place : NodePlace) → Begins place bytes.now (RecordKind.Element prefix name)
+    ensures { (place : NodePlace) → BeginsKind place bytes.now (RecordKind.Element prefix name)
         → Tells (λ part. record_seen (RecordPart.Element part)) (spec.shape_at place)
         (asked.shape_at place) bytes.now 0 result }
 {
@@ -52,7 +52,8 @@ pub fn attribute_parts(
     bytes: &[u8],
 ) -> Result<(AttributePart<'_>, usize), Stop>
     requires { 0 < length bytes.now }
-    ensures tells { (place : NodePlace) → Begins place bytes.now (RecordKind.Attribute prefix name)
+    ensures tells { (place : NodePlace)
+        → BeginsKind place bytes.now (RecordKind.Attribute prefix name)
         → Tells (λ part. record_seen (RecordPart.Attribute part)) (spec.shape_at place)
         (asked.shape_at place) bytes.now 0 result }
     ensures sound { IfOk result (λ read. IsSoundAttribute read.0) }
@@ -69,7 +70,7 @@ pub fn declaration_parts(
 ) -> Result<(AttributePart<'_>, usize), Stop>
     requires { 0 < length bytes.now }
     ensures tells { (place : NodePlace)
-        → Begins place bytes.now (RecordKind.Declaration prefix uri)
+        → BeginsKind place bytes.now (RecordKind.Declaration prefix uri)
         → Tells (λ part. record_seen (RecordPart.Attribute part)) (spec.shape_at place)
         (asked.shape_at place) bytes.now 0 result }
     ensures sound { IfOk result (λ read. IsSoundAttribute read.0) }
@@ -86,7 +87,7 @@ pub fn scalar_parts(
 ) -> Result<(ScalarPart<'_>, usize), Stop>
     requires some { 0 < length bytes.now }
     requires no_list { kind ≢ TextKind.StartList }
-    ensures { (place : NodePlace) → Begins place bytes.now (RecordKind.Text kind ends)
+    ensures { (place : NodePlace) → BeginsKind place bytes.now (RecordKind.Text kind ends)
         → Tells (λ part. record_seen (RecordPart.Text (ValuePart.One part) ends))
         (spec.shape_at place) (asked.shape_at place) bytes.now 0 result }
 {

@@ -52,7 +52,7 @@ is_valid_item (Array a) = is_valid_array a
 is_valid_item Close = true
 
 -- the declaration or the attribute that an item is, as an array's element has it
-abbrev pub attribute_in : Item → Option AttrItem
-attribute_in (Xmlns prefix uri) = Some (DeclaresOn prefix uri)
-attribute_in (Attr prefix local value) = Some (AttrOn prefix local value)
-attribute_in _ = None
+abbrev pub attribute_item : Item → Option AttrItem
+attribute_item (Xmlns prefix uri) = Some (DeclaresOn prefix uri)
+attribute_item (Attr prefix local value) = Some (AttrOn prefix local value)
+attribute_item _ = None

@@ -3,7 +3,7 @@
 ghost use Rattle.std.specs.Prelude.{◌≡◌};
 ghost use Rattle.std.specs.List.{list_all};
 ghost use Rattle.nbfx_values.specs.Items as spec;
-ghost use Rattle.nbfx_values.specs.Items.{attribute_in, fits_kind, is_valid_array, is_valid_attribute, is_valid_item};
+ghost use Rattle.nbfx_values.specs.Items.{attribute_item, fits_kind, is_valid_array, is_valid_attribute, is_valid_item};
 
 use crate::copies::Copied;
 use crate::lists::Sequence;
@@ -177,7 +177,7 @@ impl ArrayItem {
 impl Item {
     /// The declaration or the attribute that the item is, as an array's element has it.
     pub fn into_attribute(self) -> Option<AttrItem>
-        ensures { result ≡ attribute_in self }
+        ensures { result ≡ attribute_item self }
     {
         match self {
             Item::Xmlns { prefix, uri } => Some(AttrItem::Xmlns { prefix, uri }),

@@ -52,5 +52,6 @@ pub fn no_document_goes_on()
 
 /// A list is refused at one place only.
 pub fn one_place_of_refusal()
-    ensures { (items : List Item) (at other : ℕ) → IsRefusedAt items at → IsRefusedAt items other → at ≡ other }
+    ensures { (items : List Item) (at other : ℕ) → IsRefusedAt items at
+        → IsRefusedAt items other → at ≡ other }
 {}

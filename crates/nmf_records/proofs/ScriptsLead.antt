@@ -13,7 +13,7 @@ use Rattle.nmf_records.specs.declared.script.Due.{Due}
 use Rattle.nmf_records.specs.declared.script.Due.TheVariants as dues
 use Rattle.nmf_records.specs.Records.{type_of}
 use Rattle.nmf_records.specs.Reading.{MayCome}
-use Rattle.nmf_records.specs.Script.{first, may_come, leads, behind_preamble, IsUnsized, AreEnvelopes, IsRequest, IsAnswer, IsScript}
+use Rattle.nmf_records.specs.Script.{first, may_come, leads, behind_preamble, IsUnsized, AreEnvelopes, IsInitiatorsScript, IsAnswer, IsScript}
 use Rattle.nmf_records.proofs.ScriptWays.{Follows, nothing_comes}
 
 sized_come : (direction : Direction) (size : ℕ) → MayCome (may_come direction dues.Messages) (frames.SizedEnvelope size)
@@ -55,7 +55,7 @@ envelopes_follow FromReceiver Singleton envelopes (inr sent) = unsized_follow Fr
 envelopes_follow FromReceiver Duplex envelopes sent = rw sent.1 (sized_follow FromReceiver Duplex sent.0)
 envelopes_follow FromReceiver Simplex envelopes none = rw none (refl, tt, refl)
 
-request_follows : (mode : Mode) (script : List Frame) → IsRequest mode script → Follows FromInitiator mode dues.Version script
+request_follows : (mode : Mode) (script : List Frame) → IsInitiatorsScript mode script → Follows FromInitiator mode dues.Version script
 request_follows mode script r =
     rw r.joined (refl, tt, (refl, refl, (refl, tt, (refl, tt, (refl, tt, envelopes_follow FromInitiator mode r.envelopes r.sent)))))
 

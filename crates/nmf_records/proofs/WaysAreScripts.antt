@@ -11,7 +11,7 @@ use Rattle.nmf_records.specs.declared.frame.Frame.TheVariants as frames
 use Rattle.nmf_records.specs.declared.script.Direction.{Direction}
 use Rattle.nmf_records.specs.declared.script.Direction.TheVariants.{FromInitiator, FromReceiver}
 use Rattle.nmf_records.specs.declared.script.Due.TheVariants as dues
-use Rattle.nmf_records.specs.Script.{first, behind_preamble, IsUnsized, AreEnvelopes, IsRequest, IsScript}
+use Rattle.nmf_records.specs.Script.{first, behind_preamble, IsUnsized, AreEnvelopes, IsInitiatorsScript, IsScript}
 use Rattle.nmf_records.proofs.ScriptWays.{Follows, over_is}
 
 -- what may come at each place is what comes there
@@ -105,7 +105,7 @@ at_version mode [] h = cc
 at_version mode (frames.Version major minor ∷ rest) h = (major, minor, rest, refl, h.2)
 at_version mode (_ ∷ rest) h = cc
 
-request_is : (mode : Mode) (script : List Frame) → Follows FromInitiator mode dues.Version script → IsRequest mode script
+request_is : (mode : Mode) (script : List Frame) → Follows FromInitiator mode dues.Version script → IsInitiatorsScript mode script
 request_is mode script h =
     let v = at_version mode script h in
     let m = at_mode mode v.2 v.4 in

@@ -111,7 +111,7 @@ AreEnvelopes FromInitiator Simplex envelopes = AreSized envelopes
 AreEnvelopes FromReceiver Simplex envelopes = envelopes ≡ []
 
 -- an initiator's preamble, its envelopes and End
-pub record IsRequest (mode : Mode) (script : List Frame) : Type 0 where
+pub record IsInitiatorsScript (mode : Mode) (script : List Frame) : Type 0 where
   pub major : ℕ
   pub minor : ℕ
   pub encoding : ℕ
@@ -141,6 +141,6 @@ pub record IsCutShort (mode : Mode) (script : List Frame) : Type 0 where
 
 -- the records of a whole stream, in a session of this mode
 abbrev pub IsScript : Direction → Mode → List Frame → Type 0
-IsScript FromInitiator mode script = IsRequest mode script
+IsScript FromInitiator mode script = IsInitiatorsScript mode script
 IsScript FromReceiver mode script =
     IsAnswer mode script ⊎ IsLoneAck mode script ⊎ IsCutShort mode script

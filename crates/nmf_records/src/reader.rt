@@ -87,7 +87,8 @@ impl FrameReader {
     /// How many bytes there are of the record that isn't whole, or that a fault needed.
     pub fn pending(&self) -> u32
         ensures counted { result ≡ pending_of self.now }
-        ensures stands { (expect : Expected) (p : List ℕ) → StandsFor self.now expect p → result ≡ length p }
+        ensures stands { (expect : Expected) (p : List ℕ) → StandsFor self.now expect p
+            → result ≡ length p }
         ensures within { (expect : Expected) (p : List ℕ) → StandsFor self.now expect p
             → result ≤ limit_of self.now + 5 }
     {
@@ -137,7 +138,8 @@ impl FrameReader {
         ensures within { result.0 ≤ length bytes.now }
         ensures moves { Moves result.0 result.1 }
         ensures progresses { (p : List ℕ) → StandsFor self.old expect p
-            → Progresses (limit_of self.old) expect (p ++ take result.0 bytes.now) self.new result.1 }
+            → Progresses (limit_of self.old) expect (p ++ take result.0 bytes.now) self.new
+            result.1 }
         ensures text { (p s : List ℕ) → StandsFor self.old expect p → ShowsText self.old s
             → ShowsText self.new
             (shown_behind (limit_of self.old) expect (p ++ take result.0 bytes.now) s) }
@@ -154,7 +156,8 @@ impl FrameReader {
     // Goes on to where n bytes led.
     fn settle(&mut self, n: usize, progress: Progress)
         ensures stage { self.new.stage ≡ stage_after progress }
-        ensures pending { self.new.pending ≡ pending_after (min (self.old.pending + n) (2 ^ 32 - 1)) progress }
+        ensures pending { self.new.pending
+            ≡ pending_after (min (self.old.pending + n) (2 ^ 32 - 1)) progress }
         ensures size { self.new.size ≡ self.old.size }
         ensures text { self.new.text ≡ self.old.text }
     {

@@ -130,9 +130,11 @@ pub fn after_type(types: u16, kind: u8) -> Progress
 
 /// What a byte of a fixed field leads to.
 pub fn after_field(field: Field, byte: u8) -> Progress
-    ensures reads { (limit : ℕ) (expect : Expect) (p : List ℕ) → HasShape expect (Stage.Field field) p → frame_at limit expect p ≡ begun
+    ensures reads { (limit : ℕ) (expect : Expect) (p : List ℕ)
+        → HasShape expect (Stage.Field field) p → frame_at limit expect p ≡ begun
         → Meets (frame_at limit expect (p ++ byte ∷ [])) (length p + 1) result }
-    ensures goes { (expect : Expect) (p : List ℕ) → HasShape expect (Stage.Field field) p → GoesTo expect (p ++ byte ∷ []) result }
+    ensures goes { (expect : Expect) (p : List ℕ) → HasShape expect (Stage.Field field) p
+        → GoesTo expect (p ++ byte ∷ []) result }
 {
     match field {
         Field::Major => Progress::Going(Stage::Field(Field::Minor { major: byte })),

@@ -30,6 +30,10 @@ messages_of r = reader.messages_of r.reader
 unfoldable pub failure_of : Receiver → Option ReadRefusal
 failure_of r = reader.failure_of r.reader
 
+-- how many bytes of the input it holds
+unfoldable pub held_of : Receiver → ℕ
+held_of r = reader.held_of r.reader
+
 -- the Via that it shows
 unfoldable pub ShowsVia : Receiver → List ℕ → Type 0
 ShowsVia r via = reader.ShowsVia r.reader via

@@ -113,9 +113,11 @@ impl SessionTable {
     pub fn add(&mut self, text: &str) -> Result<u32, AddFault>
         ensures id { IfOk result (λ id. id ≡ 2 * length self.old.strings + 1) }
         ensures small { IfOk result (λ id. id < 2 ^ 31) }
-        ensures added { OnOk result (self.new ≡ record self.old { strings = self.old.strings ++ text.now ∷ [] }) }
+        ensures added { OnOk result
+            (self.new ≡ record self.old { strings = self.old.strings ++ text.now ∷ [] }) }
         ensures within { OnOk result (used_cost self.new.strings ≤ self.new.limit) }
-        ensures full { IsErrOf result AddFault.Full ↔ (self.old.limit < used_cost self.old.strings + cost text.now) }
+        ensures full { IsErrOf result AddFault.Full
+            ↔ (self.old.limit < used_cost self.old.strings + cost text.now) }
         ensures err { OnErr result (self.new ≡ self.old) }
     {
         let cost = text.len().max(1);
@@ -134,7 +136,8 @@ impl SessionTable {
 
     /// The place that the table has come to.
     pub fn mark(&self) -> Mark
-        ensures { result ≡ record { count = length self.now.strings; used = used_cost self.now.strings } }
+        ensures { result
+            ≡ record { count = length self.now.strings; used = used_cost self.now.strings } }
     {
         Mark {
             count: self.len(),
@@ -155,7 +158,8 @@ impl SessionTable {
     /// integer, and its bytes. A refusal leaves `out` as it was.
     pub fn put_strings(&self, mark: Mark, out: &mut Vec<u8>) -> Result<(), Memory>
         requires { IsMarkOf mark self.now.strings }
-        ensures written { OnOk result (out.new.items ≡ out.old.items ++ flat_map string_bytes_of (drop mark.count self.now.strings)) }
+        ensures written { OnOk result (out.new.items
+            ≡ out.old.items ++ flat_map string_bytes_of (drop mark.count self.now.strings)) }
         ensures unchanged { OnErr result (out.new.items ≡ out.old.items) }
     {
         put_texts(&self.texts[mark.count as usize..], out)
@@ -165,7 +169,8 @@ impl SessionTable {
 // Appends texts as Strings.
 fn put_texts(texts: &[String], out: &mut Vec<u8>) -> Result<(), Memory>
     requires { used_cost (map string_bytes texts.now) ≤ 2 ^ 30 }
-    ensures written { OnOk result (out.new.items ≡ out.old.items ++ flat_map string_bytes_of (map string_bytes texts.now)) }
+    ensures written { OnOk result (out.new.items
+        ≡ out.old.items ++ flat_map string_bytes_of (map string_bytes texts.now)) }
     ensures unchanged { OnErr result (out.new.items ≡ out.old.items) }
 {
     let start = out.len();
@@ -180,7 +185,8 @@ fn put_texts(texts: &[String], out: &mut Vec<u8>) -> Result<(), Memory>
 
 // Copies a text to the end of the texts.
 fn push_text(alloc: Global, texts: &mut Vec<String>, text: &str) -> Result<(), AllocError>
-    ensures ok { OnOk result (map string_bytes texts.new.items ≡ map string_bytes texts.old.items ++ text.now ∷ []) }
+    ensures ok { OnOk result (map string_bytes texts.new.items
+        ≡ map string_bytes texts.old.items ++ text.now ∷ []) }
     ensures err { OnErr result (texts.new.items ≡ texts.old.items) }
 {
     let copy = String::from_str(alloc, text)?;
@@ -190,7 +196,8 @@ fn push_text(alloc: Global, texts: &mut Vec<String>, text: &str) -> Result<(), A
 
 // The first place that holds the text.
 fn place_of(texts: &[String], text: &str) -> Option<usize>
-    ensures least { option_map (λ place. 2 * place + 1) result ≡ least_session_id (map string_bytes texts.now) text.now }
+    ensures least { option_map (λ place. 2 * place + 1) result
+        ≡ least_session_id (map string_bytes texts.now) text.now }
     ensures within { IfSome result (λ place. place < length texts.now) }
 {
     for (place, held) in texts.iter().enumerate() {

@@ -37,7 +37,8 @@ fn id_of(field: &str) -> Option<u32>
 
 // The two fields of a row that has just two.
 fn two_of(row: &ByteRecord) -> Option<(&[u8], &[u8])>
-    ensures { option_map (λ fields. (fields.0.now, fields.1.now)) result ≡ two_of (fields_of row.now) }
+    ensures { option_map (λ fields. (fields.0.now, fields.1.now)) result
+        ≡ two_of (fields_of row.now) }
 {
     let id = row.get(0)?;
     let text = row.get(1)?;
@@ -50,14 +51,16 @@ fn two_of(row: &ByteRecord) -> Option<(&[u8], &[u8])>
 
 // A field as text.
 fn text_of(field: &[u8]) -> Option<&str>
-    ensures { option_map (λ text. text.now) result ≡ (if is_utf8 field.now then Some field.now else None) }
+    ensures { option_map (λ text. text.now) result
+        ≡ (if is_utf8 field.now then Some field.now else None) }
 {
     from_utf8(field).ok()
 }
 
 /// The entry that a row behind the first writes, or what is wrong with the row by itself.
 pub fn entry_of(row: &ByteRecord) -> Result<(u32, &str), TableKind>
-    ensures { result_map_both (λ e. (e.0, e.1.now)) (λ kind. kind) result ≡ entry_of (fields_of row.now) }
+    ensures { result_map_both (λ e. (e.0, e.1.now)) (λ kind. kind) result
+        ≡ entry_of (fields_of row.now) }
 {
     let Some((id, text)) = two_of(row) else {
         return Err(TableKind::Fields);

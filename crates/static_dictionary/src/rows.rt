@@ -25,7 +25,9 @@ pub fn first_of<'a>(alloc: Global, bytes: &'a [u8]) -> Reader<&'a [u8]>
 pub fn next_row(reader: &mut Reader<&[u8]>, row: &mut ByteRecord) -> Result<bool, TableFault>
     requires flexible { is_flexible reader.old ≡ true }
     requires ready { Ready reader.old }
-    ensures next { IfOk result (λ found. (bytes : List ℕ) (rows : List (List (List ℕ))) → HasGiven bytes rows reader.old → NextRow bytes rows found (fields_of row.new) reader.new) }
+    ensures next { IfOk result (λ found. (bytes : List ℕ) (rows : List (List (List ℕ)))
+        → HasGiven bytes rows reader.old
+        → NextRow bytes rows found (fields_of row.new) reader.new) }
     ensures memory { IfErr result (λ fault. fault ≡ TableFault.Memory) }
 {
     match reader.read_byte_record(row) {
@@ -42,8 +44,10 @@ pub fn take_header(reader: &mut Reader<&[u8]>, row: &mut ByteRecord) -> Result<(
     requires flexible { is_flexible reader.old ≡ true }
     requires ready { Ready reader.old }
     ensures headed { OnOk result (is_header (fields_of row.new) ≡ true) }
-    ensures next { OnOk result ((bytes : List ℕ) → HasGiven bytes [] reader.old → HasGiven bytes (fields_of row.new ∷ []) reader.new) }
-    ensures bad { IfErr result (λ fault. (bytes : List ℕ) → HasGiven bytes [] reader.old → Tells (fault_of (rows_of bytes)) fault) }
+    ensures next { OnOk result ((bytes : List ℕ) → HasGiven bytes [] reader.old
+        → HasGiven bytes (fields_of row.new ∷ []) reader.new) }
+    ensures bad { IfErr result (λ fault. (bytes : List ℕ) → HasGiven bytes [] reader.old
+        → Tells (fault_of (rows_of bytes)) fault) }
 {
     if next_row(reader, row)? && is_header(row) {
         return Ok(());

@@ -189,7 +189,8 @@ fn put_entry(
     requires static_id { IsStaticId id }
     requires fresh { static_text (entries_in by_id.old) id ≡ None }
     ensures maps { OnOk result (AreMapsOfTable by_id.new by_text.new) }
-    ensures entries { OnOk result (entries_in by_id.new ≡ with_entry (entries_in by_id.old) (id, text.now)) }
+    ensures entries { OnOk result
+        (entries_in by_id.new ≡ with_entry (entries_in by_id.old) (id, text.now)) }
 {
     let least = least_with(id, by_text.get(text).copied());
     by_text.insert(String::from_str(alloc, text)?, least)?;
@@ -207,8 +208,10 @@ fn add_row(
 ) -> Result<(), TableFault>
     requires { AreMapsOfTable by_id.old by_text.old }
     ensures maps { OnOk result (AreMapsOfTable by_id.new by_text.new) }
-    ensures added { OnOk result (AddsEntryOf (fields_of row.now) (entries_in by_id.old) (entries_in by_id.new)) }
-    ensures bad { IfErr result (Tells (fault_or (λ _ _. None) number (entries_in by_id.old) (entry_of (fields_of row.now)))) }
+    ensures added { OnOk result
+        (AddsEntryOf (fields_of row.now) (entries_in by_id.old) (entries_in by_id.new)) }
+    ensures bad { IfErr result (Tells (fault_or (λ _ _. None) number (entries_in by_id.old)
+        (entry_of (fields_of row.now)))) }
 {
     let (id, text) = match entry_of(row) {
         Ok(entry) => entry,

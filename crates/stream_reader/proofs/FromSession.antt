@@ -29,7 +29,7 @@ use Rattle.nbfx_decoder.proofs.PayloadLaws.{payloads_are_accepted}
 use Rattle.stream_reader.specs.Stream.{OpenPayload, Settings, Situation, Stage, record_due, payload_open, initiators, beginning, frame, payload_byte, StreamEvent, opened, message, ended, after, behind_payload, built, completed, completed_payload, offence_at, offence_in, payload_begun, payload_in, payloads, refusal_in, refused, refused_payload, unit_in, is_over_in, stream}
 use Rattle.stream_reader.specs.Judging.{offence}
 use Rattle.stream_reader.specs.Sessions.{IsBare, IsPreamble, Carried, CarriesAll, IsSession, IsClosed}
-use Rattle.stream_reader.specs.Events.{envelope_of, messages_of, session_events}
+use Rattle.stream_reader.specs.Events.{envelope_of, message_events, session_events}
 use Rattle.stream_reader.proofs.Grammar.{readable, quiet_over, short_enough}
 use Rattle.stream_reader.proofs.DueRecords.{record_unit}
 use Rattle.stream_reader.proofs.Outcomes.{behind_last, envelope_of as envelope_by, more_behind, more_completed, whole_behind}
@@ -189,13 +189,13 @@ module _ (statics : List Entry) (l : Limits) where
           d.strings_are passes)
 
       envelopes_pass : (carried : List Carried) (b : List ℕ) (number : ℕ) (strings : List (List ℕ)) (messages from : ℕ) → used_cost strings ≤ x.limits.dictionary → number + length carried ≡ messages → CarriesAll x kind strings carried b
-          → Passes (stream x) (at (record_due dues.Messages) kind via number strings) from b (at (record_due dues.Messages) kind via messages (left_by strings carried)) (messages_of number strings carried)
+          → Passes (stream x) (at (record_due dues.Messages) kind via number strings) from b (at (record_due dues.Messages) kind via messages (left_by strings carried)) (message_events number strings carried)
       envelopes_pass [] b number strings messages from cheap count none =
           let same : number ≡ messages = omega arith in
           rw (none, same) (passes_none (stream x) (at (record_due dues.Messages) kind via messages strings) from)
       envelopes_pass (one ∷ carried) b number strings messages from cheap count (head, rest, is, whole_one, joined, more) =
           rw joined
-          (passes_then (stream x) (at (record_due dues.Messages) kind via number strings) from (head ++ one.payload) rest (at (record_due dues.Messages) kind via (number + 1) (strings ++ one.own)) _ (message (envelope_of number strings one) ∷ []) (messages_of (number + 1) (strings ++ one.own) carried)
+          (passes_then (stream x) (at (record_due dues.Messages) kind via number strings) from (head ++ one.payload) rest (at (record_due dues.Messages) kind via (number + 1) (strings ++ one.own)) _ (message (envelope_of number strings one) ∷ []) (message_events (number + 1) (strings ++ one.own) carried)
           (envelope_passes one number strings from head cheap is whole_one)
           (envelopes_pass carried rest (number + 1) (strings ++ one.own) messages (from + length (head ++ one.payload)) whole_one.within.admitted.dictionary (omega arith) more))
 
@@ -211,11 +211,11 @@ module _ (statics : List Entry) (l : Limits) where
         let all : length b ≡ length c2 + length h.end = ap length h.joined ∙ length-append c2 h.end in
         let one : length h.end ≡ 1 = ap length h.is_end.1 in
         let place : 0 + length c2 + 1 ≡ length b = omega arith in
-        let p1 = passes_then (stream x) (beginning x) 0 h.preamble h.envelopes _ _ (opened Duplex kind via ∷ []) (messages_of 0 [] carried) (preamble_passes via kind h.preamble h.is_preamble)
+        let p1 = passes_then (stream x) (beginning x) 0 h.preamble h.envelopes _ _ (opened Duplex kind via ∷ []) (message_events 0 [] carried) (preamble_passes via kind h.preamble h.is_preamble)
         (envelopes_pass kind via good carried h.envelopes 0 [] (length carried) (0 + length h.preamble) (omega arith) (omega arith) h.carries_all) in
-        let p2 = passes_then (stream x) (beginning x) 0 c2 h.end _ _ (opened Duplex kind via ∷ messages_of 0 [] carried) (ended (0 + length c2 + 1) ∷ []) p1
+        let p2 = passes_then (stream x) (beginning x) 0 c2 h.end _ _ (opened Duplex kind via ∷ message_events 0 [] carried) (ended (0 + length c2 + 1) ∷ []) p1
         (end_passes (0 + length c2) via kind (length carried) (left_by [] carried) h.end h.is_end) in
-        let p3 : Passes (stream x) (beginning x) 0 b (over_behind via kind carried) ((opened Duplex kind via ∷ messages_of 0 [] carried) ++ ended (0 + length c2 + 1) ∷ []) = rw h.joined p2 in
+        let p3 : Passes (stream x) (beginning x) 0 b (over_behind via kind carried) ((opened Duplex kind via ∷ message_events 0 [] carried) ++ ended (0 + length c2 + 1) ∷ []) = rw h.joined p2 in
         subst (λ (n : ℕ). Passes (stream x) (beginning x) 0 b (over_behind via kind carried) (session_events via kind carried n)) place p3
 
     -- whatever follows a session, its events are the history

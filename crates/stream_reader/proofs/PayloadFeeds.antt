@@ -28,7 +28,7 @@ use Rattle.stream_reader.specs.declared.reader.StreamReader.{StreamReader}
 use Rattle.stream_reader.specs.declared.reader.StreamStep.{StreamStep}
 use Rattle.stream_reader.specs.Stream.{OpenPayload, Settings, Situation, Stage, StreamEvent, opened, message, ended, record_due, payload_open, behind_payload, completed_payload, offence_in, payload_in, payloads, refusal_in, refused_payload, stream, strings_at, strings_in, PayloadStanding}
 use Rattle.stream_reader.specs.Standing.{Awaits, Failed, HasBegun, HasPayloads, IsIn, IsWithinPayload, Reached, ReadsPayload, ShowsTable, ShowsStrings, ShowsVia, failure_of, messages_of, taken_of}
-use Rattle.stream_reader.specs.Stepping.{BehindAnswers, HasDecoded, UnitAnswers, more_shown, step_of, told_of}
+use Rattle.stream_reader.specs.Stepping.{BehindAnswers, HasDecoded, UnitAnswers, more_shown, step_of, refusal_told}
 use Rattle.stream_reader.proofs.Outcomes.{goes_on as more_come, is_whole, is_refused, outcome, refused_eventless, refused_messages, strings_behind, via_behind}
 use Rattle.stream_reader.proofs.PayloadBytes.{IsWithin, bytes_event, bytes_going, bytes_refused, bytes_stand, more_refusal, last_refusal, payload_behind, payload_quiet, payload_quiet_before, stands_so, within_open}
 use Rattle.stream_reader.proofs.ReaderFacts.{cost_within}
@@ -326,7 +326,7 @@ module _ (r : StreamReader) (x : Settings) (p : List ℕ) (h : Reached r x p) (l
       some_refused g none zero why e = let same = ap (refusal_at (payload g z.strings)) (append-nil bytes) in let bad = sym none ∙ sym same ∙ e in cc
       some_refused g none (suc k) why e = omega arith
 
-      pub feed_fails : (fault : DecodeFault) → FeedAnswers (decoder_settings r.decoder) (standing (stream x) p).situation.strings own.bytes (take n c) (Err fault) → FailedWithin new.decoder fault (standing (stream x) p).situation.strings own.bytes (take n c) → told ≡ told_of r.messages fault
+      pub feed_fails : (fault : DecodeFault) → FeedAnswers (decoder_settings r.decoder) (standing (stream x) p).situation.strings own.bytes (take n c) (Err fault) → FailedWithin new.decoder fault (standing (stream x) p).situation.strings own.bytes (take n c) → told ≡ refusal_told r.messages fault
           → new.taken ≡ r.taken + more_shown left fault → UnitAnswers x p c new (Err told)
       feed_fails (faults.Payload at reason shown_by) answers failed is taken_is =
           let g : PayloadSettings = decoder_settings r.decoder in

@@ -21,7 +21,7 @@ use Rattle.stream_reader.specs.declared.reader.StreamStep.{StreamStep}
 use Rattle.stream_reader.specs.declared.reader.StreamStep.TheVariants as steps
 use Rattle.stream_reader.specs.Stream.{OpenPayload, Settings, Situation, StreamEvent, message, record_due, payload_open, behind_payload, completed_payload, offence_in, payload_in, payloads, refusal_in, refused_payload}
 use Rattle.stream_reader.specs.Standing.{Awaits}
-use Rattle.stream_reader.specs.Stepping.{BehindAnswers, HasDecoded, told_of}
+use Rattle.stream_reader.specs.Stepping.{BehindAnswers, HasDecoded, refusal_told}
 use Rattle.stream_reader.proofs.Outcomes.{behind_last, envelope_of, more_behind, more_completed, refused_behind, whole_behind}
 use Rattle.stream_reader.proofs.PayloadBytes.{behind_is, payload_behind, refusal_all, refusal_before}
 use Rattle.stream_reader.proofs.ReaderFacts.{cost_within}
@@ -94,14 +94,14 @@ module _ (r : StreamReader) (x : Settings) (z : Situation) (here : PayloadLeft) 
         )
 
     -- they are refused, all as they are
-    pub behind_refused : (fault : DecodeFault) (told : ReadRefusal) → FinishAnswers (decoder_settings r.decoder) z.strings h.bytes (Err fault) → DecoderFailedBehind new.decoder fault z.strings h.bytes → told ≡ told_of r.messages fault → new.messages ≡ r.messages
+    pub behind_refused : (fault : DecodeFault) (told : ReadRefusal) → FinishAnswers (decoder_settings r.decoder) z.strings h.bytes (Err fault) → DecoderFailedBehind new.decoder fault z.strings h.bytes → told ≡ refusal_told r.messages fault → new.messages ≡ r.messages
         → BehindAnswers x (behind_payload x z o) (completed_payload x z o) (refused_payload x z o) new (Err told)
     behind_refused faults.Memory told ends failed is messages = absurd ends
     behind_refused (faults.Payload at reason shown_by) told ends failed is messages =
         let refusal_is = by_end (Some (refusal at reason)) ends.0 in
         let w = refused_behind x z o none_left (refusal at reason) refusal_is in
         subst (λ (t : ReadRefusal). BehindAnswers x (behind_payload x z o) (completed_payload x z o) (refused_payload x z o) new (Err t)) (sym is)
-        (answered new (Err (told_of r.messages (faults.Payload at reason shown_by))) (Some (offence_in z.messages (refusal at reason))) (behind_last z o z.messages) None (refused_so (Some (refusal at reason)) refusal_is) w.0 w.1 (
+        (answered new (Err (refusal_told r.messages (faults.Payload at reason shown_by))) (Some (offence_in z.messages (refusal at reason))) (behind_last z o z.messages) None (refused_so (Some (refusal at reason)) refusal_is) w.0 w.1 (
           ap (λ n. offence_in n (refusal at reason)) h.messages,
           record {
             messages = messages ∙ h.messages;

@@ -15,12 +15,12 @@ envelope_of number strings one = record {
 }
 
 -- one for each, numbered from here on
-abbrev pub messages_of : ℕ → List (List ℕ) → List Carried → List StreamEvent
-messages_of number strings [] = []
-messages_of number strings (one ∷ more) =
-    message (envelope_of number strings one) ∷ messages_of (number + 1) (strings ++ one.own) more
+abbrev pub message_events : ℕ → List (List ℕ) → List Carried → List StreamEvent
+message_events number strings [] = []
+message_events number strings (one ∷ more) =
+    message (envelope_of number strings one) ∷ message_events (number + 1) (strings ++ one.own) more
 
 -- of a session of so many bytes
 abbrev pub session_events : List ℕ → Kind → List Carried → ℕ → List StreamEvent
 session_events via kind carried n =
-    opened Duplex kind via ∷ messages_of 0 [] carried ++ ended n ∷ []
+    opened Duplex kind via ∷ message_events 0 [] carried ++ ended n ∷ []

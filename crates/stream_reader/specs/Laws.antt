@@ -1,6 +1,6 @@
 -- What holds of streams by their definitions alone, whatever the settings. What is said of
 -- sessions, and of streams that are cut off, is said of an initiator's stream in duplex mode.
-use Rattle.std.specs.Prelude.{◌≡◌, ◌≤◌, ◌<◌, ◌*◌, ◌-◌, ℕ, List, ◌++◌, length, take, false, Some, None, ◌↔◌, ◌⊎◌}
+use Rattle.std.specs.Prelude.{◌≡◌, ◌+◌, ◌≤◌, ◌<◌, ◌*◌, ◌-◌, ℕ, List, ◌++◌, length, take, false, Some, None, ◌↔◌, ◌⊎◌}
 use Rattle.unit_streams.specs.Grammar.{standing}
 use Rattle.unit_streams.specs.Judging.{event_at, refusal_at, is_over_at, ending_at, history, answer, offends}
 use Rattle.nbfx_values.specs.Limits.{IsGood, Limits}
@@ -16,7 +16,7 @@ use Rattle.nbfx_decoder.specs.Values.{values_of}
 use Rattle.nmf_records.specs.declared.frame.Frame.{Frame}
 use Rattle.nmf_records.specs.declared.script.Direction.TheVariants.{FromInitiator}
 use Rattle.nmf_records.specs.Script.{IsScript}
-use Rattle.stream_reader.specs.Stream.{Settings, Envelope, OpenPayload, message, offence_at, offence_in, payload_open, stream}
+use Rattle.stream_reader.specs.Stream.{Settings, Envelope, OpenPayload, message, offence_at, offence_in, payload_open, stream, strings_in}
 use Rattle.stream_reader.specs.Judging.{offence}
 use Rattle.stream_reader.specs.Sessions.{Carried, IsSession, IsClosed, HasScript, first_context}
 use Rattle.stream_reader.specs.Events.{session_events}
@@ -71,6 +71,14 @@ IsUnrefusedBefore x p = (n : ℕ) → n < length p → refusal_at (stream x) (ta
 abbrev pub PayloadsFit : Type 0
 PayloadsFit = (x : Settings) (p : List ℕ) (e : Envelope)
     → event_at (stream x) p ≡ Some (message e) → IsUnrefusedBefore x p → e.size ≤ x.limits.payload
+
+-- behind an envelope whose document is whole a stream stands with the strings that this leaves, and
+-- counts it
+abbrev pub MessagesAreCounted : Type 0
+MessagesAreCounted = (x : Settings) (p : List ℕ) (e : Envelope)
+    → event_at (stream x) p ≡ Some (message e)
+    → (strings_in (standing (stream x) p).situation ≡ e.strings)
+    × ((standing (stream x) p).situation.messages ≡ e.number + 1)
 
 -- what there is of a payload that is open is within the quotas: its document so far, and the
 -- strings behind its bytes; and it has no more items than twice its bytes so far, and no more

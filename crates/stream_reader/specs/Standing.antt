@@ -10,12 +10,12 @@ use Rattle.nbfx_values.specs.declared.content.Item.{Item}
 use Rattle.string_tables.specs.SessionStrings.{used_cost}
 use Rattle.nbfx_decoder.specs.declared.decoder.Decoder.{Decoder}
 use Rattle.nbfx_decoder.specs.declared.faults.DecodeFault.{DecodeFault}
-use Rattle.nbfx_decoder.specs.Standing.{settings_of as decoder_settings, situation_of, StandsFor as DecoderStandsFor, FailedBehind as DecoderFailedBehind}
+use Rattle.nbfx_decoder.specs.Standing.{settings_of as decoder_settings, held_of as decoder_held_of, situation_of, StandsFor as DecoderStandsFor, FailedBehind as DecoderFailedBehind}
 use Rattle.nmf_records.specs.declared.frame.Expect.{Expect}
 use Rattle.nmf_records.specs.declared.reader.FrameReader.{FrameReader}
 use Rattle.nmf_records.specs.declared.script.Direction.TheVariants.{FromInitiator}
 use Rattle.nmf_records.specs.declared.script.Due.TheVariants as dues
-use Rattle.nmf_records.specs.Reader.{StandsFor as FrameStandsFor, ShowsText}
+use Rattle.nmf_records.specs.Reader.{StandsFor as FrameStandsFor, ShowsText, held_of as frames_held_of}
 use Rattle.nmf_records.specs.Script.{may_come}
 use Rattle.stream_reader.specs.declared.awaited.Awaited.{Awaited}
 use Rattle.stream_reader.specs.declared.awaited.Awaited.TheVariants as awaits
@@ -45,6 +45,10 @@ messages_of r = r.messages
 -- the refusal that it answers from now on
 unfoldable pub failure_of : StreamReader → Option ReadRefusal
 failure_of r = r.failure
+
+-- how many bytes of the input it holds: of the framing's text, and of an open payload
+unfoldable pub held_of : StreamReader → ℕ
+held_of r = decoder_held_of r.decoder + frames_held_of r.frames
 
 -- the Via that it shows
 unfoldable pub ShowsVia : StreamReader → List ℕ → Type 0

@@ -69,10 +69,10 @@ taken_since before now Memory = before
 taken_since before now (Refused o) = now
 
 -- what a fault of a payload is told as, behind so many documents
-abbrev pub told_of : ℕ → DecodeFault → ReadRefusal
-told_of messages (faults.Payload at reason shown_by) =
+abbrev pub refusal_told : ℕ → DecodeFault → ReadRefusal
+refusal_told messages (faults.Payload at reason shown_by) =
     Refused (offence_in messages (refusal at reason))
-told_of messages faults.Memory = Memory
+refusal_told messages faults.Memory = Memory
 
 -- how many more bytes of a payload show a fault than have come
 abbrev pub more_shown : PayloadLeft → DecodeFault → ℕ

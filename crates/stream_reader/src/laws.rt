@@ -5,7 +5,7 @@
 ghost use Rattle.unit_streams.specs.Laws.{StandingsGoOn, AnswersAreFirst, CutsChangeNothing, HistoryIsAnswers, PendingHistories, NoUnitGoesOn, EndsAreClosed, OffencesAreFirst, AcceptedOrOffended};
 ghost use Rattle.unit_streams.specs.Refusals.{RefusalsAreThree};
 ghost use Rattle.stream_reader.specs.Stream.{Settings, stream};
-ghost use Rattle.stream_reader.specs.Laws.{ClosedOrRefused, SessionsAreScripts, SessionsAreTold, DocumentsFit, PayloadsFit, OpenPayloadsAreBounded, SpellsOneSession, RefusedInRecordOrPayload, UnbuiltByRecord, UnbuiltFirst, TooLargeByHead, TooLargeFirst, InPayloadByBytes, InPayloadFirst, TooLongByLength, TooLongAtQuota, NoPieceCutsOff, CutOffByEnd, EndCutsOff, CutOffUnrefused};
+ghost use Rattle.stream_reader.specs.Laws.{ClosedOrRefused, SessionsAreScripts, SessionsAreTold, DocumentsFit, PayloadsFit, MessagesAreCounted, OpenPayloadsAreBounded, SpellsOneSession, RefusedInRecordOrPayload, UnbuiltByRecord, UnbuiltFirst, TooLargeByHead, TooLargeFirst, InPayloadByBytes, InPayloadFirst, TooLongByLength, TooLongAtQuota, NoPieceCutsOff, CutOffByEnd, EndCutsOff, CutOffUnrefused};
 
 /// A stream either is closed or has an offence, which is one: what refuses it is a function of its
 /// bytes. It is closed where its units, of which none is refused, lead to where the input may end,
@@ -36,6 +36,12 @@ pub fn sessions()
 pub fn documents_fit()
     ensures documents { DocumentsFit }
     ensures payloads { PayloadsFit }
+{}
+
+/// A reader that stands behind an envelope whose document is whole shows the strings that the
+/// document leaves, by `StreamReader::table`, and counts it.
+pub fn messages_are_counted()
+    ensures { MessagesAreCounted }
 {}
 
 /// What there is of a payload of which bytes are still to come is within the quotas: its open

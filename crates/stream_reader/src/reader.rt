@@ -68,8 +68,8 @@ impl<'s> StreamReader<'s> {
     ghost use Rattle.nbfx_decoder.specs.Standing.{settings_of as decoder_settings, StandsFor as DecoderStandsFor};
     ghost use Rattle.stream_reader.specs.declared.reader.ReadRefusal.{ReadRefusal as Failure};
     ghost use Rattle.stream_reader.specs.Saying.{Says, said_at_end};
-    ghost use Rattle.stream_reader.specs.Standing.{settings_of, taken_of, messages_of, failure_of, StandsFor, FailedBehind, ShowsVia, ShowsStrings, WhereItStands, WhereItFailed, FailsBy, HasPayloads, begun_in, items_in, Reached};
-    ghost use Rattle.stream_reader.specs.Stepping.{UnitAnswers, BehindAnswers, HasDecoded, IsDue, Keeps, KeepsShown, has_ended, is_head, opened_at, step_of, taken_since, told_of};
+    ghost use Rattle.stream_reader.specs.Standing.{settings_of, taken_of, held_of, messages_of, failure_of, StandsFor, FailedBehind, ShowsVia, ShowsStrings, WhereItStands, WhereItFailed, FailsBy, HasPayloads, begun_in, items_in, Reached};
+    ghost use Rattle.stream_reader.specs.Stepping.{UnitAnswers, BehindAnswers, HasDecoded, IsDue, Keeps, KeepsShown, has_ended, is_head, opened_at, step_of, taken_since, refusal_told};
     ghost use Rattle.stream_reader.specs.Stream.{Settings, Situation, OpenPayload, record_due, payloads, behind_payload, completed_payload, refused_payload, after_record, completed_record, refused_record};
 
     /// A reader before the first byte. It makes all the room that it needs up to the preamble's
@@ -246,7 +246,9 @@ impl<'s> StreamReader<'s> {
 
     /// What it holds of the input: in bytes, the framing's text and the unit of the payload that
     /// isn't whole, and the content of the document so far.
+    #[tactic(auto, unfolding(crate::specs::Standing::held_of))]
     pub fn kept(&self) -> Kept
+        ensures held { result.raw ≡ held_of self.now }
         ensures raw { WhereItStands self.now (λ p. result.raw
             ≤ length (begun_in (standing (stream (settings_of self.now)) p).situation.stage)
             + (settings_of self.now).limits.via) }
@@ -307,7 +309,7 @@ impl<'s> StreamReader<'s> {
 
     // Fails for good by a payload.
     fn refuse_payload(&mut self, fault: DecodeFault) -> ReadRefusal
-        ensures told { result ≡ told_of self.old.messages fault }
+        ensures told { result ≡ refusal_told self.old.messages fault }
         ensures failure { self.new.failure ≡ Some result }
         ensures taken { self.new.taken ≡ self.old.taken }
         ensures shown { KeepsShown self.old self.new }

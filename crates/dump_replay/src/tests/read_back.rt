@@ -5,10 +5,6 @@ use io_edges::SinkFault;
 use line_notation::{LineFault, LineReader, LineStep, print};
 use nbfx_values::Docs;
 
-// The static strings that the captures name.
-const NAMED: &[u8] =
-    b"id,string\n0,mustUnderstand\n2,Envelope\n4,http://www.w3.org/2003/05/soap-envelope\n6,http://www.w3.org/2005/08/addressing\n8,Header\n10,Action\n12,To\n14,Body\n26,MessageID\n44,ReplyTo\n";
-
 fn is_of_a_document(line: &str) -> bool {
     let is_of_the_report = line.starts_with("open ")
         || line.starts_with("message ")
@@ -57,7 +53,7 @@ fn assert_read_back(
     let alloc = rt.alloc();
     let words = listed(alloc, &["nettcp", "dump", "--static", "S"])?;
     let input = MemorySource::new(stream.to_vec(alloc)?, 65_536, Vec::new(alloc));
-    let mut shelf = shelf_of(alloc, NAMED, &[])?;
+    let mut shelf = shelf_of(alloc, STATICS, &[])?;
     let mut notes = sure_sink(alloc);
     let ran = run(
         alloc,

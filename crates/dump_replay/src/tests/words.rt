@@ -126,7 +126,7 @@ fn any_name_of_a_file(rt: HostRuntime) -> Result<(), Fail> {
 
 #[test]
 fn other_words(rt: HostRuntime) -> Result<(), Fail> {
-    let table: [&[&str]; 14] = [
+    let table: [&[&str]; 15] = [
         &[],
         &["nettcp"],
         &["check"],
@@ -137,6 +137,7 @@ fn other_words(rt: HostRuntime) -> Result<(), Fail> {
         &["nettcp", "check", "S"],
         &["nettcp", "check", "--static"],
         &["nettcp", "check", "--static="],
+        &["nettcp", "check", "--static", ""],
         &["nettcp", "check", "--depth", "8"],
         &["nettcp", "build", "--static", "S"],
         &["nettcp", "Check", "--static", "S"],

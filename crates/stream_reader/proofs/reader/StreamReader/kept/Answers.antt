@@ -8,7 +8,7 @@ use Rattle.nbfx_decoder.specs.declared.decoder.Decoder.{Decoder}
 use Rattle.nbfx_decoder.specs.declared.faults.DecodeFault.{DecodeFault}
 use Rattle.nbfx_decoder.specs.Standing.{settings_of as decoder_settings, StandsFor as DecoderStandsFor, FailedBehind as DecoderFailedBehind, WhereItStands as WhereDecoderStands, WhereItFailed as WhereDecoderFailed}
 use Rattle.stream_reader.specs.Bounds.{IsBounded}
-use Rattle.stream_reader.specs.Standing.{FailedBehind, ShowsTable, ShowsStrings, StandsFor, settings_of}
+use Rattle.stream_reader.specs.Standing.{FailedBehind, ShowsTable, ShowsStrings, StandsFor, held_of, settings_of}
 use Rattle.stream_reader.proofs.ReaderFacts.{comes_in, shows_in}
 use Rattle.stream_reader.proofs.reader.StreamReader.kept.Goals as goal
 use Rattle.stream_reader.proofs.reader.StreamReader.kept.Goals.{After-saturating_add}
@@ -57,3 +57,12 @@ returns-clause-within c = λ p h. shown_within c _ (shows_in c.args.self.now _ _
 pub returns-clause-failed : goal.returns-clause-failed
 unfolding FailedBehind
 returns-clause-failed c = λ refusal taken p h. shown_within c _ h.strings
+
+pub returns-clause-held : goal.returns-clause-held
+unfolding held_of
+returns-clause-held c =
+    let few = c.kept-payload.ensures.few in
+    let payload = c.kept-payload.ensures.held in
+    let text = c.held.ensures.counted in
+    let within = c.held.ensures.within in
+    omega (arith, few, payload, text, within, c.args.self.now.limit, c.args.self.now.quotas.good.via_most, c.saturating_add.ensures)
