@@ -1,6 +1,6 @@
 -- A whole record is read where it stands, and what it means is put behind the items.
-use Rattle.std.proofs.Common.{◌≡◌, ℕ, ◌<◌, ◌≤◌, List, [], ◌++◌, length, Result, Ok, Err, inr, refl, sym, ap, ◌∙◌, subst, arith}
-use Rattle.std.specs.Prelude.{IfOk, IsErrAnd, IsTrue}
+use Rattle.std.proofs.Common.{◌≡◌, ℕ, ◌+◌, ◌<◌, ◌≤◌, List, [], ◌++◌, length, Result, Ok, Err, inr, refl, sym, ap, ◌∙◌, subst, arith}
+use Rattle.std.specs.Prelude.{IsErrAnd, IsTrue}
 use Rattle.std.proofs.lemmas.Result.{err_from_is_err_and}
 use Rattle.std.proofs.lemmas.List.{append-nil}
 use Rattle.unit_streams.specs.Front.{begun, whole}
@@ -38,8 +38,8 @@ use Rattle.nbfx_decoder.specs.declared.units.UnitReader.{UnitReader}
 use Rattle.nbfx_decoder.specs.Faults.{unmade}
 use Rattle.nbfx_decoder.specs.Payload.{Settings, Situation, node, place_of}
 use Rattle.nbfx_decoder.specs.declared.units.UnitRead.TheVariants as units_read
-use Rattle.nbfx_decoder.specs.Units.{AddAnswers, Counts, HasShape, IsAt, SayAnswers, UnitAnswers}
-use Rattle.nbfx_decoder.proofs.UnitSteps.{node_stands, node_unread, node_whole}
+use Rattle.nbfx_decoder.specs.Units.{AddAnswers, HasShape, IsAt, Keeps, KeepsSettings, Reads, SayAnswers, UnitAnswers}
+use Rattle.nbfx_decoder.proofs.UnitSteps.{node_stands, node_unread, node_whole, passed}
 
 -- a record of any shape has some bytes
 shape_of_nothing : (place : NodePlace) → shape_at place [] ≡ begun
@@ -104,7 +104,22 @@ unsaid x z from bytes used new fault r e h =
     let p = err_from_is_err_and r e in
     subst (λ (q : Result UnitRead UnitFault). UnitAnswers x z from bytes new q) (ap Err (sym p.2) ∙ sym p.1) h
 
--- a whole unit has some of so many bytes
-pub done_counts : (r : Result UnitRead UnitFault) (used len : ℕ) → IfOk r (λ read. read ≡ units_read.Done used) → (0 < used) × (used ≤ len) → IfOk r (Counts len)
-done_counts (Ok read) used len is size = subst (Counts len) (sym is) size
-done_counts (Err fault) used len is size = tt
+-- what a reader leaves that hands a fault on
+pub reads_fault : (r new : UnitReader) (bytes : List ℕ) (used : ℕ) (fault : UnitFault) (res : Result UnitRead UnitFault) → IsErrAnd res (λ y. y ≡ fault)
+    → ((x : Settings) (z : Situation) (from : ℕ) → IsAt r x z from → SayAnswers x z from bytes used new (Err fault)) → KeepsSettings r new → Reads r new bytes res
+reads_fault r new bytes used fault (Ok read) e said kept = absurd e
+reads_fault r new bytes used fault (Err f) e said kept =
+    record { answers = λ x z from at. unsaid x z from bytes used new fault (Err f) e (said x z from at); counts = tt; goes_on = tt; kept = kept }
+
+-- and one that goes behind a whole unit
+pub reads_done : (r put new : UnitReader) (bytes : List ℕ) (used : ℕ) → ((x : Settings) (z : Situation) (from : ℕ) → IsAt r x z from → SayAnswers x z from bytes used put (Ok tt))
+    → (0 < used) × (used ≤ length bytes) → KeepsSettings r put → put.from ≡ r.from → Keeps put new → new.from ≡ put.from + used → new.section ≡ put.section → new.document ≡ put.document
+    → Reads r new bytes (Ok (units_read.Done used))
+reads_done r put new bytes used said size kept same keeps from section items =
+    record {
+      answers = λ x z from_is at.
+          let s = said x z from_is at in (node s.0, s.1, s.2, passed put x _ from_is used s.3 new keeps from section items);
+      counts = size;
+      goes_on = from ∙ ap (λ n. n + used) same;
+      kept = record { statics = keeps.statics ∙ kept.statics; quotas = keeps.quotas ∙ kept.quotas; kind = keeps.kind ∙ kept.kind };
+    }

@@ -1,6 +1,6 @@
 -- What a reader of units answers. The public contracts cite of it, through Standing, where a unit
 -- may come, what it waits for and the strings that it has read.
-use Rattle.std.specs.Prelude.{◌≡◌, ℕ, ◌+◌, ◌-◌, ◌<◌, ◌≤◌, ◌⊎◌, max, List, ◌++◌, length, Option, Some, None, Result, Ok, Err}
+use Rattle.std.specs.Prelude.{◌≡◌, ℕ, ◌+◌, ◌-◌, ◌<◌, ◌≤◌, ◌^◌, ◌⊎◌, max, List, ◌++◌, length, Option, Some, None, Result, Ok, Err, IfOk}
 use Rattle.unit_streams.specs.Front.{Front, begun, whole, wrong}
 use Rattle.nbfx_values.specs.Positions.{position_of}
 use Rattle.nbfx_values.specs.QuotasOf.{limits_of}
@@ -10,7 +10,11 @@ use Rattle.nbfx_decoder.specs.declared.faults.UnitFault.{UnitFault}
 use Rattle.nbfx_decoder.specs.declared.faults.UnitFault.TheVariants.{Refused, Memory}
 use Rattle.nbfx_records.specs.declared.nodes.Node.{Node}
 use Rattle.nbfx_records.specs.declared.nodes.NodePlace.{NodePlace}
+use Rattle.nbfx_records.specs.declared.values.Unfit.{Unfit}
+use Rattle.multibyte_ints.specs.Integer.{IsBytes}
+use Rattle.nbfx_records.specs.Contents.{contents}
 use Rattle.nbfx_records.specs.Cursor.{IsWhole}
+use Rattle.nbfx_records.specs.Judged.{Makes}
 use Rattle.nbfx_records.specs.Shapes.{Shape, shape_at}
 use Rattle.nbfx_decoder.specs.declared.strings.Head.{Head}
 use Rattle.nbfx_decoder.specs.declared.strings.StringRead.{StringRead}
@@ -112,6 +116,14 @@ UnitAnswers x z from bytes new (Err (Refused reason shown_by)) =
     IsUnitRefused x z from bytes reason shown_by × HasStrings new x z.strings from
 UnitAnswers x z from bytes new (Err Memory) = HasStrings new x z.strings from
 
+-- what is left of the reading of a unit at the front of some bytes
+pub record Reads (old new : UnitReader) (bytes : List ℕ) (result : Result UnitRead UnitFault) : Type 0 where
+  pub answers : (x : Settings) (z : Situation) (from : ℕ) → IsAt old x z from
+      → UnitAnswers x z from bytes new result
+  pub counts : IfOk result (Counts (length bytes))
+  pub goes_on : IfOk result (λ read. new.from ≡ old.from + counted read)
+  pub kept : KeepsSettings old new
+
 -- what a whole node of so many bytes is answered with
 abbrev pub AddAnswers : Settings → Situation → ℕ → Node → ℕ → UnitReader
     → Result (Unit {0}) UnitFault → Type 0
@@ -124,6 +136,15 @@ AddAnswers x z from n used new (Err Memory) = HasStrings new x z.strings from
 -- a whole record of this shape stands at the front, of so many bytes
 pub record HasShape (place : NodePlace) (shape : Shape) (used : ℕ) (bytes : List ℕ) : Type 0 where
   pub whole : IsWhole (shape_at place) bytes 0 shape used
+
+-- this is made of a whole record of so many bytes, at whose front a reader is
+pub record IsRecord (r : UnitReader) (made : Result Node Unfit) (used : ℕ) : Type 0 where
+  pub shape : Shape
+  pub bytes : List ℕ
+  pub are : IsBytes bytes
+  pub few : r.from + length bytes < 2 ^ 32
+  pub has : HasShape (place_in r) shape used bytes
+  pub makes : Makes made (contents shape)
 
 -- what bytes are answered with at whose front a whole record of so many bytes stands
 abbrev pub SayAnswers : Settings → Situation → ℕ → List ℕ → ℕ → UnitReader

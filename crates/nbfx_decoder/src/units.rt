@@ -1,6 +1,6 @@
 //! The units of a payload, each read where all its bytes are there.
 
-ghost use Rattle.std.specs.Prelude.{◌≡◌, ℕ, ◌+◌, ◌<◌, ◌^◌, ◌↔◌, [], ◌∷◌, ◌++◌, List, length, IfSome, IfNone, IfOk, OnOk, OnSome, IsSome, IsErrOf, IsTrue, Err, None};
+ghost use Rattle.std.specs.Prelude.{◌≡◌, ℕ, ◌+◌, ◌<◌, ◌^◌, ◌↔◌, true, [], ◌∷◌, ◌++◌, List, length, IfSome, IfNone, IfOk, OnOk, OnSome, IsSome, IsErrOf, IsTrue, Err, None};
 ghost use Rattle.std.specs.List.{list_all};
 ghost use Rattle.nbfx_values.specs.Documents.{IsDocument};
 ghost use Rattle.nbfx_values.specs.Measures.{capped, content_of, opened_by};
@@ -9,12 +9,13 @@ ghost use Rattle.nbfx_values.specs.QuotasOf.{limits_of};
 ghost use Rattle.nbfx_values.specs.Items.{is_valid_item};
 ghost use Rattle.nbfx_decoder.specs.Meant.{items_in};
 ghost use Rattle.multibyte_ints.specs.Integer.{IsBytes};
-ghost use Rattle.nbfx_records.specs.Beginning.{BeginsKind};
+ghost use Rattle.nbfx_records.specs.Beginning.{BeginsKind, MayCome};
 ghost use Rattle.nbfx_records.specs.Contents.{contents};
 ghost use Rattle.nbfx_records.specs.Judged.{Makes};
 ghost use Rattle.nbfx_records.specs.Places.{Stands};
 ghost use Rattle.nbfx_records.specs.Shapes.{Shape};
 ghost use Rattle.nbfx_records.specs.Answers.{Answers, ReadsValid, Wants};
+ghost use Rattle.nbfx_records.specs.Views.{record_seen};
 ghost use Rattle.nbfx_records.specs.Valid.{is_valid_node};
 ghost use Rattle.nbfx_decoder.specs.Sections.{first_section, left_in};
 
@@ -25,10 +26,10 @@ use crate::section::Section;
 use crate::strings::{StringRead, string_at};
 use multibyte_ints::{IntRead, read_int};
 use nbfx_records::{
-    AttributePart, NameForm, Node, NodePlace, NodeRead, PrefixForm, ReadFault, RecordKind, Resume,
-    Stop, TextKind, Unfit, ValuePart, attribute_node, attribute_parts, declaration_node,
-    declaration_parts, element_node, element_parts, kind_at, node, scalar_parts, shape_at,
-    text_node,
+    AttributePart, NameForm, Node, NodePlace, NodeRead, PrefixForm, ReadFault, RecordKind,
+    RecordPart, Resume, ScalarPart, Stop, TextKind, Unfit, ValuePart, attribute_node,
+    attribute_parts, characters_node, declaration_node, declaration_parts, element_node,
+    element_parts, has_characters, kind_at, may_come, node, scalar_parts, shape_at, text_node,
 };
 use nbfx_values::{Doc, DocBuilder, Item, Kind, Position, PushFault, Quotas, Reason};
 use session_dictionary::{AddFault, SessionTable};
@@ -61,7 +62,7 @@ pub(crate) struct UnitReader<'s> {
 
 impl<'s> UnitReader<'s> {
     ghost use Rattle.nbfx_decoder.specs.Payload.{Settings, Situation, beginning};
-    ghost use Rattle.nbfx_decoder.specs.Units.{IsAt, Keeps, KeepsSettings, Counts, counted, place_in, AddAnswers, HasShape, SayAnswers, UnitAnswers};
+    ghost use Rattle.nbfx_decoder.specs.Units.{IsAt, Keeps, KeepsSettings, Counts, counted, place_in, AddAnswers, HasShape, SayAnswers, UnitAnswers, IsRecord, Reads};
 
     /// Before a payload's first byte, with no strings.
     pub(crate) fn new(alloc: Global, statics: &'s StaticTable, quotas: Quotas, kind: Kind) -> Self
@@ -221,20 +222,24 @@ impl<'s> UnitReader<'s> {
         }
     }
 
+    // Whether a record of this kind may come next.
+    #[inline(always)]
+    fn takes(&self, kind: RecordKind) -> bool
+        ensures { result ≡ true ↔ MayCome (place_in self.now) kind }
+    {
+        may_come(self.place(), kind)
+    }
+
     // Reads the record at the front of the bytes, and puts what it means behind the items. The kinds
     // that come most have ways of their own, by their parts; any other record has one for all.
     #[inline(always)]
     fn record(&mut self, bytes: &[u8]) -> Result<UnitRead, UnitFault>
         requires here { self.old.section ≡ Section.Nodes }
         requires few { self.old.from + length bytes.now < 2 ^ 32 }
-        ensures answers { (x : Settings) (z : Situation) (from : ℕ) → IsAt self.old x z from
-            → UnitAnswers x z from bytes.now self.new result }
-        ensures counts { IfOk result (Counts (length bytes.now)) }
-        ensures from { IfOk result (λ read. self.new.from ≡ self.old.from + counted read) }
-        ensures kept { KeepsSettings self.old self.new }
+        ensures { Reads self.old self.new bytes.now result }
     {
-        match kind_at(self.place(), bytes) {
-            Some(RecordKind::EndElement) => self.pass_record(Ok(Node::EndElement), 1),
+        match kind_at(bytes) {
+            Some(RecordKind::EndElement) => self.end_element(bytes),
             Some(RecordKind::Element(prefix, name)) => self.element(prefix, name, bytes),
             Some(RecordKind::Attribute(prefix, name)) => self.attribute(prefix, name, bytes),
             Some(RecordKind::Declaration(prefix, uri)) => self.declaration(prefix, uri, bytes),
@@ -243,7 +248,20 @@ impl<'s> UnitReader<'s> {
         }
     }
 
-    #[inline(never)]
+    #[inline(always)]
+    fn end_element(&mut self, bytes: &[u8]) -> Result<UnitRead, UnitFault>
+        requires here { self.old.section ≡ Section.Nodes }
+        requires few { self.old.from + length bytes.now < 2 ^ 32 }
+        requires begins { BeginsKind bytes.now RecordKind.EndElement }
+        ensures { Reads self.old self.new bytes.now result }
+    {
+        if !self.takes(RecordKind::EndElement) {
+            return self.any_record(bytes);
+        }
+        self.pass_record(Ok(Node::EndElement), 1)
+    }
+
+    #[inline(always)]
     fn element(
         &mut self,
         prefix: PrefixForm,
@@ -252,14 +270,12 @@ impl<'s> UnitReader<'s> {
     ) -> Result<UnitRead, UnitFault>
         requires here { self.old.section ≡ Section.Nodes }
         requires few { self.old.from + length bytes.now < 2 ^ 32 }
-        requires begins { BeginsKind (place_in self.old) bytes.now
-            (RecordKind.Element prefix name) }
-        ensures answers { (x : Settings) (z : Situation) (from : ℕ) → IsAt self.old x z from
-            → UnitAnswers x z from bytes.now self.new result }
-        ensures counts { IfOk result (Counts (length bytes.now)) }
-        ensures from { IfOk result (λ read. self.new.from ≡ self.old.from + counted read) }
-        ensures kept { KeepsSettings self.old self.new }
+        requires begins { BeginsKind bytes.now (RecordKind.Element prefix name) }
+        ensures { Reads self.old self.new bytes.now result }
     {
+        if !self.takes(RecordKind::Element(prefix, name)) {
+            return self.any_record(bytes);
+        }
         match element_parts(prefix, name, bytes) {
             Ok((part, used)) => self.pass_record(element_node(self.alloc, &part), used),
             Err(_) => self.any_record(bytes),
@@ -275,14 +291,12 @@ impl<'s> UnitReader<'s> {
     ) -> Result<UnitRead, UnitFault>
         requires here { self.old.section ≡ Section.Nodes }
         requires few { self.old.from + length bytes.now < 2 ^ 32 }
-        requires begins { BeginsKind (place_in self.old) bytes.now
-            (RecordKind.Attribute prefix name) }
-        ensures answers { (x : Settings) (z : Situation) (from : ℕ) → IsAt self.old x z from
-            → UnitAnswers x z from bytes.now self.new result }
-        ensures counts { IfOk result (Counts (length bytes.now)) }
-        ensures from { IfOk result (λ read. self.new.from ≡ self.old.from + counted read) }
-        ensures kept { KeepsSettings self.old self.new }
+        requires begins { BeginsKind bytes.now (RecordKind.Attribute prefix name) }
+        ensures { Reads self.old self.new bytes.now result }
     {
+        if !self.takes(RecordKind::Attribute(prefix, name)) {
+            return self.any_record(bytes);
+        }
         match attribute_parts(prefix, name, bytes) {
             Ok(
                 (
@@ -307,14 +321,12 @@ impl<'s> UnitReader<'s> {
     ) -> Result<UnitRead, UnitFault>
         requires here { self.old.section ≡ Section.Nodes }
         requires few { self.old.from + length bytes.now < 2 ^ 32 }
-        requires begins { BeginsKind (place_in self.old) bytes.now
-            (RecordKind.Declaration prefix uri) }
-        ensures answers { (x : Settings) (z : Situation) (from : ℕ) → IsAt self.old x z from
-            → UnitAnswers x z from bytes.now self.new result }
-        ensures counts { IfOk result (Counts (length bytes.now)) }
-        ensures from { IfOk result (λ read. self.new.from ≡ self.old.from + counted read) }
-        ensures kept { KeepsSettings self.old self.new }
+        requires begins { BeginsKind bytes.now (RecordKind.Declaration prefix uri) }
+        ensures { Reads self.old self.new bytes.now result }
     {
+        if !self.takes(RecordKind::Declaration(prefix, uri)) {
+            return self.any_record(bytes);
+        }
         match declaration_parts(prefix, uri, bytes) {
             Ok((AttributePart::Declaration { prefix, uri }, used)) => {
                 self.pass_record(declaration_node(self.alloc, &prefix, &uri), used)
@@ -328,23 +340,33 @@ impl<'s> UnitReader<'s> {
     fn text(&mut self, kind: TextKind, ends: bool, bytes: &[u8]) -> Result<UnitRead, UnitFault>
         requires here { self.old.section ≡ Section.Nodes }
         requires few { self.old.from + length bytes.now < 2 ^ 32 }
-        requires begins { BeginsKind (place_in self.old) bytes.now
-            (RecordKind.Text kind ends) }
-        ensures answers { (x : Settings) (z : Situation) (from : ℕ) → IsAt self.old x z from
-            → UnitAnswers x z from bytes.now self.new result }
-        ensures counts { IfOk result (Counts (length bytes.now)) }
-        ensures from { IfOk result (λ read. self.new.from ≡ self.old.from + counted read) }
-        ensures kept { KeepsSettings self.old self.new }
+        requires begins { BeginsKind bytes.now (RecordKind.Text kind ends) }
+        ensures { Reads self.old self.new bytes.now result }
     {
-        if kind == TextKind::StartList {
+        if kind == TextKind::StartList || !self.takes(RecordKind::Text(kind, ends)) {
             return self.any_record(bytes);
         }
         match scalar_parts(kind, ends, bytes) {
-            Ok((part, used)) => {
-                self.pass_record(text_node(self.alloc, &ValuePart::One(part), ends), used)
+            Ok((ScalarPart::Bytes(kind, chars), used)) if has_characters(kind) => {
+                self.pass_record(characters_node(self.alloc, kind, chars, ends), used)
             }
+            Ok((part, used)) => self.scalar(part, ends, used),
             Err(_) => self.any_record(bytes),
         }
+    }
+
+    // A text of so many bytes, of one value.
+    #[inline(never)]
+    fn scalar(&mut self, part: ScalarPart, ends: bool, used: usize) -> Result<UnitRead, UnitFault>
+        requires here { self.old.section ≡ Section.Nodes }
+        requires stands { (bytes : List ℕ) × (self.old.from + length bytes < 2 ^ 32) × IsBytes bytes
+            × HasShape (place_in self.old) (record_seen (RecordPart.Text (ValuePart.One part) ends))
+            used bytes }
+        ensures { (bytes : List ℕ) → HasShape (place_in self.old)
+            (record_seen (RecordPart.Text (ValuePart.One part.entry) ends)) used bytes
+            → Reads self.old self.new bytes result }
+    {
+        self.pass_record(text_node(self.alloc, &ValuePart::One(part), ends), used)
     }
 
     // A record of any kind, or none.
@@ -352,11 +374,7 @@ impl<'s> UnitReader<'s> {
     fn any_record(&mut self, bytes: &[u8]) -> Result<UnitRead, UnitFault>
         requires here { self.old.section ≡ Section.Nodes }
         requires few { self.old.from + length bytes.now < 2 ^ 32 }
-        ensures answers { (x : Settings) (z : Situation) (from : ℕ) → IsAt self.old x z from
-            → UnitAnswers x z from bytes.now self.new result }
-        ensures counts { IfOk result (Counts (length bytes.now)) }
-        ensures from { IfOk result (λ read. self.new.from ≡ self.old.from + counted read) }
-        ensures kept { KeepsSettings self.old self.new }
+        ensures { Reads self.old self.new bytes.now result }
     {
         match shape_at(self.place(), bytes, &mut Resume::new()) {
             Ok((part, used)) => self.pass_record(node(self.alloc, &part), used),
@@ -371,17 +389,9 @@ impl<'s> UnitReader<'s> {
     #[inline(always)]
     fn pass_record(&mut self, made: Result<Node, Unfit>, used: usize) -> Result<UnitRead, UnitFault>
         requires here { self.old.section ≡ Section.Nodes }
-        requires few { self.old.from + used < 2 ^ 32 }
-        requires stands { (shape : Shape) × (bytes : List ℕ)
-            × HasShape (place_in self.old) shape used bytes × IsBytes bytes
-            × Makes made (contents shape) }
-        ensures answers { (x : Settings) (z : Situation) (from : ℕ) (shape : Shape)
-            (bytes : List ℕ) → IsAt self.old x z from → HasShape (place_in self.old) shape used bytes
-            → Makes made (contents shape)
-            → UnitAnswers x z from bytes self.new result }
-        ensures done { IfOk result (λ read. read ≡ UnitRead.Done used) }
-        ensures from { IfOk result (λ read. self.new.from ≡ self.old.from + counted read) }
-        ensures kept { KeepsSettings self.old self.new }
+        requires stands { IsRecord self.old made used }
+        ensures { (shape : Shape) (bytes : List ℕ) → HasShape (place_in self.old) shape used bytes
+            → Makes made (contents shape) → Reads self.old self.new bytes result }
     {
         self.put(made, used)?;
         Ok(self.pass(used))
@@ -391,9 +401,7 @@ impl<'s> UnitReader<'s> {
     #[inline(always)]
     fn put(&mut self, made: Result<Node, Unfit>, used: usize) -> Result<(), UnitFault>
         requires here { self.old.section ≡ Section.Nodes }
-        requires stands { (shape : Shape) × (bytes : List ℕ)
-            × HasShape (place_in self.old) shape used bytes × IsBytes bytes
-            × Makes made (contents shape) }
+        requires stands { IsRecord self.old made used }
         ensures answers { (x : Settings) (z : Situation) (from : ℕ) (shape : Shape)
             (bytes : List ℕ) → IsAt self.old x z from → HasShape (place_in self.old) shape used bytes
             → Makes made (contents shape)

@@ -1,6 +1,6 @@
 -- The parts of a record whose kind is known stand behind its type byte.
 use Rattle.std.proofs.Common.{◌≡◌, ◌≤◌, length, ℕ, List, [], ◌∷◌, get_or, Bool, Option, Some, None, Result, Ok, Err, refl, sym, ap, ◌∙◌, subst}
-use Rattle.std.specs.Prelude.{slice_get}
+use Rattle.std.specs.Prelude.{IfNone, slice_get}
 use Rattle.unit_streams.specs.Parts.{Reader, a_byte, seen}
 use Rattle.nbfx_records.specs.declared.cursor.Stop.{Stop}
 use Rattle.nbfx_records.specs.declared.kinds.RecordKind.{RecordKind}
@@ -18,7 +18,7 @@ use Rattle.nbfx_records.specs.declared.parts.NamedPart.{NamedPart}
 use Rattle.nbfx_records.specs.declared.parts.ScalarPart.{ScalarPart}
 use Rattle.nbfx_records.specs.declared.records.RecordPart.TheVariants as parts
 use Rattle.nbfx_records.specs.Asked as asked
-use Rattle.nbfx_records.specs.Beginning.{BeginsKind}
+use Rattle.nbfx_records.specs.Beginning.{BeginsKind, MayCome}
 use Rattle.nbfx_records.specs.Cursor.{IsWhole, Tells}
 use Rattle.nbfx_records.specs.Kinds.{record_kind}
 use Rattle.nbfx_records.specs.Shapes.{Shape, NamedShape, ScalarShape, adds, attribute_at, begins_element, declaration_at, element_at, ends_element, has_text, misplaced, one, placed, record_at, scalar_at, shape_at, text_at, unless_misplaced}
@@ -36,12 +36,12 @@ asked_is BeforeRoot kind e = ap (λ m. asked.unless_misplaced m kind) e
 asked_is (Within attributes deeper) kind e = ap (λ m. asked.unless_misplaced m kind) e
 asked_is AfterRoot kind e = cc
 
-module _ {place : NodePlace} {bytes : List ℕ} {kind : RecordKind} (b : BeginsKind place bytes kind) {X : Type 0} {see : X → Shape} {r : Result (X × ℕ) Stop} where
+module _ (place : NodePlace) {bytes : List ℕ} {kind : RecordKind} (b : BeginsKind bytes kind) (may : MayCome place kind) {X : Type 0} {see : X → Shape} {r : Result (X × ℕ) Stop} where
   pub begun_tells : Tells see (record_at kind) (asked.record_at kind) bytes 1 r → Tells see (shape_at place) (asked.shape_at place) bytes 0 r
   unfolding shape_at
   begun_tells h =
-      let read = subst (λ (f : Reader Shape NodeFault). Tells see f (asked.record_at kind) bytes 1 r) (sym (placed_is place kind b.may_come)) h in
-      let wants = subst (λ (f : List ℕ → ℕ → Type 0). Tells see (placed place (Some kind)) f bytes 1 r) (sym (asked_is place kind b.may_come)) read in
+      let read = subst (λ (f : Reader Shape NodeFault). Tells see f (asked.record_at kind) bytes 1 r) (sym (placed_is place kind may)) h in
+      let wants = subst (λ (f : List ℕ → ℕ → Type 0). Tells see (placed place (Some kind)) f bytes 1 r) (sym (asked_is place kind may)) read in
       then_tells (λ byte. placed place (record_kind byte)) {see' = λ byte. byte} {x = b.byte} {to = 1} (record { told = b.first })
       (subst (λ (k : Option RecordKind). Tells see (placed place k) (asked.placed place k) bytes 1 r) (sym b.kind_is) wants)
 
@@ -90,7 +90,7 @@ first_byte : (bytes : List ℕ) (byte : ℕ) → IsWhole a_byte bytes 0 byte 1 �
 first_byte [] byte h = let e = h.stands [] in cc
 first_byte (b ∷ rest) byte h = let e = h.stands [] in cc
 
-pub begun_kind : {place : NodePlace} {bytes : List ℕ} {kind : RecordKind} → BeginsKind place bytes kind → (first : ℕ) → Some first ≡ slice_get bytes 0 → record_kind first ≡ Some kind
+pub begun_kind : {bytes : List ℕ} {kind : RecordKind} → BeginsKind bytes kind → (first : ℕ) → Some first ≡ slice_get bytes 0 → record_kind first ≡ Some kind
 begun_kind {bytes = []} b first e = cc
 begun_kind {bytes = x ∷ rest} b first e =
     let here : x ≡ b.byte = first_byte (x ∷ rest) b.byte b.first in
@@ -102,5 +102,10 @@ end_tells : (bytes : List ℕ) → 1 ≤ length bytes → Tells (λ (u : Unit {0
 unfolding record_at
 end_tells bytes within = given_tells (λ (u : Unit {0}). ends_element) tt bytes 1 within
 
-pub end_begun : {place : NodePlace} {bytes : List ℕ} → BeginsKind place bytes records.EndElement → IsWhole (shape_at place) bytes 0 ends_element 1
-end_begun {place} {bytes} b = (begun_tells b {see = λ (u : Unit {0}). ends_element} {r = Ok (tt, 1)} (end_tells bytes b.first.within)).told
+pub end_begun : (place : NodePlace) {bytes : List ℕ} → BeginsKind bytes records.EndElement → MayCome place records.EndElement → IsWhole (shape_at place) bytes 0 ends_element 1
+end_begun place {bytes} b may = (begun_tells place b may {see = λ (u : Unit {0}). ends_element} {r = Ok (tt, 1)} (end_tells bytes b.first.within)).told
+
+-- where its byte begins none, none is begun
+pub none_begun : (bytes : List ℕ) (first : ℕ) → Some first ≡ slice_get bytes 0 → (told : Option RecordKind) → told ≡ record_kind first → IfNone told ((kind : RecordKind) → BeginsKind bytes kind → ⊥)
+none_begun bytes first e None is = λ kind b. let begun = begun_kind b first e in cc
+none_begun bytes first e (Some kind) is = tt

@@ -21,6 +21,7 @@ pub mod ValidFacts
 pub mod CursorFacts
 pub mod PartFacts
 pub mod BegunFacts
+pub mod CharactersFacts
 pub mod ManyFacts
 pub mod ListFacts
 pub mod PartsFacts

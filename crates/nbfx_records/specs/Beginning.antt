@@ -7,9 +7,12 @@ use Rattle.nbfx_records.specs.Cursor.{IsWhole}
 use Rattle.nbfx_records.specs.Kinds.{record_kind}
 use Rattle.nbfx_records.specs.Shapes.{misplaced}
 
--- their first is the type byte of a record of this kind, which may come at this place
-pub record BeginsKind (place : NodePlace) (bytes : List ℕ) (kind : RecordKind) : Type 0 where
+-- their first is the type byte of a record of this kind
+pub record BeginsKind (bytes : List ℕ) (kind : RecordKind) : Type 0 where
   pub byte : ℕ
   pub first : IsWhole a_byte bytes 0 byte 1
   pub kind_is : record_kind byte ≡ Some kind
-  pub may_come : misplaced place kind ≡ None
+
+-- a record of this kind may come at this place
+abbrev pub MayCome : NodePlace → RecordKind → Type 0
+MayCome place kind = misplaced place kind ≡ None

@@ -112,7 +112,7 @@ fn value_at<'a>(
 }
 
 /// What follows the type byte of an attribute in these forms.
-#[inline(never)]
+#[inline(always)]
 pub fn attribute_at<'a>(
     prefix: PrefixForm,
     name: NameForm,

@@ -1,8 +1,8 @@
 //! A record by its kind: which one some bytes begin, and the parts of one whose kind is known.
 
-ghost use Rattle.std.specs.Prelude.{◌≡◌, ◌≢◌, ◌<◌, IfNone, IfOk, IfSome, length};
+ghost use Rattle.std.specs.Prelude.{◌≡◌, ◌≢◌, ◌<◌, ◌↔◌, IfNone, IfOk, IfSome, length, true};
 ghost use Rattle.nbfx_records.specs.Asked as asked;
-ghost use Rattle.nbfx_records.specs.Beginning.{BeginsKind};
+ghost use Rattle.nbfx_records.specs.Beginning.{BeginsKind, MayCome};
 ghost use Rattle.nbfx_records.specs.Cursor.{Tells};
 ghost use Rattle.nbfx_records.specs.Shapes as spec;
 ghost use Rattle.nbfx_records.specs.Views.{IsSoundAttribute, record_seen};
@@ -16,17 +16,21 @@ use crate::records::{RecordPart, misplaced};
 use crate::resume::Resume;
 use crate::type_bytes::record_kind;
 
-/// The kind of the record that the bytes begin, if one of it may come at this place.
+/// The kind of the record that the bytes begin.
 #[inline(always)]
-pub fn kind_at(place: NodePlace, bytes: &[u8]) -> Option<RecordKind>
-    ensures begins { IfSome result (BeginsKind place bytes.now) }
-    ensures none { IfNone result ((kind : RecordKind) → BeginsKind place bytes.now kind → ⊥) }
+pub fn kind_at(bytes: &[u8]) -> Option<RecordKind>
+    ensures begins { IfSome result (BeginsKind bytes.now) }
+    ensures none { IfNone result ((kind : RecordKind) → BeginsKind bytes.now kind → ⊥) }
 {
-    let kind = record_kind(*bytes.first()?)?;
-    match misplaced(place, kind) {
-        Some(_) => None,
-        None => Some(kind),
-    }
+    record_kind(*bytes.first()?)
+}
+
+/// Whether a record of this kind may come at this place.
+#[inline(always)]
+pub fn may_come(place: NodePlace, kind: RecordKind) -> bool
+    ensures { result ≡ true ↔ MayCome place kind }
+{
+    misplaced(place, kind).is_none()
 }
 
 /// The parts of the element that the bytes begin, in these forms.
@@ -36,8 +40,8 @@ pub fn element_parts(
     name: NameForm,
     bytes: &[u8],
 ) -> Result<(NamedPart<'_>, usize), Stop>
-    requires { 0 < length bytes.now }
-    ensures { (place : NodePlace) → BeginsKind place bytes.now (RecordKind.Element prefix name)
+    requires { BeginsKind bytes.now (RecordKind.Element prefix name) }
+    ensures { (place : NodePlace) → MayCome place (RecordKind.Element prefix name)
         → Tells (λ part. record_seen (RecordPart.Element part)) (spec.shape_at place)
         (asked.shape_at place) bytes.now 0 result }
 {
@@ -51,9 +55,8 @@ pub fn attribute_parts(
     name: NameForm,
     bytes: &[u8],
 ) -> Result<(AttributePart<'_>, usize), Stop>
-    requires { 0 < length bytes.now }
-    ensures tells { (place : NodePlace)
-        → BeginsKind place bytes.now (RecordKind.Attribute prefix name)
+    requires { BeginsKind bytes.now (RecordKind.Attribute prefix name) }
+    ensures tells { (place : NodePlace) → MayCome place (RecordKind.Attribute prefix name)
         → Tells (λ part. record_seen (RecordPart.Attribute part)) (spec.shape_at place)
         (asked.shape_at place) bytes.now 0 result }
     ensures sound { IfOk result (λ read. IsSoundAttribute read.0) }
@@ -68,9 +71,8 @@ pub fn declaration_parts(
     uri: NameForm,
     bytes: &[u8],
 ) -> Result<(AttributePart<'_>, usize), Stop>
-    requires { 0 < length bytes.now }
-    ensures tells { (place : NodePlace)
-        → BeginsKind place bytes.now (RecordKind.Declaration prefix uri)
+    requires { BeginsKind bytes.now (RecordKind.Declaration prefix uri) }
+    ensures tells { (place : NodePlace) → MayCome place (RecordKind.Declaration prefix uri)
         → Tells (λ part. record_seen (RecordPart.Attribute part)) (spec.shape_at place)
         (asked.shape_at place) bytes.now 0 result }
     ensures sound { IfOk result (λ read. IsSoundAttribute read.0) }
@@ -85,9 +87,9 @@ pub fn scalar_parts(
     ends: bool,
     bytes: &[u8],
 ) -> Result<(ScalarPart<'_>, usize), Stop>
-    requires some { 0 < length bytes.now }
+    requires begins { BeginsKind bytes.now (RecordKind.Text kind ends) }
     requires no_list { kind ≢ TextKind.StartList }
-    ensures { (place : NodePlace) → BeginsKind place bytes.now (RecordKind.Text kind ends)
+    ensures { (place : NodePlace) → MayCome place (RecordKind.Text kind ends)
         → Tells (λ part. record_seen (RecordPart.Text (ValuePart.One part) ends))
         (spec.shape_at place) (asked.shape_at place) bytes.now 0 result }
 {

@@ -1,6 +1,6 @@
 //! The node of a whole record: its texts are judged before its values.
 
-ghost use Rattle.std.specs.Prelude.{◌≡◌, ◌<◌, [], ◌∷◌, IfNone, IfSome, length};
+ghost use Rattle.std.specs.Prelude.{◌≡◌, ◌<◌, [], ◌∷◌, IfNone, IfSome, IsTrue, length};
 ghost use Rattle.std.specs.List.{list_all};
 ghost use Rattle.std.specs.Str.{is_utf8};
 ghost use Rattle.nbfx_records.specs.Contents as spec;
@@ -9,6 +9,7 @@ ghost use Rattle.nbfx_records.specs.Views.{AreParts, AreSized, HoldsLists, IsLis
 
 use crate::arrays::{ArrayPart, ArrayTurn, CellsPart, array_turn_at};
 use crate::attributes::{AttributePart, ValuePart};
+use crate::kinds::TextKind;
 use crate::lists::{ListHolder, ListTurn, list_turn_at};
 use crate::nodes::{
     ArrayNode, AttrNode, AttrNodes, NameRef, Node, NodeFault, RawScalar, RawValue, RawValues,
@@ -18,7 +19,7 @@ use crate::records::RecordPart;
 use crate::resume::Resume;
 use crate::type_bytes::{has_characters, text_kind_in, width};
 use crate::values::{Unfit, is_text, known, text};
-use nbfx_values::{Txt, Values};
+use nbfx_values::{Scalar, Txt, Values};
 use std::alloc::Global;
 
 // The text of a prefix.
@@ -366,6 +367,25 @@ pub fn declaration_node(
     Ok(Node::Xmlns {
         prefix: prefix(alloc, prefix_part)?,
         uri: name(alloc, uri_part)?,
+    })
+}
+
+/// The node of a text of UTF-8 characters.
+#[inline(always)]
+#[tactic(auto, unfolding(crate::specs::Contents::contents))]
+pub fn characters_node(
+    alloc: Global,
+    kind: TextKind,
+    bytes: &[u8],
+    ends: bool,
+) -> Result<Node, Unfit>
+    requires { IsTrue (spec.has_characters kind) }
+    ensures { Makes result (spec.contents (record_seen (RecordPart.Text
+        (ValuePart.One (ScalarPart.Bytes kind bytes.entry)) ends))) }
+{
+    Ok(Node::Text {
+        value: RawValue::One(RawScalar::Known(Scalar::Text(text(alloc, bytes)?))),
+        ends,
     })
 }
 

@@ -29,8 +29,12 @@ mod values;
 
 pub use arrays::{ArrayPart, CellsPart};
 pub use attributes::{AttributePart, ValuePart};
-pub use begun::{attribute_parts, declaration_parts, element_parts, kind_at, scalar_parts};
-pub use building::{attribute_node, declaration_node, element_node, node, text_node};
+pub use begun::{
+    attribute_parts, declaration_parts, element_parts, kind_at, may_come, scalar_parts,
+};
+pub use building::{
+    attribute_node, characters_node, declaration_node, element_node, node, text_node,
+};
 pub use cursor::Stop;
 pub use kinds::{NameForm, PrefixForm, RecordKind, TextKind};
 pub use nodes::{
@@ -42,6 +46,7 @@ pub use put_nodes::put_node;
 pub use read::{NodeRead, ReadFault, read_node, read_node_on};
 pub use records::{RecordPart, shape_at};
 pub use resume::Resume;
+pub use type_bytes::has_characters;
 pub use values::Unfit;
 
 #[cfg(test)]

@@ -1,6 +1,6 @@
 //! What each type byte begins, and what follows the type byte of a text.
 
-ghost use Rattle.std.specs.Prelude.{◌≡◌, ◌≤◌, IsTrue, slice_get};
+ghost use Rattle.std.specs.Prelude.{◌≡◌, ◌≤◌, ◌<◌, IsTrue, slice_get};
 ghost use Rattle.std.specs.Option.{option_and_then};
 ghost use Rattle.nbfx_records.specs.Contents as contents;
 ghost use Rattle.nbfx_records.specs.Kinds as spec;
@@ -60,9 +60,34 @@ fn text_record(byte: u8) -> Option<RecordKind>
     Some(RecordKind::Text(kind, ends))
 }
 
-/// The record that a type byte begins.
+// The element that a type byte of the second quarter begins.
+#[inline(always)]
 #[tactic(auto, unfolding(crate::specs::Kinds::record_kind))]
-pub fn record_kind(byte: u8) -> Option<RecordKind>
+fn element_kind(byte: u8) -> Option<RecordKind>
+    requires from { 64 ≤ byte }
+    requires below { byte < 128 }
+    ensures { result ≡ spec.record_kind byte }
+{
+    match byte {
+        68..=93 => Some(RecordKind::Element(
+            PrefixForm::Lettered(byte - 68 + b'a'),
+            NameForm::Identified,
+        )),
+        94..=119 => Some(RecordKind::Element(
+            PrefixForm::Lettered(byte - 94 + b'a'),
+            NameForm::Inlined,
+        )),
+        120..=127 => None,
+        _ => Some(RecordKind::Element(prefix_form(byte - 64), name_form(byte - 64))),
+    }
+}
+
+// The record that a type byte of the first quarter begins: a declaration, an attribute, or one that
+// is no part of an element's start.
+#[inline(always)]
+#[tactic(auto, unfolding(crate::specs::Kinds::record_kind))]
+fn lower_kind(byte: u8) -> Option<RecordKind>
+    requires { byte < 64 }
     ensures { result ≡ spec.record_kind byte }
 {
     match byte {
@@ -76,20 +101,22 @@ pub fn record_kind(byte: u8) -> Option<RecordKind>
             PrefixForm::Lettered(byte - 12 + b'a'),
             NameForm::Identified,
         )),
-        38..=63 => Some(RecordKind::Attribute(
-            PrefixForm::Lettered(byte - 38 + b'a'),
-            NameForm::Inlined,
-        )),
-        64..=67 => Some(RecordKind::Element(prefix_form(byte - 64), name_form(byte - 64))),
-        68..=93 => Some(RecordKind::Element(
-            PrefixForm::Lettered(byte - 68 + b'a'),
-            NameForm::Identified,
-        )),
-        94..=119 => Some(RecordKind::Element(
-            PrefixForm::Lettered(byte - 94 + b'a'),
-            NameForm::Inlined,
-        )),
-        _ => text_record(byte),
+        _ => Some(RecordKind::Attribute(PrefixForm::Lettered(byte - 38 + b'a'), NameForm::Inlined)),
+    }
+}
+
+/// The record that a type byte begins.
+#[inline(always)]
+#[tactic(auto, unfolding(crate::specs::Kinds::record_kind))]
+pub fn record_kind(byte: u8) -> Option<RecordKind>
+    ensures { result ≡ spec.record_kind byte }
+{
+    if byte >= 128 {
+        text_record(byte)
+    } else if byte >= 64 {
+        element_kind(byte)
+    } else {
+        lower_kind(byte)
     }
 }
 

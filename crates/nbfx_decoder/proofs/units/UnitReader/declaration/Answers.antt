@@ -1,33 +1,24 @@
-use Rattle.std.proofs.Common.{arith, length}
-use Rattle.nbfx_values.specs.Positions.{position_of}
 use Rattle.nbfx_records.specs.declared.attributes.AttributePart.TheVariants.{Declaration}
 use Rattle.nbfx_records.specs.declared.records.RecordPart.TheVariants as records
 use Rattle.nbfx_records.specs.Views.{record_seen}
-use Rattle.nbfx_decoder.specs.Payload.{place_of}
-use Rattle.nbfx_decoder.proofs.Saying.{done_counts, shape_size}
+use Rattle.nbfx_decoder.specs.Units.{place_in}
 use Rattle.nbfx_decoder.proofs.units.UnitReader.declaration.Goals as goal
 
 pub pass_record-requires-clause-stands : goal.pass_record-requires-clause-stands
 pass_record-requires-clause-stands c =
-    let place = place_of c.args.self.now.quotas.depth (position_of c.args.self.now.document) in
-    let stands = rw c.in-Ok-Declaration-default.field-0-0-is at c.in-Ok-Declaration-default.ensures.tells place c.requires.begins in
-    (record_seen (records.Attribute (Declaration c.in-Ok-Declaration-default.prefix c.in-Ok-Declaration-default.uri)), c.args.bytes.now, record { whole = stands.told }, λ i. (c.type_inv.bytes i).fits, c.declaration_node.ensures)
+    let may = let no = c.if-not-takes.false in c.takes.ensures.0 cc in
+    let told = rw c.in-Ok-Declaration-default.field-0-0-is at c.in-Ok-Declaration-default.ensures.tells (place_in c.args.self.now) may in
+    record {
+      shape = record_seen (records.Attribute (Declaration c.in-Ok-Declaration-default.prefix c.in-Ok-Declaration-default.uri));
+      bytes = c.args.bytes.now;
+      are = λ i. (c.type_inv.bytes i).fits;
+      few = c.requires.few;
+      has = record { whole = told.told };
+      makes = c.declaration_node.ensures;
+    }
 
-pub pass_record-requires-clause-few : goal.pass_record-requires-clause-few
-pass_record-requires-clause-few c =
-    let place = place_of c.args.self.now.quotas.depth (position_of c.args.self.now.document) in
-    let stands = rw c.in-Ok-Declaration-default.field-0-0-is at c.in-Ok-Declaration-default.ensures.tells place c.requires.begins in
-    let size = shape_size place c.args.bytes.now (record_seen (records.Attribute (Declaration c.in-Ok-Declaration-default.prefix c.in-Ok-Declaration-default.uri))) c.in-Ok-Declaration-default.used stands.told in
-    omega (arith, c.requires.few, size.1)
-
-pub returns-in-Ok-Declaration-default-clause-answers : goal.returns-in-Ok-Declaration-default-clause-answers
-returns-in-Ok-Declaration-default-clause-answers c x z from at =
-    let place = place_of c.args.self.now.quotas.depth (position_of c.args.self.now.document) in
-    let stands = rw c.in-Ok-Declaration-default.field-0-0-is at c.in-Ok-Declaration-default.ensures.tells place c.requires.begins in
-    c.pass_record.ensures.answers x z from (record_seen (records.Attribute (Declaration c.in-Ok-Declaration-default.prefix c.in-Ok-Declaration-default.uri))) c.args.bytes.now at (record { whole = stands.told }) c.declaration_node.ensures
-
-pub returns-in-Ok-Declaration-default-clause-counts : goal.returns-in-Ok-Declaration-default-clause-counts
-returns-in-Ok-Declaration-default-clause-counts c =
-    let place = place_of c.args.self.now.quotas.depth (position_of c.args.self.now.document) in
-    let stands = rw c.in-Ok-Declaration-default.field-0-0-is at c.in-Ok-Declaration-default.ensures.tells place c.requires.begins in
-    done_counts c.pass_record.result c.in-Ok-Declaration-default.used (length c.args.bytes.now) c.pass_record.ensures.done (shape_size place c.args.bytes.now (record_seen (records.Attribute (Declaration c.in-Ok-Declaration-default.prefix c.in-Ok-Declaration-default.uri))) c.in-Ok-Declaration-default.used stands.told)
+pub returns-in-Ok-Declaration-default : goal.returns-in-Ok-Declaration-default
+returns-in-Ok-Declaration-default c =
+    let may = let no = c.if-not-takes.false in c.takes.ensures.0 cc in
+    let told = rw c.in-Ok-Declaration-default.field-0-0-is at c.in-Ok-Declaration-default.ensures.tells (place_in c.args.self.now) may in
+    c.pass_record.ensures (record_seen (records.Attribute (Declaration c.in-Ok-Declaration-default.prefix c.in-Ok-Declaration-default.uri))) c.args.bytes.now (record { whole = told.told }) c.declaration_node.ensures

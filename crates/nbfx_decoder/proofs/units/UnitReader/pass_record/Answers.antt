@@ -1,13 +1,23 @@
-use Rattle.nbfx_decoder.specs.Payload.{node}
-use Rattle.nbfx_decoder.proofs.Saying.{unsaid}
-use Rattle.nbfx_decoder.proofs.UnitSteps.{passed}
+use Rattle.std.proofs.Common.{arith}
+use Rattle.nbfx_decoder.specs.Units.{place_in}
+use Rattle.nbfx_decoder.proofs.Saying.{reads_done, reads_fault, shape_size}
 use Rattle.nbfx_decoder.proofs.units.UnitReader.pass_record.Goals as goal
 
-pub returns-in_err-put-clause-answers : goal.returns-in_err-put-clause-answers
-returns-in_err-put-clause-answers c x z from shape bytes at has makes =
-    unsaid x z from bytes c.args.used c.put.new.self _ c.from_residual.result c.from_residual.ensures.1 (c.in_err-put.ensures.answers x z from shape bytes at has makes)
+pub pass-requires : goal.pass-requires
+pass-requires c =
+    let it = c.requires.stands in
+    let size = shape_size (place_in c.args.self.now) it.bytes it.shape c.args.used it.has.whole in
+    let few = it.few in
+    let same = c.put.ensures.from in
+    omega (arith, size.1, few, same)
 
-pub returns-clause-answers : goal.returns-clause-answers
-returns-clause-answers c x z from shape bytes at has makes =
-    let said = c.in_ok-put.ensures.answers x z from shape bytes at has makes in
-    rw c.pass.ensures.done (node said.0, said.1, said.2, passed c.put.new.self x _ from c.args.used said.3 c.pass.new.self c.pass.ensures.kept c.pass.ensures.from c.pass.ensures.section c.pass.ensures.items)
+pub returns-in_err-put : goal.returns-in_err-put
+returns-in_err-put c shape bytes has makes =
+    reads_fault c.args.self.now c.put.new.self bytes c.args.used _ c.from_residual.result c.from_residual.ensures.1
+    (λ x z from at. c.in_err-put.ensures.answers x z from shape bytes at has makes) c.put.ensures.kept
+
+pub returns : goal.returns
+returns c shape bytes has makes =
+    let read = reads_done c.args.self.now c.put.new.self c.pass.new.self bytes c.args.used (λ x z from at. c.in_ok-put.ensures.answers x z from shape bytes at has makes)
+    (shape_size (place_in c.args.self.now) bytes shape c.args.used has.whole) c.put.ensures.kept c.put.ensures.from c.pass.ensures.kept c.pass.ensures.from c.pass.ensures.section c.pass.ensures.items in
+    rw c.pass.ensures.done read

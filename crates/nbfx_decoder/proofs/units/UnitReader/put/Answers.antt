@@ -12,15 +12,15 @@ pub add-requires-clause-valid : goal.add-requires-clause-valid
 add-requires-clause-valid c =
     let place = place_of c.args.self.now.quotas.depth (position_of c.args.self.now.document) in
     let it = c.requires.stands in
-    let e : contents it.0 ≡ Ok c.in-Ok.node = subst (λ (m : Result Node Unfit). Made m (contents it.0)) c.in-Ok.is it.4.made in
-    shape_valid place it.1 it.0 c.args.used it.2 c.in-Ok.node e it.3
+    let e : contents it.shape ≡ Ok c.in-Ok.node = subst (λ (m : Result Node Unfit). Made m (contents it.shape)) c.in-Ok.is it.makes.made in
+    shape_valid place it.bytes it.shape c.args.used it.has c.in-Ok.node e it.are
 
 pub add-requires-clause-stands : goal.add-requires-clause-stands
 add-requires-clause-stands c =
     let place = place_of c.args.self.now.quotas.depth (position_of c.args.self.now.document) in
     let it = c.requires.stands in
-    let e : contents it.0 ≡ Ok c.in-Ok.node = subst (λ (m : Result Node Unfit). Made m (contents it.0)) c.in-Ok.is it.4.made in
-    shape_stands place it.1 it.0 c.args.used it.2 c.in-Ok.node e
+    let e : contents it.shape ≡ Ok c.in-Ok.node = subst (λ (m : Result Node Unfit). Made m (contents it.shape)) c.in-Ok.is it.makes.made in
+    shape_stands place it.bytes it.shape c.args.used it.has c.in-Ok.node e
 
 pub returns-in-Ok-clause-answers : goal.returns-in-Ok-clause-answers
 returns-in-Ok-clause-answers c x z from shape bytes at has makes =
