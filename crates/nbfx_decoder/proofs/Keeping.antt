@@ -2,8 +2,8 @@
 use Rattle.std.proofs.Common.{◌≡◌, ℕ, List, ap, ◌∙◌}
 use Rattle.nbfx_values.specs.QuotasOf.{limits_of}
 use Rattle.nbfx_decoder.specs.declared.units.UnitReader.{UnitReader}
-use Rattle.nbfx_decoder.specs.Payload.{Settings}
-use Rattle.nbfx_decoder.specs.Units.{HasStrings, Keeps, KeepsSettings}
+use Rattle.nbfx_decoder.specs.Payload.{Settings, Situation}
+use Rattle.nbfx_decoder.specs.Units.{HasStrings, IsAt, Keeps, KeepsSettings, Stays}
 
 -- what keeps all of it keeps its settings
 pub keeps_settings : {old new : UnitReader} → Keeps old new → KeepsSettings old new
@@ -21,4 +21,12 @@ strings_kept same set from = record {
   limits = ap limits_of same.quotas ∙ set.limits;
   table = same.table ∙ set.table;
   from_is = from;
+}
+
+-- where it stands where it stood, it is in the same situation
+pub stays_at : {old new : UnitReader} {x : Settings} {z : Situation} {from : ℕ} → Stays old new → IsAt old x z from → IsAt new x z from
+stays_at same at = record {
+  set = strings_kept same.kept at.set (same.from_is ∙ at.set.from_is);
+  section = same.section ∙ at.section;
+  items = same.items ∙ at.items;
 }

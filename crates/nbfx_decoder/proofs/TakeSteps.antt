@@ -1,5 +1,5 @@
 -- A decoder takes bytes of one unit.
-use Rattle.std.proofs.Common.{◌≡◌, ℕ, ◌+◌, ◌-◌, ◌<◌, ◌≤◌, inl, inr, List, [], ◌++◌, length, take, drop, Some, None, Result, Ok, Err, refl, sym, ap, ◌∙◌, subst, arith, append_assoc, length-append}
+use Rattle.std.proofs.Common.{◌≡◌, ℕ, ◌+◌, ◌-◌, ◌<◌, ◌≤◌, inl, inr, List, [], ◌∷◌, ◌++◌, length, take, drop, Some, None, Result, Ok, Err, refl, sym, ap, ◌∙◌, subst, arith, append_assoc, length-append}
 use Rattle.std.proofs.Math.Seq.{take-append-add, take-length}
 use Rattle.std.proofs.lemmas.List.{take-append-drop, take-append-le, length-take-le}
 use Rattle.std.specs.Prelude.{IsErrAnd}
@@ -290,3 +290,8 @@ module _ (d : Decoder) (x : Settings) (strings : List (List ℕ)) (p : List ℕ)
     on_fault new fault result e answers =
         takes_some x strings p c m within new result (takes_fault x strings p taken new h.going fault result e
         (subst (λ (b : List ℕ). UnitAnswers x (situation_of x strings p) (from_of x strings p) b new.units (Err fault)) bytes_here answers))
+
+-- of no bytes there is none
+pub no_bytes : (b : List ℕ) → length b ≡ 0 → b ≡ []
+no_bytes [] e = refl
+no_bytes (x ∷ b) e = absurd cc

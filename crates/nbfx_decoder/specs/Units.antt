@@ -1,10 +1,11 @@
 -- What a reader of units answers. The public contracts cite of it, through Standing, where a unit
 -- may come, what it waits for and the strings that it has read.
-use Rattle.std.specs.Prelude.{◌≡◌, ℕ, ◌+◌, ◌-◌, ◌<◌, ◌≤◌, ◌^◌, ◌⊎◌, max, List, ◌++◌, length, Option, Some, None, Result, Ok, Err, IfOk}
+use Rattle.std.specs.Prelude.{◌≡◌, ℕ, ◌+◌, ◌-◌, ◌<◌, ◌≤◌, ◌^◌, ◌⊎◌, max, List, ◌++◌, length, Option, Some, None, Result, Ok, Err, IfOk, IfSome, IfNone}
 use Rattle.unit_streams.specs.Front.{Front, begun, whole, wrong}
 use Rattle.nbfx_values.specs.Positions.{position_of}
 use Rattle.nbfx_values.specs.QuotasOf.{limits_of}
 use Rattle.string_tables.specs.SessionStrings.{cost}
+use Rattle.string_tables.specs.StringTable.{StringTable}
 use Rattle.nbfx_values.specs.declared.refusals.Reason.{Reason}
 use Rattle.nbfx_decoder.specs.declared.faults.UnitFault.{UnitFault}
 use Rattle.nbfx_decoder.specs.declared.faults.UnitFault.TheVariants.{Refused, Memory}
@@ -76,6 +77,10 @@ pub record Keeps (old new : UnitReader) : Type 0 where
   pub kind : new.kind ≡ old.kind
   pub table : new.table ≡ old.table
 
+-- what identifiers name for it
+abbrev pub names_in : UnitReader → StringTable
+names_in r = record { statics = r.statics.now; strings = r.table.strings }
+
 -- where its next node stands
 abbrev pub place_in : UnitReader → NodePlace
 place_in r = place_of r.quotas.depth (position_of r.document)
@@ -123,6 +128,18 @@ pub record Reads (old new : UnitReader) (bytes : List ℕ) (result : Result Unit
   pub counts : IfOk result (Counts (length bytes))
   pub goes_on : IfOk result (λ read. new.from ≡ old.from + counted read)
   pub kept : KeepsSettings old new
+
+-- it stands where it stood
+pub record Stays (old new : UnitReader) : Type 0 where
+  pub kept : Keeps old new
+  pub from_is : new.from ≡ old.from
+  pub section : new.section ≡ old.section
+  pub items : new.document ≡ old.document
+
+-- a record at the front of some bytes was read, of so many, or nothing was
+pub record ReadsQuickly (old new : UnitReader) (bytes : List ℕ) (result : Option ℕ) : Type 0 where
+  pub read : IfSome result (λ used. Reads old new bytes (Ok (Done used)))
+  pub unread : IfNone result (Stays old new)
 
 -- what a whole node of so many bytes is answered with
 abbrev pub AddAnswers : Settings → Situation → ℕ → Node → ℕ → UnitReader

@@ -205,14 +205,17 @@ impl<'s> Decoder<'s> {
         ensures takes { IfOk result (TakesSome self.old self.new bytes.now) }
         ensures keeps { KeepsRest self.old self.new }
     {
-        if self.begun.len() == 0 {
-            self.take_whole(bytes)
-        } else {
-            self.take_on(bytes)
+        if self.begun.len() != 0 {
+            return self.take_on(bytes);
+        }
+        match self.units.read_quickly(bytes) {
+            Some(used) => Ok(used),
+            None => self.take_whole(bytes),
         }
     }
 
     // Takes a unit whose bytes are there, or keeps them all of one that has begun.
+    #[inline(never)]
     fn take_whole(&mut self, bytes: &[u8]) -> Result<usize, UnitFault>
         requires none { self.old.begun ≡ [] }
         requires some { 0 < length bytes.now }
@@ -234,6 +237,7 @@ impl<'s> Decoder<'s> {
     }
 
     // Takes of the unit that has begun the bytes that are wanted.
+    #[inline(never)]
     fn take_on(&mut self, bytes: &[u8]) -> Result<usize, UnitFault>
         requires begun { 0 < length self.old.begun }
         requires some { 0 < length bytes.now }

@@ -71,10 +71,13 @@ impl Lookup<'_> {
         ensures found { Finds (named_text (table_of self.now) id) result }
         ensures utf8 { IfOk result (λ text. IsTrue (is_utf8 text)) }
     {
-        match self.text(id) {
-            Some(text) => Ok(Txt::of(self.alloc, text)?),
-            None => Err(Unmeant::UnknownString),
+        let Some(text) = self.text(id) else {
+            return Err(Unmeant::UnknownString);
+        };
+        if let Some(short) = Txt::short(text) {
+            return Ok(short);
         }
+        Ok(Txt::of(self.alloc, text)?)
     }
 
     #[inline(always)]

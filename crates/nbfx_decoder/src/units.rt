@@ -1,17 +1,18 @@
 //! The units of a payload, each read where all its bytes are there.
 
-ghost use Rattle.std.specs.Prelude.{◌≡◌, ℕ, ◌+◌, ◌<◌, ◌^◌, ◌↔◌, true, [], ◌∷◌, ◌++◌, List, length, IfSome, IfNone, IfOk, OnOk, OnSome, IsSome, IsErrOf, IsTrue, Err, None};
+ghost use Rattle.std.specs.Prelude.{◌≡◌, ℕ, ◌+◌, ◌<◌, ◌≤◌, ◌^◌, ◌↔◌, true, [], ◌∷◌, ◌++◌, List, length, IfSome, IfNone, IfOk, OnErr, OnOk, OnSome, IsSome, IsErrOf, IsTrue, Err, None};
 ghost use Rattle.std.specs.List.{list_all};
 ghost use Rattle.nbfx_values.specs.Documents.{IsDocument};
 ghost use Rattle.nbfx_values.specs.Measures.{capped, content_of, opened_by};
 ghost use Rattle.nbfx_values.specs.Positions.{position_of};
 ghost use Rattle.nbfx_values.specs.QuotasOf.{limits_of};
 ghost use Rattle.nbfx_values.specs.Items.{is_valid_item};
-ghost use Rattle.nbfx_decoder.specs.Meant.{items_in};
+ghost use Rattle.nbfx_decoder.specs.Meant.{FindsItems, items_in};
 ghost use Rattle.multibyte_ints.specs.Integer.{IsBytes};
 ghost use Rattle.nbfx_records.specs.Beginning.{BeginsKind, MayCome};
 ghost use Rattle.nbfx_records.specs.Contents.{contents};
 ghost use Rattle.nbfx_records.specs.Judged.{Makes};
+ghost use Rattle.nbfx_records.specs.Meaning.{items_of};
 ghost use Rattle.nbfx_records.specs.Places.{Stands};
 ghost use Rattle.nbfx_records.specs.Shapes.{Shape};
 ghost use Rattle.nbfx_records.specs.Answers.{Answers, ReadsValid, Wants};
@@ -31,7 +32,7 @@ use nbfx_records::{
     attribute_parts, characters_node, declaration_node, declaration_parts, element_node,
     element_parts, has_characters, kind_at, may_come, node, scalar_parts, shape_at, text_node,
 };
-use nbfx_values::{Doc, DocBuilder, Item, Kind, Position, PushFault, Quotas, Reason};
+use nbfx_values::{Doc, DocBuilder, Kind, Position, PushFault, Quotas, Reason};
 use session_dictionary::{AddFault, SessionTable};
 use static_dictionary::StaticTable;
 use std::alloc::Global;
@@ -62,7 +63,7 @@ pub(crate) struct UnitReader<'s> {
 
 impl<'s> UnitReader<'s> {
     ghost use Rattle.nbfx_decoder.specs.Payload.{Settings, Situation, beginning};
-    ghost use Rattle.nbfx_decoder.specs.Units.{IsAt, Keeps, KeepsSettings, Counts, counted, place_in, AddAnswers, HasShape, SayAnswers, UnitAnswers, IsRecord, Reads};
+    ghost use Rattle.nbfx_decoder.specs.Units.{IsAt, Keeps, KeepsSettings, Counts, counted, place_in, AddAnswers, HasShape, SayAnswers, UnitAnswers, IsRecord, Reads, ReadsQuickly, Stays, names_in};
 
     /// Before a payload's first byte, with no strings.
     pub(crate) fn new(alloc: Global, statics: &'s StaticTable, quotas: Quotas, kind: Kind) -> Self
@@ -230,72 +231,65 @@ impl<'s> UnitReader<'s> {
         may_come(self.place(), kind)
     }
 
-    // Reads the record at the front of the bytes, and puts what it means behind the items. The kinds
-    // that come most have ways of their own, by their parts; any other record has one for all.
+    /// Reads the record at the front of the bytes, and puts what it means behind the items, if it is
+    /// whole, in order and of one of the kinds that come most. Each of these has a way of its own, by
+    /// its parts. Else nothing changes.
     #[inline(always)]
-    fn record(&mut self, bytes: &[u8]) -> Result<UnitRead, UnitFault>
-        requires here { self.old.section ≡ Section.Nodes }
+    pub(crate) fn read_quickly(&mut self, bytes: &[u8]) -> Option<usize>
         requires few { self.old.from + length bytes.now < 2 ^ 32 }
-        ensures { Reads self.old self.new bytes.now result }
+        ensures { ReadsQuickly self.old self.new bytes.now result }
     {
-        match kind_at(bytes) {
-            Some(RecordKind::EndElement) => self.end_element(bytes),
-            Some(RecordKind::Element(prefix, name)) => self.element(prefix, name, bytes),
-            Some(RecordKind::Attribute(prefix, name)) => self.attribute(prefix, name, bytes),
-            Some(RecordKind::Declaration(prefix, uri)) => self.declaration(prefix, uri, bytes),
-            Some(RecordKind::Text(kind, ends)) => self.text(kind, ends, bytes),
-            _ => self.any_record(bytes),
+        if self.section != Section::Nodes {
+            return None;
+        }
+        match kind_at(bytes)? {
+            RecordKind::EndElement => self.end_element(bytes),
+            RecordKind::Element(prefix, name) => self.element(prefix, name, bytes),
+            RecordKind::Attribute(prefix, name) => self.attribute(prefix, name, bytes),
+            RecordKind::Declaration(prefix, uri) => self.declaration(prefix, uri, bytes),
+            RecordKind::Text(kind, ends) => self.text(kind, ends, bytes),
+            RecordKind::Comment | RecordKind::Array => None,
         }
     }
 
     #[inline(always)]
-    fn end_element(&mut self, bytes: &[u8]) -> Result<UnitRead, UnitFault>
+    fn end_element(&mut self, bytes: &[u8]) -> Option<usize>
         requires here { self.old.section ≡ Section.Nodes }
         requires few { self.old.from + length bytes.now < 2 ^ 32 }
         requires begins { BeginsKind bytes.now RecordKind.EndElement }
-        ensures { Reads self.old self.new bytes.now result }
+        ensures { ReadsQuickly self.old self.new bytes.now result }
     {
         if !self.takes(RecordKind::EndElement) {
-            return self.any_record(bytes);
+            return None;
         }
-        self.pass_record(Ok(Node::EndElement), 1)
+        self.pass_quickly(Ok(Node::EndElement), 1)
     }
 
     #[inline(always)]
-    fn element(
-        &mut self,
-        prefix: PrefixForm,
-        name: NameForm,
-        bytes: &[u8],
-    ) -> Result<UnitRead, UnitFault>
+    fn element(&mut self, prefix: PrefixForm, name: NameForm, bytes: &[u8]) -> Option<usize>
         requires here { self.old.section ≡ Section.Nodes }
         requires few { self.old.from + length bytes.now < 2 ^ 32 }
         requires begins { BeginsKind bytes.now (RecordKind.Element prefix name) }
-        ensures { Reads self.old self.new bytes.now result }
+        ensures { ReadsQuickly self.old self.new bytes.now result }
     {
         if !self.takes(RecordKind::Element(prefix, name)) {
-            return self.any_record(bytes);
+            return None;
         }
         match element_parts(prefix, name, bytes) {
-            Ok((part, used)) => self.pass_record(element_node(self.alloc, &part), used),
-            Err(_) => self.any_record(bytes),
+            Ok((part, used)) => self.pass_quickly(element_node(self.alloc, &part), used),
+            Err(_) => None,
         }
     }
 
     #[inline(never)]
-    fn attribute(
-        &mut self,
-        prefix: PrefixForm,
-        name: NameForm,
-        bytes: &[u8],
-    ) -> Result<UnitRead, UnitFault>
+    fn attribute(&mut self, prefix: PrefixForm, name: NameForm, bytes: &[u8]) -> Option<usize>
         requires here { self.old.section ≡ Section.Nodes }
         requires few { self.old.from + length bytes.now < 2 ^ 32 }
         requires begins { BeginsKind bytes.now (RecordKind.Attribute prefix name) }
-        ensures { Reads self.old self.new bytes.now result }
+        ensures { ReadsQuickly self.old self.new bytes.now result }
     {
         if !self.takes(RecordKind::Attribute(prefix, name)) {
-            return self.any_record(bytes);
+            return None;
         }
         match attribute_parts(prefix, name, bytes) {
             Ok(
@@ -307,71 +301,84 @@ impl<'s> UnitReader<'s> {
                     },
                     used,
                 ),
-            ) => self.pass_record(attribute_node(self.alloc, &prefix, &name, &value), used),
-            _ => self.any_record(bytes),
+            ) => self.pass_quickly(attribute_node(self.alloc, &prefix, &name, &value), used),
+            _ => None,
         }
     }
 
     #[inline(never)]
-    fn declaration(
-        &mut self,
-        prefix: PrefixForm,
-        uri: NameForm,
-        bytes: &[u8],
-    ) -> Result<UnitRead, UnitFault>
+    fn declaration(&mut self, prefix: PrefixForm, uri: NameForm, bytes: &[u8]) -> Option<usize>
         requires here { self.old.section ≡ Section.Nodes }
         requires few { self.old.from + length bytes.now < 2 ^ 32 }
         requires begins { BeginsKind bytes.now (RecordKind.Declaration prefix uri) }
-        ensures { Reads self.old self.new bytes.now result }
+        ensures { ReadsQuickly self.old self.new bytes.now result }
     {
         if !self.takes(RecordKind::Declaration(prefix, uri)) {
-            return self.any_record(bytes);
+            return None;
         }
         match declaration_parts(prefix, uri, bytes) {
             Ok((AttributePart::Declaration { prefix, uri }, used)) => {
-                self.pass_record(declaration_node(self.alloc, &prefix, &uri), used)
+                self.pass_quickly(declaration_node(self.alloc, &prefix, &uri), used)
             }
-            _ => self.any_record(bytes),
+            _ => None,
         }
     }
 
-    // A text, of which lists go the way of any record.
+    // A text, which is no list.
     #[inline(never)]
-    fn text(&mut self, kind: TextKind, ends: bool, bytes: &[u8]) -> Result<UnitRead, UnitFault>
+    fn text(&mut self, kind: TextKind, ends: bool, bytes: &[u8]) -> Option<usize>
         requires here { self.old.section ≡ Section.Nodes }
         requires few { self.old.from + length bytes.now < 2 ^ 32 }
         requires begins { BeginsKind bytes.now (RecordKind.Text kind ends) }
-        ensures { Reads self.old self.new bytes.now result }
+        ensures { ReadsQuickly self.old self.new bytes.now result }
     {
         if kind == TextKind::StartList || !self.takes(RecordKind::Text(kind, ends)) {
-            return self.any_record(bytes);
+            return None;
         }
         match scalar_parts(kind, ends, bytes) {
             Ok((ScalarPart::Bytes(kind, chars), used)) if has_characters(kind) => {
-                self.pass_record(characters_node(self.alloc, kind, chars, ends), used)
+                self.pass_quickly(characters_node(self.alloc, kind, chars, ends), used)
             }
             Ok((part, used)) => self.scalar(part, ends, used),
-            Err(_) => self.any_record(bytes),
+            Err(_) => None,
         }
     }
 
     // A text of so many bytes, of one value.
     #[inline(never)]
-    fn scalar(&mut self, part: ScalarPart, ends: bool, used: usize) -> Result<UnitRead, UnitFault>
+    fn scalar(&mut self, part: ScalarPart, ends: bool, used: usize) -> Option<usize>
         requires here { self.old.section ≡ Section.Nodes }
         requires stands { (bytes : List ℕ) × (self.old.from + length bytes < 2 ^ 32) × IsBytes bytes
             × HasShape (place_in self.old) (record_seen (RecordPart.Text (ValuePart.One part) ends))
             used bytes }
         ensures { (bytes : List ℕ) → HasShape (place_in self.old)
             (record_seen (RecordPart.Text (ValuePart.One part.entry) ends)) used bytes
-            → Reads self.old self.new bytes result }
+            → ReadsQuickly self.old self.new bytes result }
     {
-        self.pass_record(text_node(self.alloc, &ValuePart::One(part), ends), used)
+        self.pass_quickly(text_node(self.alloc, &ValuePart::One(part), ends), used)
     }
 
-    // A record of any kind, or none.
+    // Puts what is made of a whole record of so many bytes behind the items, and goes behind it, if
+    // it is in order and there is memory. Else nothing changes.
+    #[inline(always)]
+    fn pass_quickly(&mut self, made: Result<Node, Unfit>, used: usize) -> Option<usize>
+        requires here { self.old.section ≡ Section.Nodes }
+        requires stands { IsRecord self.old made used }
+        ensures { (shape : Shape) (bytes : List ℕ) → HasShape (place_in self.old) shape used bytes
+            → Makes made (contents shape) → ReadsQuickly self.old self.new bytes result }
+    {
+        match self.put(made, used) {
+            Ok(()) => {
+                self.pass(used);
+                Some(used)
+            }
+            Err(_) => None,
+        }
+    }
+
+    // Reads the record at the front of the bytes, and puts what it means behind the items.
     #[inline(never)]
-    fn any_record(&mut self, bytes: &[u8]) -> Result<UnitRead, UnitFault>
+    fn record(&mut self, bytes: &[u8]) -> Result<UnitRead, UnitFault>
         requires here { self.old.section ≡ Section.Nodes }
         requires few { self.old.from + length bytes.now < 2 ^ 32 }
         ensures { Reads self.old self.new bytes.now result }
@@ -409,11 +416,27 @@ impl<'s> UnitReader<'s> {
         ensures section { self.new.section ≡ self.old.section }
         ensures from { self.new.from ≡ self.old.from }
         ensures kept { KeepsSettings self.old self.new }
+        ensures stays { OnErr result (Stays self.old self.new) }
     {
         match made {
             Ok(node) => self.add(node, used),
             Err(unfit) => Err(unmade(unfit, used)),
         }
+    }
+
+    // What a node means.
+    #[inline(always)]
+    fn meant(&self, node: Node) -> Result<Meant, Unmeant>
+        ensures found { FindsItems (items_of (names_in self.now) node) result }
+        ensures valid { IsTrue (is_valid_node node)
+            → IfOk result (λ meant. IsTrue (list_all is_valid_item (items_in meant))) }
+    {
+        let names = Lookup {
+            alloc: self.alloc,
+            statics: self.statics,
+            strings: &self.table,
+        };
+        names.meant(node)
     }
 
     // Puts what a node of so many bytes means behind the items.
@@ -426,23 +449,17 @@ impl<'s> UnitReader<'s> {
         ensures section { self.new.section ≡ self.old.section }
         ensures from { self.new.from ≡ self.old.from }
         ensures kept { KeepsSettings self.old self.new }
+        ensures stays { OnErr result (Stays self.old self.new) }
     {
-        let names = Lookup {
-            alloc: self.alloc,
-            statics: self.statics,
-            strings: &self.table,
-        };
-        let meant = match names.meant(node) {
+        let meant = match self.meant(node) {
             Ok(meant) => meant,
             Err(Unmeant::UnknownString) => return refused(Reason::UnknownString, used),
             Err(Unmeant::Memory) => return Err(UnitFault::Memory),
         };
-        match push(&mut self.document, meant) {
-            Ok(()) if self.document.content() > self.quotas.content as u64 => {
-                refused(Reason::TooMuchContent, used)
-            }
+        match push(&mut self.document, self.quotas.content as u64, meant) {
             Ok(()) => Ok(()),
             Err(PushFault::OutOfPlace) => refused(Reason::NodeOutOfPlace, used),
+            Err(PushFault::TooMuchContent) => refused(Reason::TooMuchContent, used),
             Err(PushFault::Memory) => Err(UnitFault::Memory),
         }
     }
@@ -513,19 +530,20 @@ impl<'s> UnitReader<'s> {
     }
 }
 
-// Puts what a node means behind the items.
+// Puts what a node means behind the items, if their content is at most this then.
 #[inline(always)]
-fn push(document: &mut DocBuilder, meant: Meant) -> Result<(), PushFault>
+fn push(document: &mut DocBuilder, most: u64, meant: Meant) -> Result<(), PushFault>
     requires { IsTrue (list_all is_valid_item (items_in meant)) }
-    ensures pushed { OnOk result (document.new ≡ document.old ++ items_in meant) }
+    ensures pushed { OnOk result ((document.new ≡ document.old ++ items_in meant)
+        × (capped (content_of document.new) ≤ most)) }
     ensures out_of_place { IsErrOf result PushFault.OutOfPlace
         → position_of (document.old ++ items_in meant) ≡ None }
+    ensures too_much { IsErrOf result PushFault.TooMuchContent
+        → most < capped (content_of (document.old ++ items_in meant)) }
+    ensures unchanged { OnErr result (document.new ≡ document.old) }
 {
     match meant {
-        Meant::Item(item) => document.push(item),
-        Meant::LastText(value) => {
-            document.push(Item::Text(value))?;
-            document.push(Item::Close)
-        }
+        Meant::Item(item) => document.push_within(most, item),
+        Meant::LastText(value) => document.push_last_text(most, value),
     }
 }

@@ -1,16 +1,18 @@
 // Documents that grow item by item.
-ghost use Rattle.std.specs.Prelude.{◌≡◌, ◌+◌, ◌^◌, ◌<◌, ◌↔◌, [], ◌∷◌, ◌++◌, None, Some, IfSome, IfNone, IsErrOf, IsSome, IsTrue, OnErr, OnOk, OnSome};
+ghost use Rattle.std.specs.Prelude.{◌≡◌, ◌+◌, ◌^◌, ◌<◌, ◌≤◌, ◌↔◌, [], ◌∷◌, ◌++◌, None, Some, IfSome, IfNone, IsErrOf, IsSome, IsTrue, OnErr, OnOk, OnSome};
 ghost use Rattle.nbfx_values.specs.Documents.{IsDocument};
 ghost use Rattle.nbfx_values.specs.Items.{is_valid_item};
 ghost use Rattle.nbfx_values.specs.Measures.{capped, content_of, depth_of, opened_by};
 ghost use Rattle.nbfx_values.specs.Positions as spec;
 ghost use Rattle.nbfx_values.specs.Positions.{position_of};
+ghost use Rattle.nbfx_values.specs.Scalars.{is_valid_value};
 
 use crate::content::{Item, Items};
 use crate::document::Doc;
 use crate::lists::discard;
 use crate::measures::Measures;
 use crate::position::Position;
+use crate::scalars::Value;
 use std::alloc::Global;
 use std::marker::Model;
 use unit_streams::Memory;
@@ -20,6 +22,8 @@ use unit_streams::Memory;
 pub enum PushFault {
     /// The item may not stand there.
     OutOfPlace,
+    /// The items would have more content than they may.
+    TooMuchContent,
     /// Memory ran out.
     Memory,
 }
@@ -110,12 +114,28 @@ impl DocBuilder {
     }
 
     /// Puts one more item behind the others. A fault drops it and leaves the others.
-    #[inline(always)]
     pub fn push(&mut self, item: Item) -> Result<(), PushFault>
         requires { IsTrue (is_valid_item item) }
         ensures pushed { OnOk result (self.new ≡ self.old ++ item ∷ []) }
         ensures out_of_place { IsErrOf result PushFault.OutOfPlace
             ↔ (position_of (self.old ++ item ∷ []) ≡ None) }
+        ensures never { IsErrOf result PushFault.TooMuchContent → ⊥ }
+        ensures unchanged { OnErr result (self.new ≡ self.old) }
+    {
+        self.push_within(u64::MAX, item)
+    }
+
+    /// Puts one more item behind the others, if their content is at most this then. A fault drops it
+    /// and leaves the others.
+    #[inline(always)]
+    pub fn push_within(&mut self, most: u64, item: Item) -> Result<(), PushFault>
+        requires { IsTrue (is_valid_item item) }
+        ensures pushed { OnOk result ((self.new ≡ self.old ++ item ∷ [])
+            × (capped (content_of self.new) ≤ most)) }
+        ensures out_of_place { IsErrOf result PushFault.OutOfPlace
+            ↔ (position_of (self.old ++ item ∷ []) ≡ None) }
+        ensures too_much { IsErrOf result PushFault.TooMuchContent
+            → most < capped (content_of (self.old ++ item ∷ [])) }
         ensures unchanged { OnErr result (self.new ≡ self.old) }
     {
         let before = self.position();
@@ -124,8 +144,43 @@ impl DocBuilder {
             return Err(PushFault::OutOfPlace);
         };
         let measures = self.measures.with(before.open_count(), &item);
+        if measures.content > most {
+            discard(item);
+            return Err(PushFault::TooMuchContent);
+        }
         self.items.push(item)?;
         self.position = position;
+        self.measures = measures;
+        Ok(())
+    }
+
+    /// Puts a text and the end of the element that holds it behind the other items, if their content
+    /// is at most this then. A fault drops the text and leaves the others.
+    #[inline(always)]
+    pub fn push_last_text(&mut self, most: u64, value: Value) -> Result<(), PushFault>
+        requires { IsTrue (is_valid_value value) }
+        ensures pushed { OnOk result ((self.new ≡ self.old ++ Item.Text value ∷ Item.Close ∷ [])
+            × (capped (content_of self.new) ≤ most)) }
+        ensures out_of_place { IsErrOf result PushFault.OutOfPlace
+            ↔ (position_of (self.old ++ Item.Text value ∷ Item.Close ∷ []) ≡ None) }
+        ensures too_much { IsErrOf result PushFault.TooMuchContent
+            → most < capped (content_of (self.old ++ Item.Text value ∷ Item.Close ∷ [])) }
+        ensures unchanged { OnErr result (self.new ≡ self.old) }
+    {
+        let before = self.position();
+        let Some(behind) = before.moved(&Item::Close) else {
+            discard(value);
+            return Err(PushFault::OutOfPlace);
+        };
+        let open = before.open_count();
+        let text = Item::Text(value);
+        let measures = self.measures.with(open, &text).with(open, &Item::Close);
+        if measures.content > most {
+            discard(text);
+            return Err(PushFault::TooMuchContent);
+        }
+        self.items.push_two(text, Item::Close)?;
+        self.position = behind;
         self.measures = measures;
         Ok(())
     }

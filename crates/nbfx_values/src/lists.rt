@@ -99,6 +99,22 @@ impl<T: Drop> Sequence<T> {
         self.items.push_reserved(one);
         Ok(())
     }
+
+    /// Puts two more values at the end. Want of memory drops them and leaves the list.
+    #[inline(always)]
+    pub fn push_two(&mut self, first: T, second: T) -> Result<(), Memory>
+        ensures pushed { OnOk result (self.new ≡ self.old ++ first ∷ second ∷ []) }
+        ensures unchanged { OnErr result (self.new ≡ self.old) }
+    {
+        if self.items.reserve(2).is_err() {
+            discard(first);
+            discard(second);
+            return Err(Memory);
+        }
+        self.items.push_reserved(first);
+        self.items.push_reserved(second);
+        Ok(())
+    }
 }
 
 impl<T: Copied + Drop> Copied for Sequence<T> {

@@ -1,6 +1,6 @@
 //! Texts and bytes.
 
-ghost use Rattle.std.specs.Prelude.{◌≡◌, ◌<◌, [], ◌∷◌, IfOk, IsTrue, length, string_bytes};
+ghost use Rattle.std.specs.Prelude.{◌≡◌, ◌<◌, [], ◌∷◌, IfNone, IfOk, IfSome, IsTrue, length, string_bytes};
 ghost use Rattle.std.specs.Str.{is_utf8};
 ghost use Rattle.nbfx_values.specs.Texts.{bytes_of};
 
@@ -19,16 +19,6 @@ enum Letters {
 }
 
 impl Letters {
-    #[inline]
-    fn of(alloc: Global, text: &str) -> Result<Letters, Memory>
-        ensures { IfOk result (λ letters. bytes_of letters ≡ text.now) }
-    {
-        match ArrayString::from(text) {
-            Ok(short) => Ok(Letters::Short(short)),
-            Err(_) => Letters::long(alloc, text),
-        }
-    }
-
     #[inline(never)]
     fn long(alloc: Global, text: &str) -> Result<Letters, Memory>
         ensures { IfOk result (λ letters. bytes_of letters ≡ text.now) }
@@ -63,14 +53,32 @@ impl Model for Txt {
 }
 
 impl Txt {
+    /// The text with these characters, of which there are no more than lie in the value itself.
+    #[inline(always)]
+    pub fn short(text: &str) -> Option<Txt>
+        ensures same { IfSome result (λ t. t ≡ text.now) }
+        ensures utf8 { IfSome result (λ t. IsTrue (is_utf8 t)) }
+        ensures long { IfNone result (16 < length text.now) }
+    {
+        match ArrayString::from(text) {
+            Ok(short) => Some(Txt {
+                letters: Letters::Short(short),
+            }),
+            Err(_) => None,
+        }
+    }
+
     /// The text with these characters.
     #[inline]
     pub fn of(alloc: Global, text: &str) -> Result<Txt, Memory>
         ensures same { IfOk result (λ t. t ≡ text.now) }
         ensures utf8 { IfOk result (λ t. IsTrue (is_utf8 t)) }
     {
+        if let Some(short) = Txt::short(text) {
+            return Ok(short);
+        }
         Ok(Txt {
-            letters: Letters::of(alloc, text)?,
+            letters: Letters::long(alloc, text)?,
         })
     }
 

@@ -3,8 +3,8 @@ use Rattle.nbfx_records.specs.Views.{record_seen}
 use Rattle.nbfx_decoder.specs.Units.{place_in}
 use Rattle.nbfx_decoder.proofs.units.UnitReader.element.Goals as goal
 
-pub pass_record-requires-clause-stands : goal.pass_record-requires-clause-stands
-pass_record-requires-clause-stands c =
+pub pass_quickly-requires-clause-stands : goal.pass_quickly-requires-clause-stands
+pass_quickly-requires-clause-stands c =
     let may = let no = c.if-not-takes.false in c.takes.ensures.0 cc in
     let told = c.in-Ok.ensures (place_in c.args.self.now) may in
     record {
@@ -20,4 +20,4 @@ pub returns-in-Ok : goal.returns-in-Ok
 returns-in-Ok c =
     let may = let no = c.if-not-takes.false in c.takes.ensures.0 cc in
     let told = c.in-Ok.ensures (place_in c.args.self.now) may in
-    c.pass_record.ensures (record_seen (records.Element c.in-Ok.part)) c.args.bytes.now (record { whole = told.told }) c.element_node.ensures
+    c.pass_quickly.ensures (record_seen (records.Element c.in-Ok.part)) c.args.bytes.now (record { whole = told.told }) c.element_node.ensures

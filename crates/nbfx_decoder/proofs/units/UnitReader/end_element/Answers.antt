@@ -4,8 +4,8 @@ use Rattle.nbfx_decoder.specs.Units.{place_in}
 use Rattle.nbfx_decoder.proofs.Saying.{end_made}
 use Rattle.nbfx_decoder.proofs.units.UnitReader.end_element.Goals as goal
 
-pub pass_record-requires-clause-stands : goal.pass_record-requires-clause-stands
-pass_record-requires-clause-stands c =
+pub pass_quickly-requires-clause-stands : goal.pass_quickly-requires-clause-stands
+pass_quickly-requires-clause-stands c =
     let may = let no = c.if-not-takes.false in c.takes.ensures.0 cc in
     record {
       shape = ends_element;
@@ -19,4 +19,4 @@ pass_record-requires-clause-stands c =
 pub returns : goal.returns
 returns c =
     let may = let no = c.if-not-takes.false in c.takes.ensures.0 cc in
-    c.pass_record.ensures ends_element c.args.bytes.now (record { whole = end_begun (place_in c.args.self.now) c.requires.begins may }) end_made
+    c.pass_quickly.ensures ends_element c.args.bytes.now (record { whole = end_begun (place_in c.args.self.now) c.requires.begins may }) end_made

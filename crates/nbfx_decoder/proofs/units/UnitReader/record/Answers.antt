@@ -8,7 +8,7 @@ use Rattle.nbfx_records.specs.declared.nodes.NodePlace.{NodePlace}
 use Rattle.nbfx_decoder.specs.Units.{place_in}
 use Rattle.nbfx_decoder.proofs.Saying.{stop_answers, stop_wants}
 use Rattle.nbfx_decoder.proofs.UnitSteps.{node_unread, node_waits}
-use Rattle.nbfx_decoder.proofs.units.UnitReader.any_record.Goals as goal
+use Rattle.nbfx_decoder.proofs.units.UnitReader.record.Goals as goal
 
 pub pass_record-requires-clause-stands : goal.pass_record-requires-clause-stands
 pass_record-requires-clause-stands c = record {
