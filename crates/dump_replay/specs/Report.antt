@@ -8,6 +8,7 @@ use Rattle.line_notation.specs.Words.{spaced}
 use Rattle.nbfx_values.specs.Measures.{content_of, depth_of}
 use Rattle.nbfx_values.specs.Refusals.{reason_number, reason_name}
 use Rattle.nbfx_values.specs.Session.{kind_number}
+use Rattle.nbfx_values.specs.declared.content.Item.{Item}
 use Rattle.nbfx_values.specs.declared.refusals.Offence.{Offence}
 use Rattle.nbfx_values.specs.declared.refusals.Place.{Place}
 use Rattle.nbfx_values.specs.declared.refusals.Place.TheVariants.{Frame, Payload}
@@ -33,15 +34,20 @@ abbrev pub open_line : Mode → Kind → List ℕ → List ℕ
 open_line mode kind via =
     line (codes "open") (mode_name mode ∷ decimal (kind_number kind) ∷ quoted via ∷ [])
 
+-- what a document measures, and what strings there are
+abbrev pub measure_words : List Item → List (List ℕ)
+measure_words items = codes "items" ∷ decimal (length items)
+    ∷ codes "depth" ∷ decimal (depth_of items)
+    ∷ codes "content" ∷ decimal (content_of items) ∷ []
+
+abbrev pub string_words : List (List ℕ) → List (List ℕ)
+string_words strings = codes "strings" ∷ decimal (length strings)
+    ∷ codes "used" ∷ decimal (used_cost strings) ∷ []
+
 -- what is told of an envelope, the strings of the direction behind it among it
 abbrev pub message_line : Envelope → List ℕ
-message_line e = line (codes "message") (decimal e.number
-    ∷ codes "payload" ∷ decimal e.size
-    ∷ codes "items" ∷ decimal (length e.items)
-    ∷ codes "depth" ∷ decimal (depth_of e.items)
-    ∷ codes "content" ∷ decimal (content_of e.items)
-    ∷ codes "strings" ∷ decimal (length e.strings)
-    ∷ codes "used" ∷ decimal (used_cost e.strings) ∷ [])
+message_line e = line (codes "message") (decimal e.number ∷ codes "payload" ∷ decimal e.size
+    ∷ measure_words e.items ++ string_words e.strings)
 
 abbrev pub ended_line : ℕ → List ℕ
 ended_line n = line (codes "ended") (decimal n ∷ [])

@@ -4,11 +4,12 @@ ghost use Rattle.std.specs.Prelude.{◌≡◌, ℕ, ◌<◌, ◌^◌, List};
 ghost use Rattle.io_edges.specs.Puts.{Puts};
 ghost use Rattle.nbfx_values.specs.Measures.{content_of};
 ghost use Rattle.dump_replay.specs.Running.{detail_of};
-ghost use Rattle.dump_replay.specs.Report.{mode_name, open_line, message_line, ended_line, offence_line};
+ghost use Rattle.dump_replay.specs.Report.{mode_name, open_line, measure_words, message_line, string_words, ended_line, offence_line};
+ghost use Rattle.line_notation.specs.Words.{behind_spaces};
 
 use command_words::Action;
 use io_edges::{Sink, SinkFault};
-use line_notation::{Word, put_words};
+use line_notation::{Word, put_labelled, put_plain, put_words};
 use nbfx_values::{Doc, Kind, Mode, Offence, Place};
 use session_dictionary::SessionTable;
 
@@ -65,6 +66,28 @@ pub struct ReceivedDoc<'a> {
     pub table: &'a SessionTable,
 }
 
+// Puts the words of what a document measures.
+#[inline(always)]
+fn put_measures<K: Sink>(doc: &Doc, output: &mut K) -> Result<(), SinkFault>
+    ensures { content_of doc.now < 2 ^ 64
+        → Puts K.written K.held K.faults K.may_want output.old output.new
+        (behind_spaces (measure_words doc.now)) result }
+{
+    put_labelled(" items ", doc.items().len() as u64, output)?;
+    put_labelled(" depth ", doc.depth(), output)?;
+    put_labelled(" content ", doc.content(), output)
+}
+
+// Puts the words of how many strings there are, and of what they cost.
+#[inline(always)]
+fn put_strings<K: Sink>(table: &SessionTable, output: &mut K) -> Result<(), SinkFault>
+    ensures { Puts K.written K.held K.faults K.may_want output.old output.new
+        (behind_spaces (string_words table.now.strings)) result }
+{
+    put_labelled(" strings ", u64::from(table.len()), output)?;
+    put_labelled(" used ", u64::from(table.used()), output)
+}
+
 /// Puts the line of an envelope.
 pub fn put_message<K: Sink>(received: ReceivedDoc, output: &mut K) -> Result<(), SinkFault>
     ensures { content_of received.entry.doc.now < 2 ^ 64
@@ -77,22 +100,11 @@ pub fn put_message<K: Sink>(received: ReceivedDoc, output: &mut K) -> Result<(),
         }))
         result }
 {
-    let words = [
-        Word::Natural(u128::from(received.number)),
-        Word::Plain("payload"),
-        Word::Natural(u128::from(received.size)),
-        Word::Plain("items"),
-        Word::Natural(received.doc.items().len() as u128),
-        Word::Plain("depth"),
-        Word::Natural(u128::from(received.doc.depth())),
-        Word::Plain("content"),
-        Word::Natural(u128::from(received.doc.content())),
-        Word::Plain("strings"),
-        Word::Natural(u128::from(received.table.len())),
-        Word::Plain("used"),
-        Word::Natural(u128::from(received.table.used())),
-    ];
-    put_words("message", &words, output)
+    put_labelled("message ", received.number, output)?;
+    put_labelled(" payload ", u64::from(received.size), output)?;
+    put_measures(received.doc, output)?;
+    put_strings(received.table, output)?;
+    put_plain("\n", output)
 }
 
 /// Puts the line of the end behind this many bytes.

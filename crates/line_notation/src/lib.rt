@@ -17,6 +17,7 @@
 #![tactic(auto)]
 
 mod arrays;
+mod decimals;
 mod digits;
 mod judged;
 pub mod laws;
@@ -33,8 +34,9 @@ mod texts;
 mod values;
 mod words;
 
+pub use decimals::put_labelled;
 pub use printing::print;
-pub use puts::{Word, put_joined, put_words, quote};
+pub use puts::{Word, put_joined, put_plain, put_words, quote};
 pub use reader::{LineFault, LineKind, LineReader, LineStep};
 
 #[cfg(test)]

@@ -30,6 +30,7 @@ impl Keyword {
     ];
 
     // The keyword as a line has it.
+    #[inline(always)]
     pub fn word(self) -> &'static str
         ensures { result.now ≡ keyword_word self }
     {

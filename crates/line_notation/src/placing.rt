@@ -64,6 +64,7 @@ fn place_item(builder: &mut DocBuilder, item: Item) -> Result<LineStep, Refusal>
     match builder.push(item) {
         Ok(()) => {}
         Err(PushFault::OutOfPlace) => return Err(Refusal::Kind(LineKind::OutOfPlace)),
+        Err(PushFault::TooMuchContent) => unreachable!(),
         Err(PushFault::Memory) => return Err(Refusal::Memory),
     }
     match builder.finish() {

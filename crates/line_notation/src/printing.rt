@@ -162,6 +162,7 @@ fn put_line<K: Sink>(keyword: Keyword, words: &[Word], sink: &mut K) -> Result<(
 }
 
 // Puts a keyword and two texts.
+#[inline(always)]
 fn put_names<K: Sink>(
     keyword: Keyword,
     first: &Txt,
@@ -180,6 +181,7 @@ fn put_names<K: Sink>(
 }
 
 // Puts a line of a keyword and two texts.
+#[inline(always)]
 fn put_named<K: Sink>(
     keyword: Keyword,
     first: &Txt,
@@ -214,7 +216,7 @@ fn put_text<K: Sink>(value: &Value, sink: &mut K) -> Result<(), SinkFault>
     ensures { Puts K.written K.held K.faults K.may_want sink.old sink.new
         (form_text (text (written_value value.now))) result }
 {
-    put_bytes(b"text", sink)?;
+    put_bytes(Keyword::Text.word().as_bytes(), sink)?;
     put_value(value, sink)?;
     put_bytes(b"\n", sink)
 }
@@ -250,7 +252,7 @@ fn put_array_values<K: Sink>(scalars: &[Scalar], sink: &mut K) -> Result<(), Sin
     ensures { Puts K.written K.held K.faults K.may_want sink.old sink.new
         (form_text (values (written_scalars scalars.now))) result }
 {
-    put_bytes(b"values", sink)?;
+    put_bytes(Keyword::Values.word().as_bytes(), sink)?;
     put_scalars(scalars, sink)?;
     put_bytes(b"\n", sink)
 }

@@ -1,5 +1,5 @@
 // Words that go out.
-ghost use Rattle.std.specs.Prelude.{◌≡◌, ◌≤◌, ◌<◌, ◌^◌, ◌∷◌, ◌++◌, [], false, length, take_while, All};
+ghost use Rattle.std.specs.Prelude.{◌≡◌, ◌≤◌, ◌<◌, ◌^◌, ◌∷◌, ◌++◌, ◌+◌, [], false, length, take_while, All};
 ghost use Rattle.std.specs.Fmt.{decimal, digit_glyph, signed_decimal};
 ghost use Rattle.std.specs.List.{flat_map, list_all};
 ghost use Rattle.hex.specs.Hex.{encode_lower};
@@ -9,6 +9,7 @@ ghost use Rattle.line_notation.specs.Puts.{joined_words, IsPuttable, spaced_word
 ghost use Rattle.line_notation.specs.Quoted.{escape, is_plain, quoted, quoted_byte};
 ghost use Rattle.line_notation.specs.Scalars.{digits_in_quotes, identifier_word, letter_word};
 
+use crate::decimals::put_number;
 use io_edges::{Sink, SinkFault};
 use itoa::Buffer;
 use uuid::Uuid;
@@ -38,6 +39,15 @@ pub fn put_bytes<K: Sink>(bytes: &[u8], sink: &mut K) -> Result<(), SinkFault>
     ensures { Puts K.written K.held K.faults K.may_want sink.old sink.new bytes.now result }
 {
     sink.put(bytes)
+}
+
+/// Puts a text as it is, by one put. A refusal has put the first bytes of it. No memory is taken but
+/// the sink's.
+#[inline(always)]
+pub fn put_plain<K: Sink>(text: &str, sink: &mut K) -> Result<(), SinkFault>
+    ensures { Puts K.written K.held K.faults K.may_want sink.old sink.new text.now result }
+{
+    put_bytes(text.as_bytes(), sink)
 }
 
 // Whether a quoted text shows the byte as it is.
@@ -73,9 +83,10 @@ pub fn plain_count(bytes: &[u8]) -> usize
     bytes.iter().take_while(|byte| is_plain(**byte)).count()
 }
 
-// Whether a quoted text shows all bytes as they are. No byte ends the loop, so that it goes over
-// many at a time.
-fn are_plain(bytes: &[u8]) -> bool
+// Whether a quoted text shows each byte as it is. No byte ends the loop, so that it goes over many
+// at a time.
+#[inline(always)]
+fn each_is_plain(bytes: &[u8]) -> bool
     ensures { result ≡ list_all is_plain bytes.now }
 {
     let mut plain = true;
@@ -83,6 +94,34 @@ fn are_plain(bytes: &[u8]) -> bool
         plain &= is_plain(*byte);
     }
     plain
+}
+
+// The same, by so many bytes at the front and so many at the end. Some may be among both.
+#[inline(always)]
+fn ends_are_plain(bytes: &[u8], front: usize, back: usize) -> bool
+    requires within { (front ≤ length bytes.now) × (back ≤ length bytes.now) }
+    requires whole { length bytes.now ≤ front + back }
+    ensures { result ≡ list_all is_plain bytes.now }
+{
+    let (first, _) = bytes.split_at(front);
+    let (_, last) = bytes.split_at(bytes.len() - back);
+    each_is_plain(first) && each_is_plain(last)
+}
+
+// The same, by four or eight bytes at a time where there are as many.
+fn are_plain(bytes: &[u8]) -> bool
+    ensures { result ≡ list_all is_plain bytes.now }
+{
+    let count = bytes.len();
+    if count < 4 {
+        each_is_plain(bytes)
+    } else if count < 8 {
+        ends_are_plain(bytes, 4, 4)
+    } else if count < 16 {
+        ends_are_plain(bytes, 8, 8)
+    } else {
+        ends_are_plain(bytes, count - count % 8, 8)
+    }
 }
 
 // Puts what a text has between its quotes, by pieces that are plain or escaped.
@@ -107,16 +146,30 @@ fn put_pieces<K: Sink>(bytes: &[u8], sink: &mut K) -> Result<(), SinkFault>
     Ok(())
 }
 
-// Puts what a text has between its quotes.
-pub fn put_within_quotes<K: Sink>(text: &str, sink: &mut K) -> Result<(), SinkFault>
+// Puts what a text of these bytes has between its quotes.
+#[inline(never)]
+fn put_shown<K: Sink>(bytes: &[u8], sink: &mut K) -> Result<(), SinkFault>
     ensures { Puts K.written K.held K.faults K.may_want sink.old sink.new
-        (flat_map quoted_byte text.now) result }
+        (flat_map quoted_byte bytes.now) result }
 {
-    let bytes = text.as_bytes();
     if are_plain(bytes) {
         return put_bytes(bytes, sink);
     }
     put_pieces(bytes, sink)
+}
+
+// Puts what a text has between its quotes.
+#[inline(always)]
+pub fn put_within_quotes<K: Sink>(text: &str, sink: &mut K) -> Result<(), SinkFault>
+    ensures { Puts K.written K.held K.faults K.may_want sink.old sink.new
+        (flat_map quoted_byte text.now) result }
+{
+    match text.as_bytes() {
+        [] => Ok(()),
+        // Prefixes have one letter mostly.
+        [byte] if is_plain(*byte) => put_bytes(&[*byte], sink),
+        bytes => put_shown(bytes, sink),
+    }
 }
 
 /// Puts a text in double quotes. A printable byte of ASCII stands as it is, and any other, the
@@ -171,6 +224,9 @@ fn put_digits_in_quotes<K: Sink>(bytes: &[u8], sink: &mut K) -> Result<(), SinkF
 fn put_natural<K: Sink>(n: u128, sink: &mut K) -> Result<(), SinkFault>
     ensures { Puts K.written K.held K.faults K.may_want sink.old sink.new (decimal n) result }
 {
+    if let Ok(small) = u64::try_from(n) {
+        return put_number(small, sink);
+    }
     let mut buffer = Buffer::new();
     put_bytes(buffer.format(n).as_bytes(), sink)
 }
@@ -179,6 +235,9 @@ fn put_integer<K: Sink>(n: i128, sink: &mut K) -> Result<(), SinkFault>
     ensures { Puts K.written K.held K.faults K.may_want sink.old sink.new
         (signed_decimal n) result }
 {
+    if let Ok(small) = u64::try_from(n) {
+        return put_number(small, sink);
+    }
     let mut buffer = Buffer::new();
     put_bytes(buffer.format(n).as_bytes(), sink)
 }

@@ -1,4 +1,4 @@
-use Rattle.std.proofs.Common.{◌∷◌, []}
+use Rattle.std.proofs.Common.{◌∷◌, [], ◌∙◌}
 use Rattle.std.proofs.lemmas.Result.{err_from_is_err_and}
 use Rattle.io_edges.proofs.Putting.{PutsAll-then, PutsAll-cut}
 use Rattle.line_notation.proofs.printing.put_text.Goals as goal
@@ -6,12 +6,12 @@ use Rattle.line_notation.proofs.printing.put_text.Goals as goal
 pub returns-in_err-put_bytes : goal.returns-in_err-put_bytes
 returns-in_err-put_bytes g c =
     let p = err_from_is_err_and c.from_residual.result c.from_residual.ensures.1 in
-    rw (p.1, p.2) (PutsAll-cut (10 ∷ []) (PutsAll-cut _ c.in_err-put_bytes.ensures))
+    rw (p.1, p.2) (PutsAll-cut (10 ∷ []) (PutsAll-cut _ (rw (c.as_bytes.ensures.value ∙ c.word.ensures) at c.in_err-put_bytes.ensures)))
 
 pub returns-in_err-put_value : goal.returns-in_err-put_value
 returns-in_err-put_value g c =
     let p = err_from_is_err_and c.from_residual-in_err-put_value.result c.from_residual-in_err-put_value.ensures.1 in
-    rw (p.1, p.2) (PutsAll-cut (10 ∷ []) (PutsAll-then _ c.in_ok-put_bytes.ensures c.in_err-put_value.ensures))
+    rw (p.1, p.2) (PutsAll-cut (10 ∷ []) (PutsAll-then _ (rw (c.as_bytes.ensures.value ∙ c.word.ensures) at c.in_ok-put_bytes.ensures) c.in_err-put_value.ensures))
 
 pub returns : goal.returns
-returns g c = PutsAll-then _ (PutsAll-then _ c.in_ok-put_bytes.ensures c.in_ok-put_value.ensures) c.put_bytes-2.ensures
+returns g c = PutsAll-then _ (PutsAll-then _ (rw (c.as_bytes.ensures.value ∙ c.word.ensures) at c.in_ok-put_bytes.ensures) c.in_ok-put_value.ensures) c.put_bytes-2.ensures

@@ -1,7 +1,7 @@
 use Rattle.std.proofs.Common.{sym}
 use Rattle.std.proofs.lemmas.List.Folds.{list_all_more}
 use Rattle.line_notation.specs.Quoted.{is_plain}
-use Rattle.line_notation.proofs.puts.are_plain.Goals as goal
+use Rattle.line_notation.proofs.puts.each_is_plain.Goals as goal
 
 pub loop-byte-preserved : goal.loop-byte-preserved
 loop-byte-preserved c =

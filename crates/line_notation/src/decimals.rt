@@ -1,0 +1,54 @@
+// Numbers that go out.
+ghost use Rattle.std.specs.Prelude.{◌≡◌, ◌+◌, ◌%◌, ◌++◌};
+ghost use Rattle.std.specs.Fmt.{decimal};
+ghost use Rattle.io_edges.specs.Puts.{Puts};
+
+use crate::puts::{put_bytes, put_plain};
+use io_edges::{Sink, SinkFault};
+use itoa::Buffer;
+
+// The last digit of a number.
+#[inline(always)]
+fn last_digit(n: u64) -> u8
+    ensures { result ≡ 48 + n % 10 }
+{
+    b'0' + (n % 10) as u8
+}
+
+// Puts a number that may have any count of digits.
+#[inline(never)]
+fn put_long<K: Sink>(n: u64, sink: &mut K) -> Result<(), SinkFault>
+    ensures { Puts K.written K.held K.faults K.may_want sink.old sink.new (decimal n) result }
+{
+    let mut buffer = Buffer::new();
+    put_bytes(buffer.format(n).as_bytes(), sink)
+}
+
+// Puts a number in decimal digits, by one put.
+#[inline(never)]
+pub fn put_number<K: Sink>(n: u64, sink: &mut K) -> Result<(), SinkFault>
+    ensures { Puts K.written K.held K.faults K.may_want sink.old sink.new (decimal n) result }
+{
+    if n < 10 {
+        return put_bytes(&[last_digit(n)], sink);
+    }
+    if n < 100 {
+        return put_bytes(&[last_digit(n / 10), last_digit(n)], sink);
+    }
+    if n < 1_000 {
+        let digits = [last_digit(n / 100), last_digit(n / 10), last_digit(n)];
+        return put_bytes(&digits, sink);
+    }
+    put_long(n, sink)
+}
+
+/// Puts a text as it is and a number right behind it, in two puts. A refusal has put the first
+/// bytes. No memory is taken but the sink's.
+#[inline(always)]
+pub fn put_labelled<K: Sink>(label: &str, n: u64, sink: &mut K) -> Result<(), SinkFault>
+    ensures { Puts K.written K.held K.faults K.may_want sink.old sink.new
+        (label.now ++ decimal n) result }
+{
+    put_plain(label, sink)?;
+    put_number(n, sink)
+}
