@@ -137,11 +137,34 @@ fn put(alloc: Global, builder: &mut DocBuilder, pieces: &[Piece]) -> Result<Opti
         }
         match builder.push(item) {
             Ok(()) => {}
-            Err(PushFault::OutOfPlace) => return Ok(Some(at)),
+            Err(PushFault::OutOfPlace | PushFault::TooMuchContent) => return Ok(Some(at)),
             Err(PushFault::Memory) => return Err(Memory),
         }
     }
     Ok(None)
+}
+
+#[test]
+fn a_front_within_a_limit(rt: HostRuntime) -> Result<(), Fail> {
+    let alloc = rt.alloc();
+    let mut builder = DocBuilder::new(alloc);
+    let root = Item::Start {
+        prefix: Txt::of(alloc, "")?,
+        local: Txt::of(alloc, "root")?,
+    };
+    assert_eq!(rt;
+        builder.push_within(3, root.copy()?),
+        Err(PushFault::TooMuchContent)
+    );
+    assert_eq!(rt; builder.push_within(4, root), Ok(()));
+    let text = Value::One(Scalar::Text(Txt::of(alloc, "text")?));
+    assert_eq!(rt;
+        builder.push_last_text(7, text.copy()?),
+        Err(PushFault::TooMuchContent)
+    );
+    assert_eq!(rt; builder.push_last_text(8, text), Ok(()));
+    assert!(rt; builder.finish().is_some());
+    Ok(())
 }
 
 #[test]
