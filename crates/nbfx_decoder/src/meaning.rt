@@ -67,17 +67,27 @@ impl Lookup<'_> {
     }
 
     #[inline(never)]
+    fn any_named(&self, id: u32) -> Result<Txt, Unmeant>
+        ensures found { Finds (named_text (table_of self.now) id) result }
+        ensures utf8 { IfOk result (λ text. IsTrue (is_utf8 text)) }
+    {
+        match self.text(id) {
+            Some(text) => Ok(Txt::of(self.alloc, text)?),
+            None => Err(Unmeant::UnknownString),
+        }
+    }
+
+    #[inline(always)]
     fn named(&self, id: u32) -> Result<Txt, Unmeant>
         ensures found { Finds (named_text (table_of self.now) id) result }
         ensures utf8 { IfOk result (λ text. IsTrue (is_utf8 text)) }
     {
-        let Some(text) = self.text(id) else {
-            return Err(Unmeant::UnknownString);
-        };
-        if let Some(short) = Txt::short(text) {
-            return Ok(short);
+        if id % 2 == 0 {
+            if let Some(text) = self.statics.short_copy(id) {
+                return Ok(text);
+            }
         }
-        Ok(Txt::of(self.alloc, text)?)
+        self.any_named(id)
     }
 
     #[inline(always)]
@@ -99,8 +109,8 @@ impl Lookup<'_> {
     {
         match scalar {
             RawScalar::Known(scalar) => Ok(scalar),
-            RawScalar::Dictionary(id) => Ok(Scalar::Text(self.named(id)?)),
-            RawScalar::QName(letter, id) => Ok(Scalar::QName(letter, self.named(id)?)),
+            RawScalar::Dictionary(id) => Ok(Scalar::Text(self.any_named(id)?)),
+            RawScalar::QName(letter, id) => Ok(Scalar::QName(letter, self.any_named(id)?)),
         }
     }
 

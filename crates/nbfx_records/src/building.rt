@@ -30,6 +30,8 @@ fn prefix(alloc: Global, part: &PrefixPart) -> Result<Txt, Unfit>
     match part {
         PrefixPart::Letter(letter) if letter.is_ascii() => Ok(Txt::of_ascii(*letter)),
         PrefixPart::Letter(letter) => text(alloc, &[*letter]),
+        PrefixPart::Text([]) => Ok(Txt::empty()),
+        PrefixPart::Text([letter]) if letter.is_ascii() => Ok(Txt::of_ascii(*letter)),
         PrefixPart::Text(bytes) => text(alloc, bytes),
     }
 }

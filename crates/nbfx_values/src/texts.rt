@@ -82,6 +82,21 @@ impl Txt {
         })
     }
 
+    /// The text without characters.
+    #[inline(always)]
+    pub fn empty() -> Txt
+        ensures same { result ≡ [] }
+        ensures utf8 { IsTrue (is_utf8 result) }
+    {
+        let text = Txt {
+            letters: Letters::Short(ArrayString::new()),
+        };
+
+        // Characters are UTF-8.
+        let _characters = text.as_str();
+        text
+    }
+
     /// The text of one ASCII character.
     #[inline(always)]
     pub fn of_ascii(character: u8) -> Txt
@@ -98,6 +113,22 @@ impl Txt {
         // Characters are UTF-8.
         let _characters = text.as_str();
         text
+    }
+
+    /// The same text, where it lies in the value itself.
+    #[inline(always)]
+    pub fn short_copy(&self) -> Option<Txt>
+        ensures same { IfSome result (λ t. t ≡ self.now) }
+        ensures utf8 { IfSome result (λ t. IsTrue (is_utf8 t)) }
+    {
+        // Characters are UTF-8.
+        let _characters = self.as_str();
+        match &self.letters {
+            Letters::Short(text) => Some(Txt {
+                letters: Letters::Short(*text),
+            }),
+            Letters::Long(_) => None,
+        }
     }
 
     // Whether the bytes are UTF-8, as those of every text are.

@@ -91,18 +91,18 @@ slice_get-more (w ∷ xs) y (suc k) x e = elim (slice_get-more xs y k x e) [ inl
 
 module _ {A : Type 0} where
   -- one more text at its place
-  pub placed-more : (placed : List (Option (String A))) (by_id : BTreeMap ℕ (String A)) (text : Option (String A)) (id : ℕ) → ArePlaced placed by_id → id ≡ 2 * length placed
-      → option_map string_bytes text ≡ static_text (entries_in by_id) id → ArePlaced (placed ++ text ∷ []) by_id
+  pub placed-more : (placed : List (Option (List ℕ))) (by_id : BTreeMap ℕ (String A)) (text : Option (List ℕ)) (id : ℕ) → ArePlaced placed by_id → id ≡ 2 * length placed
+      → text ≡ static_text (entries_in by_id) id → ArePlaced (placed ++ text ∷ []) by_id
   placed-more placed by_id text id are is same = record {
     are = λ place held e. elim (slice_get-more placed text place held e) [
       | inl before ↦ are.are place held before
-      | inr here ↦ ap (option_map string_bytes) here.1 ∙ same ∙ ap (static_text (entries_in by_id)) (is ∙ ap (λ n. 2 * n) (sym here.0))
+      | inr here ↦ here.1 ∙ same ∙ ap (static_text (entries_in by_id)) (is ∙ ap (λ n. 2 * n) (sym here.0))
     ];
   }
 
   -- what is at a place, for an even identifier
-  pub placed-here : (placed : List (Option (String A))) (by_id : BTreeMap ℕ (String A)) (text : Option (String A)) (id : ℕ) → ArePlaced placed by_id → Some text ≡ slice_get placed (id / 2) → id % 2 ≡ 0
-      → option_map string_bytes text ≡ static_text (entries_in by_id) id
+  pub placed-here : (placed : List (Option (List ℕ))) (by_id : BTreeMap ℕ (String A)) (text : Option (List ℕ)) (id : ℕ) → ArePlaced placed by_id → Some text ≡ slice_get placed (id / 2) → id % 2 ≡ 0
+      → text ≡ static_text (entries_in by_id) id
   placed-here placed by_id text id are e even =
       let twice : 2 * (id / 2) ≡ id = omega arith in
       are.are (id / 2) text (sym e) ∙ ap (static_text (entries_in by_id)) twice

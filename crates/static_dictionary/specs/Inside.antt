@@ -1,5 +1,5 @@
 -- A table's two maps, as the entries that a contract sees.
-use Rattle.std.specs.Prelude.{◌≡◌, ℕ, ◌*◌, List, Option, Some, map, option_map, slice_get, string_bytes, String}
+use Rattle.std.specs.Prelude.{◌≡◌, ℕ, ◌*◌, List, Option, Some, map, slice_get, string_bytes, String}
 use Rattle.std.specs.BTreeMap.{BTreeMap, get_by_text}
 use Rattle.string_tables.specs.StaticStrings.{Entry, IsStaticMap, least_static_id, static_text}
 
@@ -15,12 +15,12 @@ module _ {A : Type 0} where
     pub least : (text : List ℕ) → get_by_text by_text text ≡ least_static_id (entries_in by_id) text
 
   -- at each place there is the text of the identifier that is twice as much, if it has one
-  pub record ArePlaced (placed : List (Option (String A)))
+  pub record ArePlaced (placed : List (Option (List ℕ)))
       (by_id : BTreeMap ℕ (String A)) : Type 0 where
-    pub are : (place : ℕ) (text : Option (String A)) → slice_get placed place ≡ Some text
-        → option_map string_bytes text ≡ static_text (entries_in by_id) (2 * place)
+    pub are : (place : ℕ) (text : Option (List ℕ)) → slice_get placed place ≡ Some text
+        → text ≡ static_text (entries_in by_id) (2 * place)
 
   pub record IsTable (by_id : BTreeMap ℕ (String A)) (by_text : BTreeMap (String A) ℕ)
-      (placed : List (Option (String A))) : Type 0 where
+      (placed : List (Option (List ℕ))) : Type 0 where
     pub maps : AreMapsOfTable by_id by_text
     pub places : ArePlaced placed by_id

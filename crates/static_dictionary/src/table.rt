@@ -1,5 +1,6 @@
 // The table of the static strings.
-ghost use Rattle.std.specs.Prelude.{◌≡◌, ◌≢◌, Some, None, ℕ, drop, option_map, string_bytes, OnOk, OnSome, IfErr, IfNone, IfOk, IfSome};
+ghost use Rattle.std.specs.Prelude.{◌≡◌, ◌≢◌, Some, None, ℕ, drop, option_map, OnOk, OnSome, IfErr, IfNone, IfOk, IfSome, IsTrue};
+ghost use Rattle.std.specs.Str.{is_utf8};
 ghost use Rattle.csv.specs.Records.{fields_of};
 ghost use Rattle.string_tables.specs.StaticStrings.{IsStaticId, IsStaticMap, least_static_id, least_with, static_text, with_entry};
 ghost use Rattle.string_tables.specs.StringTable.{IsLeastName};
@@ -11,6 +12,7 @@ use crate::entry::entry_of;
 use crate::fault::{TableFault, TableKind};
 use crate::rows::{first_of, next_row, take_header};
 use csv::ByteRecord;
+use nbfx_values::{Memory, Txt};
 use std::alloc::{AllocError, Global};
 use std::collections::BTreeMap;
 use std::marker::Model;
@@ -24,7 +26,7 @@ pub struct StaticTable {
     by_id: BTreeMap<u32, String>,
     by_text: BTreeMap<String, u32>,
     /// The text of identifier 2k once more, at place k.
-    placed: Vec<Option<String>>,
+    placed: Vec<Option<Txt>>,
 }
 
 impl Model for StaticTable {
@@ -86,6 +88,19 @@ impl StaticTable {
         }
     }
 
+    /// A copy of the text of an identifier, where it is among the least identifiers and short: most
+    /// are. Else the text may be there all the same.
+    #[inline(always)]
+    pub fn short_copy(&self, id: u32) -> Option<Txt>
+        ensures text { IfSome result (λ copy. static_text self.now id ≡ Some copy) }
+        ensures utf8 { IfSome result (λ copy. IsTrue (is_utf8 copy)) }
+    {
+        match self.placed.get(id as usize / 2) {
+            Some(Some(text)) if id % 2 == 0 => text.short_copy(),
+            _ => None,
+        }
+    }
+
     /// The least identifier of a text.
     pub fn id(&self, text: &str) -> Option<u32>
         ensures least { result ≡ least_static_id self.now text.now }
@@ -99,8 +114,8 @@ impl StaticTable {
 }
 
 // A text, where there is one.
-fn text_in(text: &Option<String>) -> Option<&str>
-    ensures { option_map (λ text. text.now) result ≡ option_map string_bytes text.now }
+fn text_in(text: &Option<Txt>) -> Option<&str>
+    ensures { option_map (λ text. text.now) result ≡ text.now }
 {
     match text {
         Some(text) => Some(text.as_str()),
@@ -118,25 +133,17 @@ fn text_of(by_id: &BTreeMap<u32, String>, id: u32) -> Option<&str>
 }
 
 // The same once more.
-fn copy_of(
-    alloc: Global,
-    by_id: &BTreeMap<u32, String>,
-    id: u32,
-) -> Result<Option<String>, AllocError>
-    ensures { IfOk result (λ copy. option_map string_bytes copy
-        ≡ static_text (entries_in by_id.now) id) }
+fn copy_of(alloc: Global, by_id: &BTreeMap<u32, String>, id: u32) -> Result<Option<Txt>, Memory>
+    ensures { IfOk result (λ copy. copy ≡ static_text (entries_in by_id.now) id) }
 {
     match text_of(by_id, id) {
-        Some(text) => Ok(Some(String::from_str(alloc, text)?)),
+        Some(text) => Ok(Some(Txt::of(alloc, text)?)),
         None => Ok(None),
     }
 }
 
 // The texts that have places.
-fn placed_of(
-    alloc: Global,
-    by_id: &BTreeMap<u32, String>,
-) -> Result<Vec<Option<String>>, AllocError>
+fn placed_of(alloc: Global, by_id: &BTreeMap<u32, String>) -> Result<Vec<Option<Txt>>, Memory>
     ensures { IfOk result (λ placed. ArePlaced placed.items by_id.now) }
 {
     let mut placed = Vec::new(alloc);
