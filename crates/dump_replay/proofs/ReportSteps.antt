@@ -25,7 +25,6 @@ use Rattle.stream_reader.specs.Laws.{IsInitiators}
 use Rattle.stream_reader.specs.Stream.{Settings, beginning, initiators, ends, too_long, stream}
 use Rattle.stream_reader.proofs.Ending.{tells}
 use Rattle.stream_reader.proofs.Grammar.{within_quota, readable, short_enough}
-use Rattle.dump_replay.specs.declared.reporting.TheConstants.{MOST_TAKEN}
 use Rattle.dump_replay.specs.declared.reporting.Progress.{Progress}
 use Rattle.dump_replay.specs.declared.reporting.Ending.{Ending}
 use Rattle.dump_replay.specs.declared.reporting.Ending.TheVariants as endings
@@ -134,12 +133,12 @@ taken_grows taken before after p room y n so_far told piece t e =
 pub record Came (left left' taken taken' : Option (List ℕ)) (items new p y : List ℕ) (n : ℕ) : Type 0 where
   pub full : length new ≡ length items
   pub size : length y ≡ n
-  pub short : length y ≤ MOST_TAKEN
+  pub short : length y ≤ 65536
   pub rest : (bytes : List ℕ) → left ≡ Some bytes → (rest : List ℕ) × (left' ≡ Some rest) × (bytes ≡ p ++ y ++ rest)
   pub handed : (t : List ℕ) → taken ≡ Some t → taken' ≡ Some (t ++ (p ++ y))
 
 pub piece_came : (left before left' taken handed taken' : Option (List ℕ)) (items new room : List ℕ) (len n : ℕ)
-    → length items ≡ MOST_TAKEN → len ≡ length items → length new ≡ length items → room ≡ take len (new ++ drop (length new) items) → n ≤ length new
+    → length items ≡ 65536 → len ≡ length items → length new ≡ length items → room ≡ take len (new ++ drop (length new) items) → n ≤ length new
     → (p : List ℕ)
     → ((bytes : List ℕ) → left ≡ Some bytes → (rest : List ℕ) × (before ≡ Some rest) × (bytes ≡ p ++ rest))
     → ((t : List ℕ) → taken ≡ Some t → handed ≡ Some (t ++ p))
@@ -168,7 +167,7 @@ first_read x set stands room here = read_at x stands [] here (first_pending x se
 -- so many bytes are read, of which a piece is the last, and lines are put for them
 module _ (d : Detail) (x : Settings) (left left' taken taken' written written' : Option (List ℕ)) (held held' : List ℕ) (p y : List ℕ) (pending : IsPending (stream x) p) where
   -- by what is known of the input
-  pub has_reported : (result : Result Ending SinkFault) (lines : List ℕ) → length y ≤ MOST_TAKEN
+  pub has_reported : (result : Result Ending SinkFault) (lines : List ℕ) → length y ≤ 65536
       → ((bytes : List ℕ) → left ≡ Some bytes → (rest : List ℕ) × (left' ≡ Some rest) × (bytes ≡ p ++ y ++ rest))
       → ((t : List ℕ) → taken ≡ Some t → taken' ≡ Some (t ++ (p ++ y)))
       → Told written written' (Writes d x held p) → ReportsAs d x p y left left' held' result lines → HasReported d x left left' taken taken' written written' held held' result lines
@@ -191,7 +190,7 @@ pub record IsCut (x : Settings) (p : List ℕ) (Holds : List ℕ → Type 0) : T
   pub piece : List ℕ
   pub all : p ≡ before ++ piece
   pub pending : IsPending (stream x) before
-  pub short : length piece ≤ MOST_TAKEN
+  pub short : length piece ≤ 65536
   pub holds : Holds before
 
 -- the lines of these bytes' events are written, and maybe more

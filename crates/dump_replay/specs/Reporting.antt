@@ -4,7 +4,6 @@ use Rattle.std.specs.Prelude.{◌≡◌, ℕ, ◌≤◌, ◌⊎◌, List, [], �
 use Rattle.io_edges.specs.Flow.{Told, GrowsByPrefix}
 use Rattle.unit_streams.specs.Going.{IsPending}
 use Rattle.nbfx_values.specs.declared.refusals.Offence.{Offence}
-use Rattle.dump_replay.specs.declared.reporting.TheConstants.{MOST_TAKEN}
 use Rattle.dump_replay.specs.declared.report.Detail.{Detail}
 use Rattle.dump_replay.specs.Report.{report, event_lines}
 use Rattle.stream_reader.specs.Judging.{offence}
@@ -40,7 +39,7 @@ pub record Reaches (d : Detail) (x : Settings)
   pub before : List ℕ
   pub piece : List ℕ
   pub pending : IsPending (stream x) before
-  pub short : length piece ≤ MOST_TAKEN
+  pub short : length piece ≤ 65536
   pub stream : Told left left' (λ all rest. all ≡ before ++ piece ++ rest)
   pub took : Told taken taken' (λ t t'. t' ≡ t ++ before ++ piece)
   pub wrote : Told written written' (Writes d x held before)

@@ -1,11 +1,13 @@
 -- A decoder takes the bytes of a piece, one unit after the other.
-use Rattle.std.proofs.Common.{◌≡◌, ℕ, ◌+◌, ◌-◌, List, ◌++◌, length, take, drop, Result, Ok, Err, sym, ap, ◌∙◌, subst, arith, append_assoc, length-append, length-drop}
+use Rattle.std.proofs.Common.{◌≡◌, ℕ, ◌+◌, ◌-◌, ◌<◌, List, ◌++◌, length, take, drop, None, Result, Ok, Err, refl, sym, ap, ◌∙◌, subst, arith, append_assoc, length-append, length-drop}
 use Rattle.std.specs.Prelude.{IsErrAnd}
 use Rattle.std.proofs.lemmas.Result.{err_from_is_err_and}
 use Rattle.std.proofs.Math.Seq.{take-add}
 use Rattle.std.proofs.lemmas.List.{take_all, length-take-le}
+use Rattle.unit_streams.specs.Grammar.{standing}
 use Rattle.unit_streams.specs.Judging.{refusal_at}
-use Rattle.unit_streams.specs.Going.{IsQuiet}
+use Rattle.unit_streams.specs.Going.{IsGoing, IsQuiet}
+use Rattle.unit_streams.proofs.Passing.{going_refusal, refusal_from}
 use Rattle.unit_streams.proofs.Quiet.{quiet_joined}
 use Rattle.nbfx_decoder.specs.declared.decoder.Decoder.{Decoder}
 use Rattle.nbfx_decoder.specs.declared.faults.UnitFault.{UnitFault}
@@ -19,6 +21,10 @@ use Rattle.nbfx_decoder.specs.Taking.{TakeAnswers, AllAnswers}
 pub record HasTaken (d : Decoder) (x : Settings) (strings : List (List ℕ)) (p y : List ℕ) (used : ℕ) : Type 0 where
   pub quiet : IsQuiet (payload x strings) p y used
   pub reached : Reached d x strings (p ++ take used y)
+
+-- what goes on isn't refused
+pub going_unrefused : (x : Settings) (strings : List (List ℕ)) (p : List ℕ) → IsGoing (payload x strings) (standing (payload x strings) p) → refusal_at (payload x strings) p ≡ None
+going_unrefused x strings p going = refusal_from (payload x strings) p (standing (payload x strings) p) refl ∙ going_refusal (payload x strings) (standing (payload x strings) p) (length p) going
 
 -- those behind some, as the bytes between two offsets
 pub rest_of : (y : List ℕ) (used : ℕ) → take (length y - used) (drop used y) ≡ drop used y
@@ -36,9 +42,9 @@ module _ (x : Settings) (strings : List (List ℕ)) (p y : List ℕ) (used : ℕ
   }
 
   -- what is refused, as a `?` hands it on
-  pub taken_fault : (new : Decoder) (fault : UnitFault) (result : Result (Unit {0}) UnitFault) → IsErrAnd result (λ f. f ≡ fault) → TakeAnswers x strings (p ++ take used y) (drop used y) new (Err fault)
+  pub taken_fault : (old new : Decoder) → used < length y → Reached old x strings (p ++ take used y) → (fault : UnitFault) (result : Result (Unit {0}) UnitFault) → IsErrAnd result (λ f. f ≡ fault) → TakeAnswers x strings (p ++ take used y) (drop used y) new (Err fault)
       → AllAnswers x strings p y new result
-  taken_fault new fault result e answers =
+  taken_fault old new more reached fault result e answers =
       let q = err_from_is_err_and result e in
       subst (λ (r : Result (Unit {0}) UnitFault). AllAnswers x strings p y new r) (ap Err (sym q.2) ∙ sym q.1) (by_fault fault answers)
     where
@@ -46,12 +52,12 @@ module _ (x : Settings) (strings : List (List ℕ)) (p y : List ℕ) (used : ℕ
       size = length-append p (take used y) ∙ ap (λ n. length p + n) (length-take-le used y quiet.within)
 
       by_fault : (fault : UnitFault) → TakeAnswers x strings (p ++ take used y) (drop used y) new (Err fault) → AllAnswers x strings p y new (Err fault)
-      by_fault (Refused reason shown_by) (k, more, shown, sum, set) = (
+      by_fault (Refused reason shown_by) (k, then, shown, sum, set) = (
         used + k,
         from_of x strings (p ++ take used y),
-        quiet_joined (payload x strings) p y used k quiet more,
+        quiet_joined (payload x strings) p y used k quiet then,
         ap (refusal_at (payload x strings)) (sym (joined k)) ∙ shown,
         (let n = size in omega (arith, n, sum)),
         subst (λ (q : List ℕ). HasStrings new.units x (situation_of x strings q).strings (from_of x strings (p ++ take used y))) (joined k) set,
       )
-      by_fault Memory set = (used, from_of x strings (p ++ take used y), quiet, set)
+      by_fault Memory set = (used, from_of x strings (p ++ take used y), quiet, more, going_unrefused x strings (p ++ take used y) reached.going, set)

@@ -8,7 +8,6 @@ use Rattle.unit_streams.specs.Going.{IsGoing, IsPending, IsQuiet}
 use Rattle.unit_streams.proofs.Answers.{answers_are_first}
 use Rattle.std.proofs.Math.Seq.{take-nil}
 use Rattle.unit_streams.proofs.Pending.{open_longer, open_pending, pending_open}
-use Rattle.unit_streams.proofs.Passing.{going_refusal, refusal_from}
 use Rattle.unit_streams.proofs.Standing.{standing_keeps, standing_length, standing_nothing}
 use Rattle.nbfx_values.specs.Documents.{IsDocument}
 use Rattle.nbfx_values.proofs.Walks.{document-position, position_of-document}
@@ -41,6 +40,7 @@ use Rattle.nbfx_decoder.specs.Units.{HasStrings, IsAt, Keeps, KeepsSettings}
 use Rattle.string_tables.specs.SessionStrings.{used_cost}
 use Rattle.nbfx_decoder.specs.Bounds.{KeepsWithin}
 use Rattle.nbfx_decoder.specs.Laws.{MayBegin, IsUnrefused, IsWholePayload}
+use Rattle.nbfx_decoder.proofs.AllSteps.{going_unrefused}
 use Rattle.nbfx_decoder.proofs.Keeping.{keeps_settings, settings_through, strings_kept}
 use Rattle.nbfx_decoder.proofs.Readable.{readable}
 use Rattle.nbfx_decoder.proofs.Sound.{keeps_within}
@@ -135,10 +135,6 @@ counts_taken d strings p h =
 pub taken_is : (d : Decoder) (strings : List (List ℕ)) (p : List ℕ) → StandsFor d strings p → taken_of d ≡ length p
 unfolding taken_of
 taken_is d strings p h = counts_taken d strings p h
-
--- what goes on isn't refused
-pub going_unrefused : (x : Settings) (strings : List (List ℕ)) (p : List ℕ) → IsGoing (payload x strings) (standing (payload x strings) p) → refusal_at (payload x strings) p ≡ None
-going_unrefused x strings p going = refusal_from (payload x strings) p (standing (payload x strings) p) refl ∙ going_refusal (payload x strings) (standing (payload x strings) p) (length p) going
 
 -- nothing of a payload ends it
 never_over : (x : Settings) (strings : List (List ℕ)) (p : List ℕ) → is_over_at (payload x strings) p ≡ false
@@ -237,15 +233,17 @@ module _ (d mid : Decoder) (strings : List (List ℕ)) (p y : List ℕ) (h : Sta
             within = quiet.within;
             before = unrefused_before n quiet;
             shown = subst (λ (t : DecodeFault). ShownBy t (length p + n)) (sym (told_as reason k n at is quiet.within sum set.from_is)) refl;
+            wanted = λ memory. let bad = sym (told_as reason k n at is quiet.within sum set.from_is) ∙ memory in cc;
             behind = failed_at (p ++ take n y) at set;
           }
-          by_fault Memory is (n, at, quiet, set) =
+          by_fault Memory is (n, at, quiet, more, none, set) =
               let s : ShowsFault mid.units.from Memory told = subst (λ (f : UnitFault). ShowsFault mid.units.from f told) is shows in
               record {
                 count = n;
                 within = quiet.within;
                 before = unrefused_before n quiet;
                 shown = subst (λ (t : DecodeFault). ShownBy t (length p + n)) (sym s) tt;
+                wanted = λ memory. (more, ap (λ s. refusal_at (payload s strings) (p ++ take n y)) (settings_kept d new all_kept) ∙ none);
                 behind = failed_at (p ++ take n y) at set;
               }
 

@@ -4,6 +4,7 @@ use Rattle.std.specs.Prelude.{◌≡◌, ⊤, ℕ, ◌+◌, ◌<◌, ◌≤◌, 
 use Rattle.unit_streams.specs.Grammar.{standing}
 use Rattle.unit_streams.specs.Judging.{answer, goes_on, offends, refusal_at, ending_at}
 use Rattle.unit_streams.specs.Going.{IsGoing, IsPending}
+use Rattle.nbfx_values.specs.Measures.{capped, content_of}
 use Rattle.nbfx_values.specs.QuotasOf.{limits_of}
 use Rattle.nbfx_values.specs.declared.content.Item.{Item}
 use Rattle.string_tables.specs.SessionStrings.{used_cost}
@@ -30,6 +31,10 @@ taken_of d = d.units.from + length d.begun
 -- how many bytes of the payload it holds
 unfoldable pub held_of : Decoder → ℕ
 held_of d = length d.begun
+
+-- the content of the items that it holds
+unfoldable pub content_held_of : Decoder → ℕ
+content_held_of d = capped (content_of d.units.document)
 
 -- where its payload stands, behind payloads that left these strings
 abbrev pub situation_of : Settings → List (List ℕ) → List ℕ → Situation
@@ -107,6 +112,9 @@ pub record FailedWithin (d : Decoder) (fault : DecodeFault) (strings : List (Lis
   pub before : (i : ℕ) → i < count
       → refusal_at (payload (settings_of d) strings) (p ++ take i y) ≡ None
   pub shown : ShownBy fault (length p + count)
+  -- for want of memory they aren't refused either, and others of y come behind them
+  pub wanted : fault ≡ Memory → (count < length y)
+      × (refusal_at (payload (settings_of d) strings) (p ++ take count y) ≡ None)
   pub behind : FailedBehind d fault strings (p ++ take count y)
 
 -- what the bytes y are answered with behind p; for want of memory nothing is said of them

@@ -1,5 +1,5 @@
 -- What the steps of a decoder answer. Public contracts cite none of this.
-use Rattle.std.specs.Prelude.{◌≡◌, ℕ, ◌+◌, ◌<◌, ◌≤◌, List, ◌++◌, length, take, Some, Result, Ok, Err}
+use Rattle.std.specs.Prelude.{◌≡◌, ℕ, ◌+◌, ◌<◌, ◌≤◌, List, ◌++◌, length, take, Some, None, Result, Ok, Err}
 use Rattle.unit_streams.specs.Judging.{refusal_at}
 use Rattle.unit_streams.specs.Going.{IsQuiet}
 use Rattle.nbfx_decoder.specs.declared.decoder.Decoder.{Decoder}
@@ -44,4 +44,5 @@ AllAnswers x strings p c new (Err (Refused reason shown_by)) =
     × (at + shown_by ≡ length p + k)
     × HasStrings new.units x (situation_of x strings (p ++ take k c)).strings at
 AllAnswers x strings p c new (Err Memory) = (k : ℕ) × (at : ℕ) × IsQuiet (payload x strings) p c k
+    × (k < length c) × (refusal_at (payload x strings) (p ++ take k c) ≡ None)
     × HasStrings new.units x (situation_of x strings (p ++ take k c)).strings at

@@ -33,7 +33,7 @@ impl<'s> Decoder<'s> {
     ghost use Rattle.nbfx_values.specs.declared.content.Item.{Item as Content};
     ghost use Rattle.nbfx_decoder.specs.Laws.{IsWholePayload};
     ghost use Rattle.nbfx_decoder.specs.Payload.{Settings};
-    ghost use Rattle.nbfx_decoder.specs.Standing.{settings_of, failure_of, taken_of, held_of, situation_of, begun_of, table_at, Reached, StandsFor, FailedBehind, FailedWithin, WhereItStands, WhereItFailed, FeedAnswers, FinishAnswers};
+    ghost use Rattle.nbfx_decoder.specs.Standing.{settings_of, failure_of, taken_of, held_of, content_held_of, situation_of, begun_of, table_at, Reached, StandsFor, FailedBehind, FailedWithin, WhereItStands, WhereItFailed, FeedAnswers, FinishAnswers};
     ghost use Rattle.nbfx_decoder.specs.Taking.{AllAnswers, KeepsRest, TakeAnswers, TakesSome};
     ghost use Rattle.nbfx_decoder.specs.Units.{Keeps, KeepsSettings};
 
@@ -126,9 +126,10 @@ impl<'s> Decoder<'s> {
 
     /// What it holds of the payload: in bytes, the unit that isn't whole, and the content of the
     /// items.
-    #[tactic(auto, unfolding(crate::specs::Standing::held_of))]
+    #[tactic(auto, unfolding(crate::specs::Standing::held_of, crate::specs::Standing::content_held_of))]
     pub fn kept(&self) -> Kept
         ensures held { result.raw ≡ held_of self.now }
+        ensures content_held { result.content ≡ content_held_of self.now }
         ensures few { result.raw < 2 ^ 63 }
         ensures raw { WhereItStands self.now (λ strings p.
             result.raw ≡ length (begun_of (settings_of self.now) strings p)) }

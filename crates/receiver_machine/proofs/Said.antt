@@ -12,7 +12,7 @@ use Rattle.stream_reader.specs.declared.reader.StreamReader.{StreamReader}
 use Rattle.stream_reader.specs.declared.reader.StreamStep.TheVariants as reader_steps
 use Rattle.receiver_machine.specs.declared.receiver.Receiver.{Receiver}
 use Rattle.stream_reader.proofs.ReaderFacts.{failure_as, not_failed}
-use Rattle.receiver_machine.specs.Standing.{FailedBehind, FailsBy, StandsFor, failure_of}
+use Rattle.receiver_machine.specs.Standing.{FailedBehind, FailsBy, StandsFor, failure_of, settings_of}
 use Rattle.stream_reader.specs.Stream.{StreamEvent, opened, message, ended}
 use Rattle.receiver_machine.specs.declared.receiver.Step.{Step}
 use Rattle.receiver_machine.specs.declared.receiver.Step.TheVariants as steps
@@ -54,7 +54,7 @@ ended_so k step told is e = ap (λ s. Ok (k, s)) is ∙ ap given e
 
 -- what a refused receiver is left with
 pub fails_by : (r : StreamReader) (whole : Receiver) (p y : List ℕ) (a : Answer StreamEvent Offence) (refusal : ReadRefusal) → whole ≡ record { reader = r } → reader_standing.FailsBy r p y a refusal → FailsBy whole p y a refusal
-unfolding FailedBehind
+unfolding settings_of FailedBehind
 fails_by r whole p y a (Refused o) is h = rw is h
 fails_by r whole p y a Memory is h = rw is h
 

@@ -1,9 +1,8 @@
 -- What a receiver stands for, and what it shows: what its reader of streams does.
-use Rattle.std.specs.Prelude.{◌≡◌, ℕ, ◌+◌, ◌≤◌, List, ◌++◌, length, take, Option}
-use Rattle.unit_streams.specs.Judging.{Answer, used}
+use Rattle.std.specs.Prelude.{◌≡◌, ℕ, List, length, Option}
+use Rattle.unit_streams.specs.Judging.{Answer}
 use Rattle.nbfx_values.specs.declared.refusals.Offence.{Offence}
 use Rattle.stream_reader.specs.declared.reader.ReadRefusal.{ReadRefusal}
-use Rattle.stream_reader.specs.declared.reader.ReadRefusal.TheVariants.{Offence as Refused, Memory}
 use Rattle.stream_reader.specs.Laws.{IsInitiators}
 use Rattle.stream_reader.specs.Standing as reader
 use Rattle.stream_reader.specs.Stream.{Settings, StreamEvent}
@@ -34,6 +33,10 @@ failure_of r = reader.failure_of r.reader
 unfoldable pub held_of : Receiver → ℕ
 held_of r = reader.held_of r.reader
 
+-- the content of an open payload's items that it holds
+unfoldable pub content_held_of : Receiver → ℕ
+content_held_of r = reader.content_held_of r.reader
+
 -- the Via that it shows
 unfoldable pub ShowsVia : Receiver → List ℕ → Type 0
 ShowsVia r via = reader.ShowsVia r.reader via
@@ -55,16 +58,10 @@ counts_taken r p stands = reader.counts_taken r.reader p stands
 unfoldable pub FailedBehind : Receiver → ReadRefusal → ℕ → List ℕ → Type 0
 FailedBehind r refusal taken p = reader.FailedBehind r.reader refusal taken p
 
--- what a piece y behind p leaves of a receiver that it makes fail: where the stream is refused, it
--- is behind the bytes that show it; where there was no memory, behind some, and none of y counts as
--- used
+-- what a piece y behind p leaves of a receiver that it makes fail: what it would of a reader
 abbrev pub FailsBy : Receiver → List ℕ → List ℕ → Answer StreamEvent Offence → ReadRefusal
     → Type 0
-FailsBy r p y answer (Refused o) =
-    FailedBehind r (Refused o) (length p + used (length y) answer)
-    (p ++ take (used (length y) answer) y)
-FailsBy r p y answer Memory =
-    (k : ℕ) × (k ≤ length y) × FailedBehind r Memory (length p) (p ++ take k y)
+FailsBy r = reader.FailsSo (settings_of r) (FailedBehind r)
 
 -- this holds wherever it stands
 abbrev pub WhereItStands : Receiver → (List ℕ → Type 0) → Type 0

@@ -40,7 +40,7 @@ impl<'s> Receiver<'s> {
     ghost use Rattle.stream_reader.specs.declared.reader.ReadRefusal.{ReadRefusal as Failure};
     ghost use Rattle.stream_reader.specs.Standing.{HasPayloads, begun_in, items_in};
     ghost use Rattle.receiver_machine.specs.Saying.{Says, said_at_end};
-    ghost use Rattle.receiver_machine.specs.Standing.{settings_of, taken_of, held_of, messages_of, failure_of, StandsFor, FailedBehind, ShowsVia, ShowsStrings, WhereItStands, WhereItFailed, FailsBy};
+    ghost use Rattle.receiver_machine.specs.Standing.{settings_of, taken_of, held_of, content_held_of, messages_of, failure_of, StandsFor, FailedBehind, ShowsVia, ShowsStrings, WhereItStands, WhereItFailed, FailsBy};
 
     /// A receiver before the first byte. It makes all the room that it needs up to the preamble's
     /// end.
@@ -176,9 +176,10 @@ impl<'s> Receiver<'s> {
 
     /// What it holds of the input: in bytes, the framing's text and the unit of the payload that
     /// isn't whole, and the content of the document so far.
-    #[tactic(auto, unfolding(crate::specs::Standing::held_of))]
+    #[tactic(auto, unfolding(crate::specs::Standing::held_of, crate::specs::Standing::content_held_of))]
     pub fn kept(&self) -> Kept
         ensures held { result.raw ≡ held_of self.now }
+        ensures content_held { result.content ≡ content_held_of self.now }
         ensures raw { WhereItStands self.now (λ p. result.raw
             ≤ length (begun_in (standing (stream (settings_of self.now)) p).situation.stage)
             + (settings_of self.now).limits.via) }

@@ -1,5 +1,5 @@
 -- A reader takes a piece, unit by unit.
-use Rattle.std.proofs.Common.{◌≡◌, ℕ, ◌+◌, ◌<◌, ◌≤◌, List, ◌++◌, length, take, drop, false, Some, None, Result, Ok, Err, refl, sym, ap, ◌∙◌, subst, arith, append_assoc, length-append, length-drop}
+use Rattle.std.proofs.Common.{◌≡◌, ℕ, ◌+◌, ◌<◌, ◌≤◌, List, ◌++◌, length, take, drop, false, Some, None, Result, Ok, Err, refl, sym, ap, ◌∙◌, subst, arith, append_assoc, length-append}
 use Rattle.std.proofs.Math.Seq.{take-add, take-length}
 use Rattle.std.proofs.lemmas.Bool.{le-leb}
 use Rattle.std.proofs.lemmas.List.{append-nil, take-append-le, take-take, length-take-le}
@@ -23,7 +23,7 @@ use Rattle.stream_reader.specs.declared.reader.StreamStep.TheVariants as steps
 use Rattle.stream_reader.specs.Laws.{IsInitiators}
 use Rattle.stream_reader.specs.Stream.{Settings, Stage, StreamEvent, ends, open_from, offence_at, is_over_in, too_long, stream, strings_in}
 use Rattle.stream_reader.specs.Saying.{Says, step_for, said}
-use Rattle.stream_reader.specs.Standing.{Failed, FailsBy, HasPayloads, Reached, ShowsTable, ShowsStrings, ShowsVia, StandsFor, failure_of, messages_of, settings_of, taken_of}
+use Rattle.stream_reader.specs.Standing.{DecideNothing, Failed, FailsBy, HasPayloads, Reached, ShowsTable, ShowsStrings, ShowsVia, StandsFor, failure_of, messages_of, settings_of, taken_of}
 use Rattle.stream_reader.specs.Stepping.{KeepsShown, UnitAnswers, taken_since}
 use Rattle.stream_reader.proofs.Grammar.{readable, short_enough}
 use Rattle.stream_reader.proofs.Ending.{tells}
@@ -49,7 +49,7 @@ Fed new x p y k step = (said (length y) (answer (stream x) p y) ≡ Ok (k, step)
 abbrev pub FedRefused : StreamReader → Settings → List ℕ → List ℕ → ReadRefusal → Type 0
 FedRefused new x p y (Refused o) = (said (length y) (answer (stream x) p y) ≡ Err (Refused o))
     × Failed new x (Refused o) (length p + used (length y) (answer (stream x) p y)) (p ++ take (used (length y) (answer (stream x) p y)) y)
-FedRefused new x p y Memory = HasPayloads (standing (stream x) p).situation.stage × (k : ℕ) × (k ≤ length y) × Failed new x Memory new.taken (p ++ take k y)
+FedRefused new x p y Memory = HasPayloads (standing (stream x) p).situation.stage × (k : ℕ) × DecideNothing x p y k × Failed new x Memory new.taken (p ++ take k y)
 
 module _ (x : Settings) (set : IsInitiators x) (p y : List ℕ) where
   pub along_none : (r : StreamReader) → Reached r x p → is_over_at (stream x) p ≡ false → Along r x p y 0
@@ -122,8 +122,8 @@ module _ (x : Settings) (set : IsInitiators x) (p y : List ℕ) where
       along_refused Memory u = (
         a.payloads u.2,
         k + u.0,
-        (let left = ap length split in let all = length-drop k y in let parts = length-append c more in omega (arith, left, all, parts, u.1, a.quiet.within)),
-        subst (Failed new x Memory new.taken) (taken_so u.0 u.1) u.3,
+        (quiet_so u.0 u.1.0, ap (refusal_at (stream x)) (sym (taken_so u.0 u.1.0.within)) ∙ u.1.1),
+        subst (Failed new x Memory new.taken) (taken_so u.0 u.1.0.within) u.3,
       )
 
       -- an event
@@ -175,7 +175,7 @@ pub fails_since : (mid new : StreamReader) (x : Settings) (p y : List ℕ) (told
     → FailsBy new p y (answer (stream x) p y) told
 fails_since mid new x p y (Refused o) set kept failure taken fed =
     failed_as_set new x (Refused o) _ _ set (still_failed mid new x (Refused o) _ _ _ kept failure (taken ∙ taken_there mid x (Refused o) _ _ fed.1) fed.1)
-fails_since mid new x p y Memory set kept failure taken fed = (fed.1, fed.2, failed_as_set new x Memory _ _ set (still_failed mid new x Memory _ _ _ kept failure taken fed.3))
+fails_since mid new x p y Memory set kept failure taken fed = (fed.1, subst (λ (s : Settings). DecideNothing s p y fed.1) (sym set) fed.2, failed_as_set new x Memory _ _ set (still_failed mid new x Memory _ _ _ kept failure taken fed.3))
 
 -- one that counts no bytes since
 pub fails_at_once : (new : StreamReader) (x : Settings) (p y : List ℕ) (o : Offence) → settings_of new ≡ x → FedRefused new x p y (Refused o) → FailsBy new p y (answer (stream x) p y) (Refused o)

@@ -28,12 +28,11 @@ pub mod FromSession
 pub mod ToSession
 pub mod Closed
 -- a reader (specs/Bounds, Standing, Stepping): its bounds, what it stands for, payloads (what it does
--- behind bytes of one, the last byte of one, bytes of one), records (what it does behind one, the
--- Via, bytes of one), pieces
+-- behind bytes of one, bytes of one), records (what it does behind one, the Via, bytes of one),
+-- pieces
 pub mod Bounded
 pub mod ReaderFacts
 pub mod PayloadSteps
-pub mod LastByte
 pub mod PayloadFeeds
 pub mod Behind
 pub mod Vias

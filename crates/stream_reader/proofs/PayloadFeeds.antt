@@ -1,9 +1,8 @@
 -- A reader takes bytes of a payload.
-use Rattle.std.proofs.Common.{◌≡◌, ℕ, zero, suc, ◌+◌, ◌-◌, ◌<◌, ◌≤◌, ◌^◌, ◌⊎◌, inl, inr, List, [], ◌∷◌, ◌++◌, length, take, get_or, Option, Some, None, Ok, Err, refl, sym, ap, ◌∙◌, subst, arith, append_assoc, length-append}
+use Rattle.std.proofs.Common.{◌≡◌, ℕ, zero, suc, ◌+◌, ◌-◌, ◌<◌, ◌≤◌, ◌^◌, inl, inr, List, [], ◌++◌, length, take, Option, Some, None, Ok, Err, refl, sym, ap, ◌∙◌, subst, arith, length-append}
 use Rattle.std.specs.Option.{option_map, option_or}
 use Rattle.std.proofs.lemmas.List.{append-nil, length-take-le, take-take}
 use Rattle.std.proofs.Math.Nat.{eq-or-lt_of_le}
-use Rattle.std.proofs.Math.Seq.{take-suc}
 use Rattle.unit_streams.specs.Grammar.{standing}
 use Rattle.unit_streams.specs.Judging.{refusal_at, ending_at, event_at, goes_on, offends}
 use Rattle.unit_streams.specs.Going.{IsQuiet, IsQuietBefore}
@@ -27,17 +26,11 @@ use Rattle.stream_reader.specs.declared.reader.ReadRefusal.TheVariants.{Offence 
 use Rattle.stream_reader.specs.declared.reader.StreamReader.{StreamReader}
 use Rattle.stream_reader.specs.declared.reader.StreamStep.{StreamStep}
 use Rattle.stream_reader.specs.Stream.{OpenPayload, Settings, Situation, Stage, StreamEvent, opened, message, ended, record_due, payload_open, behind_payload, completed_payload, offence_in, payload_in, payloads, refusal_in, refused_payload, stream, strings_at, strings_in, PayloadStanding}
-use Rattle.stream_reader.specs.Standing.{Awaits, Failed, HasBegun, HasPayloads, IsIn, IsWithinPayload, Reached, ReadsPayload, ShowsTable, ShowsStrings, ShowsVia, failure_of, messages_of, taken_of}
+use Rattle.stream_reader.specs.Standing.{Awaits, DecideNothing, Failed, HasBegun, HasPayloads, IsIn, IsWithinPayload, Reached, ReadsPayload, ShowsTable, ShowsStrings, ShowsVia, failure_of, messages_of, taken_of}
 use Rattle.stream_reader.specs.Stepping.{BehindAnswers, HasDecoded, UnitAnswers, more_shown, step_of, refusal_told}
-use Rattle.stream_reader.proofs.Outcomes.{goes_on as more_come, is_whole, is_refused, outcome, refused_eventless, refused_messages, strings_behind, via_behind}
+use Rattle.stream_reader.proofs.Outcomes.{more_behind, refused_eventless, refused_messages, strings_behind, via_behind}
 use Rattle.stream_reader.proofs.PayloadBytes.{IsWithin, bytes_event, bytes_going, bytes_refused, bytes_stand, more_refusal, last_refusal, payload_behind, payload_quiet, payload_quiet_before, stands_so, within_open}
 use Rattle.stream_reader.proofs.ReaderFacts.{cost_within}
-use Rattle.stream_reader.proofs.LastByte.{last_strings}
-
--- without a refusal of its bytes
-ended_where_none : (v w : Option Refusal) → option_or v w ≡ None → w ≡ None
-ended_where_none None w e = e
-ended_where_none (Some why) w e = cc
 
 -- q shows what p does, but for the strings of these bytes of its payload
 pub record StaysWith (r : StreamReader) (x : Settings) (p q bytes : List ℕ) : Type 0 where
@@ -163,21 +156,6 @@ module _ (r : StreamReader) (x : Settings) (p : List ℕ) (h : Reached r x p) (l
       stays_by : (behind_payload x z (there k)).messages ≡ z.messages → StaysWith r x p (p ++ take k c) (bytes ++ take k c)
       stays_by e = record { via = via_there; messages = ap (λ (s : Situation). s.messages) situation_there ∙ e; strings = strings_there }
 
-      -- or they are the whole payload
-      stays_or_whole : StaysWith r x p (p ++ take k c) (bytes ++ take k c) ⊎ ((length bytes + length (take k c) ≡ o.size) × (ending_at (payload_in x z) (bytes ++ take k c) ≡ None))
-      stays_or_whole =
-          elim (outcome x z (there k)) [
-            | more_come more b e ↦ inl (stays_by (ap (λ (s : Situation). s.messages) b))
-            | is_whole all none b e ↦ inr (by_all all none)
-            | is_refused all why is b e ↦ inl (stays_by (ap (λ (s : Situation). s.messages) b))
-          ]
-        where
-          by_all : (there k).left ≡ 0 → refusal_in x z (there k) ≡ None → (length bytes + length (take k c) ≡ o.size) × (ending_at (payload_in x z) (bytes ++ take k c) ≡ None)
-          by_all none_left none =
-              let m = length-append bytes (take k c) in
-              let all : length bytes + length (take k c) ≡ o.size = omega (arith, none_left, m, fits) in
-              (all, ended_where_none (refusal_at (payload_in x z) (bytes ++ take k c)) (ending_at (payload_in x z) (bytes ++ take k c)) (sym (last_refusal x p z o.from o.size bytes at (take k c) some_taken fits all) ∙ none))
-
       -- they are refused
       refused_so : (new : StreamReader) (told : ReadRefusal) (why : Refusal) → refusal_in x z (there k) ≡ Some why → told ≡ Refused (offence_in z.messages why) → Failed new x told (length p + k) (p ++ take k c) → UnitAnswers x p c new (Err told)
       refused_so new told why refuses is failed =
@@ -248,23 +226,8 @@ module _ (r : StreamReader) (x : Settings) (p : List ℕ) (h : Reached r x p) (l
     stays_below : (j : ℕ) → j ≤ n → length bytes + j < o.size → ((i : ℕ) → i < j → refusal_at (payload_in x (standing (stream x) p).situation) (own.bytes ++ take i c) ≡ None) → StaysWith r x p (p ++ take j c) (bytes ++ take j c)
     stays_below zero le more none = stays_none
     stays_below (suc j) le more none =
-        elim (stays_or_whole (suc j) (omega arith) le none) [
-          | inl stays ↦ stays
-          | inr all ↦ absurd (let m = taken (suc j) le in let whole = all.0 in omega (arith, whole, m, more))
-        ]
-
-    -- some of them that are all: the last of them has brought no string
-    stays_before : (j : ℕ) → suc j ≤ n → length bytes + suc j ≡ o.size → ((i : ℕ) → i < suc j → refusal_at (payload_in x (standing (stream x) p).situation) (own.bytes ++ take i c) ≡ None) → ending_at (payload_in x z) (bytes ++ take (suc j) c) ≡ None
-        → StaysWith r x p (p ++ take j c) (bytes ++ take (suc j) c)
-    stays_before j le all none ends =
-        let below = stays_below j (omega arith) (omega (arith, all)) (λ i lt. none i (omega arith)) in
-        let one_more : bytes ++ take (suc j) c ≡ (bytes ++ take j c) ++ get_or c j 0 ∷ [] = ap (λ d. bytes ++ d) (take-suc c j 0 (omega (arith, le, within))) ∙ sym (append_assoc bytes (take j c) (get_or c j 0 ∷ [])) in
-        let same = last_strings (payloads x z.kind) z.strings (bytes ++ take j c) (get_or c j 0) (none j (omega arith)) (ap (ending_at (payload_in x z)) (sym one_more) ∙ ends) in
-        record {
-          via = below.via;
-          messages = below.messages;
-          strings = below.strings ∙ sym same ∙ ap (λ b. (situation_of (payloads x z.kind) z.strings b).strings) (sym one_more);
-        }
+        stays_by (suc j) (omega arith) le none
+        (ap (λ (s : Situation). s.messages) (more_behind x z (there (suc j)) (let m = taken (suc j) le in let n = length-append bytes (take (suc j) c) in omega (arith, m, n, more))))
 
     -- what a decoder shows that has failed behind some
     shows_failed : (d : Decoder) (fault : DecodeFault) (b : List ℕ) → decoder_settings d ≡ decoder_settings r.decoder → DecoderFailedBehind d fault z.strings b → ShowsTable d (situation_of (payloads x z.kind) z.strings b).strings
@@ -342,29 +305,46 @@ module _ (r : StreamReader) (x : Settings) (p : List ℕ) (h : Reached r x p) (l
           refused_so k some le none new told (refusal at reason) refuses (is ∙ ap (λ m. Refused (offence_in m (refusal at reason))) h.at.messages)
           (failed_with (faults.Payload at reason shown_by) (length p + k) (p ++ take k c) (bytes ++ take k c) (omega (arith, taken_is, h.taken, answers.2, own.counted, left_is, size_is))
           (stays_by k some le none (refused_messages x z (there k) (refusal at reason) refuses)) behind)
-      feed_fails faults.Memory answers failed is taken_is = subst (λ (t : ReadRefusal). UnitAnswers x p c new (Err t)) (sym is) (by_count failed.count refl)
+      feed_fails faults.Memory answers failed is taken_is = subst (λ (t : ReadRefusal). UnitAnswers x p c new (Err t)) (sym is) lost
         where
-          le : failed.count ≤ n
-          le = let w = failed.within in omega (arith, w, size_fed)
+          wanted : (failed.count < length (take n c)) × (refusal_at (payload (decoder_settings new.decoder) z.strings) (bytes ++ take failed.count (take n c)) ≡ None)
+          wanted = failed.wanted refl
 
-          none : (i : ℕ) → i < failed.count → refusal_at (payload_in x (standing (stream x) p).situation) (own.bytes ++ take i c) ≡ None
-          none = none_in (decoder_settings new.decoder) same failed.count le failed.before
+          lt : failed.count < n
+          lt = let less = wanted.0 in omega (arith, less, size_fed)
 
-          lost : (k j : ℕ) → failed.count ≡ k → j ≤ n → StaysWith r x p (p ++ take j c) (bytes ++ take k c) → UnitAnswers x p c new (Err Memory)
-          lost k j e below stays = (
-            j,
-            omega (arith, below, within),
-            has_payloads,
-            subst (λ (t : ReadRefusal). Failed new x t new.taken (p ++ take j c)) is
-                (failed_with faults.Memory new.taken (p ++ take j c) (bytes ++ take k c) refl stays (subst (λ (b : List ℕ). DecoderFailedBehind new.decoder faults.Memory z.strings (bytes ++ b)) (same_bytes failed.count le ∙ ap (λ m. take m c) e) failed.behind)),
+          up_to : (i : ℕ) → i < suc failed.count → refusal_at (payload (decoder_settings new.decoder) z.strings) (bytes ++ take i (take n c)) ≡ None
+          up_to i le =
+              elim (eq-or-lt_of_le (let few : i ≤ failed.count = omega (arith, le) in few)) [
+                | inl all ↦ ap (λ k. refusal_at (payload (decoder_settings new.decoder) z.strings) (bytes ++ take k (take n c))) all ∙ wanted.1
+                | inr less ↦ failed.before i less
+              ]
+
+          none : (i : ℕ) → i < suc failed.count → refusal_at (payload_in x (standing (stream x) p).situation) (own.bytes ++ take i c) ≡ None
+          none = none_in (decoder_settings new.decoder) same (suc failed.count) (omega (arith, lt)) up_to
+
+          -- one more of them decides nothing before its end
+          quiet : IsQuietBefore (stream x) p c (suc failed.count)
+          quiet = before_there (suc failed.count) (omega arith) (omega (arith, lt)) none
+
+          nothing : DecideNothing x p c failed.count
+          nothing = (
+            record {
+              within = omega (arith, lt, within);
+              unrefused = λ i less. quiet.unrefused i (omega (arith, less));
+              eventless = λ i some le. quiet.eventless i some (omega (arith, le));
+            },
+            quiet.unrefused failed.count (omega arith),
           )
 
-          by_count : (k : ℕ) → failed.count ≡ k → UnitAnswers x p c new (Err Memory)
-          by_count zero e = lost zero zero e (omega arith) stays_none
-          by_count (suc j) e =
-              let few_of : suc j ≤ n = omega (arith, le, e) in
-              let none_of : (i : ℕ) → i < suc j → refusal_at (payload_in x (standing (stream x) p).situation) (own.bytes ++ take i c) ≡ None = λ i lt. none i (omega (arith, lt, e)) in
-              elim (stays_or_whole (suc j) (omega arith) few_of none_of) [
-                | inl stays ↦ lost (suc j) (suc j) e few_of stays
-                | inr all ↦ lost (suc j) j e (omega (arith, few_of)) (stays_before j few_of (let m = taken (suc j) few_of in let whole = all.0 in omega (arith, whole, m)) none_of all.1)
-              ]
+          stays : StaysWith r x p (p ++ take failed.count c) (bytes ++ take failed.count c)
+          stays = stays_below failed.count (omega (arith, lt)) (omega (arith, lt, in_size)) (λ i less. none i (omega (arith, less)))
+
+          lost : UnitAnswers x p c new (Err Memory)
+          lost = (
+            failed.count,
+            nothing,
+            has_payloads,
+            subst (λ (t : ReadRefusal). Failed new x t new.taken (p ++ take failed.count c)) is
+                (failed_with faults.Memory new.taken (p ++ take failed.count c) (bytes ++ take failed.count c) refl stays (subst (λ (b : List ℕ). DecoderFailedBehind new.decoder faults.Memory z.strings (bytes ++ b)) (same_bytes failed.count (omega (arith, lt))) failed.behind)),
+          )

@@ -2,15 +2,15 @@
 -- framing's text, and of an open payload what a decoder does.
 use Rattle.std.specs.Prelude.{◌≡◌, ⊤, ℕ, ◌+◌, ◌<◌, ◌≤◌, ◌⊎◌, List, [], ◌++◌, length, take, Option, Some, None, refl}
 use Rattle.unit_streams.specs.Grammar.{standing}
-use Rattle.unit_streams.specs.Judging.{Answer, used}
-use Rattle.unit_streams.specs.Going.{IsGoing}
+use Rattle.unit_streams.specs.Judging.{Answer, refusal_at, used}
+use Rattle.unit_streams.specs.Going.{IsGoing, IsQuiet}
 use Rattle.nbfx_values.specs.QuotasOf.{limits_of}
 use Rattle.nbfx_values.specs.declared.refusals.Offence.{Offence}
 use Rattle.nbfx_values.specs.declared.content.Item.{Item}
 use Rattle.string_tables.specs.SessionStrings.{used_cost}
 use Rattle.nbfx_decoder.specs.declared.decoder.Decoder.{Decoder}
 use Rattle.nbfx_decoder.specs.declared.faults.DecodeFault.{DecodeFault}
-use Rattle.nbfx_decoder.specs.Standing.{settings_of as decoder_settings, held_of as decoder_held_of, situation_of, StandsFor as DecoderStandsFor, FailedBehind as DecoderFailedBehind}
+use Rattle.nbfx_decoder.specs.Standing.{settings_of as decoder_settings, held_of as decoder_held_of, content_held_of as decoder_content_held_of, situation_of, StandsFor as DecoderStandsFor, FailedBehind as DecoderFailedBehind}
 use Rattle.nmf_records.specs.declared.frame.Expect.{Expect}
 use Rattle.nmf_records.specs.declared.reader.FrameReader.{FrameReader}
 use Rattle.nmf_records.specs.declared.script.Direction.TheVariants.{FromInitiator}
@@ -49,6 +49,10 @@ failure_of r = r.failure
 -- how many bytes of the input it holds: of the framing's text, and of an open payload
 unfoldable pub held_of : StreamReader → ℕ
 held_of r = decoder_held_of r.decoder + frames_held_of r.frames
+
+-- the content of an open payload's items that it holds
+unfoldable pub content_held_of : StreamReader → ℕ
+content_held_of r = decoder_content_held_of r.decoder
 
 -- the Via that it shows
 unfoldable pub ShowsVia : StreamReader → List ℕ → Type 0
@@ -145,16 +149,26 @@ abbrev pub WhereItFailed : StreamReader → (ReadRefusal → ℕ → List ℕ �
 WhereItFailed r Holds = (refusal : ReadRefusal) (taken : ℕ) (p : List ℕ)
     → FailedBehind r refusal taken p → Holds refusal taken p
 
--- what a piece y behind p leaves of a reader that it makes fail: where the stream is refused, it is
--- behind the bytes that show it; where there was no memory, behind some, and none of y counts as
--- used
+-- the first k bytes of y behind p decide nothing: they complete no event, and aren't refused
+abbrev pub DecideNothing : Settings → List ℕ → List ℕ → ℕ → Type 0
+DecideNothing x p y k = IsQuiet (stream x) p y k
+    × (refusal_at (stream x) (p ++ take k y) ≡ None)
+
+-- what a piece y behind p leaves of what it makes fail, where Behind says what that shows behind
+-- some bytes: where the stream is refused, it is behind the bytes that show it; where there was no
+-- memory, behind some that decide nothing, and none of y counts as used
+abbrev pub FailsSo : Settings → (ReadRefusal → ℕ → List ℕ → Type 0) → List ℕ → List ℕ
+    → Answer StreamEvent Offence → ReadRefusal → Type 0
+FailsSo x Behind p y answer (Refused o) =
+    Behind (Refused o) (length p + used (length y) answer)
+    (p ++ take (used (length y) answer) y)
+FailsSo x Behind p y answer Memory =
+    (k : ℕ) × DecideNothing x p y k × Behind Memory (length p) (p ++ take k y)
+
+-- what it leaves of a reader
 abbrev pub FailsBy : StreamReader → List ℕ → List ℕ → Answer StreamEvent Offence → ReadRefusal
     → Type 0
-FailsBy r p y answer (Refused o) =
-    FailedBehind r (Refused o) (length p + used (length y) answer)
-    (p ++ take (used (length y) answer) y)
-FailsBy r p y answer Memory =
-    (k : ℕ) × (k ≤ length y) × FailedBehind r Memory (length p) (p ++ take k y)
+FailsBy r = FailsSo (settings_of r) (FailedBehind r)
 
 -- payloads may come
 abbrev pub HasPayloads : Stage → Type 0

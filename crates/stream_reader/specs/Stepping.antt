@@ -23,7 +23,7 @@ use Rattle.nbfx_decoder.specs.Payload.{refusal}
 use Rattle.nbfx_decoder.specs.Standing.{StandsFor as DecoderStandsFor, settings_of as decoder_settings}
 use Rattle.stream_reader.specs.Stream.{OpenPayload, Settings, Situation, StreamEvent, built, offence_in, payload_in, payload_open, payloads, record_due, stream, strings_in}
 use Rattle.stream_reader.specs.Saying.{step_for}
-use Rattle.stream_reader.specs.Standing.{Awaits, Failed, HasPayloads, IsIn, Reached, ShowsTable}
+use Rattle.stream_reader.specs.Standing.{Awaits, DecideNothing, Failed, HasPayloads, IsIn, Reached, ShowsTable}
 
 -- the step that an event is told by, where there is one
 abbrev pub step_of : Option StreamEvent → StreamStep
@@ -50,7 +50,7 @@ UnitAnswers x p c new (Err (Refused o)) =
     (k : ℕ) × IsQuiet (stream x) p c k × (refusal_at (stream x) (p ++ take k c) ≡ Some o)
     × Failed new x (Refused o) (length p + k) (p ++ take k c)
 UnitAnswers x p c new (Err Memory) =
-    (k : ℕ) × (k ≤ length c) × HasPayloads (standing (stream x) p).situation.stage
+    (k : ℕ) × DecideNothing x p c k × HasPayloads (standing (stream x) p).situation.stage
     × Failed new x Memory new.taken (p ++ take k c)
 
 -- nothing more comes

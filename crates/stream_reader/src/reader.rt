@@ -68,7 +68,7 @@ impl<'s> StreamReader<'s> {
     ghost use Rattle.nbfx_decoder.specs.Standing.{settings_of as decoder_settings, StandsFor as DecoderStandsFor};
     ghost use Rattle.stream_reader.specs.declared.reader.ReadRefusal.{ReadRefusal as Failure};
     ghost use Rattle.stream_reader.specs.Saying.{Says, said_at_end};
-    ghost use Rattle.stream_reader.specs.Standing.{settings_of, taken_of, held_of, messages_of, failure_of, StandsFor, FailedBehind, ShowsVia, ShowsStrings, WhereItStands, WhereItFailed, FailsBy, HasPayloads, begun_in, items_in, Reached};
+    ghost use Rattle.stream_reader.specs.Standing.{settings_of, taken_of, held_of, content_held_of, messages_of, failure_of, StandsFor, FailedBehind, ShowsVia, ShowsStrings, WhereItStands, WhereItFailed, FailsBy, HasPayloads, begun_in, items_in, Reached};
     ghost use Rattle.stream_reader.specs.Stepping.{UnitAnswers, BehindAnswers, HasDecoded, IsDue, Keeps, KeepsShown, has_ended, is_head, opened_at, step_of, taken_since, refusal_told};
     ghost use Rattle.stream_reader.specs.Stream.{Settings, Situation, OpenPayload, record_due, payloads, behind_payload, completed_payload, refused_payload, after_record, completed_record, refused_record};
 
@@ -246,9 +246,10 @@ impl<'s> StreamReader<'s> {
 
     /// What it holds of the input: in bytes, the framing's text and the unit of the payload that
     /// isn't whole, and the content of the document so far.
-    #[tactic(auto, unfolding(crate::specs::Standing::held_of))]
+    #[tactic(auto, unfolding(crate::specs::Standing::held_of, crate::specs::Standing::content_held_of))]
     pub fn kept(&self) -> Kept
         ensures held { result.raw ≡ held_of self.now }
+        ensures content_held { result.content ≡ content_held_of self.now }
         ensures raw { WhereItStands self.now (λ p. result.raw
             ≤ length (begun_in (standing (stream (settings_of self.now)) p).situation.stage)
             + (settings_of self.now).limits.via) }

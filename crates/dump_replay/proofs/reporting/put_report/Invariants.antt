@@ -2,7 +2,6 @@ use Rattle.std.proofs.Common.{◌≡◌, ℕ, ◌-◌, List, ◌++◌, length, S
 use Rattle.io_edges.specs.Puts.{PutsAll}
 use Rattle.unit_streams.specs.Going.{IsPending}
 use Rattle.stream_reader.specs.Stream.{stream}
-use Rattle.dump_replay.specs.declared.reporting.TheConstants.{MOST_TAKEN}
 use Rattle.dump_replay.specs.Report.{event_lines}
 use Rattle.dump_replay.specs.Reading.{HasRead}
 use Rattle.dump_replay.proofs.ReportSteps.{WritesSoFar}
@@ -10,7 +9,7 @@ use Rattle.dump_replay.proofs.reporting.put_report.Given as goal
 
 abbrev pub invariant-loop-end : goal.invariant-loop-end
 invariant-loop-end g l = record {
-  room : length l.room.items ≡ MOST_TAKEN;
+  room : length l.room.items ≡ 65536;
   settings : g.E.ReadingEnd.settings l.end ≡ g.E.ReadingEnd.settings l.initial.end;
   input_faults : g.I.Source.faults l.input ≡ g.I.Source.faults l.initial.input;
   reads : (p : List ℕ) × HasRead (g.E.ReadingEnd.stands l.end) (g.E.ReadingEnd.settings l.initial.end) p × IsPending (stream (g.E.ReadingEnd.settings l.initial.end)) p

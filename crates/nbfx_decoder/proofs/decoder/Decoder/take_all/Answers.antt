@@ -7,7 +7,7 @@ use Rattle.nbfx_decoder.proofs.decoder.Decoder.take_all.Goals as goal
 pub returns-in_err-used-clause-answers : goal.returns-in_err-used-clause-answers
 returns-in_err-used-clause-answers c x strings p h =
     let far = c.loop-used.invariant.far x strings p h in
-    taken_fault x strings p c.args.bytes.now c.loop-used.used far.quiet c.take.new.self _ c.from_residual.result c.from_residual.ensures.1
+    taken_fault x strings p c.args.bytes.now c.loop-used.used far.quiet c.loop-used.self c.take.new.self c.loop-used-test.true far.reached _ c.from_residual.result c.from_residual.ensures.1
     (subst (λ (b : List ℕ). TakeAnswers x strings (p ++ take c.loop-used.used c.args.bytes.now) b c.take.new.self (Err c.in_err-used.field-0.0)) (rest_of c.args.bytes.now c.loop-used.used)
     (c.in_err-used.ensures.answers x strings (p ++ take c.loop-used.used c.args.bytes.now) far.reached))
 
