@@ -1,5 +1,5 @@
 -- A whole record is read where it stands, and what it means is put behind the items.
-use Rattle.std.proofs.Common.{◌≡◌, ℕ, ◌+◌, ◌<◌, ◌≤◌, List, [], ◌++◌, length, Result, Ok, Err, inr, refl, sym, ap, ◌∙◌, subst, arith}
+use Rattle.std.proofs.Common.{◌≡◌, ℕ, ◌+◌, ◌^◌, ◌<◌, ◌≤◌, List, [], ◌++◌, length, Result, Ok, Err, inr, refl, sym, ap, ◌∙◌, subst, arith}
 use Rattle.std.specs.Prelude.{IsErrAnd, IsTrue}
 use Rattle.std.proofs.lemmas.Result.{err_from_is_err_and}
 use Rattle.std.proofs.lemmas.List.{append-nil}
@@ -38,7 +38,7 @@ use Rattle.nbfx_decoder.specs.declared.units.UnitReader.{UnitReader}
 use Rattle.nbfx_decoder.specs.Faults.{unmade}
 use Rattle.nbfx_decoder.specs.Payload.{Settings, Situation, node, place_of}
 use Rattle.nbfx_decoder.specs.declared.units.UnitRead.TheVariants as units_read
-use Rattle.nbfx_decoder.specs.Units.{AddAnswers, HasShape, IsAt, Keeps, KeepsSettings, Reads, SayAnswers, UnitAnswers}
+use Rattle.nbfx_decoder.specs.Units.{AddAnswers, HasShape, IsAt, IsRecord, Keeps, KeepsSettings, Reads, SayAnswers, UnitAnswers, place_in}
 use Rattle.nbfx_decoder.proofs.UnitSteps.{node_stands, node_unread, node_whole, passed}
 
 -- a record of any shape has some bytes
@@ -53,6 +53,13 @@ shape_size place bytes shape used h =
     let size = whole_some (shape_at place) (reads_shape place) (shape_of_nothing place) bytes shape w.0 here in
     let same = w.2 in
     (omega (arith, size.0, same), omega (arith, size.1, same))
+
+-- behind a whole record its bytes are few enough to count
+pub record_few : (r : UnitReader) (made : Result Node Unfit) (used : ℕ) → IsRecord r made used → r.from + used < 2 ^ 32
+record_few r made used it =
+    let size = shape_size (place_in r) it.bytes it.shape used it.has.whole in
+    let few = it.few in
+    omega (arith, size.1, few)
 
 -- an end is an end
 pub end_made : Makes (Ok EndElement) (contents ends_element)

@@ -372,7 +372,7 @@ pub fn declaration_node(
     })
 }
 
-/// The node of a text of UTF-8 characters.
+/// The node of a text whose bytes are to be UTF-8.
 #[inline(always)]
 #[tactic(auto, unfolding(crate::specs::Contents::contents))]
 pub fn characters_node(

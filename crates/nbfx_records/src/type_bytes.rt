@@ -32,7 +32,7 @@ fn name_form(place: u8) -> NameForm
 }
 
 // The kind at a place of a table.
-fn kind_at(kinds: &[TextKind], place: usize) -> Option<TextKind>
+fn kind_in(kinds: &[TextKind], place: usize) -> Option<TextKind>
     ensures { result ≡ slice_get kinds.now place }
 {
     kinds.get(place).copied()
@@ -45,7 +45,7 @@ fn text_kind(byte: u8) -> Option<TextKind>
     if byte < 128 {
         return None;
     }
-    kind_at(&TEXT_KINDS, (byte as usize - 128) / 2)
+    kind_in(&TEXT_KINDS, (byte as usize - 128) / 2)
 }
 
 // The text that a type byte begins.
@@ -213,7 +213,7 @@ pub fn array_kind(byte: u8) -> Option<ArrayKind>
     array_kind_of(text_kind(byte)?)
 }
 
-/// Whether a kind's bytes are UTF-8.
+/// Whether a kind's bytes are to be UTF-8.
 pub fn has_characters(kind: TextKind) -> bool
     ensures { result ≡ contents.has_characters kind }
 {

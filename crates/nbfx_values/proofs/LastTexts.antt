@@ -1,10 +1,12 @@
 -- A text with the end of the element that holds it, behind other items.
-use Rattle.std.proofs.Common.{◌≡◌, ◌∙◌, ℕ, zero, suc, true, List, [], ◌∷◌, ◌++◌, refl, ap, Some}
+use Rattle.std.proofs.Common.{◌≡◌, ◌∙◌, ℕ, zero, suc, true, List, [], ◌∷◌, ◌++◌, append_assoc, refl, ap, subst, Some}
 use Rattle.nbfx_values.specs.declared.content.Item.{Item}
 use Rattle.nbfx_values.specs.declared.content.Item.TheVariants.{Text, Close}
+use Rattle.nbfx_values.specs.declared.measures.Measures.{Measures}
 use Rattle.nbfx_values.specs.declared.position.Position.{Position}
 use Rattle.nbfx_values.specs.declared.position.Position.TheVariants.{Before, Within, After}
 use Rattle.nbfx_values.specs.declared.scalars.Value.{Value}
+use Rattle.nbfx_values.specs.Measured.{AreMeasuresOf}
 use Rattle.nbfx_values.specs.Measures.{opened, opened_by}
 use Rattle.nbfx_values.specs.Positions.{moved, position_from, position_of}
 use Rattle.nbfx_values.specs.Scalars.{is_valid_value}
@@ -26,3 +28,13 @@ last_text_leads items v s h valid =
 pub text_opens_none : (n : ℕ) (items : List Item) (v : Value) → opened_by n (items ++ Text v ∷ []) ≡ opened_by n items
 text_opens_none n [] v = refl
 text_opens_none n (x ∷ items) v = text_opens_none (opened n x) items v
+
+-- what is measured with the text and then with the end is measured of both
+pub last_text_measured : (items : List Item) (v : Value) (opens : ℕ) (m with_text with_both : Measures) → opened_by 0 items ≡ opens → AreMeasuresOf items m
+    → ((xs : List Item) → opened_by 0 xs ≡ opens → AreMeasuresOf xs m → AreMeasuresOf (xs ++ Text v ∷ []) with_text)
+    → ((xs : List Item) → opened_by 0 xs ≡ opens → AreMeasuresOf xs with_text → AreMeasuresOf (xs ++ Close ∷ []) with_both)
+    → AreMeasuresOf (items ++ Text v ∷ Close ∷ []) with_both
+last_text_measured items v opens m with_text with_both counted measured first second =
+    let text = first items counted measured in
+    let both = second (items ++ Text v ∷ []) (text_opens_none 0 items v ∙ counted) text in
+    subst (λ (xs : List Item). AreMeasuresOf xs with_both) (append_assoc items (Text v ∷ []) (Close ∷ [])) both

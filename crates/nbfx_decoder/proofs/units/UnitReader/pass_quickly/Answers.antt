@@ -1,15 +1,13 @@
 use Rattle.std.proofs.Common.{arith}
 use Rattle.nbfx_decoder.specs.Units.{place_in}
-use Rattle.nbfx_decoder.proofs.Saying.{reads_done, shape_size}
+use Rattle.nbfx_decoder.proofs.Saying.{record_few, reads_done, shape_size}
 use Rattle.nbfx_decoder.proofs.units.UnitReader.pass_quickly.Goals as goal
 
 pub pass-requires : goal.pass-requires
 pass-requires c =
-    let it = c.requires.stands in
-    let size = shape_size (place_in c.args.self.now) it.bytes it.shape c.args.used it.has.whole in
-    let few = it.few in
+    let few = record_few c.args.self.now c.args.made c.args.used c.requires.stands in
     let same = c.put.ensures.from in
-    omega (arith, size.1, few, same)
+    omega (arith, few, same)
 
 pub returns-in-Ok : goal.returns-in-Ok
 returns-in-Ok c shape bytes has makes = record {

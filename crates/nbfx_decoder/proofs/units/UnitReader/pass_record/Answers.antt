@@ -1,15 +1,13 @@
 use Rattle.std.proofs.Common.{arith}
 use Rattle.nbfx_decoder.specs.Units.{place_in}
-use Rattle.nbfx_decoder.proofs.Saying.{reads_done, reads_fault, shape_size}
+use Rattle.nbfx_decoder.proofs.Saying.{record_few, reads_done, reads_fault, shape_size}
 use Rattle.nbfx_decoder.proofs.units.UnitReader.pass_record.Goals as goal
 
 pub pass-requires : goal.pass-requires
 pass-requires c =
-    let it = c.requires.stands in
-    let size = shape_size (place_in c.args.self.now) it.bytes it.shape c.args.used it.has.whole in
-    let few = it.few in
+    let few = record_few c.args.self.now c.args.made c.args.used c.requires.stands in
     let same = c.put.ensures.from in
-    omega (arith, size.1, few, same)
+    omega (arith, few, same)
 
 pub returns-in_err-put : goal.returns-in_err-put
 returns-in_err-put c shape bytes has makes =

@@ -1,11 +1,10 @@
-use Rattle.std.proofs.Common.{◌≡◌, ◌<◌, ◌≤◌, ℕ, List, [], ◌∷◌, ◌++◌, append_assoc, sym, ap, refl, ◌∙◌, subst}
+use Rattle.std.proofs.Common.{◌≡◌, ◌<◌, ◌≤◌, ℕ, List, [], ◌∷◌, ◌++◌, sym, ap, refl, ◌∙◌, subst}
 use Rattle.std.proofs.lemmas.Result.{err_from_is_err_and}
 use Rattle.nbfx_values.specs.declared.content.Item.{Item}
 use Rattle.nbfx_values.specs.declared.content.Item.TheVariants.{Text, Close}
-use Rattle.nbfx_values.specs.Measured.{AreMeasuresOf}
 use Rattle.nbfx_values.specs.Measures.{capped, content_of}
 use Rattle.nbfx_values.specs.Positions.{position_of}
-use Rattle.nbfx_values.proofs.LastTexts.{last_text_leads, text_opens_none}
+use Rattle.nbfx_values.proofs.LastTexts.{last_text_leads, last_text_measured}
 use Rattle.nbfx_values.proofs.Positions.{open-position}
 use Rattle.nbfx_values.proofs.builder.DocBuilder.push_last_text.Goals as goal
 
@@ -23,14 +22,11 @@ returns-in_err-push_two-clause-out_of_place c =
 pub invariant_of-self-2 : goal.invariant_of-self-2
 invariant_of-self-2 c =
     let items = c.self.inside.items in
-    let text = Text c.args.value in
     let ends = ap position_of c.self.view_is ∙ c.position-before.ensures.ends in
     let leads = last_text_leads items c.args.value c.position-before.result ends c.requires ∙ sym c.moved.ensures ∙ c.in-Some.is in
     let counted = open-position items c.position-before.result ends ∙ sym c.open_count-open.ensures in
-    let with_text = c.with.ensures items counted c.self.invariant.measured in
-    let with_both = c.with-measures.ensures (items ++ text ∷ []) (text_opens_none 0 items c.args.value ∙ counted) with_text in
-    let same : (items ++ text ∷ []) ++ Close ∷ [] ≡ items ++ text ∷ Close ∷ [] = append_assoc items (text ∷ []) (Close ∷ []) in
-    rw c.in_ok-push_two.ensures.pushed (record { leads = leads; measured = subst (λ (xs : List Item). AreMeasuresOf xs c.with-measures.result) same with_both })
+    let measured = last_text_measured items c.args.value c.open_count-open.result _ _ _ counted c.self.invariant.measured c.with.ensures c.with-measures.ensures in
+    rw c.in_ok-push_two.ensures.pushed (record { leads = leads; measured = measured })
 
 pub returns-clause-out_of_place : goal.returns-clause-out_of_place
 returns-clause-out_of_place c =
@@ -47,10 +43,7 @@ returns-then-measures-most-clause-too_much c =
     let items = c.self.inside.items in
     let text = Text c.args.value in
     let counted = open-position items c.position-before.result (ap position_of c.self.view_is ∙ c.position-before.ensures.ends) ∙ sym c.open_count-open.ensures in
-    let with_text = c.with.ensures items counted c.self.invariant.measured in
-    let with_both = c.with-measures.ensures (items ++ text ∷ []) (text_opens_none 0 items c.args.value ∙ counted) with_text in
-    let same : (items ++ text ∷ []) ++ Close ∷ [] ≡ items ++ text ∷ Close ∷ [] = append_assoc items (text ∷ []) (Close ∷ []) in
-    let measured = subst (λ (xs : List Item). AreMeasuresOf xs c.with-measures.result) same with_both in
+    let measured = last_text_measured items c.args.value c.open_count-open.result _ _ _ counted c.self.invariant.measured c.with.ensures c.with-measures.ensures in
     let content = measured.content ∙ ap (λ (xs : List Item). capped (content_of (xs ++ text ∷ Close ∷ []))) c.self.view_is in
     λ _. subst (λ (n : ℕ). c.args.most < n) content c.if-measures-most.true
 
@@ -59,10 +52,7 @@ returns-clause-pushed c =
     let items = c.self.inside.items in
     let text = Text c.args.value in
     let counted = open-position items c.position-before.result (ap position_of c.self.view_is ∙ c.position-before.ensures.ends) ∙ sym c.open_count-open.ensures in
-    let with_text = c.with.ensures items counted c.self.invariant.measured in
-    let with_both = c.with-measures.ensures (items ++ text ∷ []) (text_opens_none 0 items c.args.value ∙ counted) with_text in
-    let same : (items ++ text ∷ []) ++ Close ∷ [] ≡ items ++ text ∷ Close ∷ [] = append_assoc items (text ∷ []) (Close ∷ []) in
-    let measured = subst (λ (xs : List Item). AreMeasuresOf xs c.with-measures.result) same with_both in
+    let measured = last_text_measured items c.args.value c.open_count-open.result _ _ _ counted c.self.invariant.measured c.with.ensures c.with-measures.ensures in
     let pushed = c.in_ok-push_two.ensures.pushed in
     let content = measured.content ∙ ap (λ (xs : List Item). capped (content_of xs)) (sym pushed) in
     (pushed ∙ ap (λ (xs : List Item). xs ++ text ∷ Close ∷ []) c.self.view_is, subst (λ (n : ℕ). n ≤ c.args.most) content c.if-measures-most.false)
