@@ -37,31 +37,31 @@ module _ {A : Type 0} where
 
   none-of : (words : List (String A)) (k : ℕ) (word : String A) → k < length words → slice_index_or words k word ≡ word → IsLoneHyphens (string_bytes word)
       → AllByRecursion (λ w. ¬ IsLoneHyphens w) (map string_bytes words) → ⊥
-  none-of [] k word lt at bare none = absurd (omega arith)
-  none-of (one ∷ words) zero word lt at bare none = none.0 (subst (λ w. IsLoneHyphens (string_bytes w)) (sym at) bare)
-  none-of (one ∷ words) (suc k) word lt at bare none = none-of words k word (omega arith) at bare none.1
+  none-of [] k word lt at lone none = absurd (omega arith)
+  none-of (one ∷ words) zero word lt at lone none = none.0 (subst (λ w. IsLoneHyphens (string_bytes w)) (sym at) lone)
+  none-of (one ∷ words) (suc k) word lt at lone none = none-of words k word (omega arith) at lone none.1
 
--- a word with a name isn't bare
-long-not_bare : (word : Text) (long : Text × Option Text) → long_of word ≡ Some long → ¬ IsLoneHyphens word
-long-not_bare word long is (inl one) = cc (rw one at is)
-long-not_bare word long is (inr two) = cc (rw two at is)
+-- a word with a name isn't hyphens alone
+long-not_lone : (word : Text) (long : Text × Option Text) → long_of word ≡ Some long → ¬ IsLoneHyphens word
+long-not_lone word long is (inl one) = cc (rw one at is)
+long-not_lone word long is (inr two) = cc (rw two at is)
 
-plain-not_bare : (word : Text) → begins_with_hyphen word ≡ false → ¬ IsLoneHyphens word
-plain-not_bare word plain (inl one) = cc (rw one at plain)
-plain-not_bare word plain (inr two) = cc (rw two at plain)
+plain-not_lone : (word : Text) → begins_with_hyphen word ≡ false → ¬ IsLoneHyphens word
+plain-not_lone word plain (inl one) = cc (rw one at plain)
+plain-not_lone word plain (inr two) = cc (rw two at plain)
 
-spelled-not_bare : (given : List Given) (words : List Text) → SpellOptions words given → AllByRecursion (λ w. ¬ IsLoneHyphens w) words
-spelled-not_bare [] words none = subst (AllByRecursion (λ w. ¬ IsLoneHyphens w)) (sym none) tt
-spelled-not_bare (one ∷ given) words (rest, inl (is, plain), spelled) =
+spelled-not_lone : (given : List Given) (words : List Text) → SpellOptions words given → AllByRecursion (λ w. ¬ IsLoneHyphens w) words
+spelled-not_lone [] words none = subst (AllByRecursion (λ w. ¬ IsLoneHyphens w)) (sym none) tt
+spelled-not_lone (one ∷ given) words (rest, inl (is, plain), spelled) =
     subst (AllByRecursion (λ w. ¬ IsLoneHyphens w)) (sym is)
-    (long-not_bare (dashed one.0) _ (long_of-dashed one.0), (plain-not_bare one.1 plain, spelled-not_bare given rest spelled))
-spelled-not_bare (one ∷ given) words (rest, inr is, spelled) =
+    (long-not_lone (dashed one.0) _ (long_of-dashed one.0), (plain-not_lone one.1 plain, spelled-not_lone given rest spelled))
+spelled-not_lone (one ∷ given) words (rest, inr is, spelled) =
     subst (AllByRecursion (λ w. ¬ IsLoneHyphens w)) (sym is)
-    (long-not_bare (dashed one.0 ++ (codes "=" ++ one.1)) _ (long_of-joined one.0 one.1), spelled-not_bare given rest spelled)
+    (long-not_lone (dashed one.0 ++ (codes "=" ++ one.1)) _ (long_of-joined one.0 one.1), spelled-not_lone given rest spelled)
 
--- words among which one is bare spell no options
-pub bare-refused : {A : Type 0} (words : List (String A)) (given : List Given) → Any (λ word. IsLoneHyphens (string_bytes word)) words → SpellOptions (map string_bytes words) given → ⊥
-bare-refused words given (k, word, lt, at, bare) spelled = none-of words k word lt at bare (spelled-not_bare given (map string_bytes words) spelled)
+-- words among which one is hyphens alone spell no options
+pub lone-refused : {A : Type 0} (words : List (String A)) (given : List Given) → Any (λ word. IsLoneHyphens (string_bytes word)) words → SpellOptions (map string_bytes words) given → ⊥
+lone-refused words given (k, word, lt, at, lone) spelled = none-of words k word lt at lone (spelled-not_lone given (map string_bytes words) spelled)
 
 pub memory≢not_understood : Memory ≡ NotUnderstood → ⊥
 memory≢not_understood e = cc e

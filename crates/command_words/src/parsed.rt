@@ -14,19 +14,19 @@ use clap::{ArgMatches, Error};
 use std::alloc::Global;
 
 // Whether a word is a hyphen or two alone, of which clap has a use of its own.
-fn is_bare(word: &str) -> bool
+fn is_lone(word: &str) -> bool
     ensures { IsTrue result ↔ IsLoneHyphens word.now }
 {
     word == "-" || word == "--"
 }
 
-// Whether no word is bare.
+// Whether no word is hyphens alone.
 fn are_readable(words: &[String]) -> bool
     ensures readable { OnTrue result (All (λ word. IsReadable (string_bytes word)) words.now) }
-    ensures bare { OnFalse result (Any (λ word. IsLoneHyphens (string_bytes word)) words.now) }
+    ensures lone { OnFalse result (Any (λ word. IsLoneHyphens (string_bytes word)) words.now) }
 {
     for word in words {
-        if is_bare(word.as_str()) {
+        if is_lone(word.as_str()) {
             return false;
         }
     }

@@ -1,11 +1,11 @@
 // Numbers that go out.
 ghost use Rattle.std.specs.Prelude.{◌≡◌, ◌+◌, ◌%◌, ◌++◌};
-ghost use Rattle.std.specs.Fmt.{decimal};
+ghost use Rattle.std.specs.Fmt.{decimal, signed_decimal};
 ghost use Rattle.io_edges.specs.Puts.{Puts};
 
 use crate::puts::{put_bytes, put_plain};
 use io_edges::{Sink, SinkFault};
-use itoa::Buffer;
+use itoa::{Buffer, Integer};
 
 // The last digit of a number.
 #[inline(always)]
@@ -15,10 +15,10 @@ fn last_digit(n: u64) -> u8
     b'0' + (n % 10) as u8
 }
 
-// Puts a number that may have any count of digits.
+// Puts a number of any kind as the kit formats it, by one put.
 #[inline(never)]
-fn put_long<K: Sink>(n: u64, sink: &mut K) -> Result<(), SinkFault>
-    ensures { Puts K.written K.held K.faults K.may_want sink.old sink.new (decimal n) result }
+fn put_formatted<I: Integer, K: Sink>(n: I, sink: &mut K) -> Result<(), SinkFault>
+    ensures { Puts K.written K.held K.faults K.may_want sink.old sink.new (I.text n) result }
 {
     let mut buffer = Buffer::new();
     put_bytes(buffer.format(n).as_bytes(), sink)
@@ -39,7 +39,28 @@ pub fn put_number<K: Sink>(n: u64, sink: &mut K) -> Result<(), SinkFault>
         let digits = [last_digit(n / 100), last_digit(n / 10), last_digit(n)];
         return put_bytes(&digits, sink);
     }
-    put_long(n, sink)
+    put_formatted(n, sink)
+}
+
+// Puts a number of up to 128 bits in decimal digits, by one put.
+pub fn put_natural<K: Sink>(n: u128, sink: &mut K) -> Result<(), SinkFault>
+    ensures { Puts K.written K.held K.faults K.may_want sink.old sink.new (decimal n) result }
+{
+    match u64::try_from(n) {
+        Ok(small) => put_number(small, sink),
+        Err(_) => put_formatted(n, sink),
+    }
+}
+
+// Puts a number that may be below zero in decimal digits, by one put.
+pub fn put_integer<K: Sink>(n: i128, sink: &mut K) -> Result<(), SinkFault>
+    ensures { Puts K.written K.held K.faults K.may_want sink.old sink.new
+        (signed_decimal n) result }
+{
+    match u64::try_from(n) {
+        Ok(small) => put_number(small, sink),
+        Err(_) => put_formatted(n, sink),
+    }
 }
 
 /// Puts a text as it is and a number right behind it, in two puts. A refusal has put the first

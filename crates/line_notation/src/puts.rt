@@ -1,6 +1,6 @@
 // Words that go out.
 ghost use Rattle.std.specs.Prelude.{◌≡◌, ◌≤◌, ◌<◌, ◌^◌, ◌∷◌, ◌++◌, ◌+◌, [], false, length, take_while, All};
-ghost use Rattle.std.specs.Fmt.{decimal, digit_glyph, signed_decimal};
+ghost use Rattle.std.specs.Fmt.{digit_glyph};
 ghost use Rattle.std.specs.List.{flat_map, list_all};
 ghost use Rattle.hex.specs.Hex.{encode_lower};
 ghost use Rattle.io_edges.specs.Puts.{Puts};
@@ -9,9 +9,8 @@ ghost use Rattle.line_notation.specs.Puts.{joined_words, IsPuttable, spaced_word
 ghost use Rattle.line_notation.specs.Quoted.{escape, is_plain, quoted, quoted_byte};
 ghost use Rattle.line_notation.specs.Scalars.{digits_in_quotes, identifier_word, letter_word};
 
-use crate::decimals::put_number;
+use crate::decimals::{put_integer, put_natural};
 use io_edges::{Sink, SinkFault};
-use itoa::Buffer;
 use uuid::Uuid;
 
 /// A word of a line.
@@ -219,27 +218,6 @@ fn put_digits_in_quotes<K: Sink>(bytes: &[u8], sink: &mut K) -> Result<(), SinkF
     put_bytes(b"\"", sink)?;
     put_digits(bytes, sink)?;
     put_bytes(b"\"", sink)
-}
-
-fn put_natural<K: Sink>(n: u128, sink: &mut K) -> Result<(), SinkFault>
-    ensures { Puts K.written K.held K.faults K.may_want sink.old sink.new (decimal n) result }
-{
-    if let Ok(small) = u64::try_from(n) {
-        return put_number(small, sink);
-    }
-    let mut buffer = Buffer::new();
-    put_bytes(buffer.format(n).as_bytes(), sink)
-}
-
-fn put_integer<K: Sink>(n: i128, sink: &mut K) -> Result<(), SinkFault>
-    ensures { Puts K.written K.held K.faults K.may_want sink.old sink.new
-        (signed_decimal n) result }
-{
-    if let Ok(small) = u64::try_from(n) {
-        return put_number(small, sink);
-    }
-    let mut buffer = Buffer::new();
-    put_bytes(buffer.format(n).as_bytes(), sink)
 }
 
 fn put_identifier<K: Sink>(bytes: &[u8; 16], sink: &mut K) -> Result<(), SinkFault>

@@ -38,7 +38,7 @@ use Rattle.nbfx_decoder.specs.declared.units.UnitReader.{UnitReader}
 use Rattle.nbfx_decoder.specs.Faults.{unmade}
 use Rattle.nbfx_decoder.specs.Payload.{Settings, Situation, node, place_of}
 use Rattle.nbfx_decoder.specs.declared.units.UnitRead.TheVariants as units_read
-use Rattle.nbfx_decoder.specs.Units.{AddAnswers, HasShape, IsAt, IsRecord, Keeps, KeepsSettings, Reads, SayAnswers, UnitAnswers, place_in}
+use Rattle.nbfx_decoder.specs.Units.{AddAnswers, HasShape, IsAt, MakesOfRecord, Keeps, KeepsSettings, Reads, SayAnswers, UnitAnswers, place_in}
 use Rattle.nbfx_decoder.proofs.UnitSteps.{node_stands, node_unread, node_whole, passed}
 
 -- a record of any shape has some bytes
@@ -55,7 +55,7 @@ shape_size place bytes shape used h =
     (omega (arith, size.0, same), omega (arith, size.1, same))
 
 -- behind a whole record its bytes are few enough to count
-pub record_few : (r : UnitReader) (made : Result Node Unfit) (used : ℕ) → IsRecord r made used → r.from + used < 2 ^ 32
+pub record_few : (r : UnitReader) (made : Result Node Unfit) (used : ℕ) → MakesOfRecord r made used → r.from + used < 2 ^ 32
 record_few r made used it =
     let size = shape_size (place_in r) it.bytes it.shape used it.has.whole in
     let few = it.few in

@@ -155,7 +155,7 @@ pub record HasShape (place : NodePlace) (shape : Shape) (used : ℕ) (bytes : Li
   pub whole : IsWhole (shape_at place) bytes 0 shape used
 
 -- this is made of a whole record of so many bytes, at whose front a reader is
-pub record IsRecord (r : UnitReader) (made : Result Node Unfit) (used : ℕ) : Type 0 where
+pub record MakesOfRecord (r : UnitReader) (made : Result Node Unfit) (used : ℕ) : Type 0 where
   pub shape : Shape
   pub bytes : List ℕ
   pub are : IsBytes bytes

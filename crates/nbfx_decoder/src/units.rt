@@ -9,7 +9,7 @@ ghost use Rattle.nbfx_values.specs.QuotasOf.{limits_of};
 ghost use Rattle.nbfx_values.specs.Items.{is_valid_item};
 ghost use Rattle.nbfx_decoder.specs.Meant.{FindsItems, items_in};
 ghost use Rattle.multibyte_ints.specs.Integer.{IsBytes};
-ghost use Rattle.nbfx_records.specs.Beginning.{BeginsKind, MayCome};
+ghost use Rattle.nbfx_records.specs.Beginning.{BeginsKind, MayStand};
 ghost use Rattle.nbfx_records.specs.Contents.{contents};
 ghost use Rattle.nbfx_records.specs.Judged.{Makes};
 ghost use Rattle.nbfx_records.specs.Meaning.{items_of};
@@ -29,8 +29,8 @@ use multibyte_ints::{IntRead, read_int};
 use nbfx_records::{
     AttributePart, NameForm, Node, NodePlace, NodeRead, PrefixForm, ReadFault, RecordKind,
     RecordPart, Resume, ScalarPart, Stop, TextKind, Unfit, ValuePart, attribute_node,
-    attribute_parts, characters_node, declaration_node, declaration_parts, element_node,
-    element_parts, has_characters, kind_at, may_come, node, scalar_parts, shape_at, text_node,
+    attribute_parts, chars_node, declaration_node, declaration_parts, element_node, element_parts,
+    is_chars, kind_at, may_stand, node, scalar_parts, shape_at, text_node,
 };
 use nbfx_values::{Doc, DocBuilder, Kind, Position, PushFault, Quotas, Reason};
 use session_dictionary::{AddFault, SessionTable};
@@ -63,7 +63,7 @@ pub(crate) struct UnitReader<'s> {
 
 impl<'s> UnitReader<'s> {
     ghost use Rattle.nbfx_decoder.specs.Payload.{Settings, Situation, beginning};
-    ghost use Rattle.nbfx_decoder.specs.Units.{IsAt, Keeps, KeepsSettings, Counts, counted, place_in, AddAnswers, HasShape, SayAnswers, UnitAnswers, IsRecord, Reads, ReadsQuickly, Stays, names_in};
+    ghost use Rattle.nbfx_decoder.specs.Units.{IsAt, Keeps, KeepsSettings, Counts, counted, place_in, AddAnswers, HasShape, SayAnswers, UnitAnswers, MakesOfRecord, Reads, ReadsQuickly, Stays, names_in};
 
     /// Before a payload's first byte, with no strings.
     pub(crate) fn new(alloc: Global, statics: &'s StaticTable, quotas: Quotas, kind: Kind) -> Self
@@ -226,9 +226,9 @@ impl<'s> UnitReader<'s> {
     // Whether a record of this kind may come next.
     #[inline(always)]
     fn takes(&self, kind: RecordKind) -> bool
-        ensures { result ≡ true ↔ MayCome (place_in self.now) kind }
+        ensures { result ≡ true ↔ MayStand (place_in self.now) kind }
     {
-        may_come(self.place(), kind)
+        may_stand(self.place(), kind)
     }
 
     /// Reads the record at the front of the bytes, and puts what it means behind the items, if it is
@@ -336,8 +336,8 @@ impl<'s> UnitReader<'s> {
             return None;
         }
         match scalar_parts(kind, ends, bytes) {
-            Ok((ScalarPart::Bytes(kind, chars), used)) if has_characters(kind) => {
-                self.pass_quickly(characters_node(self.alloc, kind, chars, ends), used)
+            Ok((ScalarPart::Bytes(kind, chars), used)) if is_chars(kind) => {
+                self.pass_quickly(chars_node(self.alloc, kind, chars, ends), used)
             }
             Ok((part, used)) => self.scalar(part, ends, used),
             Err(_) => None,
@@ -363,7 +363,7 @@ impl<'s> UnitReader<'s> {
     #[inline(always)]
     fn pass_quickly(&mut self, made: Result<Node, Unfit>, used: usize) -> Option<usize>
         requires here { self.old.section ≡ Section.Nodes }
-        requires stands { IsRecord self.old made used }
+        requires stands { MakesOfRecord self.old made used }
         ensures { (shape : Shape) (bytes : List ℕ) → HasShape (place_in self.old) shape used bytes
             → Makes made (contents shape) → ReadsQuickly self.old self.new bytes result }
     {
@@ -396,7 +396,7 @@ impl<'s> UnitReader<'s> {
     #[inline(always)]
     fn pass_record(&mut self, made: Result<Node, Unfit>, used: usize) -> Result<UnitRead, UnitFault>
         requires here { self.old.section ≡ Section.Nodes }
-        requires stands { IsRecord self.old made used }
+        requires stands { MakesOfRecord self.old made used }
         ensures { (shape : Shape) (bytes : List ℕ) → HasShape (place_in self.old) shape used bytes
             → Makes made (contents shape) → Reads self.old self.new bytes result }
     {
@@ -408,7 +408,7 @@ impl<'s> UnitReader<'s> {
     #[inline(always)]
     fn put(&mut self, made: Result<Node, Unfit>, used: usize) -> Result<(), UnitFault>
         requires here { self.old.section ≡ Section.Nodes }
-        requires stands { IsRecord self.old made used }
+        requires stands { MakesOfRecord self.old made used }
         ensures answers { (x : Settings) (z : Situation) (from : ℕ) (shape : Shape)
             (bytes : List ℕ) → IsAt self.old x z from → HasShape (place_in self.old) shape used bytes
             → Makes made (contents shape)

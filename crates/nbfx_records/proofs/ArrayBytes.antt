@@ -21,7 +21,7 @@ use Rattle.nbfx_records.specs.declared.kinds.Body.TheVariants.{Fixed}
 use Rattle.nbfx_records.specs.declared.kinds.RecordKind.TheVariants as records
 use Rattle.nbfx_records.specs.Kinds.{record_kind, body_of, array_kind_of, text_kind, array_kind, text_kind_in, width_of}
 use Rattle.nbfx_records.specs.Shapes.{bytes_of, AttributeShape, ArrayShape, repeats, NamedShape, CellsShape, cells_shape, array_shape}
-use Rattle.nbfx_records.specs.Contents.{scalar_of, has_characters, name_is_text, attribute_is_text, attribute_value, each, cells, array_of, is_text}
+use Rattle.nbfx_records.specs.Contents.{scalar_of, is_chars, name_is_text, attribute_is_text, attribute_value, each, cells, array_of, is_text}
 use Rattle.nbfx_records.specs.Records.{SpellsAs, AreAttrNodes, array_byte, AreCells, IsElement, IsArray}
 use Rattle.nbfx_records.proofs.ShapeBytes.{BodyIs, ScalarIs, ArrayPartIs, IsArrayTurn, ElementOf, CellsAre, CellsOf, ArrayIs}
 use Rattle.nbfx_records.specs.TypeBytes.{text_byte}
@@ -35,7 +35,7 @@ cell_body : (kind : ArrayKind) → body_of (text_kind_in kind) ≡ Fixed (width_
 cell_body arrays.Bool = refl
 cell_body kind = refl
 
-pub cell_plain : (kind : ArrayKind) → has_characters (text_kind_in kind) ≡ false
+pub cell_plain : (kind : ArrayKind) → is_chars (text_kind_in kind) ≡ false
 cell_plain arrays.Bool = refl
 cell_plain kind = refl
 

@@ -18,7 +18,7 @@ use Rattle.nbfx_records.specs.declared.parts.NamedPart.{NamedPart}
 use Rattle.nbfx_records.specs.declared.parts.ScalarPart.{ScalarPart}
 use Rattle.nbfx_records.specs.declared.records.RecordPart.TheVariants as parts
 use Rattle.nbfx_records.specs.Asked as asked
-use Rattle.nbfx_records.specs.Beginning.{BeginsKind, MayCome}
+use Rattle.nbfx_records.specs.Beginning.{BeginsKind, MayStand}
 use Rattle.nbfx_records.specs.Cursor.{IsWhole, Tells}
 use Rattle.nbfx_records.specs.Kinds.{record_kind}
 use Rattle.nbfx_records.specs.Shapes.{Shape, NamedShape, ScalarShape, adds, attribute_at, begins_element, declaration_at, element_at, ends_element, has_text, misplaced, one, placed, record_at, scalar_at, shape_at, text_at, unless_misplaced}
@@ -36,7 +36,7 @@ asked_is BeforeRoot kind e = ap (λ m. asked.unless_misplaced m kind) e
 asked_is (Within attributes deeper) kind e = ap (λ m. asked.unless_misplaced m kind) e
 asked_is AfterRoot kind e = cc
 
-module _ (place : NodePlace) {bytes : List ℕ} {kind : RecordKind} (b : BeginsKind bytes kind) (may : MayCome place kind) {X : Type 0} {see : X → Shape} {r : Result (X × ℕ) Stop} where
+module _ (place : NodePlace) {bytes : List ℕ} {kind : RecordKind} (b : BeginsKind bytes kind) (may : MayStand place kind) {X : Type 0} {see : X → Shape} {r : Result (X × ℕ) Stop} where
   pub begun_tells : Tells see (record_at kind) (asked.record_at kind) bytes 1 r → Tells see (shape_at place) (asked.shape_at place) bytes 0 r
   unfolding shape_at
   begun_tells h =
@@ -102,7 +102,7 @@ end_tells : (bytes : List ℕ) → 1 ≤ length bytes → Tells (λ (u : Unit {0
 unfolding record_at
 end_tells bytes within = given_tells (λ (u : Unit {0}). ends_element) tt bytes 1 within
 
-pub end_begun : (place : NodePlace) {bytes : List ℕ} → BeginsKind bytes records.EndElement → MayCome place records.EndElement → IsWhole (shape_at place) bytes 0 ends_element 1
+pub end_begun : (place : NodePlace) {bytes : List ℕ} → BeginsKind bytes records.EndElement → MayStand place records.EndElement → IsWhole (shape_at place) bytes 0 ends_element 1
 end_begun place {bytes} b may = (begun_tells place b may {see = λ (u : Unit {0}). ends_element} {r = Ok (tt, 1)} (end_tells bytes b.first.within)).told
 
 -- where its byte begins none, none is begun

@@ -9,7 +9,7 @@ use Rattle.nbfx_records.specs.declared.nodes.Node.{Node}
 use Rattle.nbfx_records.specs.declared.nodes.Node.TheVariants as nodes
 use Rattle.nbfx_records.specs.declared.nodes.RawScalar.TheVariants.{Known}
 use Rattle.nbfx_records.specs.declared.nodes.RawValue.TheVariants.{One}
-use Rattle.nbfx_records.specs.Contents.{contents, has_characters, judge, scalar_of, text_judged}
+use Rattle.nbfx_records.specs.Contents.{contents, is_chars, judge, scalar_of, text_judged}
 use Rattle.nbfx_records.specs.Shapes.{bytes_of, has_text, one}
 
 abbrev pub node_of_text : Bool → List ℕ → Node
@@ -20,7 +20,7 @@ judged bytes t ends true e = cc
 judged bytes t ends false e = cc
 
 -- the node of a text of characters
-pub characters_are : (kind : TextKind) → IsTrue (has_characters kind) → (bytes t : List ℕ) (ends : Bool) → text_judged bytes ≡ Ok t
+pub characters_are : (kind : TextKind) → IsTrue (is_chars kind) → (bytes t : List ℕ) (ends : Bool) → text_judged bytes ≡ Ok t
     → contents (has_text (one (bytes_of kind bytes)) ends) ≡ Ok (node_of_text ends t)
 unfolding contents scalar_of
 characters_are texts.Chars8 is bytes t ends e = judged bytes t ends (is_utf8 bytes) e

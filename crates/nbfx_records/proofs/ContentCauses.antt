@@ -20,7 +20,7 @@ use Rattle.nbfx_records.specs.declared.nodes.Node.TheVariants as nodes
 use Rattle.nbfx_records.specs.declared.nodes.RawScalar.TheVariants.{Known, QName}
 use Rattle.nbfx_records.specs.declared.nodes.RawValue.TheVariants.{One, List as ListOf}
 use Rattle.nbfx_records.specs.Causes.{IsNoUtf16, IsNoValue, scalars_in, scalars_of_attribute, scalars_of_cells, scalars_of_value, texts_in, texts_of_attribute, texts_of_name, texts_of_scalar, texts_of_value}
-use Rattle.nbfx_records.specs.Contents.{attribute_is_text, attribute_node, array_of, attribute_value, cell_values, cells, decimal_of, each, has_characters, identifier_of, is_text, name_is_text, node_of, scalar_is_text, scalar_of, scalar_value, truth_of, units_of, utf16_text, value_is_text, value_of}
+use Rattle.nbfx_records.specs.Contents.{attribute_is_text, attribute_node, array_of, attribute_value, cell_values, cells, decimal_of, each, is_chars, identifier_of, is_text, name_is_text, node_of, scalar_is_text, scalar_of, scalar_value, truth_of, units_of, utf16_text, value_is_text, value_of}
 use Rattle.nbfx_records.specs.Kinds.{text_kind_in, width_of}
 use Rattle.nbfx_records.specs.Shapes.{ArrayShape, AttributeShape, ScalarShape, Shape, ValueShape, adds, attributes, begins_element, bytes_of, comments, declares, ends_element, has_text, named_by, one, qualified_by, repeats, several}
 use Rattle.nbfx_records.proofs.Missing.{NoneFor, both_none, each_none, looked_up, mapped_none, there}
@@ -34,7 +34,7 @@ alone p x = by (p x)
     by false = refl
 
 scalar_texts : (scalar : ScalarShape) → scalar_is_text scalar ≡ list_all is_utf8 (texts_of_scalar scalar)
-scalar_texts (bytes_of kind bytes) = by (has_characters kind)
+scalar_texts (bytes_of kind bytes) = by (is_chars kind)
   where
     by : (characters : Bool) → (not characters || is_utf8 bytes) ≡ list_all is_utf8 (if characters then bytes ∷ [] else [])
     by true = alone is_utf8 bytes

@@ -21,7 +21,7 @@ use Rattle.nbfx_records.specs.declared.kinds.Body.TheVariants.{Fixed, Counted, L
 use Rattle.nbfx_records.specs.declared.kinds.LengthForm.TheVariants.{OneByte, TwoBytes, FourBytes}
 use Rattle.nbfx_records.specs.Kinds.{body_of}
 use Rattle.nbfx_records.specs.Shapes.{ScalarShape, bytes_of, named_by, qualified_by, width_in, is_negative}
-use Rattle.nbfx_records.specs.Contents.{utf16_text, truth_of, decimal_of, identifier_of, scalar_of, has_characters, scalar_is_text, scalar_value}
+use Rattle.nbfx_records.specs.Contents.{utf16_text, truth_of, decimal_of, identifier_of, scalar_of, is_chars, scalar_is_text, scalar_value}
 use Rattle.nbfx_records.specs.Records.{IsNumberOf, IsCounted, IsFixed, IsDecimal, IsSixteen, IsChars, IsUnicode, IsBinary, SpellsAs}
 use Rattle.nbfx_records.proofs.ShapeBytes.{IsLengthAnd, BodyIs, ScalarIs}
 use Rattle.nbfx_records.specs.TypeBytes.{text_byte}
@@ -43,7 +43,7 @@ of_fixed kind n (qualified_by letter id) value rest h v = absurd h
 record OfCounted (kind : TextKind) (form : LengthForm) (value : RawScalar) (rest : List ℕ) : Type 0 where
   content : List ℕ
   is_length : IsLengthAnd form content rest
-  is_text : (not (has_characters kind) || is_utf8 content) ≡ true
+  is_text : (not (is_chars kind) || is_utf8 content) ≡ true
   says : option_map Known (scalar_of kind content) ≡ Some value
 
 of_counted : (kind : TextKind) (form : LengthForm) (scalar : ScalarShape) (value : RawScalar) (rest : List ℕ)
@@ -51,7 +51,7 @@ of_counted : (kind : TextKind) (form : LengthForm) (scalar : ScalarShape) (value
 of_counted kind form (bytes_of k s) value rest h t v = record {
   content = s;
   is_length = h.1;
-  is_text = ap (λ j. not (has_characters j) || is_utf8 s) (sym h.0) ∙ t;
+  is_text = ap (λ j. not (is_chars j) || is_utf8 s) (sym h.0) ∙ t;
   says = ap (λ j. option_map Known (scalar_of j s)) (sym h.0) ∙ v;
 }
 of_counted kind form (named_by id) value rest h t v = absurd h
@@ -222,7 +222,7 @@ pub record IsSpelled (kind : TextKind) (body : Body) (value : RawScalar) (bytes 
   pub is_text : scalar_is_text scalar ≡ true
   pub says : scalar_value scalar ≡ Some value
 
-from_fixed : (kind : TextKind) (n : ℕ) (value : RawScalar) (bytes rest : List ℕ) → has_characters kind ≡ false → bytes ≡ text_byte kind ∷ rest → length rest ≡ n
+from_fixed : (kind : TextKind) (n : ℕ) (value : RawScalar) (bytes rest : List ℕ) → is_chars kind ≡ false → bytes ≡ text_byte kind ∷ rest → length rest ≡ n
     → option_map Known (scalar_of kind rest) ≡ Some value → IsSpelled kind (Fixed n) value bytes
 from_fixed kind n value bytes rest plain joined size says = record {
   rest = rest;
@@ -234,7 +234,7 @@ from_fixed kind n value bytes rest plain joined size says = record {
 }
 
 from_counted : (kind : TextKind) (form : LengthForm) (content : List ℕ) (value : RawScalar) (bytes : List ℕ) → IsCounted (text_byte kind) (width_in form) content bytes
-    → is_negative form (length content) ≡ false → (not (has_characters kind) || is_utf8 content) ≡ true → option_map Known (scalar_of kind content) ≡ Some value → IsSpelled kind (Counted form) value bytes
+    → is_negative form (length content) ≡ false → (not (is_chars kind) || is_utf8 content) ≡ true → option_map Known (scalar_of kind content) ≡ Some value → IsSpelled kind (Counted form) value bytes
 from_counted kind form content value bytes c positive text says = record {
   rest = c.said ++ content;
   scalar = bytes_of kind content;

@@ -13,6 +13,6 @@ pub record BeginsKind (bytes : List ℕ) (kind : RecordKind) : Type 0 where
   pub first : IsWhole a_byte bytes 0 byte 1
   pub kind_is : record_kind byte ≡ Some kind
 
--- a record of this kind may come at this place
-abbrev pub MayCome : NodePlace → RecordKind → Type 0
-MayCome place kind = misplaced place kind ≡ None
+-- a record of this kind may stand at this place
+abbrev pub MayStand : NodePlace → RecordKind → Type 0
+MayStand place kind = misplaced place kind ≡ None

@@ -24,7 +24,7 @@ use Rattle.nbfx_records.specs.declared.nodes.NodePlace.{NodePlace}
 use Rattle.nbfx_records.specs.declared.nodes.NodePlace.TheVariants.{AfterRoot}
 use Rattle.nbfx_records.specs.declared.nodes.NameRef.{NameRef}
 use Rattle.nbfx_records.specs.declared.nodes.NameRef.TheVariants.{Inline, Id}
-use Rattle.nbfx_records.specs.Contents.{cells, has_characters, units_of}
+use Rattle.nbfx_records.specs.Contents.{cells, is_chars, units_of}
 use Rattle.nbfx_records.specs.Kinds.{array_kind, body_of, record_kind, text_kind_in, width_of}
 use Rattle.nbfx_records.specs.Shapes.{ScalarShape, bytes_of, qualified_by, ValueShape, one, several, AttributeShape, attributes, declares, ArrayShape, Shape, ends_element, comments, begins_element, adds, has_text, repeats, array_element, array_parts, array_turn, list_turn, misplaced, name_at, prefix_at, shape_at}
 
@@ -271,7 +271,7 @@ pub record Caused (comes : Part → List ℕ → ℕ → Type 0) (fault : NodeFa
 -- The texts of a record, in their order: prefixes, names, URIs, comments, and what is to be UTF-8
 -- of values.
 abbrev pub texts_of_scalar : ScalarShape → List (List ℕ)
-texts_of_scalar (bytes_of kind bytes) = if has_characters kind then bytes ∷ [] else []
+texts_of_scalar (bytes_of kind bytes) = if is_chars kind then bytes ∷ [] else []
 texts_of_scalar _ = []
 
 abbrev pub texts_of_value : ValueShape → List (List ℕ)

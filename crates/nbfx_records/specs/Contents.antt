@@ -103,11 +103,11 @@ scalar_of texts.UnicodeChars32 bytes = option_map scalars.Text (utf16_text bytes
 scalar_of texts.QNameDictionary bytes = None
 
 -- the kinds whose bytes are UTF-8
-abbrev pub has_characters : TextKind → Bool
-has_characters texts.Chars8 = true
-has_characters texts.Chars16 = true
-has_characters texts.Chars32 = true
-has_characters _ = false
+abbrev pub is_chars : TextKind → Bool
+is_chars texts.Chars8 = true
+is_chars texts.Chars16 = true
+is_chars texts.Chars32 = true
+is_chars _ = false
 
 -- the kinds of which each record has as many bytes, and whose value is no text
 abbrev pub is_sized : TextKind → Bool
@@ -129,11 +129,11 @@ judge texts found = if texts then ok_or found faults.BadValue else Err faults.Ba
 
 -- the value of a kind's bytes
 abbrev pub known_judged : TextKind → List ℕ → Result Scalar NodeFault
-known_judged kind bytes = judge (not (has_characters kind) || is_utf8 bytes) (scalar_of kind bytes)
+known_judged kind bytes = judge (not (is_chars kind) || is_utf8 bytes) (scalar_of kind bytes)
 
 -- whether each text of a shape is UTF-8
 abbrev pub scalar_is_text : ScalarShape → Bool
-scalar_is_text (bytes_of kind bytes) = not (has_characters kind) || is_utf8 bytes
+scalar_is_text (bytes_of kind bytes) = not (is_chars kind) || is_utf8 bytes
 scalar_is_text _ = true
 
 abbrev pub value_is_text : ValueShape → Bool

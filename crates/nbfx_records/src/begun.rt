@@ -2,7 +2,7 @@
 
 ghost use Rattle.std.specs.Prelude.{◌≡◌, ◌≢◌, ◌<◌, ◌↔◌, IfNone, IfOk, IfSome, length, true};
 ghost use Rattle.nbfx_records.specs.Asked as asked;
-ghost use Rattle.nbfx_records.specs.Beginning.{BeginsKind, MayCome};
+ghost use Rattle.nbfx_records.specs.Beginning.{BeginsKind, MayStand};
 ghost use Rattle.nbfx_records.specs.Cursor.{Tells};
 ghost use Rattle.nbfx_records.specs.Shapes as spec;
 ghost use Rattle.nbfx_records.specs.Views.{IsSoundAttribute, record_seen};
@@ -25,10 +25,10 @@ pub fn kind_at(bytes: &[u8]) -> Option<RecordKind>
     record_kind(*bytes.first()?)
 }
 
-/// Whether a record of this kind may come at this place.
+/// Whether a record of this kind may stand at this place.
 #[inline(always)]
-pub fn may_come(place: NodePlace, kind: RecordKind) -> bool
-    ensures { result ≡ true ↔ MayCome place kind }
+pub fn may_stand(place: NodePlace, kind: RecordKind) -> bool
+    ensures { result ≡ true ↔ MayStand place kind }
 {
     misplaced(place, kind).is_none()
 }
@@ -41,7 +41,7 @@ pub fn element_parts(
     bytes: &[u8],
 ) -> Result<(NamedPart<'_>, usize), Stop>
     requires { BeginsKind bytes.now (RecordKind.Element prefix name) }
-    ensures { (place : NodePlace) → MayCome place (RecordKind.Element prefix name)
+    ensures { (place : NodePlace) → MayStand place (RecordKind.Element prefix name)
         → Tells (λ part. record_seen (RecordPart.Element part)) (spec.shape_at place)
         (asked.shape_at place) bytes.now 0 result }
 {
@@ -56,7 +56,7 @@ pub fn attribute_parts(
     bytes: &[u8],
 ) -> Result<(AttributePart<'_>, usize), Stop>
     requires { BeginsKind bytes.now (RecordKind.Attribute prefix name) }
-    ensures tells { (place : NodePlace) → MayCome place (RecordKind.Attribute prefix name)
+    ensures tells { (place : NodePlace) → MayStand place (RecordKind.Attribute prefix name)
         → Tells (λ part. record_seen (RecordPart.Attribute part)) (spec.shape_at place)
         (asked.shape_at place) bytes.now 0 result }
     ensures sound { IfOk result (λ read. IsSoundAttribute read.0) }
@@ -72,7 +72,7 @@ pub fn declaration_parts(
     bytes: &[u8],
 ) -> Result<(AttributePart<'_>, usize), Stop>
     requires { BeginsKind bytes.now (RecordKind.Declaration prefix uri) }
-    ensures tells { (place : NodePlace) → MayCome place (RecordKind.Declaration prefix uri)
+    ensures tells { (place : NodePlace) → MayStand place (RecordKind.Declaration prefix uri)
         → Tells (λ part. record_seen (RecordPart.Attribute part)) (spec.shape_at place)
         (asked.shape_at place) bytes.now 0 result }
     ensures sound { IfOk result (λ read. IsSoundAttribute read.0) }
@@ -89,7 +89,7 @@ pub fn scalar_parts(
 ) -> Result<(ScalarPart<'_>, usize), Stop>
     requires begins { BeginsKind bytes.now (RecordKind.Text kind ends) }
     requires no_list { kind ≢ TextKind.StartList }
-    ensures { (place : NodePlace) → MayCome place (RecordKind.Text kind ends)
+    ensures { (place : NodePlace) → MayStand place (RecordKind.Text kind ends)
         → Tells (λ part. record_seen (RecordPart.Text (ValuePart.One part) ends))
         (spec.shape_at place) (asked.shape_at place) bytes.now 0 result }
 {

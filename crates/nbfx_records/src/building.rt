@@ -17,7 +17,7 @@ use crate::nodes::{
 use crate::parts::{NamePart, NamedPart, PrefixPart, ScalarPart};
 use crate::records::RecordPart;
 use crate::resume::Resume;
-use crate::type_bytes::{has_characters, text_kind_in, width};
+use crate::type_bytes::{is_chars, text_kind_in, width};
 use crate::values::{Unfit, is_text, known, text};
 use nbfx_values::{Scalar, Txt, Values};
 use std::alloc::Global;
@@ -41,7 +41,7 @@ fn has_text(part: &ScalarPart) -> bool
     ensures { result ≡ spec.scalar_is_text (scalar_seen part.now) }
 {
     match part {
-        ScalarPart::Bytes(kind, bytes) => !has_characters(*kind) || is_text(bytes),
+        ScalarPart::Bytes(kind, bytes) => !is_chars(*kind) || is_text(bytes),
         _ => true,
     }
 }
@@ -375,13 +375,8 @@ pub fn declaration_node(
 /// The node of a text whose bytes are to be UTF-8.
 #[inline(always)]
 #[tactic(auto, unfolding(crate::specs::Contents::contents))]
-pub fn characters_node(
-    alloc: Global,
-    kind: TextKind,
-    bytes: &[u8],
-    ends: bool,
-) -> Result<Node, Unfit>
-    requires { IsTrue (spec.has_characters kind) }
+pub fn chars_node(alloc: Global, kind: TextKind, bytes: &[u8], ends: bool) -> Result<Node, Unfit>
+    requires { IsTrue (spec.is_chars kind) }
     ensures { Makes result (spec.contents (record_seen (RecordPart.Text
         (ValuePart.One (ScalarPart.Bytes kind bytes.entry)) ends))) }
 {

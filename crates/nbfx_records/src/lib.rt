@@ -30,11 +30,9 @@ mod values;
 pub use arrays::{ArrayPart, CellsPart};
 pub use attributes::{AttributePart, ValuePart};
 pub use begun::{
-    attribute_parts, declaration_parts, element_parts, kind_at, may_come, scalar_parts,
+    attribute_parts, declaration_parts, element_parts, kind_at, may_stand, scalar_parts,
 };
-pub use building::{
-    attribute_node, characters_node, declaration_node, element_node, node, text_node,
-};
+pub use building::{attribute_node, chars_node, declaration_node, element_node, node, text_node};
 pub use cursor::Stop;
 pub use kinds::{NameForm, PrefixForm, RecordKind, TextKind};
 pub use nodes::{
@@ -46,7 +44,7 @@ pub use put_nodes::put_node;
 pub use read::{NodeRead, ReadFault, read_node, read_node_on};
 pub use records::{RecordPart, shape_at};
 pub use resume::Resume;
-pub use type_bytes::has_characters;
+pub use type_bytes::is_chars;
 pub use values::Unfit;
 
 #[cfg(test)]

@@ -214,8 +214,8 @@ pub fn array_kind(byte: u8) -> Option<ArrayKind>
 }
 
 /// Whether a kind's bytes are to be UTF-8.
-pub fn has_characters(kind: TextKind) -> bool
-    ensures { result ≡ contents.has_characters kind }
+pub fn is_chars(kind: TextKind) -> bool
+    ensures { result ≡ contents.is_chars kind }
 {
     matches!(
         kind,

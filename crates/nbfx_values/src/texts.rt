@@ -53,7 +53,8 @@ impl Model for Txt {
 }
 
 impl Txt {
-    /// The text with these characters, of which there are no more than lie in the value itself.
+    /// The text with these characters, where they have no more bytes than lie in the value itself:
+    /// 16.
     #[inline(always)]
     pub fn short(text: &str) -> Option<Txt>
         ensures same { IfSome result (λ t. t ≡ text.now) }
@@ -115,11 +116,12 @@ impl Txt {
         text
     }
 
-    /// The same text, where it lies in the value itself.
+    /// The same text, where it has no more bytes than lie in the value itself: 16.
     #[inline(always)]
     pub fn short_copy(&self) -> Option<Txt>
         ensures same { IfSome result (λ t. t ≡ self.now) }
         ensures utf8 { IfSome result (λ t. IsTrue (is_utf8 t)) }
+        ensures long { IfNone result (16 < length self.now) }
     {
         // Characters are UTF-8.
         let _characters = self.as_str();
@@ -127,7 +129,7 @@ impl Txt {
             Letters::Short(text) => Some(Txt {
                 letters: Letters::Short(*text),
             }),
-            Letters::Long(_) => None,
+            Letters::Long(text) => Txt::short(text.as_str()),
         }
     }
 

@@ -1,5 +1,5 @@
 // The table of the static strings.
-ghost use Rattle.std.specs.Prelude.{◌≡◌, ◌≢◌, Some, None, ℕ, drop, option_map, OnOk, OnSome, IfErr, IfNone, IfOk, IfSome, IsTrue};
+ghost use Rattle.std.specs.Prelude.{◌≡◌, ◌≢◌, ◌<◌, Some, None, ℕ, drop, length, option_map, OnOk, OnSome, IfErr, IfNone, IfOk, IfSome, IsTrue};
 ghost use Rattle.std.specs.Str.{is_utf8};
 ghost use Rattle.csv.specs.Records.{fields_of};
 ghost use Rattle.string_tables.specs.StaticStrings.{IsStaticId, IsStaticMap, least_static_id, least_with, static_text, with_entry};
@@ -88,16 +88,17 @@ impl StaticTable {
         }
     }
 
-    /// A copy of the text of an identifier, where it is among the least identifiers and short: most
-    /// are. Else the text may be there all the same.
+    /// The text of an identifier as a value, where it has no more bytes than take no memory: 16.
     #[inline(always)]
     pub fn short_copy(&self, id: u32) -> Option<Txt>
         ensures text { IfSome result (λ copy. static_text self.now id ≡ Some copy) }
         ensures utf8 { IfSome result (λ copy. IsTrue (is_utf8 copy)) }
+        ensures long { IfNone result
+            (IfSome (static_text self.now id) (λ text. 16 < length text)) }
     {
         match self.placed.get(id as usize / 2) {
             Some(Some(text)) if id % 2 == 0 => text.short_copy(),
-            _ => None,
+            _ => Txt::short(text_of(&self.by_id, id)?),
         }
     }
 

@@ -42,15 +42,6 @@ fn published_dictionary(rt: HostRuntime) -> Result<(), Fail> {
     assert_eq!(rt; texts, 487);
     assert_eq!(rt; table.text(0), Some("mustUnderstand"));
     assert_eq!(rt; table.id("Envelope"), Some(2));
-
-    // A short text is there as a value too, a long one isn't, and an odd identifier has none.
-    assert!(rt;
-        table
-            .short_copy(2)
-            .is_some_and(|text| text.as_str() == "Envelope")
-    );
-    assert!(rt; table.short_copy(4).is_none());
-    assert!(rt; table.short_copy(3).is_none());
     assert_eq!(rt;
         table.id("http://www.w3.org/2003/05/soap-envelope"),
         Some(4)

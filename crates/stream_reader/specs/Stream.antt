@@ -125,15 +125,15 @@ pub data StreamEvent : Type 0 where
 
 -- why a type byte may not come
 abbrev pub unexpected : Due → ℕ → Reason
-unexpected dues.Encoding kind =
-    if kind == EXTENSIBLE_ENCODING then reasons.BadEncoding else reasons.OutOfOrder
-unexpected dues.PreambleEnd kind =
-    if kind == UPGRADE_REQUEST then reasons.UpgradeRefused else reasons.OutOfOrder
-unexpected _ kind = reasons.OutOfOrder
+unexpected dues.Encoding byte =
+    if byte == EXTENSIBLE_ENCODING then reasons.BadEncoding else reasons.OutOfOrder
+unexpected dues.PreambleEnd byte =
+    if byte == UPGRADE_REQUEST then reasons.UpgradeRefused else reasons.OutOfOrder
+unexpected _ byte = reasons.OutOfOrder
 
 abbrev pub reason_of : Due → FrameFault → Reason
 reason_of due faults.UnknownRecord = reasons.UnknownRecord
-reason_of due (faults.Unexpected kind) = unexpected due kind
+reason_of due (faults.Unexpected byte) = unexpected due byte
 reason_of due faults.BadInt = reasons.BadInt
 reason_of due faults.TextTooLong = reasons.TextTooLong
 reason_of due faults.TextNotUtf8 = reasons.TextNotUtf8

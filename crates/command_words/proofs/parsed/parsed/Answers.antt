@@ -2,11 +2,11 @@ use Rattle.std.proofs.Common.{◌≡◌, ◌∙◌, map, string_bytes, sym}
 use Rattle.clap.specs.Simple.{app_of}
 use Rattle.command_words.specs.declared.words.WordsFault.TheVariants.{NotUnderstood}
 use Rattle.command_words.proofs.ClapFacts.{found-from_parse, refused-by_parse}
-use Rattle.command_words.proofs.ParsedFacts.{bare-refused, memory≢not_understood, readable-words}
+use Rattle.command_words.proofs.ParsedFacts.{lone-refused, memory≢not_understood, readable-words}
 use Rattle.command_words.proofs.parsed.parsed.Goals as goal
 
 pub returns-then-not-are_readable-clause-refused : goal.returns-then-not-are_readable-clause-refused
-returns-then-not-are_readable-clause-refused c is given gives = bare-refused c.args.words.now given c.if-not-are_readable.ensures.bare gives.spelled
+returns-then-not-are_readable-clause-refused c is given gives = lone-refused c.args.words.now given c.if-not-are_readable.ensures.lone gives.spelled
 
 pub returns-in-Ok-try_get_matches_from-clause-found : goal.returns-in-Ok-try_get_matches_from-clause-found
 returns-in-Ok-try_get_matches_from-clause-found c =
