@@ -300,7 +300,7 @@ fn put_item<K: Sink>(item: &Item, sink: &mut K) -> Result<(), SinkFault>
         Item::Text(value) => put_text(value, sink),
         Item::Comment(text) => put_line(Keyword::Comment, &[Word::Quoted(text.as_str())], sink),
         Item::Array(array) => put_array(array, sink),
-        Item::Close => put_line(Keyword::Close, &[], sink),
+        Item::Close => put_bytes(b"close\n", sink),
     }
 }
 

@@ -129,7 +129,8 @@ impl Txt {
             Letters::Short(text) => Some(Txt {
                 letters: Letters::Short(*text),
             }),
-            Letters::Long(text) => Txt::short(text.as_str()),
+            Letters::Long(text) if text.len() <= 16 => short_of(text),
+            Letters::Long(_) => None,
         }
     }
 
@@ -188,6 +189,16 @@ impl Copied for Txt {
             },
         })
     }
+}
+
+// Few texts that lie apart are short, so this is kept out of the way of the others.
+#[inline(never)]
+fn short_of(text: &String) -> Option<Txt>
+    ensures same { IfSome result (λ t. t ≡ string_bytes text.now) }
+    ensures utf8 { IfSome result (λ t. IsTrue (is_utf8 t)) }
+    ensures long { IfNone result (16 < length (string_bytes text.now)) }
+{
+    Txt::short(text.as_str())
 }
 
 /// A list of bytes, which contracts see as that list.

@@ -1,5 +1,5 @@
 -- A table's two maps, as the entries that a contract sees.
-use Rattle.std.specs.Prelude.{◌≡◌, ℕ, ◌*◌, List, Option, Some, map, slice_get, string_bytes, String}
+use Rattle.std.specs.Prelude.{◌≡◌, ℕ, ◌*◌, List, Option, Some, map, length, slice_get, string_bytes, String}
 use Rattle.std.specs.BTreeMap.{BTreeMap, get_by_text}
 use Rattle.string_tables.specs.StaticStrings.{Entry, IsStaticMap, least_static_id, static_text}
 
@@ -24,3 +24,4 @@ module _ {A : Type 0} where
       (placed : List (Option (List ℕ))) : Type 0 where
     pub maps : AreMapsOfTable by_id by_text
     pub places : ArePlaced placed by_id
+    pub all : length placed ≡ 512

@@ -1,5 +1,5 @@
 // The table of the static strings.
-ghost use Rattle.std.specs.Prelude.{◌≡◌, ◌≢◌, ◌<◌, Some, None, ℕ, drop, length, option_map, OnOk, OnSome, IfErr, IfNone, IfOk, IfSome, IsTrue};
+ghost use Rattle.std.specs.Prelude.{◌≡◌, ◌≢◌, ◌<◌, ◌%◌, Some, None, ℕ, drop, length, option_map, OnOk, OnSome, IfErr, IfNone, IfOk, IfSome, IsTrue};
 ghost use Rattle.std.specs.Str.{is_utf8};
 ghost use Rattle.csv.specs.Records.{fields_of};
 ghost use Rattle.string_tables.specs.StaticStrings.{IsStaticId, IsStaticMap, least_static_id, least_with, static_text, with_entry};
@@ -88,17 +88,21 @@ impl StaticTable {
         }
     }
 
-    /// The text of an identifier as a value, where it has no more bytes than take no memory: 16.
+    /// A copy of the text of an identifier that takes no memory: where the text has at most 16 bytes
+    /// and the identifier is below 1,024, as most are. Else the text may be there all the same.
     #[inline(always)]
     pub fn short_copy(&self, id: u32) -> Option<Txt>
         ensures text { IfSome result (λ copy. static_text self.now id ≡ Some copy) }
         ensures utf8 { IfSome result (λ copy. IsTrue (is_utf8 copy)) }
-        ensures long { IfNone result
+        ensures long { id % 2 ≡ 0 → id < 1024 → IfNone result
             (IfSome (static_text self.now id) (λ text. 16 < length text)) }
     {
-        match self.placed.get(id as usize / 2) {
-            Some(Some(text)) if id % 2 == 0 => text.short_copy(),
-            _ => Txt::short(text_of(&self.by_id, id)?),
+        if id % 2 == 1 {
+            return None;
+        }
+        match self.placed.get(id as usize / 2)? {
+            Some(text) => text.short_copy(),
+            None => None,
         }
     }
 
@@ -145,7 +149,8 @@ fn copy_of(alloc: Global, by_id: &BTreeMap<u32, String>, id: u32) -> Result<Opti
 
 // The texts that have places.
 fn placed_of(alloc: Global, by_id: &BTreeMap<u32, String>) -> Result<Vec<Option<Txt>>, Memory>
-    ensures { IfOk result (λ placed. ArePlaced placed.items by_id.now) }
+    ensures placed { IfOk result (λ placed. ArePlaced placed.items by_id.now) }
+    ensures all { IfOk result (λ placed. length placed.items ≡ 512) }
 {
     let mut placed = Vec::new(alloc);
     for place in 0..PLACES {
