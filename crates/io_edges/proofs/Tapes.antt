@@ -3,20 +3,29 @@ use Rattle.std.proofs.Common.{◌≡◌, ℕ, ◌+◌, List, false, sym, refl}
 use Rattle.std.proofs.Math.Seq.{take-add}
 use Rattle.std.proofs.lemmas.List.{drop-drop}
 use Rattle.io_edges.specs.Plan.{Plan, is_due, after_call}
-use Rattle.io_edges.specs.InMemory.{PlannedSource, tape_at, advanced, next_count, after_take}
+use Rattle.io_edges.specs.InMemory.{PlannedSource, tape_at, advanced, next_count, after_take, with_take}
 
 -- n bytes further on in the bytes
-pub advanced-tape_at : (at n : ℕ) (bytes : List ℕ) → advanced n (tape_at at bytes) ≡ tape_at (at + n) bytes
-advanced-tape_at at n bytes = rw (drop-drop n at bytes, take-add at n bytes) refl
+pub advanced-tape_at : (at n : ℕ) (bytes : List ℕ) (empty : ℕ)
+    → advanced n (tape_at at bytes empty) ≡ tape_at (at + n) bytes (with_take n empty)
+advanced-tape_at at n bytes empty = rw (drop-drop n at bytes, take-add at n bytes) refl
 
 -- a source at a place in its bytes
-abbrev pub source_at : ℕ → List ℕ → ℕ → Plan → PlannedSource
-source_at at bytes most plan = record { tape = tape_at at bytes; most = most; plan = plan }
+abbrev pub source_at : ℕ → List ℕ → ℕ → ℕ → Plan → PlannedSource
+source_at at bytes empty most plan =
+    record { tape = tape_at at bytes empty; most = most; plan = plan }
 
 -- after a take that doesn't fail
-pub after_good_take : (at n most room : ℕ) (bytes : List ℕ) (plan plan' : Plan) → is_due plan ≡ false → n ≡ next_count (source_at at bytes most plan) room → plan' ≡ after_call plan → source_at (at + n) bytes most plan' ≡ after_take (source_at at bytes most plan) room
-after_good_take at n most room bytes plan plan' good count counted = rw (counted, good, ← count, advanced-tape_at at n bytes) refl
+pub after_good_take : (at n most room : ℕ) (bytes : List ℕ) (empty empty' : ℕ) (plan plan' : Plan)
+    → is_due plan ≡ false → n ≡ next_count (source_at at bytes empty most plan) room
+    → plan' ≡ after_call plan → empty' ≡ with_take n empty
+    → source_at (at + n) bytes empty' most plan'
+    ≡ after_take (source_at at bytes empty most plan) room
+after_good_take at n most room bytes empty empty' plan plan' good count counted given =
+    rw (counted, given, good, ← count, advanced-tape_at at n bytes empty) refl
 
 -- after a take that always gives what the room holds
-pub after_sure_take : (at n m : ℕ) (bytes : List ℕ) → n ≡ m → tape_at (at + n) bytes ≡ advanced m (tape_at at bytes)
-after_sure_take at n m bytes count = rw (← count) (sym (advanced-tape_at at n bytes))
+pub after_sure_take : (at n m : ℕ) (bytes : List ℕ) (empty empty' : ℕ) → n ≡ m
+    → empty' ≡ with_take n empty → tape_at (at + n) bytes empty' ≡ advanced m (tape_at at bytes empty)
+after_sure_take at n m bytes empty empty' count given =
+    rw (← count, given) (sym (advanced-tape_at at n bytes empty))

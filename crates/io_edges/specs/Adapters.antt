@@ -19,6 +19,10 @@ reader_of source = source.reader
 abbrev pub read_faults : {R : Type 0} → ReadSource R → ℕ
 read_faults source = source.faults
 
+-- how many of its reads gave nothing
+abbrev pub empty_reads : {R : Type 0} → ReadSource R → ℕ
+empty_reads source = source.empty_takes
+
 -- the writer that a sink writes to
 abbrev pub writer_of : {W : Type 0} → WriteSink W → W
 writer_of sink = sink.writer
@@ -30,6 +34,10 @@ write_faults sink = sink.faults
 -- how many of a shelf's fetches failed
 abbrev pub shelf_faults : {R : Type 0} → FileShelf R → ℕ
 shelf_faults shelf = shelf.faults
+
+-- how many files a shelf was asked for
+abbrev pub shelf_fetches : {R : Type 0} → FileShelf R → ℕ
+shelf_fetches shelf = shelf.fetches
 
 -- what the writer is known to hold grew by the first bytes of the piece
 pub record AppendsPrefix (old new : Option (List ℕ)) (piece : List ℕ) : Type 0 where

@@ -20,7 +20,7 @@ pub record Passes (written written' held held' bytes : List ℕ) : Type 0 where
   pub grown : written' ≡ written ++ put
 
 -- P of what was told before and what is told now; what was told once stays told
-abbrev pub Told : Option (List ℕ) → Option (List ℕ) → (List ℕ → List ℕ → Type 0) → Type 0
+abbrev pub Told : {X : Type 0} → Option X → Option X → (X → X → Type 0) → Type 0
 Told None new P = Unit {0}
 Told (Some old) None P = ⊥
 Told (Some old) (Some new) P = P old new

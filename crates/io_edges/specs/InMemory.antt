@@ -1,23 +1,34 @@
 -- What a source and a sink in memory do, call by call.
-use Rattle.std.specs.Prelude.{ℕ, List, [], ◌++◌, length, take, drop, min, if◌then◌else◌}
+use Rattle.std.specs.Prelude.{ℕ, ◌==◌, List, [], ◌++◌, length, take, drop, min, if◌then◌else◌}
+use Rattle.io_edges.specs.Faults.{one_more}
 use Rattle.io_edges.specs.Plan.{Plan, new_plan, is_due, after_call}
 
--- bytes that are handed out from the front
+-- bytes that are handed out from the front, and how many takes gave none
 pub record Tape : Type 0 where
   pub taken : List ℕ
   pub left : List ℕ
+  pub empty_takes : ℕ
 
 -- nothing is handed out yet
 abbrev pub new_tape : List ℕ → Tape
-new_tape bytes = record { taken = []; left = bytes }
+new_tape bytes = record { taken = []; left = bytes; empty_takes = 0 }
 
--- the bytes before a place are handed out
-abbrev pub tape_at : ℕ → List ℕ → Tape
-tape_at at bytes = record { taken = take at bytes; left = drop at bytes }
+-- the bytes before a place are handed out, and so many takes gave none
+abbrev pub tape_at : ℕ → List ℕ → ℕ → Tape
+tape_at at bytes empty =
+    record { taken = take at bytes; left = drop at bytes; empty_takes = empty }
 
--- after n more bytes are handed out
+-- how many takes gave nothing, behind one that gave n bytes
+abbrev pub with_take : ℕ → ℕ → ℕ
+with_take n empty = if n == 0 then one_more empty else empty
+
+-- after a take of n bytes
 abbrev pub advanced : ℕ → Tape → Tape
-advanced n tape = record { taken = tape.taken ++ take n tape.left; left = drop n tape.left }
+advanced n tape = record {
+  taken = tape.taken ++ take n tape.left;
+  left = drop n tape.left;
+  empty_takes = with_take n tape.empty_takes;
+}
 
 -- a source that fails by plan, and gives at most so many bytes a call
 pub record PlannedSource : Type 0 where

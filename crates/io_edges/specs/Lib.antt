@@ -7,3 +7,5 @@ pub mod InMemory
 pub mod Puts
 pub mod Store
 pub mod Plan
+pub mod Tcp
+pub mod Wires

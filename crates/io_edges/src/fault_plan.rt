@@ -34,6 +34,13 @@ impl FaultPlan {
         }
     }
 
+    // How many calls failed.
+    pub(crate) fn faults(&self) -> u64
+        ensures { result ≡ self.now.faults }
+    {
+        self.faults
+    }
+
     // Whether the next call fails.
     pub(crate) fn is_due(&self) -> bool
         ensures answer { result ≡ is_due self.now }

@@ -3,8 +3,8 @@
 ghost use Rattle.std.specs.Prelude.{◌≡◌, ◌≤◌, ◌<◌, ◌^◌, ◌++◌, length, None, OnOk, OnErr, IfOk, IfSome, IsErrOf, IsOkUnless, Result};
 ghost use Rattle.std.specs.declared.io.Error.{Error};
 ghost use Rattle.std.specs.Io.KnownBytes.{Consumes, IsAtEnd};
-ghost use Rattle.io_edges.specs.Faults.{CountsOne};
-ghost use Rattle.io_edges.specs.Adapters.{shelf_faults, AnswersOpened};
+ghost use Rattle.io_edges.specs.Faults.{CountsOne, one_more};
+ghost use Rattle.io_edges.specs.Adapters.{shelf_faults, shelf_fetches, AnswersOpened};
 
 use crate::{Shelf, ShelfFault};
 use std::alloc::Global;
@@ -22,14 +22,20 @@ const MOST: usize = 1 << 30;
 pub struct FileShelf<R> {
     rt: R,
     faults: u64,
+    fetches: u64,
 }
 
 impl<R: Files + AllocGlobal> FileShelf<R> {
     /// A shelf of the files that `rt` opens.
     pub fn new(rt: R) -> FileShelf<R>
-        ensures { shelf_faults result ≡ 0 }
+        ensures faults { shelf_faults result ≡ 0 }
+        ensures fetches { shelf_fetches result ≡ 0 }
     {
-        FileShelf { rt, faults: 0 }
+        FileShelf {
+            rt,
+            faults: 0,
+            fetches: 0,
+        }
     }
 }
 
@@ -38,13 +44,17 @@ impl<R: Files + AllocGlobal> Shelf for FileShelf<R> {
 
     ghost faults = { λ s. shelf_faults s };
 
+    ghost fetches = { λ s. shelf_fetches s };
+
     fn fetch(&mut self, name: &str) -> Result<Option<Vec<u8>>, ShelfFault>
         ensures most { IfOk result (λ found. IfSome found (λ bytes. length bytes.items ≤ 2 ^ 30)) }
         ensures answer { (opened : Result R.File Error)
             × AnswersOpened R.File.remaining opened result }
         ensures counted { CountsOne (shelf_faults self.old) (shelf_faults self.new)
             (IsErrOf result ShelfFault.Failed) }
+        ensures fetched { shelf_fetches self.new ≡ one_more (shelf_fetches self.old) }
     {
+        self.fetches = self.fetches.saturating_add(1);
         let found = found_file(self.rt.alloc(), fs::open(&self.rt, name));
         if let Err(ShelfFault::Failed) = found {
             self.faults = self.faults.saturating_add(1);

@@ -1,6 +1,6 @@
-//! The outside, as traits: where bytes come from ([`Source`]), where they go ([`Sink`]), and where
-//! files stand by name ([`Shelf`]). What reads and writes a stream is generic over them, so that
-//! its contract can speak of the bytes that moved.
+//! The outside, as traits: where bytes come from ([`Source`]), where they go ([`Sink`]), where
+//! files are found by name ([`Shelf`]), and where connections come from ([`Wire`]). What reads and
+//! writes a stream is generic over them, so that its contract can speak of the bytes that moved.
 //!
 //! The contracts of the traits say two things. Where an implementation tells its content, they say
 //! which bytes a call moved and what an error leaves. At every implementation they count the calls
@@ -11,19 +11,22 @@
 //! Each trait has implementations in memory, for tests and for work without an outside: `Memory..`
 //! ones, which meet a fault at the calls that they are told to, and for sources and sinks `Sure..`
 //! ones, which never meet one. A put to one of these sinks may want memory, and so may a fetch that
-//! isn't to fail. All tell their content, and hold nothing back. [`ReadSource`], [`WriteSink`] and
-//! [`FileShelf`] stand over the readers, the writers and the files of std, and tell none: that a
-//! file or a socket gave or took these bytes is trusted. A [`GatheringSink`] stands over any other
-//! sink, and holds back what has room.
+//! isn't to fail. All tell their content, and hold nothing back. [`ReadSource`], [`WriteSink`],
+//! [`FileShelf`] and [`TcpWire`] wrap the readers, the writers, the files and the sockets of std, and
+//! tell none: that a file or a socket gave or took these bytes is trusted. A [`GatheringSink`] wraps
+//! any other sink, and holds back what has room.
+//!
+//! How often the outside was asked is counted too, where asking twice can be seen: the takes that
+//! gave nothing, and the files that were fetched.
 //!
 //! The definitions are in `specs/`: `Faults` has the count, `Flow` what moves at a call, `Puts`
-//! what several puts leave, `Store` what a shelf holds, `Plan` and `InMemory` what the
-//! implementations in memory do call by call, `Gathering` what is seen of a sink that gathers, and
-//! `Adapters` what is seen of the ones over std.
+//! what several puts leave, `Store` what a shelf holds, `Wires` what a wire hands out and closes,
+//! `Plan` and `InMemory` what the implementations in memory do call by call, `Gathering` what is
+//! seen of a sink that gathers, and `Adapters` and `Tcp` what is seen of the ones over std.
 #![tactic(auto)]
 
 ghost use Rattle.std.specs.Prelude.{◌≡◌, ◌≤◌, ◌<◌, ℕ, List, [], ◌++◌, length, take, Bool, true, Option, IfSome, IfOk, OnOk, OnErr, IsErr, IsErrOf, ◌↔◌};
-ghost use Rattle.io_edges.specs.Faults.{CountsFaults};
+ghost use Rattle.io_edges.specs.Faults.{CountsFaults, CountsOne, one_more};
 ghost use Rattle.io_edges.specs.Flow.{Told, Moves, GrowsByPrefix, Passes};
 ghost use Rattle.io_edges.specs.Store.{Store};
 ghost use Rattle.std.specs.Option.{option_map};
@@ -35,9 +38,12 @@ mod gathering_sink;
 mod memory_shelf;
 mod memory_sink;
 mod memory_source;
+mod memory_wire;
 mod read_source;
 mod sure_sink;
 mod sure_source;
+mod tcp_wire;
+mod wire;
 mod write_sink;
 
 pub use file_shelf::FileShelf;
@@ -45,9 +51,12 @@ pub use gathering_sink::{GatheringSink, gathering_room};
 pub use memory_shelf::MemoryShelf;
 pub use memory_sink::MemorySink;
 pub use memory_source::MemorySource;
+pub use memory_wire::MemoryWire;
 pub use read_source::ReadSource;
 pub use sure_sink::SureSink;
 pub use sure_source::SureSource;
+pub use tcp_wire::TcpWire;
+pub use wire::Wire;
 pub use write_sink::WriteSink;
 
 /// The answer of a call that met an outside fault.
@@ -65,6 +74,10 @@ pub trait Source {
     /// How many calls met an outside fault, up to 2^64 - 1.
     ghost faults: { Self → ℕ };
 
+    /// How many takes gave nothing, up to 2^64 - 1. A caller that asks once more behind the end
+    /// makes whoever types at a terminal end the input twice.
+    ghost empty_takes: { Self → ℕ };
+
     /// Puts the next bytes at the front of the room, and answers how many they are. 0 for a room
     /// that isn't empty is the end of the input. A take that fails moves nothing, and may be
     /// followed by one that doesn't.
@@ -77,6 +90,7 @@ pub trait Source {
         ensures ended { IfOk result (λ n. 0 < length room.old → Told (left self.old) (left self.new)
             (λ l _. (n ≡ 0) ↔ (l ≡ []))) }
         ensures counted { CountsFaults (faults self.old) (faults self.new) (IsErr result) }
+        ensures empty { CountsOne (empty_takes self.old) (empty_takes self.new) (result ≡ Ok 0) }
         ensures failed_left { OnErr result (Told (left self.old) (left self.new) (λ l l'. l' ≡ l)) }
         ensures failed_taken { OnErr result (Told (taken self.old) (taken self.new)
             (λ t t'. t' ≡ t)) };
@@ -149,13 +163,18 @@ pub trait Shelf {
     /// How many calls met an outside fault, up to 2^64 - 1.
     ghost faults: { Self → ℕ };
 
+    /// How many files were asked for, up to 2^64 - 1. What is fetched twice needn't be the same
+    /// twice, and a pipe gives its bytes once.
+    ghost fetches: { Self → ℕ };
+
     /// The bytes of the file of that name, or `None` where there is none. The shelf stays as it is.
     fn fetch(&mut self, name: &str) -> Result<Option<Vec<u8>>, ShelfFault>
         ensures found { IfOk result (λ found. IfSome (files self.old)
             (λ files. option_map (λ v. v.items) found ≡ finite.get files name.now)) }
         ensures kept { files self.new ≡ files self.old }
         ensures counted { CountsFaults (faults self.old) (faults self.new)
-            (IsErrOf result ShelfFault.Failed) };
+            (IsErrOf result ShelfFault.Failed) }
+        ensures fetched { fetches self.new ≡ one_more (fetches self.old) };
 }
 
 #[cfg(test)]

@@ -46,6 +46,8 @@ impl Shelf for MemoryShelf {
 
     ghost faults = { λ s. s.plan.faults };
 
+    ghost fetches = { λ s. s.plan.calls };
+
     fn fetch(&mut self, name: &str) -> Result<Option<Vec<u8>>, ShelfFault>
         ensures ok { OnOk result (is_due self.old.plan ≡ false) }
         ensures found { IfOk result (λ found.

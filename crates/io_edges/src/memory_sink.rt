@@ -38,6 +38,13 @@ impl MemorySink {
         }
     }
 
+    // How many puts failed.
+    pub(crate) fn faults(&self) -> u64
+        ensures { result ≡ self.now.plan.faults }
+    {
+        self.plan.faults()
+    }
+
     /// All that was written.
     pub fn bytes(&self) -> &[u8]
         ensures { result.now ≡ self.now.written }

@@ -2,7 +2,8 @@
 
 ghost use Rattle.std.specs.Prelude.{◌≡◌, ◌≤◌, ◌<◌, ◌^◌, ◌++◌, ℕ, length, take, drop, Some, min, IsErr, IsTrue, IfOk, OnErr, ◌↔◌};
 ghost use Rattle.io_edges.specs.Plan.{is_due};
-ghost use Rattle.io_edges.specs.InMemory.{new_source, next_count, after_take};
+ghost use Rattle.io_edges.specs.Faults.{CountsOne};
+ghost use Rattle.io_edges.specs.InMemory.{new_source, next_count, after_take, with_take};
 
 use crate::fault_plan::FaultPlan;
 use crate::{Failed, Source};
@@ -14,6 +15,7 @@ use std::marker::Model;
 pub struct MemorySource {
     bytes: Vec<u8>,
     at: usize,
+    empty_takes: u64,
     most: usize,
     plan: FaultPlan,
 }
@@ -25,7 +27,7 @@ impl Model for MemorySource {
     ghost Value = { PlannedSource };
 
     ghost view = { λ s. record {
-      tape = tape_at s.at s.bytes.items;
+      tape = tape_at s.at s.bytes.items s.empty_takes;
       most = s.most;
       plan = s.plan;
     } };
@@ -42,9 +44,24 @@ impl MemorySource {
         MemorySource {
             bytes,
             at: 0,
+            empty_takes: 0,
             most,
             plan: FaultPlan::new(failing),
         }
+    }
+
+    // How many takes failed.
+    pub(crate) fn faults(&self) -> u64
+        ensures { result ≡ self.now.plan.faults }
+    {
+        self.plan.faults()
+    }
+
+    // The bytes that were taken.
+    pub(crate) fn given(&self) -> &[u8]
+        ensures { result.now ≡ self.now.tape.taken }
+    {
+        &self.bytes[..self.at]
     }
 
     /// The bytes that are left.
@@ -62,6 +79,8 @@ impl Source for MemorySource {
 
     ghost faults = { λ s. s.plan.faults };
 
+    ghost empty_takes = { λ s. s.tape.empty_takes };
+
     fn take(&mut self, room: &mut [u8]) -> Result<usize, Failed>
         ensures failing { IsErr result ↔ IsTrue (is_due self.old.plan) }
         ensures count { IfOk result (λ n. n ≡ next_count self.old (length room.old)) }
@@ -70,13 +89,26 @@ impl Source for MemorySource {
         ensures after { self.new ≡ after_take self.old (length room.old) }
         ensures some { 1 ≤ self.old.most }
         ensures faults { self.old.plan.faults < 2 ^ 64 }
+        ensures empty { CountsOne self.old.tape.empty_takes self.new.tape.empty_takes (result ≡ Ok 0) }
     {
         if self.plan.fails() {
             return Err(Failed);
         }
         let n = copy_front(&self.bytes[self.at..], self.most, room);
         self.at += n;
+        self.empty_takes = with_take(n, self.empty_takes);
         Ok(n)
+    }
+}
+
+// How many takes gave nothing, behind one that gave so many bytes.
+pub(crate) fn with_take(given: usize, empty: u64) -> u64
+    ensures { result ≡ with_take given empty }
+{
+    if given == 0 {
+        empty.saturating_add(1)
+    } else {
+        empty
     }
 }
 

@@ -1,9 +1,10 @@
 //! A source in memory that never fails.
 
 ghost use Rattle.std.specs.Prelude.{◌≡◌, ◌++◌, length, take, drop, Some, min, IsOk, IfOk};
+ghost use Rattle.io_edges.specs.Faults.{CountsOne};
 ghost use Rattle.io_edges.specs.InMemory.{new_tape, advanced};
 
-use crate::memory_source::copy_front;
+use crate::memory_source::{copy_front, with_take};
 use crate::{Failed, Source};
 use std::marker::Model;
 
@@ -12,6 +13,7 @@ use std::marker::Model;
 pub struct SureSource {
     bytes: Vec<u8>,
     at: usize,
+    empty_takes: u64,
 }
 
 impl Model for SureSource {
@@ -20,7 +22,7 @@ impl Model for SureSource {
 
     ghost Value = { Tape };
 
-    ghost view = { λ s. tape_at s.at s.bytes.items };
+    ghost view = { λ s. tape_at s.at s.bytes.items s.empty_takes };
 
     ghost invariant = { λ s. s.at ≤ vec_len s.bytes };
 }
@@ -30,7 +32,11 @@ impl SureSource {
     pub fn new(bytes: Vec<u8>) -> SureSource
         ensures { result ≡ new_tape bytes.items }
     {
-        SureSource { bytes, at: 0 }
+        SureSource {
+            bytes,
+            at: 0,
+            empty_takes: 0,
+        }
     }
 
     /// The bytes that are left.
@@ -48,8 +54,11 @@ impl Source for SureSource {
 
     ghost faults = { λ _. 0 };
 
+    ghost empty_takes = { λ s. s.empty_takes };
+
     fn take(&mut self, room: &mut [u8]) -> Result<usize, Failed>
         ensures sure { IsOk result }
+        ensures empty { CountsOne self.old.empty_takes self.new.empty_takes (result ≡ Ok 0) }
         ensures count { IfOk result (λ n. n ≡ min (length room.old) (length self.old.left)) }
         ensures given { IfOk result (λ n. room.new ≡ take n self.old.left ++ drop n room.old) }
         ensures after { self.new
@@ -57,6 +66,7 @@ impl Source for SureSource {
     {
         let n = copy_front(&self.bytes[self.at..], usize::MAX, room);
         self.at += n;
+        self.empty_takes = with_take(n, self.empty_takes);
         Ok(n)
     }
 }

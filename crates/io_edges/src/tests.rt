@@ -5,6 +5,7 @@ ghost use Rattle.io_edges.specs.Flow.{Told};
 mod adapters;
 mod flaky;
 mod gathering;
+mod wires;
 
 use super::*;
 use std::alloc::Global;

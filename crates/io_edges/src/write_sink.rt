@@ -41,6 +41,22 @@ impl<W: Write> WriteSink<W> {
     }
 }
 
+impl<W> WriteSink<W> {
+    // How many writes failed or took nothing.
+    pub(crate) fn faults(&self) -> u64
+        ensures { result ≡ write_faults self.now }
+    {
+        self.faults
+    }
+
+    // The writer.
+    pub(crate) fn into_writer(self) -> W
+        ensures { result ≡ writer_of self }
+    {
+        self.writer
+    }
+}
+
 impl<W: Write> Sink for WriteSink<W> {
     ghost written = { λ _. None };
 

@@ -71,6 +71,19 @@ fn a_read_that_fails_is_one_take(rt: HostRuntime) -> Result<(), Fail> {
 }
 
 #[test]
+fn a_take_asks_for_all_that_has_room(rt: HostRuntime) -> Result<(), Fail> {
+    let bytes = counted_bytes(rt.alloc(), 100_000)?;
+    let mut reader = Flaky::new(bytes, usize::MAX, None, Fault::MovesNothing);
+    let mut source = ReadSource::new(&mut reader);
+    let mut room = vec![in rt.alloc(); 0u8; 65_536]?;
+    for (number, given) in [65_536, 34_464, 0, 0].iter().enumerate() {
+        assert_eq!(rt; source.take(&mut room), Ok(*given), "take {number}");
+    }
+    assert_eq!(rt; reader.calls(), 4);
+    Ok(())
+}
+
+#[test]
 fn a_take_into_an_empty_room_is_one_read(rt: HostRuntime) -> Result<(), Fail> {
     let bytes = b"abcd".to_vec(rt.alloc())?;
     let mut reader = Flaky::new(bytes, 2, Some(1), Fault::Error(ErrorKind::Other));
@@ -129,7 +142,7 @@ fn counted_bytes(alloc: Global, len: usize) -> Result<Vec<u8>, AllocError> {
 
 #[test]
 fn a_file_of_any_size_is_fetched_whole(rt: HostRuntime) -> Result<(), Fail> {
-    for len in [0, 1, 8_191, 8_192, 8_193, 16_384, 100_000] {
+    for len in [0, 1, 8_191, 8_192, 8_193, 16_384, 100_000, 5_000_000] {
         let bytes = counted_bytes(rt.alloc(), len)?;
         let files = OneFile::new("a", bytes.clone()?);
         let mut shelf = FileShelf::new((&files, rt.alloc()));
@@ -139,10 +152,17 @@ fn a_file_of_any_size_is_fetched_whole(rt: HostRuntime) -> Result<(), Fail> {
     Ok(())
 }
 
+// A name of 200 bytes.
+const LONG_NAME: &str = "01234567890123456789012345678901234567890123456789\
+    01234567890123456789012345678901234567890123456789\
+    01234567890123456789012345678901234567890123456789\
+    01234567890123456789012345678901234567890123456789";
+
 #[test]
 fn a_name_is_taken_as_it_is(rt: HostRuntime) -> Result<(), Fail> {
     for name in [
-        " a ", "a ", " a", "", "./a", "A", "a\n", "\"a\"", "%20", "é",
+        " a ", "a ", " a", "", "./a", "A", "a\n", "\"a\"", "%20", "é", "a:b", "file:a", "http://a",
+        LONG_NAME,
     ] {
         let files = OneFile::new(name, b"bytes".to_vec(rt.alloc())?);
         let mut shelf = FileShelf::new((&files, rt.alloc()));

@@ -5,4 +5,5 @@ use Rattle.io_edges.proofs.memory_source.MemorySourceSource.take.Goals as goal
 
 pub returns-clause-after : goal.returns-clause-after
 returns-clause-after c = rw (← c.self.view_is)
-    (after_good_take _ _ _ _ _ _ _ (sym c.fails.ensures.answer ∙ c.if-fails.false) (grind (arith, common_steps)) c.fails.ensures.counted)
+    (after_good_take _ _ _ _ _ _ _ _ _ (sym c.fails.ensures.answer ∙ c.if-fails.false)
+    (grind (arith, common_steps)) c.fails.ensures.counted c.with_take-self-inside.ensures)

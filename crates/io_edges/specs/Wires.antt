@@ -1,0 +1,42 @@
+-- What a wire hands out and closes.
+use Rattle.std.specs.Prelude.{◌≡◌, ℕ, ◌+◌, ◌-◌, ◌^◌, min, List, [], Option, Some, None, IfSome}
+use Rattle.io_edges.specs.Plan.{Plan, new_plan}
+use Rattle.io_edges.specs.InMemory.{PlannedSource, PlannedSink}
+
+-- two counts and one before, up to their last value
+abbrev pub added_up : ℕ → ℕ → ℕ → ℕ
+added_up before a b = min (before + a + b) (2 ^ 64 - 1)
+
+-- what an end tells where nothing moved yet; it tells where the wire does
+abbrev pub Fresh : {X : Type 0} → Option X → Option (List ℕ) → Type 0
+Fresh None told = IfSome told (λ l. l ≡ [])
+Fresh (Some closed) told = told ≡ Some []
+
+-- a wire in memory
+pub record PlannedWire : Type 0 where
+  pub waiting : List (PlannedSource × PlannedSink)
+  pub closed : List (List ℕ × List ℕ)
+  pub out : ℕ
+  pub end_faults : ℕ
+  pub plan : Plan
+
+-- nothing moved through the ends, and they met no fault
+pub record Untouched (ends : PlannedSource × PlannedSink) : Type 0 where
+  pub taken : ends.0.tape.taken ≡ []
+  pub written : ends.1.written ≡ []
+  pub reads : ends.0.plan.faults ≡ 0
+  pub writes : ends.1.plan.faults ≡ 0
+
+-- what an ended connection leaves
+abbrev pub pair_of : PlannedSource × PlannedSink → List ℕ × List ℕ
+pair_of ends = (ends.0.tape.taken, ends.1.written)
+
+-- before the first call
+abbrev pub new_wire : List (PlannedSource × PlannedSink) → List ℕ → PlannedWire
+new_wire ends failing = record {
+  waiting = ends;
+  closed = [];
+  out = 0;
+  end_faults = 0;
+  plan = new_plan failing;
+}

@@ -1,0 +1,207 @@
+//! A wire over the system's TCP sockets.
+
+ghost use Rattle.std.specs.Prelude.{◌≡◌, ◌<◌, ◌+◌, ◌^◌, None, IsErr, OnErr, OnOk, IfOk, IfSome, IsSome};
+ghost use Rattle.io_edges.specs.Faults.{CountsOne};
+ghost use Rattle.io_edges.specs.Adapters.{read_faults, write_faults};
+ghost use Rattle.io_edges.specs.Wires.{added_up};
+ghost use Rattle.io_edges.specs.Tcp.{wire_out, wire_faults, wire_end_faults};
+
+use crate::wire::Wire;
+use crate::{Failed, ReadSource, WriteSink};
+use std::io;
+use std::net::{Net, OpenListener, OpenStream, Shutdown, SocketAddr, TcpListener, TcpStream};
+use std::time::Duration;
+
+/// A wire over TCP. A place is a host's name or address and a port, as `localhost:808` or
+/// `[::1]:808`; it listens at the place of its first accept, from then on. Sockets send at once what
+/// is put to them (`TCP_NODELAY`), since a session is many small writes. A bind, an accept or a
+/// connect that fails counts as a fault of the wire, and none is tried again; what a connection
+/// meets later, such as a peer that resets it, counts at its ends. What moved isn't told.
+#[derive(Drop)]
+pub struct TcpWire<R: Net> {
+    rt: R,
+    listener: Option<R::Listener>,
+    out: u64,
+    faults: u64,
+    end_faults: u64,
+}
+
+impl<R: Net> TcpWire<R> {
+    /// A wire that listens nowhere yet.
+    pub fn new(rt: R) -> TcpWire<R>
+        ensures out { wire_out result ≡ 0 }
+        ensures faults { (wire_faults result ≡ 0) × (wire_end_faults result ≡ 0) }
+    {
+        TcpWire {
+            rt,
+            listener: None,
+            out: 0,
+            faults: 0,
+            end_faults: 0,
+        }
+    }
+
+    /// Listens at that place, where it doesn't listen yet, and answers where it listens.
+    pub fn listen(&mut self, place: &str) -> io::Result<SocketAddr>
+        ensures { (wire_out self.new ≡ wire_out self.old)
+            × (wire_faults self.new ≡ wire_faults self.old)
+            × (wire_end_faults self.new ≡ wire_end_faults self.old) }
+    {
+        if let Some(listener) = &self.listener {
+            return listener.local_addr();
+        }
+        let listener = TcpListener::bind(&self.rt, place)?;
+        let at = listener.local_addr();
+        self.listener = Some(listener);
+        at
+    }
+
+    // Waits for the next connection, at that place where it doesn't listen yet.
+    fn next_stream(&mut self, place: &str) -> io::Result<R::Stream>
+        ensures { (wire_out self.new ≡ wire_out self.old)
+            × (wire_faults self.new ≡ wire_faults self.old)
+            × (wire_end_faults self.new ≡ wire_end_faults self.old) }
+    {
+        if let Some(listener) = &self.listener {
+            return Ok(listener.accept()?.0);
+        }
+        let listener = TcpListener::bind(&self.rt, place)?;
+        let accepted = listener.accept();
+        self.listener = Some(listener);
+        Ok(accepted?.0)
+    }
+
+    // The answer of a call that was to give a stream.
+    fn answer(
+        &mut self,
+        ends: io::Result<(ReadSource<R::Stream>, WriteSink<R::Stream>)>,
+    ) -> Result<(ReadSource<R::Stream>, WriteSink<R::Stream>), Failed>
+        requires { wire_out self.old < 2 ^ 63 }
+        ensures handed { IfOk result (λ got. IfOk ends (λ given. got ≡ given)) }
+        ensures ok { OnOk result (IfOk ends (λ _. wire_out self.new ≡ wire_out self.old + 1)) }
+        ensures broken { IsErr ends → IsErr result }
+        ensures failed { OnErr result (wire_out self.new ≡ wire_out self.old) }
+        ensures counted { CountsOne (wire_faults self.old) (wire_faults self.new) (IsErr result) }
+        ensures kept { wire_end_faults self.new ≡ wire_end_faults self.old }
+    {
+        match ends {
+            Ok(ends) => {
+                self.out += 1;
+                Ok(ends)
+            }
+            Err(_) => {
+                self.faults = self.faults.saturating_add(1);
+                Err(Failed)
+            }
+        }
+    }
+}
+
+// The two ends of a stream. Where the system can't send at once, it sends later.
+fn ends_of<S: io::Read + io::Write + OpenStream + Drop>(
+    stream: S,
+) -> io::Result<(ReadSource<S>, WriteSink<S>)>
+    ensures { IfOk result (λ ends. (read_faults ends.0 ≡ 0) × (write_faults ends.1 ≡ 0)) }
+{
+    let _ = stream.set_nodelay(true);
+    let other = stream.try_clone()?;
+    Ok((ReadSource::new(stream), WriteSink::new(other)))
+}
+
+impl<R: Net> Wire for TcpWire<R>
+where
+    R::Stream: Send,
+{
+    type Reader = ReadSource<R::Stream>;
+
+    type Writer = WriteSink<R::Stream>;
+
+    ghost waiting = { λ _. None };
+
+    ghost closed = { λ _. None };
+
+    ghost out = { λ s. wire_out s };
+
+    ghost faults = { λ s. wire_faults s };
+
+    ghost end_faults = { λ s. wire_end_faults s };
+
+    fn accept(
+        &mut self,
+        place: &str,
+    ) -> Result<Option<(ReadSource<R::Stream>, WriteSink<R::Stream>)>, Failed>
+        requires { wire_out self.old < 2 ^ 63 }
+        ensures handed { IfOk result IsSome }
+        ensures fresh { IfOk result (λ found. IfSome found (λ ends.
+            (read_faults ends.0 ≡ 0) × (write_faults ends.1 ≡ 0))) }
+        ensures out { OnOk result (wire_out self.new ≡ wire_out self.old + 1) }
+        ensures failed { OnErr result (wire_out self.new ≡ wire_out self.old) }
+        ensures counted { CountsOne (wire_faults self.old) (wire_faults self.new) (IsErr result) }
+        ensures kept { wire_end_faults self.new ≡ wire_end_faults self.old }
+    {
+        let ends = match self.next_stream(place) {
+            Ok(stream) => ends_of(stream),
+            Err(e) => Err(e),
+        };
+        Ok(Some(self.answer(ends)?))
+    }
+
+    fn connect(
+        &mut self,
+        place: &str,
+    ) -> Result<(ReadSource<R::Stream>, WriteSink<R::Stream>), Failed>
+        requires { wire_out self.old < 2 ^ 63 }
+        ensures fresh { IfOk result (λ ends.
+            (read_faults ends.0 ≡ 0) × (write_faults ends.1 ≡ 0)) }
+        ensures out { OnOk result (wire_out self.new ≡ wire_out self.old + 1) }
+        ensures failed { OnErr result (wire_out self.new ≡ wire_out self.old) }
+        ensures counted { CountsOne (wire_faults self.old) (wire_faults self.new) (IsErr result) }
+        ensures kept { wire_end_faults self.new ≡ wire_end_faults self.old }
+    {
+        let ends = match TcpStream::connect(&self.rt, place) {
+            Ok(stream) => ends_of(stream),
+            Err(e) => Err(e),
+        };
+        self.answer(ends)
+    }
+
+    fn close(&mut self, reader: ReadSource<R::Stream>, writer: WriteSink<R::Stream>)
+        requires { 0 < wire_out self.old }
+        ensures out { wire_out self.old ≡ wire_out self.new + 1 }
+        ensures counted { wire_end_faults self.new ≡ added_up (wire_end_faults self.old)
+            (read_faults reader) (write_faults writer) }
+        ensures faults { wire_faults self.new ≡ wire_faults self.old }
+    {
+        self.out -= 1;
+        self.end_faults = self
+            .end_faults
+            .saturating_add(reader.faults())
+            .saturating_add(writer.faults());
+        end_stream(reader.into_reader(), writer.into_writer());
+    }
+}
+
+// How often more is read of what a peer still sends to an ended connection, and for how many
+// milliseconds each time.
+const LAST_READS: usize = 16;
+
+const LAST_WAIT: u64 = 250;
+
+// Tells the peer the end, and reads on for a while: were a connection closed with bytes unread, the
+// system would break it off, and the peer could lose what was written last.
+fn end_stream<S: io::Read + OpenStream + Drop>(mut reading: S, writing: S) {
+    let _ = writing.shutdown(Shutdown::Write);
+    if reading
+        .set_read_timeout(Some(Duration::from_millis(LAST_WAIT)))
+        .is_err()
+    {
+        return;
+    }
+    let mut room = [0u8; 16_384];
+    for _ in 0..LAST_READS {
+        match reading.read(&mut room) {
+            Ok(0) | Err(_) => return,
+            Ok(_) => {}
+        }
+    }
+}
