@@ -1,6 +1,5 @@
 -- What a reading or writing end admits: the numbers, and which of them are good.
 use Rattle.std.specs.Prelude.{ℕ, ◌≤◌, ◌^◌}
-use Rattle.nbfx_values.specs.declared.limits.TheConstants.{USUAL_PAYLOAD, USUAL_DEPTH, USUAL_DICTIONARY, USUAL_CONTENT, USUAL_VIA, USUAL_SESSION}
 
 -- the numbers that quotas hold
 pub record Limits : Type 0 where
@@ -38,10 +37,10 @@ pub record IsGood (q : Limits) : Type 0 where
 -- the limits of a stack that nobody has set otherwise
 abbrev pub usual_limits : Limits
 usual_limits = record {
-  payload = USUAL_PAYLOAD;
-  depth = USUAL_DEPTH;
-  dictionary = USUAL_DICTIONARY;
-  content = USUAL_CONTENT;
-  via = USUAL_VIA;
-  session = USUAL_SESSION;
+  payload = 65536;
+  depth = 32;
+  dictionary = 2048;
+  content = 262144;
+  via = 2048;
+  session = 2 ^ 48;
 }
