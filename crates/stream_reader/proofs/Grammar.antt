@@ -67,17 +67,17 @@ module _ (x : Settings) where
     no true = refl
     no false = refl
 
-  any_end_over : (stage : Stage) (from : ℕ) → is_over_in stage ≡ true → cut_off x stage from ≡ None
+  any_end_over : (stage : Stage) (from n : ℕ) → is_over_in stage ≡ true → cut_off x stage from n ≡ None
   unfolding cut_off
-  any_end_over (record_due dues.Over) from e = refl
-  any_end_over (record_due _) from e = cc
-  any_end_over (payload_open p) from e = cc
+  any_end_over (record_due dues.Over) from n e = refl
+  any_end_over (record_due _) from n e = cc
+  any_end_over (payload_open p) from n e = cc
 
   pub quiet_over : IsQuietWhenOver (stream x)
   quiet_over = record {
     unread = λ z from bytes e. unread_over z.stage from bytes e;
     any_length = λ z from n e. any_length_over z.stage from n e;
-    any_end = λ z from n e. any_end_over z.stage from e;
+    any_end = λ z from n e. any_end_over z.stage from n e;
   }
 
   -- within the session quota no length is too great

@@ -149,7 +149,7 @@ pub ending_open : (r : StreamReader) (p : List ℕ) → Reached r (settings_of r
 unfolding ending_at is_over_at
 ending_open r p h e =
     let x : Settings = settings_of r in
-    cut_is x (reads_initiators r) (standing (stream x) p).situation.stage (standing (stream x) p).from (over_as_ended r x p h ∙ e)
+    cut_is x (reads_initiators r) (standing (stream x) p).situation.stage (standing (stream x) p).from (length p) (over_as_ended r x p h ∙ e)
     ∙ ap (λ from. Some (offence_at from Truncated)) (open_as_opened r x p h)
 
 -- what it is set to stays

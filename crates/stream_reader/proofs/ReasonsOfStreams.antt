@@ -1,6 +1,6 @@
 -- Which streams are too long, and which are cut off.
 use Rattle.std.proofs.Common.{◌≡◌, ℕ, ◌+◌, ◌-◌, ◌<◌, ◌≤◌, inl, inr, List, ◌++◌, length, take, drop, Bool, true, false, Some, None, refl, sym, ap, ◌∙◌, arith, ◌↔◌}
-use Rattle.std.specs.Prelude.{if◌then◌else◌}
+use Rattle.std.specs.Prelude.{◌==◌, ◌&&◌, if◌then◌else◌}
 use Rattle.std.proofs.Math.Seq.{take-add}
 use Rattle.std.proofs.lemmas.Bool.{cases_lt, cases_Bool}
 use Rattle.std.proofs.lemmas.List.{length-take-le}
@@ -27,29 +27,29 @@ use Rattle.stream_reader.proofs.Grammar.{readable, quiet_over}
 use Rattle.stream_reader.proofs.Reasons.{apart, in_payload_is, unbuilt_is, too_large_is, too_long_is, never_cut_off, same_place}
 
 -- the end refuses a stream that isn't over, at what is open
-end_is : (x : Settings) (stage : Stage) (from : ℕ) (o : Offence) → cut_off x stage from ≡ Some o → (is_over_in stage ≡ false) × (o ≡ offence_at (open_from stage from) reasons.Truncated)
+end_is : (x : Settings) (stage : Stage) (from n : ℕ) (o : Offence) → cut_off x stage from n ≡ Some o → (is_over_in stage ≡ false) × (o ≡ offence_at (open_from stage from) reasons.Truncated)
 unfolding cut_off
-end_is x (record_due dues.Over) from o e = cc
-end_is x (record_due due) from o e = (refl, told (may_end x.direction x.mode due) e) where
+end_is x (record_due dues.Over) from n o e = cc
+end_is x (record_due due) from n o e = (refl, told (may_end x.direction x.mode due && (from == n)) e) where
   told : (b : Bool) → (if b then None else Some (offence_at from reasons.Truncated)) ≡ Some o → o ≡ offence_at from reasons.Truncated
   told true e = cc
   told false e = cc
-end_is x (payload_open payload) from o e = (refl, cc)
+end_is x (payload_open payload) from n o e = (refl, cc)
 
 -- and each that isn't over, of an initiator
-cut_within : (statics : List Entry) (l : Limits) (stage : Stage) (from : ℕ) → is_over_in stage ≡ false → cut_off (initiators statics l) stage from ≡ Some (offence_at (open_from stage from) reasons.Truncated)
+cut_within : (statics : List Entry) (l : Limits) (stage : Stage) (from n : ℕ) → is_over_in stage ≡ false → cut_off (initiators statics l) stage from n ≡ Some (offence_at (open_from stage from) reasons.Truncated)
 unfolding cut_off
-cut_within statics l (record_due dues.Over) from o = cc
-cut_within statics l (record_due _) from o = refl
-cut_within statics l (payload_open payload) from o = refl
+cut_within statics l (record_due dues.Over) from n o = cc
+cut_within statics l (record_due _) from n o = refl
+cut_within statics l (payload_open payload) from n o = refl
 
-pub cut_is : (x : Settings) → IsInitiators x → (stage : Stage) (from : ℕ) → is_over_in stage ≡ false → cut_off x stage from ≡ Some (offence_at (open_from stage from) reasons.Truncated)
-cut_is x set stage from on = by_set (λ (s : Settings). cut_off s stage from ≡ Some (offence_at (open_from stage from) reasons.Truncated)) (λ statics l. cut_within statics l stage from on) x set
+pub cut_is : (x : Settings) → IsInitiators x → (stage : Stage) (from n : ℕ) → is_over_in stage ≡ false → cut_off x stage from n ≡ Some (offence_at (open_from stage from) reasons.Truncated)
+cut_is x set stage from n on = by_set (λ (s : Settings). cut_off s stage from n ≡ Some (offence_at (open_from stage from) reasons.Truncated)) (λ statics l. cut_within statics l stage from n on) x set
 
 module _ (x : Settings) (p : List ℕ) where
   ended_so : (o : Offence) → ending_at (stream x) p ≡ Some o → (is_over_at (stream x) p ≡ false) × (o ≡ offence_at (open_from (standing (stream x) p).situation.stage (standing (stream x) p).from) reasons.Truncated)
   unfolding is_over_at ending_at
-  ended_so o e = end_is x (standing (stream x) p).situation.stage (standing (stream x) p).from o e
+  ended_so o e = end_is x (standing (stream x) p).situation.stage (standing (stream x) p).from (length p) o e
 
   cut_at : (from : ℕ) → ending_at (stream x) p ≡ Some (offence_at from reasons.Truncated) → IsCutOff x p from
   cut_at from e =
@@ -59,7 +59,7 @@ module _ (x : Settings) (p : List ℕ) where
   module _ (set : IsInitiators x) where
     at_cut : (from : ℕ) → IsCutOff x p from → ending_at (stream x) p ≡ Some (offence_at from reasons.Truncated)
     unfolding is_over_at ending_at
-    at_cut from h = cut_is x set (standing (stream x) p).situation.stage (standing (stream x) p).from h.going_on ∙ ap (λ n. Some (offence_at n reasons.Truncated)) (sym h.place)
+    at_cut from h = cut_is x set (standing (stream x) p).situation.stage (standing (stream x) p).from (length p) h.going_on ∙ ap (λ n. Some (offence_at n reasons.Truncated)) (sym h.place)
 
     pub cut_off_is : (from : ℕ) → (ending_at (stream x) p ≡ Some (offence_at from reasons.Truncated)) ↔ IsCutOff x p from
     cut_off_is from = (cut_at from, at_cut from)

@@ -277,16 +277,16 @@ module _ (statics : List Entry) (l : Limits) (good : IsGood l) where
       omega (arith, more)
 
   -- the input may end where the session is over
-  end_over : (stage : Stage) (from : ℕ) → cut_off x stage from ≡ None → is_over_in stage ≡ true
+  end_over : (stage : Stage) (from n : ℕ) → cut_off x stage from n ≡ None → is_over_in stage ≡ true
   unfolding cut_off
-  end_over (record_due dues.Over) from e = refl
-  end_over (record_due _) from e = cc
-  end_over (payload_open payload) from e = cc
+  end_over (record_due dues.Over) from n e = refl
+  end_over (record_due _) from n e = cc
+  end_over (payload_open payload) from n e = cc
 
   -- a session stands at the front where unrefused units lead to where the input may end
   pub accepted_closed : (bytes : List ℕ) → IsAccepted (stream x) bytes → IsClosed x bytes
   accepted_closed bytes a =
-      let over = end_over a.situation.stage (size_of a.units) a.may_end in
+      let over = end_over a.situation.stage (size_of a.units) (length bytes) a.may_end in
       let h = units_first a.units (beginning x) 0 bytes a.situation a.rest (record { messages_within = omega arith; dictionary = omega arith; payload = tt }) a.lead over in
       let all : length bytes ≡ length h.0 + length a.rest = ap length h.1 ∙ length-append h.0 a.rest in
       let size = leads_length (stream x) (readable x) a.units (beginning x) 0 bytes a.situation a.rest a.lead in

@@ -334,11 +334,14 @@ too_long x stage from n = if nat_le x.limits.session n && not (is_over_in stage)
     then Some (offence_at (open_from stage from) reasons.SessionTooLong)
     else None
 
--- the input may end where the session may
-unfoldable pub cut_off : Settings → Stage → ℕ → Option Offence
-cut_off x (record_due due) from =
-    if may_end x.direction x.mode due then None else Some (offence_at from reasons.Truncated)
-cut_off x (payload_open p) from = Some (offence_at p.from reasons.Truncated)
+-- the input may end behind so many bytes where the session is over, and where it may end and no
+-- byte of another record has come
+unfoldable pub cut_off : Settings → Stage → ℕ → ℕ → Option Offence
+cut_off x (record_due dues.Over) from n = None
+cut_off x (record_due due) from n = if may_end x.direction x.mode due && (from == n)
+    then None
+    else Some (offence_at from reasons.Truncated)
+cut_off x (payload_open p) from n = Some (offence_at p.from reasons.Truncated)
 
 -- the stream's grammar
 abbrev pub stream : Settings → Grammar Situation StreamUnit StreamEvent Offence
@@ -347,10 +350,10 @@ stream x = record {
   unit_at = λ z from bytes. unit_in x z.stage from bytes;
   after = after x;
   refused = refused x;
-  completed = completed x;
+  completed = λ z from to unit. completed x z from unit;
   is_over = λ z. is_over_in z.stage;
   at_length = λ z from n. too_long x z.stage from n;
-  at_end = λ z from n. cut_off x z.stage from;
+  at_end = λ z from n. cut_off x z.stage from n;
 }
 
 -- the events that end a session

@@ -39,7 +39,7 @@ module _ {Z U E R : Type 0} (g : Grammar Z U E R) where
       let same : from ≡ from + 0 = omega arith in ap (λ (n : ℕ). events_along g z n more) same ∙ ap (λ (y : Z). events_along g y (from + 0) more) first.0
   events_then (one ∷ units) z from bytes z' mid more first =
       let same : (from + one.size) + size_of units ≡ from + (one.size + size_of units) = omega arith in
-      let here = option_to_list (g.completed z from one.unit) in
+      let here = option_to_list (g.completed z from (from + one.size) one.unit) in
       ap (λ es. here ++ es) (events_then units (g.after z from one.unit) (from + one.size) (drop one.size bytes) z' mid more first.2)
       ∙ sym (append_assoc here (events_along g (g.after z from one.unit) (from + one.size) units) (events_along g z' ((from + one.size) + size_of units) more))
       ∙ ap (λ (n : ℕ). (here ++ events_along g (g.after z from one.unit) (from + one.size) units) ++ events_along g z' n more) same
@@ -70,12 +70,12 @@ module _ {Z U E R : Type 0} (g : Grammar Z U E R) where
 
   module _ (readable : IsReadable g) where
     pub passes_unit : (z : Z) (from : ℕ) (bytes : List ℕ) (u : U) → g.unit_at z from bytes ≡ whole u (length bytes) → g.refused z from u ≡ None
-        → Passes z from bytes (g.after z from u) (option_to_list (g.completed z from u))
+        → Passes z from bytes (g.after z from u) (option_to_list (g.completed z from (from + length bytes) u))
     unfolding UnitsLead size_of events_along
     passes_unit z from bytes u e ok = record {
       units = record { unit = u; size = length bytes } ∷ [];
       lead = λ rest. ((readable.reads z from).whole_stays bytes rest u (length bytes) e, ok, (refl, drop-append_seam bytes rest));
-      brought = append-nil (option_to_list (g.completed z from u));
+      brought = append-nil (option_to_list (g.completed z from (from + length bytes) u));
       size = omega arith;
     }
 

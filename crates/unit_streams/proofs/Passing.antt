@@ -133,7 +133,7 @@ module _ {Z U E R : Type 0} (g : Grammar Z U E R) (readable : IsReadable g) (p :
           pub whole_standing : standing g (p ++ take n c) ≡ closed
           whole_standing = standing_append g readable p (take n c) ∙ (whole_at g readable here c n d u k e).1
 
-          pub whole_event : event_at g (p ++ take n c) ≡ g.completed here.situation here.from u
+          pub whole_event : event_at g (p ++ take n c) ≡ g.completed here.situation here.from (here.from + k) u
           whole_event = event_from g (p ++ take n c) closed whole_standing
 
           pub whole_refusal : refusal_at g (p ++ take n c) ≡ option_or (g.refused here.situation here.from u) (g.at_length (g.after here.situation here.from u) (here.from + k) (length p + n))
@@ -143,7 +143,7 @@ module _ {Z U E R : Type 0} (g : Grammar Z U E R) (readable : IsReadable g) (p :
               ∙ ap (λ m. option_or (g.refused here.situation here.from u) (g.at_length closed.situation closed.from m)) (longer n d.within)
 
           -- unless that completes an event, nothing is decided
-          pub whole_quiet : g.completed here.situation here.from u ≡ None → IsQuiet g p c n
+          pub whole_quiet : g.completed here.situation here.from (here.from + k) u ≡ None → IsQuiet g p c n
           whole_quiet none = record {
             within = d.within;
             unrefused = undecided_unrefused;

@@ -134,7 +134,7 @@ module _ {Z U E R : Type 0} (g : Grammar Z U E R) (readable : IsReadable g) wher
   -- what holds before the first unit, and behind each where it holds before, holds of what the last one left and gave
   pub standing_last : (P : Z → ℕ → Option E → Option R → Type 0) → P g.start 0 None None
       → ((z : Z) (from : ℕ) (event : Option E) (refusal : Option R) (b : List ℕ) (u : U) (k : ℕ) → g.unit_at z from b ≡ whole u k → 0 < k → P z from event refusal
-      → P (g.after z from u) (from + k) (g.completed z from u) (g.refused z from u))
+      → P (g.after z from u) (from + k) (g.completed z from (from + k) u) (g.refused z from u))
       → (p : List ℕ) → P (standing g p).situation (standing g p).from (standing g p).event (standing g p).refusal
   unfolding standing
   standing_last P first behind p =

@@ -79,14 +79,14 @@ module _ {Z U E R : Type 0} (g : Grammar Z U E R) (readable : IsReadable g) wher
       pub unit_before : IsQuietBefore g p bytes n
       unit_before = decides_quiet g readable p bytes (between_going p z from at) n unit_decides short
 
-      pub unit_event : event_at g (p ++ take n bytes) ≡ g.completed z from u
+      pub unit_event : event_at g (p ++ take n bytes) ≡ g.completed z from (from + n) u
       unit_event = whole_event g readable p bytes (between_going p z from at) n unit_decides short u n unit_here ∙ rw (at.situation, at.place) refl
 
-      pub unit_quiet : g.completed z from u ≡ None → IsQuiet g p bytes n
+      pub unit_quiet : g.completed z from (from + n) u ≡ None → IsQuiet g p bytes n
       unit_quiet none = whole_quiet g readable p bytes (between_going p z from at) n unit_decides short u n unit_here (rw (at.situation, at.place) none)
 
       -- and what it brings
-      unit_events : (v : Option E) → g.completed z from u ≡ v → history_from g p bytes ≡ led_by (option_to_list v) (history_from g (p ++ take n bytes) (drop n bytes))
+      unit_events : (v : Option E) → g.completed z from (from + n) u ≡ v → history_from g p bytes ≡ led_by (option_to_list v) (history_from g (p ++ take n bytes) (drop n bytes))
       unit_events (Some v) c =
           let q = unit_before in
           let told = unit_event ∙ c in
@@ -95,8 +95,8 @@ module _ {Z U E R : Type 0} (g : Grammar Z U E R) (readable : IsReadable g) wher
           let q = unit_quiet c in
           history_behind g p bytes n q.within q.unrefused ∙ ap (λ es. led_by es (history_from g (p ++ take n bytes) (drop n bytes))) (quiet_events g p bytes n q)
 
-      pub unit_brings : history_from g p bytes ≡ led_by (option_to_list (g.completed z from u)) (history_from g (p ++ take n bytes) (drop n bytes))
-      unit_brings = unit_events (g.completed z from u) refl
+      pub unit_brings : history_from g p bytes ≡ led_by (option_to_list (g.completed z from (from + n) u)) (history_from g (p ++ take n bytes) (drop n bytes))
+      unit_brings = unit_events (g.completed z from (from + n) u) refl
 
   -- what several lead to and bring, where no length on the way is too long
   pub record Brings (p : List ℕ) (z : Z) (from : ℕ) (units : List (Counted U)) (bytes : List ℕ) (z' : Z) (rest : List ℕ) : Type 0 where
@@ -130,9 +130,9 @@ module _ {Z U E R : Type 0} (g : Grammar Z U E R) (readable : IsReadable g) wher
         left = sym (drop-drop (size_of units) n bytes) ∙ b.left;
         history =
             unit_brings p z from at bytes one.unit n l.0 close
-            ∙ ap (led_by (option_to_list (g.completed z from one.unit))) b.history
-            ∙ sym (led_by_append (option_to_list (g.completed z from one.unit)) (events_along g (g.after z from one.unit) (from + n) units) (history_from g ((p ++ take n bytes) ++ take (size_of units) (drop n bytes)) rest))
-            ∙ ap (λ q. led_by (option_to_list (g.completed z from one.unit) ++ events_along g (g.after z from one.unit) (from + n) units) (history_from g q rest)) (further p bytes n (size_of units));
+            ∙ ap (led_by (option_to_list (g.completed z from (from + n) one.unit))) b.history
+            ∙ sym (led_by_append (option_to_list (g.completed z from (from + n) one.unit)) (events_along g (g.after z from one.unit) (from + n) units) (history_from g ((p ++ take n bytes) ++ take (size_of units) (drop n bytes)) rest))
+            ∙ ap (λ q. led_by (option_to_list (g.completed z from (from + n) one.unit) ++ events_along g (g.after z from one.unit) (from + n) units) (history_from g q rest)) (further p bytes n (size_of units));
       }
 
   -- units within a limit, below which no length is too long

@@ -35,7 +35,7 @@ texts = record {
   unit_at = unit_at;
   after = λ over from text. length text == 0;
   refused = refused;
-  completed = λ over from text. Some text;
+  completed = λ over from to text. Some text;
   is_over = λ over. over;
   at_length = λ over from n. if nat_le 10 n && not over then Some (at from too_many) else None;
   at_end = λ over from n. if over then None else Some (at from cut_off);

@@ -4,7 +4,8 @@ use Rattle.std.specs.Prelude.{◌≡◌, ℕ, zero, suc, ◌+◌, List, [], ◌+
 use Rattle.unit_streams.specs.Front.{Front, begun, whole, on_whole, ReadsFront}
 
 -- Situations are in Z, units in U, events in E and refusals in R. A unit is read at the offset at
--- which it begins, since a refusal tells its place.
+-- which it begins, since a refusal tells its place, and has its bytes up to the offset behind it,
+-- which an event may tell.
 pub record Grammar (Z U E R : Type 0) : Type 0 where
   -- the situation before the first unit
   pub start : Z
@@ -14,8 +15,8 @@ pub record Grammar (Z U E R : Type 0) : Type 0 where
   pub after : Z → ℕ → U → Z
   -- why a whole unit is refused by what it says
   pub refused : Z → ℕ → U → Option R
-  -- the event that a whole unit completes
-  pub completed : Z → ℕ → U → Option E
+  -- the event that a whole unit completes, by the offsets at which it begins and behind it
+  pub completed : Z → ℕ → ℕ → U → Option E
   -- nothing that follows is judged
   pub is_over : Z → Bool
   -- why so many bytes are too many, where the unit that isn't whole begins at an offset
@@ -47,7 +48,7 @@ module _ {Z U E R : Type 0} (g : Grammar Z U E R) where
     situation = g.after s.situation s.from unit;
     from = s.from + n;
     begun = drop n s.begun;
-    event = g.completed s.situation s.from unit;
+    event = g.completed s.situation s.from (s.from + n) unit;
     refusal = g.refused s.situation s.from unit;
   }
 
@@ -100,8 +101,8 @@ pub record IsQuietWhenOver {Z U E R : Type 0} (g : Grammar Z U E R) : Type 0 whe
 pub record TellsItsEnd {Z U E R : Type 0} (g : Grammar Z U E R) (ends : E → Bool) : Type 0 where
   pub start : g.is_over g.start ≡ false
   pub told : (z : Z) (from : ℕ) (b : List ℕ) (u : U) (k : ℕ) (e : E)
-      → g.unit_at z from b ≡ whole u k → g.is_over z ≡ false → g.completed z from u ≡ Some e
+      → g.unit_at z from b ≡ whole u k → g.is_over z ≡ false → g.completed z from (from + k) u ≡ Some e
       → g.is_over (g.after z from u) ≡ ends e
   pub untold : (z : Z) (from : ℕ) (b : List ℕ) (u : U) (k : ℕ)
-      → g.unit_at z from b ≡ whole u k → g.is_over z ≡ false → g.completed z from u ≡ None
+      → g.unit_at z from b ≡ whole u k → g.is_over z ≡ false → g.completed z from (from + k) u ≡ None
       → g.is_over (g.after z from u) ≡ false

@@ -29,7 +29,7 @@ module _ {Z U E R : Type 0} (g : Grammar Z U E R) where
   unfoldable pub events_along : Z → ℕ → List (Counted U) → List E
   events_along z from [] = []
   events_along z from (one ∷ units) =
-      option_to_list (g.completed z from one.unit)
+      option_to_list (g.completed z from (from + one.size) one.unit)
       ++ events_along (g.after z from one.unit) (from + one.size) units
 
 -- how many bytes they have
