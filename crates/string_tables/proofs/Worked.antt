@@ -2,7 +2,7 @@
 use Rattle.std.specs.Prelude.{◌≡◌, ℕ, List, [], ◌∷◌, Some, None, codes, refl}
 use Rattle.string_tables.specs.StaticStrings.{Entry, in_order, least_static_id, static_text}
 use Rattle.string_tables.specs.SessionStrings.{cost, least_session_id, session_text, used_cost}
-use Rattle.string_tables.specs.StringTable.{StringTable, least_id, named_text, with_strings}
+use Rattle.string_tables.specs.StringTable.{StringTable, chosen_id, least_id, named_text, with_strings}
 
 -- strings that every envelope uses, one of them twice
 statics : List Entry
@@ -94,3 +94,25 @@ least_in_both = refl
 least_in_session : least_id table (codes "x") ≡ Some 5
 unfolding table statics strings
 least_in_session = refl
+
+-- a text in both halves, of which the session's identifier is the less; one in the session alone; and
+-- one in neither
+brought_too : StringTable
+unfolding statics
+brought_too = record { statics = statics; strings = codes "x" ∷ codes "a" ∷ [] }
+
+least_of_the_session : least_id brought_too (codes "a") ≡ Some 3
+unfolding brought_too statics
+least_of_the_session = refl
+
+chosen_of_the_statics : chosen_id brought_too (codes "a") ≡ Some 4
+unfolding brought_too statics
+chosen_of_the_statics = refl
+
+chosen_of_the_session : chosen_id brought_too (codes "x") ≡ Some 1
+unfolding brought_too statics
+chosen_of_the_session = refl
+
+none_chosen : chosen_id brought_too (codes "y") ≡ None
+unfolding brought_too statics
+none_chosen = refl

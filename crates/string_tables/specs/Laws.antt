@@ -1,8 +1,8 @@
 -- What holds of string tables by their definitions alone.
-use Rattle.std.specs.Prelude.{◌≡◌, ◌≢◌, ℕ, ◌+◌, ◌*◌, ◌≤◌, ◌⊎◌, ◌↔◌, List, [], ◌∷◌, ◌++◌, length, Option, Some, None, Contains, MatchOption}
+use Rattle.std.specs.Prelude.{◌≡◌, ℕ, ◌+◌, ◌*◌, ◌^◌, ◌<◌, ◌≤◌, ◌⊎◌, ◌↔◌, List, [], ◌∷◌, ◌++◌, length, Option, Some, None, Contains, MatchOption}
 use Rattle.string_tables.specs.StaticStrings.{Entry, IsStaticId, IsStaticMap, least_static_id, static_text}
 use Rattle.string_tables.specs.SessionStrings.{least_session_id, session_text, used_cost}
-use Rattle.string_tables.specs.StringTable.{IsLeastName, Names, NamesString, StringTable, least_id, named_text, with_strings}
+use Rattle.string_tables.specs.StringTable.{IsChosenName, IsLeastName, IsUnnamed, Names, NamesString, StringTable, chosen_id, least_id, named_text, with_strings}
 
 -- the text that a look-up finds is the one that the identifier names
 abbrev pub FindsNamed : Type 0
@@ -31,7 +31,7 @@ HasStaticIds = (entries : List Entry) (id : ℕ) (text : List ℕ) → IsStaticM
 -- identifier does
 abbrev pub GivesLeast : (ℕ → Option (List ℕ)) → (List ℕ → Option ℕ) → Type 0
 GivesLeast text_of least_of = (text : List ℕ)
-    → MatchOption (least_of text) ((id : ℕ) → text_of id ≢ Some text) (IsLeastName text_of text)
+    → MatchOption (least_of text) (IsUnnamed text_of text) (IsLeastName text_of text)
 
 abbrev pub FindsLeast : Type 0
 FindsLeast = (table : StringTable) → IsStaticMap table.statics
@@ -44,6 +44,31 @@ FindsLeastStatic = (entries : List Entry) → IsStaticMap entries
 abbrev pub FindsLeastSession : Type 0
 FindsLeastSession = (strings : List (List ℕ))
     → GivesLeast (session_text strings) (least_session_id strings)
+
+-- the identifier that a writer takes is the least of its half, and there is one exactly where an
+-- identifier names the text
+abbrev pub FindsChosen : Type 0
+FindsChosen = (table : StringTable) (text : List ℕ) → IsStaticMap table.statics
+    → MatchOption (chosen_id table text)
+    (IsUnnamed (named_text table) text) (IsChosenName table text)
+
+abbrev pub NamesChosen : Type 0
+NamesChosen = (table : StringTable) (text : List ℕ) (id : ℕ) → IsStaticMap table.statics
+    → chosen_id table text ≡ Some id → Names table id text
+
+-- where the strings cost no more than 2^30 an identifier has 31 bits
+abbrev pub NamesSmall : Type 0
+NamesSmall = (table : StringTable) (id : ℕ) (text : List ℕ) → IsStaticMap table.statics
+    → used_cost table.strings ≤ 2 ^ 30 → Names table id text → id < 2 ^ 31
+
+abbrev pub KeepsChosen : Type 0
+KeepsChosen = (table : StringTable) (more : List (List ℕ)) (text : List ℕ) (id : ℕ)
+    → chosen_id table text ≡ Some id → chosen_id (with_strings table more) text ≡ Some id
+
+-- a text that had none has the next number as its own where it is appended
+abbrev pub ChoosesAppended : Type 0
+ChoosesAppended = (table : StringTable) (text : List ℕ) → chosen_id table text ≡ None
+    → chosen_id (with_strings table (text ∷ [])) text ≡ Some (2 * length table.strings + 1)
 
 abbrev pub KeepsNames : Type 0
 KeepsNames = (table : StringTable) (more : List (List ℕ)) (id : ℕ) (text : List ℕ)

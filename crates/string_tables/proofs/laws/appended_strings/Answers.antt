@@ -1,3 +1,4 @@
+use Rattle.string_tables.proofs.ChosenFacts.{chooses_appended, keeps_chosen}
 use Rattle.string_tables.proofs.SessionFacts.{least_session_id-append, least_session_id-push}
 use Rattle.string_tables.proofs.TableFacts.{names-append, names-push}
 use Rattle.string_tables.proofs.laws.appended_strings.Goals as goal
@@ -13,3 +14,9 @@ returns-clause-least_kept c = least_session_id-append
 
 pub returns-clause-least : goal.returns-clause-least
 returns-clause-least c = least_session_id-push
+
+pub returns-clause-chosen_kept : goal.returns-clause-chosen_kept
+returns-clause-chosen_kept c = keeps_chosen
+
+pub returns-clause-chosen : goal.returns-clause-chosen
+returns-clause-chosen c = chooses_appended
