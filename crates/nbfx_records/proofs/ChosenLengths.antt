@@ -281,8 +281,8 @@ array_long shape node bytes are a t v plain =
       ap length a.are_cells.joined,
       ap length c.joined,
       length-append c.count_bytes c.values,
-      length-append (element_bytes a.it.prefix a.it.name) (flat_map part_bytes says.attrs ++ 1 ∷ counted_cells (array_node a.it says.attrs says.counted.kind says.values)),
-      length-append (flat_map part_bytes says.attrs) (1 ∷ counted_cells (array_node a.it says.attrs says.counted.kind says.values)),
+      length-append (element_bytes a.it.prefix a.it.name) (flat_map part_bytes says.attrs ++ 1 ∷ counted_cells says.counted.kind says.values),
+      length-append (flat_map part_bytes says.attrs) (1 ∷ counted_cells says.counted.kind says.values),
       length-append (shortest (length says.values)) (flat_map (cell_bytes says.counted.kind) says.values),
     ))
 

@@ -41,6 +41,10 @@ pub mod ChosenLengths
 -- What a node means.
 pub mod Missing
 pub mod MeaningFacts
+pub mod StayFacts
+pub mod WritableFacts
+-- Records and strings one behind the other.
+pub mod PayloadFacts
 -- What is wrong with bytes.
 pub mod CauseFacts
 pub mod PartCauses

@@ -279,6 +279,17 @@ pub read_of_all : (place : NodePlace) (node : Node) (bytes : List ℕ) → IsNod
 read_of_all place node bytes is stands =
     (records_are_read place bytes node (length bytes)).1 (omega arith, subst (IsNode node) (sym (take_all (length bytes) bytes (omega arith))) is, stands)
 
+-- where an attribute may stand and an element may be opened, any node may stand
+stands_within : (node : Node) → Stands (Within true true) node
+stands_within EndElement = tt
+stands_within (Comment s) = tt
+stands_within (Array a) = refl
+stands_within (Attribute prefix name value) = refl
+stands_within (Xmlns prefix uri) = refl
+stands_within (Element prefix name) = refl
+stands_within (Text value ends) = tt
+
 pub no_record_goes_on : NoRecordGoesOn
-no_record_goes_on place one other bytes more stands_one stands_other is_one is_other =
-    none_goes_on (node_at place) (node_fronts place) bytes more one other (read_of_all place one bytes is_one stands_one) (read_of_all place other (bytes ++ more) is_other stands_other)
+no_record_goes_on one other bytes more is_one is_other =
+    let place = Within true true in
+    none_goes_on (node_at place) (node_fronts place) bytes more one other (read_of_all place one bytes is_one (stands_within one)) (read_of_all place other (bytes ++ more) is_other (stands_within other))

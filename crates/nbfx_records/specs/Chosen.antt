@@ -29,7 +29,7 @@ use Rattle.nbfx_records.specs.declared.nodes.ArrayNode.{ArrayNode}
 use Rattle.nbfx_records.specs.declared.nodes.Node.{Node}
 use Rattle.nbfx_records.specs.declared.nodes.Node.TheVariants.{EndElement, Comment, Array, Attribute, Xmlns, Element, Text}
 use Rattle.nbfx_records.specs.Kinds.{text_kind_in}
-use Rattle.nbfx_records.specs.TypeBytes.{byte_of, form_of, is_letter, text_byte}
+use Rattle.nbfx_records.specs.TypeBytes.{byte_of, form_of, is_letter}
 use Rattle.nbfx_records.specs.Shapes.{ScalarShape, bytes_of, width_in}
 
 -- a text record: its kind, and what follows its type byte
@@ -122,11 +122,16 @@ abbrev pub scalar_bytes : Bool → RawScalar → List ℕ
 scalar_bytes ends value = record_bytes ends (chosen_scalar value)
 
 -- a list ends the element at its own end
+abbrev pub list_start : List ℕ
+list_start = byte_of (records.Text texts.StartList false) ∷ []
+
+abbrev pub list_end : Bool → List ℕ
+list_end ends = byte_of (records.Text texts.EndList ends) ∷ []
+
 abbrev pub value_bytes : Bool → RawValue → List ℕ
 value_bytes ends (One value) = scalar_bytes ends value
 value_bytes ends (ListOf values) =
-    text_byte texts.StartList
-    ∷ (flat_map (scalar_bytes false) values ++ byte_of (records.Text texts.EndList ends) ∷ [])
+    list_start ++ (flat_map (scalar_bytes false) values ++ list_end ends)
 
 -- no prefix takes the short form and a letter from a to z its own; a declaration has none for
 -- letters
@@ -162,10 +167,14 @@ declaration_bytes prefix uri =
     byte_of (records.Declaration (declared_form prefix) (form_of uri))
     ∷ named_bytes (declared_form prefix) prefix uri
 
-abbrev pub attribute_bytes : List ℕ → NameRef → RawValue → List ℕ
-attribute_bytes prefix name value =
+-- a value follows
+abbrev pub attribute_start : List ℕ → NameRef → List ℕ
+attribute_start prefix name =
     byte_of (records.Attribute (prefix_form prefix) (form_of name))
-    ∷ (named_bytes (prefix_form prefix) prefix name ++ value_bytes false value)
+    ∷ named_bytes (prefix_form prefix) prefix name
+
+abbrev pub attribute_bytes : List ℕ → NameRef → RawValue → List ℕ
+attribute_bytes prefix name value = attribute_start prefix name ++ value_bytes false value
 
 abbrev pub part_bytes : AttrNode → List ℕ
 part_bytes (attribute_nodes.Attribute prefix name value) = attribute_bytes prefix name value
@@ -180,25 +189,45 @@ cell_bytes arrays.Int64 (Number n) = to_le_bytes w64 (cast_unsigned w64 n)
 cell_bytes _ value = (chosen_known value).body
 
 -- their type byte, how many there are, and these
-abbrev pub counted_cells : ArrayNode → List ℕ
-counted_cells a =
-    byte_of (records.Text (text_kind_in a.kind) true)
-    ∷ (shortest (length a.values) ++ flat_map (cell_bytes a.kind) a.values)
+abbrev pub counted_cells : ArrayKind → List Scalar → List ℕ
+counted_cells kind values =
+    byte_of (records.Text (text_kind_in kind) true)
+    ∷ (shortest (length values) ++ flat_map (cell_bytes kind) values)
+
+-- the end of an element
+abbrev pub end_bytes : List ℕ
+end_bytes = byte_of records.EndElement ∷ []
+
+-- An array begins with a byte of its own; behind its element and that element's attributes stand
+-- their end and the values.
+abbrev pub array_start : List ℕ
+array_start = byte_of records.Array ∷ []
+
+abbrev pub array_values_bytes : ArrayKind → List Scalar → List ℕ
+array_values_bytes kind values = end_bytes ++ counted_cells kind values
 
 abbrev pub array_bytes : ArrayNode → List ℕ
 array_bytes a =
-    byte_of records.Array
-    ∷ (element_bytes a.prefix a.name
-    ++ (flat_map part_bytes a.attrs ++ byte_of records.EndElement ∷ counted_cells a))
+    array_start
+    ++ (element_bytes a.prefix a.name
+    ++ (flat_map part_bytes a.attrs ++ array_values_bytes a.kind a.values))
+
+abbrev pub comment_bytes : List ℕ → List ℕ
+comment_bytes s = byte_of records.Comment ∷ string_bytes_of s
 
 abbrev pub chosen_bytes : Node → List ℕ
-chosen_bytes EndElement = byte_of records.EndElement ∷ []
-chosen_bytes (Comment s) = byte_of records.Comment ∷ string_bytes_of s
+chosen_bytes EndElement = end_bytes
+chosen_bytes (Comment s) = comment_bytes s
 chosen_bytes (Array a) = array_bytes a
 chosen_bytes (Attribute prefix name value) = attribute_bytes prefix name value
 chosen_bytes (Xmlns prefix uri) = declaration_bytes prefix uri
 chosen_bytes (Element prefix name) = element_bytes prefix name
 chosen_bytes (Text value ends) = value_bytes ends value
+
+-- the table of a payload's own strings: how many bytes they have, and then they
+abbrev pub table_bytes : List (List ℕ) → List ℕ
+table_bytes texts =
+    let content = flat_map string_bytes_of texts in shortest (length content) ++ content
 
 -- a text that is spelled in UTF-16
 abbrev pub is_utf16 : ScalarShape → Bool

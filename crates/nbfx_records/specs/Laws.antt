@@ -32,11 +32,10 @@ RecordsAreRead = (place : NodePlace) (bytes : List ℕ) (node : Node) (n : ℕ)
     → (node_at place bytes ≡ whole node n)
     ↔ ((n ≤ length bytes) × IsNode node (take n bytes) × Stands place node)
 
--- no record goes on to a longer one that may stand in its place, and none is two
+-- no record goes on to a longer one, wherever they stand, and none is two
 abbrev pub NoRecordGoesOn : Type 0
-NoRecordGoesOn = (place : NodePlace) (one other : Node) (bytes more : List ℕ)
-    → Stands place one → Stands place other → IsNode one bytes
-    → IsNode other (bytes ++ more) → (more ≡ []) × (one ≡ other)
+NoRecordGoesOn = (one other : Node) (bytes more : List ℕ)
+    → IsNode one bytes → IsNode other (bytes ++ more) → (more ≡ []) × (one ≡ other)
 
 -- A fault of the structure comes by the first part that is wrong,
 abbrev pub WrongByPart : Type 0

@@ -9,19 +9,22 @@ pub mod Places
 pub mod Valid
 -- how they are written,
 pub mod TypeBytes
+pub mod Choices
 pub mod Chosen
+pub mod Putting
 -- what they mean, and what is wrong with bytes that are none;
 pub mod Meaning
 pub mod Causes
 pub mod Asked
+-- which bytes are a payload of them;
+pub mod Payloads
 -- what calls answer, and laws.
 pub mod Answers
 pub mod Resuming
 pub mod Laws
+pub mod WritingLaws
 -- What is told of the parts of a record, and of what is made of them.
 pub mod Cursor
 pub mod Beginning
 pub mod Views
 pub mod Judged
--- What contracts of private functions cite.
-pub mod Putting

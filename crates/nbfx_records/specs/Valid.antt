@@ -102,3 +102,25 @@ fits_node (Attribute prefix name value) = fit_names prefix name && fits_text val
 fits_node (Xmlns prefix uri) = fit_names prefix uri
 fits_node (Element prefix name) = fit_names prefix name
 fits_node (Text value ends) = fits_text value
+
+-- Which nodes have an identifier for the name of each QName.
+abbrev pub names_qnames_raw : RawScalar → Bool
+names_qnames_raw (Known (NamedBy _ _)) = false
+names_qnames_raw _ = true
+
+abbrev pub names_qnames_text : RawValue → Bool
+names_qnames_text (One value) = names_qnames_raw value
+names_qnames_text (ListOf values) = list_all names_qnames_raw values
+
+abbrev pub names_qnames_part : AttrNode → Bool
+names_qnames_part (attribute_nodes.Attribute prefix name value) = names_qnames_text value
+names_qnames_part (attribute_nodes.Xmlns prefix uri) = true
+
+abbrev pub names_qnames : Node → Bool
+names_qnames EndElement = true
+names_qnames (Comment s) = true
+names_qnames (Array a) = list_all names_qnames_part a.attrs
+names_qnames (Attribute prefix name value) = names_qnames_text value
+names_qnames (Xmlns prefix uri) = true
+names_qnames (Element prefix name) = true
+names_qnames (Text value ends) = names_qnames_text value

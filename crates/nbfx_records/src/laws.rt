@@ -4,6 +4,7 @@
 ghost use Rattle.unit_streams.specs.Front.{ReadsFront};
 ghost use Rattle.nbfx_records.specs.declared.nodes.NodePlace.{NodePlace};
 ghost use Rattle.nbfx_records.specs.Reading.{node_at};
+ghost use Rattle.nbfx_records.specs.WritingLaws.{MeaningsStay, RecordsJoin, RecordsStay, SaidMayBeWritten, StringsAreOnce, WrittenAreRecords, WrittenAreStrings, WrittenIsTable};
 ghost use Rattle.nbfx_records.specs.Laws.{NothingIsBegun, RecordsAreRead, NoRecordGoesOn, RecordsAreValid, WrongByPart, WrongByText, WrongByValue, ChosenIsRecord, ChosenIsRead, ChosenIsShortest, StillFits, MeaningsAreFound, NothingWithoutNames, MeansOnce, MeaningsAreValid};
 
 /// A record is known by its own bytes: it is wrong or whole at the byte that shows it, whatever
@@ -14,8 +15,7 @@ pub fn record_fronts()
 {}
 
 /// The records that are read are those that the bytes are, where they may stand. No record begins a
-/// longer one that may stand in its place, and none is two. A record of bytes is one of a valid
-/// node.
+/// longer one, wherever they stand, and none is two. A record of bytes is one of a valid node.
 pub fn records()
     ensures read { RecordsAreRead }
     ensures none_goes_on { NoRecordGoesOn }
@@ -46,10 +46,30 @@ pub fn resumed()
 
 /// What a node says where a string table is given is at most one list of items. There is none
 /// exactly where one of its identifiers names no string. Where the table's strings are text, the
-/// items of a valid node are valid.
+/// items of a valid node are valid. What a node says stays where strings are appended. A node that
+/// says valid items may be written where their content and its identifiers have 31 bits, and it has
+/// an identifier for each QName.
 pub fn meanings()
     ensures found { MeaningsAreFound }
     ensures unnamed { NothingWithoutNames }
     ensures one { MeansOnce }
     ensures valid { MeaningsAreValid }
+    ensures stay { MeaningsStay }
+    ensures writable { SaidMayBeWritten }
+{}
+
+/// Records one behind the other are records of the items of all, also where strings are appended. So
+/// are those that are written of nodes.
+pub fn joined_records()
+    ensures join { RecordsJoin }
+    ensures stay { RecordsStay }
+    ensures written { WrittenAreRecords }
+{}
+
+/// Strings one behind the other are strings of one list of texts. Those that are written of texts
+/// are strings of them, and behind the number of their bytes a payload's table of them.
+pub fn joined_strings()
+    ensures once { StringsAreOnce }
+    ensures written { WrittenAreStrings }
+    ensures table { WrittenIsTable }
 {}

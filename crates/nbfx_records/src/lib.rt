@@ -20,6 +20,7 @@ mod nodes;
 mod parts;
 mod put_nodes;
 mod put_parts;
+mod put_records;
 mod put_values;
 mod read;
 mod records;
@@ -41,6 +42,11 @@ pub use nodes::{
 };
 pub use parts::{NamePart, NamedPart, PrefixPart, ScalarPart};
 pub use put_nodes::put_node;
+pub use put_records::{
+    put_array_start, put_array_values, put_attribute_start, put_comment, put_declaration,
+    put_element, put_end_element,
+};
+pub use put_values::{ScalarChoice, put_list_end, put_list_start, put_scalar};
 pub use read::{NodeRead, ReadFault, read_node, read_node_on};
 pub use records::{RecordPart, shape_at};
 pub use resume::Resume;

@@ -47,6 +47,16 @@ pub fn put_string(text: &str, out: &mut Vec<u8>) -> Result<(), Memory>
     multibyte_ints::put_string(text, out)
 }
 
+/// Appends a string of these bytes, which are text where the string is to be read.
+#[tactic(auto, unfolding(multibyte_ints::specs::Text::string_bytes_of))]
+pub fn put_raw_string(text: &[u8], out: &mut Vec<u8>) -> Result<(), Memory>
+    requires { length text.now < 2 ^ 31 }
+    ensures { Puts result out.old.items out.new.items (string_bytes_of text.now) }
+{
+    put_integer(text.len() as u32, out)?;
+    put_bytes(text, out)
+}
+
 /// Appends the type byte of a record.
 pub fn put_kind(kind: RecordKind, out: &mut Vec<u8>) -> Result<(), Memory>
     requires { IsTrue (is_kind kind) }

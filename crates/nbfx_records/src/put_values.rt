@@ -1,9 +1,12 @@
 //! Single values and lists as they are written: each in its chosen spelling.
+//!
+//! Each function appends, as those of records do.
 
 ghost use Rattle.std.specs.Prelude.{◌≡◌, ◌<◌, ◌^◌, ◌∷◌, IsTrue, false, flat_map, if◌then◌else◌, length};
 ghost use Rattle.std.specs.Int.{byte_len};
 ghost use Rattle.std.specs.List.{list_all};
 ghost use Rattle.nbfx_values.specs.Scalars.{is_number, is_valid_scalar};
+ghost use Rattle.nbfx_records.specs.Choices.{choice_seen};
 ghost use Rattle.nbfx_records.specs.Chosen as spec;
 ghost use Rattle.nbfx_records.specs.Putting.{Puts};
 ghost use Rattle.nbfx_records.specs.Shapes.{width_in};
@@ -15,6 +18,17 @@ use crate::nodes::{RawScalar, RawValue};
 use crate::put_parts::{put_byte, put_bytes, put_integer, put_kind};
 use nbfx_values::{Dec, Scalar};
 use unit_streams::Memory;
+
+/// One value as a writer spells it.
+#[derive(Clone, Copy, Debug)]
+pub enum ScalarChoice<'a> {
+    /// The value itself; it is no QName.
+    Known(&'a Scalar),
+    /// The text that an identifier names.
+    Named(u32),
+    /// A QName: the number of its prefix's letter, of which 0 is a, and the identifier of its name.
+    Qualified(u8, u32),
+}
 
 // Appends a text record.
 fn put_text(kind: TextKind, ends: bool, body: &[u8], out: &mut Vec<u8>) -> Result<(), Memory>
@@ -180,22 +194,49 @@ fn put_known(value: &Scalar, ends: bool, out: &mut Vec<u8>) -> Result<(), Memory
     }
 }
 
-// Appends one value.
-fn put_scalar(value: &RawScalar, ends: bool, out: &mut Vec<u8>) -> Result<(), Memory>
-    requires valid { IsTrue (is_valid_raw value.now) }
-    requires fits { IsTrue (fits_raw value.now) }
-    ensures { Puts result out.old.items out.new.items (spec.scalar_bytes ends value.now) }
+/// Appends the record of one value, which may end the element that holds it. Each value but a QName
+/// may stand there as itself, a text also as an identifier, and a QName's name is one.
+pub fn put_scalar(value: ScalarChoice<'_>, ends: bool, out: &mut Vec<u8>) -> Result<(), Memory>
+    requires valid { IsTrue (is_valid_raw (choice_seen value)) }
+    requires fits { IsTrue (fits_raw (choice_seen value)) }
+    ensures { Puts result out.old.items out.new.items
+        (spec.scalar_bytes ends (choice_seen value.entry)) }
 {
     match value {
-        RawScalar::Known(value) => put_known(value, ends, out),
-        RawScalar::Dictionary(id) => {
+        ScalarChoice::Known(value) => put_known(value, ends, out),
+        ScalarChoice::Named(id) => {
             put_kind(RecordKind::Text(TextKind::Dictionary, ends), out)?;
-            put_integer(*id, out)
+            put_integer(id, out)
         }
-        RawScalar::QName(letter, id) => {
-            put_text(TextKind::QNameDictionary, ends, &[*letter], out)?;
-            put_integer(*id, out)
+        ScalarChoice::Qualified(letter, id) => {
+            put_text(TextKind::QNameDictionary, ends, &[letter], out)?;
+            put_integer(id, out)
         }
+    }
+}
+
+/// Appends the record that begins a list. Its values follow it, none of which ends an element.
+pub fn put_list_start(out: &mut Vec<u8>) -> Result<(), Memory>
+    ensures { Puts result out.old.items out.new.items spec.list_start }
+{
+    put_kind(RecordKind::Text(TextKind::StartList, false), out)
+}
+
+/// Appends the record that ends a list, and may end the element that holds it.
+pub fn put_list_end(ends: bool, out: &mut Vec<u8>) -> Result<(), Memory>
+    ensures { Puts result out.old.items out.new.items (spec.list_end ends) }
+{
+    put_kind(RecordKind::Text(TextKind::EndList, ends), out)
+}
+
+// The same value, what it holds borrowed.
+fn choice_of(value: &RawScalar) -> ScalarChoice<'_>
+    ensures { choice_seen result ≡ value.now }
+{
+    match value {
+        RawScalar::Known(value) => ScalarChoice::Known(value),
+        RawScalar::Dictionary(id) => ScalarChoice::Named(*id),
+        RawScalar::QName(letter, id) => ScalarChoice::Qualified(*letter, *id),
     }
 }
 
@@ -207,7 +248,7 @@ fn put_scalars(values: &[RawScalar], out: &mut Vec<u8>) -> Result<(), Memory>
         (flat_map (spec.scalar_bytes false) values.now) }
 {
     for value in values {
-        put_scalar(value, false, out)?;
+        put_scalar(choice_of(value), false, out)?;
     }
     Ok(())
 }
@@ -219,11 +260,11 @@ pub fn put_value(value: &RawValue, ends: bool, out: &mut Vec<u8>) -> Result<(), 
     ensures { Puts result out.old.items out.new.items (spec.value_bytes ends value.now) }
 {
     match value {
-        RawValue::One(value) => put_scalar(value, ends, out),
+        RawValue::One(value) => put_scalar(choice_of(value), ends, out),
         RawValue::List(values) => {
-            put_kind(RecordKind::Text(TextKind::StartList, false), out)?;
+            put_list_start(out)?;
             put_scalars(values.as_slice(), out)?;
-            put_kind(RecordKind::Text(TextKind::EndList, ends), out)
+            put_list_end(ends, out)
         }
     }
 }

@@ -1,6 +1,6 @@
 use Rattle.nbfx_values.specs.Items.{fits_kind}
 use Rattle.nbfx_records.proofs.PutFacts.{passes_at, put_stopped}
-use Rattle.nbfx_records.proofs.put_nodes.put_cells.Goals as goal
+use Rattle.nbfx_records.proofs.put_records.put_cells.Goals as goal
 
 pub put_cell-requires : goal.put_cell-requires
 put_cell-requires c = passes_at (fits_kind c.args.kind) c.args.values.now c.loop-value.value-index c.value-item.result c.requires c.loop-value-test.true c.value-item.is

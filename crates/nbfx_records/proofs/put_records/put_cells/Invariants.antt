@@ -2,7 +2,7 @@
 use Rattle.std.proofs.Common.{◌≡◌, ◌++◌, take}
 use Rattle.std.specs.Prelude.{flat_map}
 use Rattle.nbfx_records.specs.Chosen.{cell_bytes}
-use Rattle.nbfx_records.proofs.put_nodes.put_cells.Given as goal
+use Rattle.nbfx_records.proofs.put_records.put_cells.Given as goal
 
 abbrev pub invariant-loop-value : goal.invariant-loop-value
 invariant-loop-value l = l.out.items ≡ l.fn.out.items ++ flat_map (cell_bytes l.fn.kind) (take l.value-index l.values)

@@ -1,0 +1,189 @@
+//! Records as they are written, from parts that lie elsewhere: each in its chosen spelling.
+//!
+//! Each function appends. Where memory runs out, the bytes before stay and some may stand behind
+//! them: who puts several records takes them all back to the length before.
+
+ghost use Rattle.std.specs.Prelude.{◌≡◌, ◌<◌, ◌^◌, IsTrue, flat_map, length};
+ghost use Rattle.std.specs.List.{list_all};
+ghost use Rattle.nbfx_values.specs.Items.{fits_kind};
+ghost use Rattle.nbfx_records.specs.Chosen as spec;
+ghost use Rattle.nbfx_records.specs.Putting.{Puts};
+ghost use Rattle.nbfx_records.specs.TypeBytes.{form_of};
+ghost use Rattle.nbfx_records.specs.Valid.{fit_names, fits_name, is_short};
+ghost use Rattle.nbfx_records.specs.Views.{name_seen};
+
+use crate::kinds::{NameForm, PrefixForm, RecordKind};
+use crate::parts::NamePart;
+use crate::put_parts::{put_byte, put_bytes, put_integer, put_kind, put_raw_string, put_string};
+use crate::put_values::put_decimal;
+use crate::type_bytes::text_kind_in;
+use nbfx_values::{ArrayKind, Scalar};
+use unit_streams::Memory;
+
+// How a prefix is told where letters have forms of their own.
+fn prefix_form(prefix: &str) -> PrefixForm
+    ensures { result ≡ spec.prefix_form prefix.now }
+{
+    match prefix.as_bytes() {
+        [] => PrefixForm::Unprefixed,
+        [letter] if letter.is_ascii_lowercase() => PrefixForm::Lettered(*letter),
+        _ => PrefixForm::Prefixed,
+    }
+}
+
+// How a declared one is told.
+fn declared_form(prefix: &str) -> PrefixForm
+    ensures { result ≡ spec.declared_form prefix.now }
+{
+    if prefix.is_empty() {
+        PrefixForm::Unprefixed
+    } else {
+        PrefixForm::Prefixed
+    }
+}
+
+// How a name is told.
+fn name_form(name: NamePart<'_>) -> NameForm
+    ensures { result ≡ form_of (name_seen name.entry) }
+{
+    match name {
+        NamePart::Inline(_) => NameForm::Inlined,
+        NamePart::Id(_) => NameForm::Identified,
+    }
+}
+
+// Appends what follows the type byte of a prefix.
+fn put_prefix(form: PrefixForm, prefix: &str, out: &mut Vec<u8>) -> Result<(), Memory>
+    requires { IsTrue (is_short prefix.now) }
+    ensures { Puts result out.old.items out.new.items (spec.prefix_bytes form prefix.now) }
+{
+    match form {
+        PrefixForm::Prefixed => put_string(prefix, out),
+        _ => Ok(()),
+    }
+}
+
+// Appends a name.
+fn put_name(name: NamePart<'_>, out: &mut Vec<u8>) -> Result<(), Memory>
+    requires { IsTrue (fits_name (name_seen name)) }
+    ensures { Puts result out.old.items out.new.items (spec.name_bytes (name_seen name.entry)) }
+{
+    match name {
+        NamePart::Inline(text) => put_raw_string(text, out),
+        NamePart::Id(id) => put_integer(id, out),
+    }
+}
+
+/// Appends the record that begins an element: its type byte, its prefix and its name. The empty
+/// prefix means none.
+pub fn put_element(prefix: &str, name: NamePart<'_>, out: &mut Vec<u8>) -> Result<(), Memory>
+    requires { IsTrue (fit_names prefix.now (name_seen name)) }
+    ensures { Puts result out.old.items out.new.items
+        (spec.element_bytes prefix.now (name_seen name.entry)) }
+{
+    let form = prefix_form(prefix);
+    put_kind(RecordKind::Element(form, name_form(name)), out)?;
+    put_prefix(form, prefix, out)?;
+    put_name(name, out)
+}
+
+/// Appends the record of a declaration: its type byte, the prefix and the URI.
+pub fn put_declaration(prefix: &str, uri: NamePart<'_>, out: &mut Vec<u8>) -> Result<(), Memory>
+    requires { IsTrue (fit_names prefix.now (name_seen uri)) }
+    ensures { Puts result out.old.items out.new.items
+        (spec.declaration_bytes prefix.now (name_seen uri.entry)) }
+{
+    let form = declared_form(prefix);
+    put_kind(RecordKind::Declaration(form, name_form(uri)), out)?;
+    put_prefix(form, prefix, out)?;
+    put_name(uri, out)
+}
+
+/// Appends an attribute's type byte, its prefix and its name. Its value, which doesn't end an
+/// element, follows them.
+pub fn put_attribute_start(
+    prefix: &str,
+    name: NamePart<'_>,
+    out: &mut Vec<u8>,
+) -> Result<(), Memory>
+    requires { IsTrue (fit_names prefix.now (name_seen name)) }
+    ensures { Puts result out.old.items out.new.items
+        (spec.attribute_start prefix.now (name_seen name.entry)) }
+{
+    let form = prefix_form(prefix);
+    put_kind(RecordKind::Attribute(form, name_form(name)), out)?;
+    put_prefix(form, prefix, out)?;
+    put_name(name, out)
+}
+
+/// Appends the record of a comment.
+pub fn put_comment(text: &str, out: &mut Vec<u8>) -> Result<(), Memory>
+    requires { IsTrue (is_short text.now) }
+    ensures { Puts result out.old.items out.new.items (spec.comment_bytes text.now) }
+{
+    put_kind(RecordKind::Comment, out)?;
+    put_string(text, out)
+}
+
+/// Appends the record that ends an element.
+pub fn put_end_element(out: &mut Vec<u8>) -> Result<(), Memory>
+    ensures { Puts result out.old.items out.new.items spec.end_bytes }
+{
+    put_kind(RecordKind::EndElement, out)
+}
+
+/// Appends the type byte of an array. Its element, that element's declarations and attributes, and
+/// its values follow it.
+pub fn put_array_start(out: &mut Vec<u8>) -> Result<(), Memory>
+    ensures { Puts result out.old.items out.new.items spec.array_start }
+{
+    put_kind(RecordKind::Array, out)
+}
+
+// Appends a value of an array.
+fn put_cell(kind: ArrayKind, value: &Scalar, out: &mut Vec<u8>) -> Result<(), Memory>
+    requires { IsTrue (fits_kind kind value.now) }
+    ensures { Puts result out.old.items out.new.items (spec.cell_bytes kind value.now) }
+{
+    match (kind, value) {
+        (ArrayKind::Bool, Scalar::Truth(truth)) => put_byte(*truth as u8, out),
+        (ArrayKind::Int16, Scalar::Number(n)) => put_bytes(&(*n as i16).to_le_bytes(), out),
+        (ArrayKind::Int32, Scalar::Number(n)) => put_bytes(&(*n as i32).to_le_bytes(), out),
+        (ArrayKind::Int64, Scalar::Number(n)) => put_bytes(&(*n as i64).to_le_bytes(), out),
+        (ArrayKind::Float, Scalar::Float(bits)) => put_bytes(&bits.to_le_bytes(), out),
+        (ArrayKind::Double, Scalar::Double(bits)) => put_bytes(&bits.to_le_bytes(), out),
+        (ArrayKind::Decimal, Scalar::Decimal(decimal)) => put_decimal(decimal, out),
+        (ArrayKind::DateTime, Scalar::DateTime(pattern)) => put_bytes(&pattern.to_le_bytes(), out),
+        (ArrayKind::TimeSpan, Scalar::TimeSpan(span)) => put_bytes(&span.to_le_bytes(), out),
+        (ArrayKind::Uuid, Scalar::Uuid(identifier)) => put_bytes(identifier, out),
+        _ => unreachable!(),
+    }
+}
+
+// Appends the values of an array, one behind the other.
+fn put_cells(kind: ArrayKind, values: &[Scalar], out: &mut Vec<u8>) -> Result<(), Memory>
+    requires { IsTrue (list_all (fits_kind kind) values.now) }
+    ensures { Puts result out.old.items out.new.items (flat_map (spec.cell_bytes kind) values.now) }
+{
+    for value in values {
+        put_cell(kind, value, out)?;
+    }
+    Ok(())
+}
+
+/// Appends the end of an array's attributes, the type byte of its values, their number and the
+/// values.
+pub fn put_array_values(
+    kind: ArrayKind,
+    values: &[Scalar],
+    out: &mut Vec<u8>,
+) -> Result<(), Memory>
+    requires valid { IsTrue (list_all (fits_kind kind) values.now) }
+    requires fits { length values.now < 2 ^ 31 }
+    ensures { Puts result out.old.items out.new.items (spec.array_values_bytes kind values.now) }
+{
+    put_end_element(out)?;
+    put_kind(RecordKind::Text(text_kind_in(kind), true), out)?;
+    put_integer(values.len() as u32, out)?;
+    put_cells(kind, values, out)
+}
