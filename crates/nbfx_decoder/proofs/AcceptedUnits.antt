@@ -28,7 +28,7 @@ use Rattle.nbfx_decoder.specs.declared.section.Section.TheVariants.{TableSize, S
 use Rattle.nbfx_decoder.specs.Faults.{reason_of}
 use Rattle.nbfx_decoder.specs.Payload.{Settings, Situation, PayloadUnit, table_size, table_string, node, after, beginning, cut_at, payload, place_of, refusal, refusal_from, refused, room_for, table_in, unit_in, unit_of}
 use Rattle.nbfx_decoder.specs.Sections.{first_section, section_of}
-use Rattle.nbfx_decoder.specs.Spelled.{AreRecords, no_record, record_then, AreStrings, IsOpening, IsPayload, IsRecordMeaning}
+use Rattle.nbfx_records.specs.Payloads.{AreRecords, no_record, record_then, AreStrings, IsOpening, IsPayload, IsRecordMeaning}
 use Rattle.nbfx_decoder.specs.Tables.{TableString, table_integer, table_string_at}
 use Rattle.nbfx_decoder.proofs.TableBytes.{just_integer, just_string}
 use Rattle.nbfx_decoder.proofs.UnitCases.{UnitCase, a_node, a_size, a_string, NodeCase, adds, refuses, node_case, unit_case}

@@ -28,7 +28,7 @@ use Rattle.nbfx_decoder.specs.declared.section.Section.TheVariants.{TableSize, S
 use Rattle.nbfx_decoder.specs.Faults.{reason_of}
 use Rattle.nbfx_decoder.specs.Payload.{Settings, Situation, PayloadUnit, table_size, table_string, node, after, beginning, payload, place_of, refusal, refusal_from, refused, room_for, table_in, unit_in, unit_of}
 use Rattle.nbfx_decoder.specs.Sections.{first_section, section_of}
-use Rattle.nbfx_decoder.specs.Spelled.{AreRecords, no_record, record_then, AreStrings, IsAdmitted, IsOpening, IsPayload, IsRecordMeaning}
+use Rattle.nbfx_records.specs.Payloads.{AreRecords, no_record, record_then, AreStrings, IsAdmitted, IsOpening, IsPayload, IsRecordMeaning}
 use Rattle.nbfx_decoder.specs.Tables.{TableString}
 use Rattle.nbfx_decoder.proofs.AcceptedUnits.{some_left}
 use Rattle.nbfx_decoder.proofs.Places.{behind_stands, position_before}

@@ -12,7 +12,7 @@ use Rattle.string_tables.specs.StringTable.{StringTable}
 use Rattle.nbfx_decoder.specs.Bounds.{KeepsWithin, NamesTexts}
 use Rattle.nbfx_decoder.specs.Payload.{Settings, payload, refusal, table_in}
 use Rattle.nbfx_decoder.specs.Reasons.{IsCutAt, ShowsFrom}
-use Rattle.nbfx_decoder.specs.Spelled.{IsAdmitted, IsPayload, IsWithin}
+use Rattle.nbfx_records.specs.Payloads.{IsAdmitted, IsPayload, IsWithin}
 use Rattle.nbfx_decoder.specs.Standing.{FinishAnswers, from_of, situation_of}
 
 -- as a whole payload the bytes have no offence: behind them stand these items, and these strings

@@ -6,7 +6,6 @@ pub mod Tables
 pub mod Payload
 pub mod Values
 pub mod Bounds
-pub mod Spelled
 pub mod Standing
 pub mod Reasons
 pub mod Laws
