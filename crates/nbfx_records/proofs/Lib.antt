@@ -5,6 +5,7 @@ mod WorkedRecords
 mod WorkedLengths
 mod WorkedRefusals
 mod WorkedAsked
+mod WorkedWriting
 -- What is read rests on its own bytes.
 pub mod ShapeFronts
 -- Reading and the relation are one, from type bytes up to records; records are of valid nodes.

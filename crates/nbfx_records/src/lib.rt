@@ -54,4 +54,6 @@ pub use type_bytes::is_chars;
 pub use values::Unfit;
 
 #[cfg(test)]
+mod put_tests;
+#[cfg(test)]
 mod tests;

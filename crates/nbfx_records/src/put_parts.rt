@@ -48,7 +48,6 @@ pub fn put_string(text: &str, out: &mut Vec<u8>) -> Result<(), Memory>
 }
 
 /// Appends a string of these bytes, which are text where the string is to be read.
-#[tactic(auto, unfolding(multibyte_ints::specs::Text::string_bytes_of))]
 pub fn put_raw_string(text: &[u8], out: &mut Vec<u8>) -> Result<(), Memory>
     requires { length text.now < 2 ^ 31 }
     ensures { Puts result out.old.items out.new.items (string_bytes_of text.now) }

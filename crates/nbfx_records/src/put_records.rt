@@ -1,14 +1,14 @@
 //! Records as they are written, from parts that lie elsewhere: each in its chosen spelling.
 //!
-//! Each function appends. Where memory runs out, the bytes before stay and some may stand behind
-//! them: who puts several records takes them all back to the length before.
+//! Each function appends. Where memory runs out, the bytes before stay, and the first of those that
+//! were to be appended may stand behind them: who puts several records takes them all back.
 
-ghost use Rattle.std.specs.Prelude.{◌≡◌, ◌<◌, ◌^◌, IsTrue, flat_map, length};
+ghost use Rattle.std.specs.Prelude.{◌≡◌, ◌∷◌, ◌<◌, ◌^◌, IsTrue, flat_map, length};
 ghost use Rattle.std.specs.List.{list_all};
 ghost use Rattle.nbfx_values.specs.Items.{fits_kind};
 ghost use Rattle.nbfx_records.specs.Chosen as spec;
 ghost use Rattle.nbfx_records.specs.Putting.{Puts};
-ghost use Rattle.nbfx_records.specs.TypeBytes.{form_of};
+ghost use Rattle.nbfx_records.specs.TypeBytes.{byte_of, form_of, is_kind};
 ghost use Rattle.nbfx_records.specs.Valid.{fit_names, fits_name, is_short};
 ghost use Rattle.nbfx_records.specs.Views.{name_seen};
 
@@ -74,6 +74,24 @@ fn put_name(name: NamePart<'_>, out: &mut Vec<u8>) -> Result<(), Memory>
     }
 }
 
+// Appends a type byte, what follows it of a prefix, and a name.
+fn put_named(
+    kind: RecordKind,
+    form: PrefixForm,
+    prefix: &str,
+    name: NamePart<'_>,
+    out: &mut Vec<u8>,
+) -> Result<(), Memory>
+    requires known { IsTrue (is_kind kind) }
+    requires names { IsTrue (fit_names prefix.now (name_seen name)) }
+    ensures { Puts result out.old.items out.new.items
+        (byte_of kind ∷ spec.named_bytes form prefix.now (name_seen name.entry)) }
+{
+    put_kind(kind, out)?;
+    put_prefix(form, prefix, out)?;
+    put_name(name, out)
+}
+
 /// Appends the record that begins an element: its type byte, its prefix and its name. The empty
 /// prefix means none.
 pub fn put_element(prefix: &str, name: NamePart<'_>, out: &mut Vec<u8>) -> Result<(), Memory>
@@ -82,9 +100,8 @@ pub fn put_element(prefix: &str, name: NamePart<'_>, out: &mut Vec<u8>) -> Resul
         (spec.element_bytes prefix.now (name_seen name.entry)) }
 {
     let form = prefix_form(prefix);
-    put_kind(RecordKind::Element(form, name_form(name)), out)?;
-    put_prefix(form, prefix, out)?;
-    put_name(name, out)
+    let kind = RecordKind::Element(form, name_form(name));
+    put_named(kind, form, prefix, name, out)
 }
 
 /// Appends the record of a declaration: its type byte, the prefix and the URI.
@@ -94,9 +111,8 @@ pub fn put_declaration(prefix: &str, uri: NamePart<'_>, out: &mut Vec<u8>) -> Re
         (spec.declaration_bytes prefix.now (name_seen uri.entry)) }
 {
     let form = declared_form(prefix);
-    put_kind(RecordKind::Declaration(form, name_form(uri)), out)?;
-    put_prefix(form, prefix, out)?;
-    put_name(uri, out)
+    let kind = RecordKind::Declaration(form, name_form(uri));
+    put_named(kind, form, prefix, uri, out)
 }
 
 /// Appends an attribute's type byte, its prefix and its name. Its value, which doesn't end an
@@ -111,9 +127,8 @@ pub fn put_attribute_start(
         (spec.attribute_start prefix.now (name_seen name.entry)) }
 {
     let form = prefix_form(prefix);
-    put_kind(RecordKind::Attribute(form, name_form(name)), out)?;
-    put_prefix(form, prefix, out)?;
-    put_name(name, out)
+    let kind = RecordKind::Attribute(form, name_form(name));
+    put_named(kind, form, prefix, name, out)
 }
 
 /// Appends the record of a comment.
@@ -173,11 +188,7 @@ fn put_cells(kind: ArrayKind, values: &[Scalar], out: &mut Vec<u8>) -> Result<()
 
 /// Appends the end of an array's attributes, the type byte of its values, their number and the
 /// values.
-pub fn put_array_values(
-    kind: ArrayKind,
-    values: &[Scalar],
-    out: &mut Vec<u8>,
-) -> Result<(), Memory>
+pub fn put_array_values(kind: ArrayKind, values: &[Scalar], out: &mut Vec<u8>) -> Result<(), Memory>
     requires valid { IsTrue (list_all (fits_kind kind) values.now) }
     requires fits { length values.now < 2 ^ 31 }
     ensures { Puts result out.old.items out.new.items (spec.array_values_bytes kind values.now) }

@@ -3,7 +3,7 @@
 //! Each function appends, as those of records do.
 
 ghost use Rattle.std.specs.Prelude.{◌≡◌, ◌<◌, ◌^◌, ◌∷◌, IsTrue, false, flat_map, if◌then◌else◌, length};
-ghost use Rattle.std.specs.Int.{byte_len};
+ghost use Rattle.std.specs.Int.{byte_len, to_le_bytes};
 ghost use Rattle.std.specs.List.{list_all};
 ghost use Rattle.nbfx_values.specs.Scalars.{is_number, is_valid_scalar};
 ghost use Rattle.nbfx_records.specs.Choices.{choice_seen};
@@ -85,16 +85,24 @@ fn least_form(length: usize) -> LengthForm
     }
 }
 
+// Appends a length in this form.
+fn put_length(form: LengthForm, count: usize, out: &mut Vec<u8>) -> Result<(), Memory>
+    requires { count < 256 ^ byte_len (width_in form) }
+    ensures { Puts result out.old.items out.new.items (to_le_bytes (width_in form) count) }
+{
+    match form {
+        LengthForm::OneByte => put_byte(count as u8, out),
+        LengthForm::TwoBytes => put_bytes(&(count as u16).to_le_bytes(), out),
+        LengthForm::FourBytes => put_bytes(&(count as u32).to_le_bytes(), out),
+    }
+}
+
 // Appends a length, and the bytes.
 fn put_counted(form: LengthForm, content: &[u8], out: &mut Vec<u8>) -> Result<(), Memory>
     requires { length content.now < 256 ^ byte_len (width_in form) }
     ensures { Puts result out.old.items out.new.items (spec.counted_body form content.now) }
 {
-    match form {
-        LengthForm::OneByte => put_byte(content.len() as u8, out)?,
-        LengthForm::TwoBytes => put_bytes(&(content.len() as u16).to_le_bytes(), out)?,
-        LengthForm::FourBytes => put_bytes(&(content.len() as u32).to_le_bytes(), out)?,
-    }
+    put_length(form, content.len(), out)?;
     put_bytes(content, out)
 }
 
@@ -194,8 +202,8 @@ fn put_known(value: &Scalar, ends: bool, out: &mut Vec<u8>) -> Result<(), Memory
     }
 }
 
-/// Appends the record of one value, which may end the element that holds it. Each value but a QName
-/// may stand there as itself, a text also as an identifier, and a QName's name is one.
+/// Appends the record of one value, which may end the element that holds it. A text may go by the
+/// identifier of a string, and a QName goes by that of its name.
 pub fn put_scalar(value: ScalarChoice<'_>, ends: bool, out: &mut Vec<u8>) -> Result<(), Memory>
     requires valid { IsTrue (is_valid_raw (choice_seen value)) }
     requires fits { IsTrue (fits_raw (choice_seen value)) }
