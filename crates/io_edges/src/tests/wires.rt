@@ -1,5 +1,5 @@
 //! Connections, in memory and over the loopback.
-ghost use Rattle.std.specs.Prelude.{All, IfOk, ◌≡◌, ◌+◌, ◌<◌, ◌≤◌, length, []};
+ghost use Rattle.std.specs.Prelude.{All, IfOk, ◌≡◌, ◌+◌, ◌<◌, []};
 ghost use Rattle.io_edges.specs.Tcp.{wire_out};
 ghost use Rattle.io_edges.specs.Wires.{Untouched, new_wire};
 
@@ -87,12 +87,11 @@ fn memory_wire_fails_where_it_is_told_to(rt: HostRuntime) -> Result<(), Fail> {
     Ok(())
 }
 
-// Takes until so many bytes have come.
-fn taken<S: Source>(source: &mut S, room: &mut [u8]) -> usize
-    ensures { result ≤ length room.new }
-{
+// Takes until the room is full, and answers how many bytes came. A take into no room may wait for a
+// peer's next byte.
+fn taken<S: Source>(source: &mut S, room: &mut [u8]) -> usize {
     let mut len = 0;
-    for _ in 0..16 {
+    while len < room.len() {
         match source.take(&mut room[len..]) {
             Ok(0) | Err(Failed) => return len,
             Ok(n) => len += n,
