@@ -1,3 +1,9 @@
--- the strings of a table, and the fields that hold them
-pub mod StringFacts
+-- the fields that hold the strings of a table
 pub mod TableFacts
+-- texts in one list of bytes
+pub mod PieceFacts
+-- the order of positions
+pub mod CountFacts
+pub mod PairFacts
+pub mod OrderFacts
+pub mod RunFacts

@@ -1,14 +1,16 @@
 -- A table's fields, as the strings and the limit that a contract sees.
-use Rattle.std.specs.Prelude.{◌≡◌, ◌≤◌, ◌^◌, map, string_bytes}
+use Rattle.std.specs.Prelude.{◌≡◌, ◌≤◌, ◌^◌}
 use Rattle.string_tables.specs.SessionStrings.{used_cost}
+use Rattle.session_dictionary.specs.Order.{IsOrder}
 use Rattle.session_dictionary.specs.Strings.{LimitedStrings}
 use Rattle.session_dictionary.specs.declared.table.SessionTable.TheInside.{Inside}
 
 abbrev pub strings_in : Inside → LimitedStrings
-strings_in t = record { strings = map string_bytes t.texts.items; limit = t.limit }
+strings_in t = record { strings = t.texts; limit = t.limit }
 
--- the running cost is that of the strings, and within the limit
+-- the running cost is that of the strings, and within the limit, and the positions are in order
 pub record IsTable (t : Inside) : Type 0 where
-  pub cost_kept : t.used ≡ used_cost (map string_bytes t.texts.items)
+  pub cost_kept : t.used ≡ used_cost t.texts
   pub within : t.used ≤ t.limit
   pub small : t.limit ≤ 2 ^ 30
+  pub order : IsOrder t.texts t.positions.items t.cuts.items

@@ -2,4 +2,6 @@
 pub mod Strings
 pub mod Marks
 -- inside tables
+pub mod Pieces
+pub mod Order
 pub mod Inside

@@ -7,7 +7,9 @@
 //! (`SessionStrings`).
 #![tactic(auto)]
 
+mod order;
 mod table;
+mod texts;
 
 pub use table::{AddFault, Mark, SessionTable};
 

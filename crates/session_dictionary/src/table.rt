@@ -1,11 +1,14 @@
 // The table of one direction's strings.
-ghost use Rattle.std.specs.Prelude.{◌≡◌, ◌≢◌, ℕ, ◌+◌, ◌*◌, ◌^◌, ◌<◌, ◌≤◌, ◌↔◌, [], ◌∷◌, ◌++◌, length, map, take, drop, option_map, string_bytes, Some, IfOk, IfNone, IfSome, IsErrOf, IsTrue, OnOk, OnErr};
+ghost use Rattle.std.specs.Prelude.{◌≡◌, ◌≢◌, ℕ, ◌+◌, ◌*◌, ◌^◌, ◌<◌, ◌≤◌, ◌↔◌, [], ◌∷◌, ◌++◌, length, take, drop, option_map, Some, IfOk, IfNone, IfSome, IsErrOf, IsTrue, OnOk, OnErr};
 ghost use Rattle.std.specs.List.{flat_map};
 ghost use Rattle.multibyte_ints.specs.Text.{string_bytes_of};
 ghost use Rattle.string_tables.specs.SessionStrings.{cost, least_session_id, session_text, used_cost};
 ghost use Rattle.string_tables.specs.StringTable.{IsLeastName};
 ghost use Rattle.session_dictionary.specs.Marks.{IsMarkOf};
+ghost use Rattle.session_dictionary.specs.Order.{IsOrder};
 
+use crate::order::{add_last, cut_off, first_of};
+use crate::texts::Texts;
 use multibyte_ints::put_string;
 use std::alloc::{AllocError, Global};
 use std::marker::Model;
@@ -31,7 +34,9 @@ pub struct Mark {
 #[derive(Drop)]
 pub struct SessionTable {
     alloc: Global,
-    texts: Vec<String>,
+    texts: Texts,
+    positions: Vec<u32>,
+    cuts: Vec<usize>,
     used: u32,
     limit: u32,
 }
@@ -56,7 +61,9 @@ impl SessionTable {
     {
         SessionTable {
             alloc,
-            texts: Vec::new(alloc),
+            texts: Texts::new(alloc),
+            positions: Vec::new(alloc),
+            cuts: Vec::new(alloc),
             used: 0,
             limit,
         }
@@ -69,8 +76,7 @@ impl SessionTable {
         if id % 2 == 0 {
             return None;
         }
-        let text = self.texts.get(id as usize / 2)?;
-        Some(text.as_str())
+        self.texts.get(id as usize / 2)
     }
 
     /// The least identifier of a text.
@@ -80,8 +86,8 @@ impl SessionTable {
         ensures none { IfNone result ((id : ℕ) → session_text self.now.strings id ≢ Some text.now) }
         ensures small { IfSome result (λ id. id < 2 ^ 31) }
     {
-        let place = place_of(&self.texts, text)?;
-        Some(2 * place as u32 + 1)
+        let position = first_of(&self.texts, &self.positions, &self.cuts, text)?;
+        Some(2 * position + 1)
     }
 
     /// What the strings cost together, in bytes.
@@ -125,7 +131,13 @@ impl SessionTable {
             return Err(AddFault::Full);
         }
         let id = 2 * self.texts.len() as u32 + 1;
-        match push_text(self.alloc, &mut self.texts, text) {
+        match push_text(
+            self.alloc,
+            &mut self.texts,
+            &mut self.positions,
+            &mut self.cuts,
+            text,
+        ) {
             Ok(()) => {
                 self.used += cost as u32;
                 Ok(id)
@@ -151,6 +163,7 @@ impl SessionTable {
         ensures { self.new ≡ record self.old { strings = take mark.count self.old.strings } }
     {
         self.texts.truncate(mark.count as usize);
+        cut_off(&mut self.positions, &mut self.cuts, mark.count);
         self.used = mark.used;
     }
 
@@ -162,20 +175,21 @@ impl SessionTable {
             ≡ out.old.items ++ flat_map string_bytes_of (drop mark.count self.now.strings)) }
         ensures unchanged { OnErr result (out.new.items ≡ out.old.items) }
     {
-        put_texts(&self.texts[mark.count as usize..], out)
+        put_texts(&self.texts, mark.count as usize, out)
     }
 }
 
-// Appends texts as Strings.
-fn put_texts(texts: &[String], out: &mut Vec<u8>) -> Result<(), Memory>
-    requires { used_cost (map string_bytes texts.now) ≤ 2 ^ 30 }
+// Appends the texts from a place on as Strings.
+fn put_texts(texts: &Texts, from: usize, out: &mut Vec<u8>) -> Result<(), Memory>
+    requires few { used_cost texts.now ≤ 2 ^ 30 }
+    requires there { from ≤ length texts.now }
     ensures written { OnOk result (out.new.items
-        ≡ out.old.items ++ flat_map string_bytes_of (map string_bytes texts.now)) }
+        ≡ out.old.items ++ flat_map string_bytes_of (drop from texts.now)) }
     ensures unchanged { OnErr result (out.new.items ≡ out.old.items) }
 {
     let start = out.len();
-    for text in texts {
-        if put_string(text.as_str(), out).is_err() {
+    for place in from..texts.len() {
+        if put_string(texts.text_at(place), out).is_err() {
             out.truncate(start);
             return Err(Memory);
         }
@@ -183,27 +197,23 @@ fn put_texts(texts: &[String], out: &mut Vec<u8>) -> Result<(), Memory>
     Ok(())
 }
 
-// Copies a text to the end of the texts.
-fn push_text(alloc: Global, texts: &mut Vec<String>, text: &str) -> Result<(), AllocError>
-    ensures ok { OnOk result (map string_bytes texts.new.items
-        ≡ map string_bytes texts.old.items ++ text.now ∷ []) }
-    ensures err { OnErr result (texts.new.items ≡ texts.old.items) }
+// Copies a text to the end of the texts. All growths come before any change.
+fn push_text(
+    alloc: Global,
+    texts: &mut Texts,
+    positions: &mut Vec<u32>,
+    cuts: &mut Vec<usize>,
+    text: &str,
+) -> Result<(), AllocError>
+    requires few { length texts.old ≤ 2 ^ 30 }
+    requires order { IsOrder texts.old positions.old.items cuts.old.items }
+    ensures ok { OnOk result (texts.new ≡ texts.old ++ text.now ∷ []) }
+    ensures err { OnErr result (texts.new ≡ texts.old) }
+    ensures order { IsOrder texts.new positions.new.items cuts.new.items }
 {
-    let copy = String::from_str(alloc, text)?;
-    texts.push(copy)?;
+    positions.reserve(1)?;
+    cuts.reserve(1)?;
+    texts.push(text)?;
+    add_last(alloc, texts, positions, cuts);
     Ok(())
-}
-
-// The first place that holds the text.
-fn place_of(texts: &[String], text: &str) -> Option<usize>
-    ensures least { option_map (λ place. 2 * place + 1) result
-        ≡ least_session_id (map string_bytes texts.now) text.now }
-    ensures within { IfSome result (λ place. place < length texts.now) }
-{
-    for (place, held) in texts.iter().enumerate() {
-        if held.as_str() == text {
-            return Some(place);
-        }
-    }
-    None
 }

@@ -1,8 +1,9 @@
-use Rattle.std.proofs.Common.{◌≡◌, ◌++◌, map, take, string_bytes}
+use Rattle.std.proofs.Common.{◌≡◌, ◌++◌}
 use Rattle.std.specs.List.{flat_map}
+use Rattle.std.specs.Prelude.{slice_range}
 use Rattle.multibyte_ints.specs.Text.{string_bytes_of}
 use Rattle.session_dictionary.proofs.table.put_texts.Given as goal
 
 -- the texts so far were appended
-abbrev pub invariant-loop-text : goal.invariant-loop-text
-invariant-loop-text l = l.out.items ≡ l.fn.out.items ++ flat_map string_bytes_of (map string_bytes (take l.text-index l.texts))
+abbrev pub invariant-loop-place : goal.invariant-loop-place
+invariant-loop-place l = l.out.items ≡ l.fn.out.items ++ flat_map string_bytes_of (slice_range l.texts l.from l.place)

@@ -1,5 +1,4 @@
-use Rattle.std.proofs.Common.{arith, map, string_bytes}
-use Rattle.std.proofs.lemmas.List.{length-map}
+use Rattle.std.proofs.Common.{arith}
 use Rattle.string_tables.proofs.SessionFacts.{length-le-used_cost}
 use Rattle.session_dictionary.proofs.TableFacts.{texts_few}
 use Rattle.session_dictionary.proofs.table.SessionTable.add.Goals as goal
@@ -13,5 +12,8 @@ overflow_mul-id c = omega (arith, texts_few c.self.inside c.self.invariant)
 pub overflow_add-id : goal.overflow_add-id
 overflow_add-id c = omega (arith, texts_few c.self.inside c.self.invariant)
 
+pub push_text-requires-clause-few : goal.push_text-requires-clause-few
+push_text-requires-clause-few c = texts_few c.self.inside c.self.invariant
+
 pub returns-in-Ok-clause-small : goal.returns-in-Ok-clause-small
-returns-in-Ok-clause-small c = omega (arith, length-le-used_cost (map string_bytes c.self.inside.texts.items), length-map c.self.inside.texts.items string_bytes)
+returns-in-Ok-clause-small c = omega (arith, length-le-used_cost c.self.inside.texts)

@@ -1,0 +1,38 @@
+use Rattle.std.proofs.Common.{◌≡◌, length, refl, arith, rules, sym, ◌∙◌}
+use Rattle.std.specs.Cmp.Lexicographic.{bytes_decides}
+use Rattle.std.specs.Str.{bytes_eq}
+use Rattle.std.proofs.lemmas.Bool.{both_ways}
+use Rattle.std.proofs.lemmas.Fn.{answers_by}
+use Rattle.std.proofs.lemmas.List.{take_all}
+use Rattle.session_dictionary.proofs.RunFacts.{first_found, is_before, none_found, none_past, parted}
+use Rattle.session_dictionary.proofs.order.first_in.Goals as goal
+
+pub returns-in_err-position-clause-none : goal.returns-in_err-position-clause-none
+returns-in_err-position-clause-none c =
+    let strings = c.args.texts.now in
+    let text = c.args.text.now in
+    let point =
+    c.partition_point-place.ensures.partitioned (is_before strings text)
+    (answers_by _ _ (λ f. (f.0.now ≡ strings) × (f.1.now ≡ text)) (λ f a r g k same. search rules) _ (refl, take_all (length text) text (omega arith)))
+    (parted strings text c.args.run.now c.requires) in
+    rw c.from_residual.ensures (none_past strings c.args.text.now c.args.run.now c.partition_point-place.result c.in_err-position.ensures.lookup.3 point)
+
+pub returns-then-eq-clause-found : goal.returns-then-eq-clause-found
+returns-then-eq-clause-found c =
+    let strings = c.args.texts.now in
+    let text = c.args.text.now in
+    let point =
+    c.partition_point-place.ensures.partitioned (is_before strings text)
+    (answers_by _ _ (λ f. (f.0.now ≡ strings) × (f.1.now ≡ text)) (λ f a r g k same. search rules) _ (refl, take_all (length text) text (omega arith)))
+    (parted strings text c.args.run.now c.requires) in
+    first_found strings c.args.text.now c.args.run.now c.partition_point-place.result c.in_ok-position.field-0.now c.requires point c.in_ok-position.ensures.lookup.3.0 c.in_ok-position.ensures.lookup.1 (sym c.text_at.ensures ∙ (bytes_decides c.text_at.result.now c.args.text.now).0 (sym c.eq.ensures ∙ c.if-eq.true))
+
+pub returns-else-eq-clause-none : goal.returns-else-eq-clause-none
+returns-else-eq-clause-none c =
+    let strings = c.args.texts.now in
+    let text = c.args.text.now in
+    let point =
+    c.partition_point-place.ensures.partitioned (is_before strings text)
+    (answers_by _ _ (λ f. (f.0.now ≡ strings) × (f.1.now ≡ text)) (λ f a r g k same. search rules) _ (refl, take_all (length text) text (omega arith)))
+    (parted strings text c.args.run.now c.requires) in
+    none_found strings c.args.text.now c.args.run.now c.partition_point-place.result c.in_ok-position.field-0.now c.requires point c.in_ok-position.ensures.lookup.3.0 c.in_ok-position.ensures.lookup.1 (λ has. both_ways (bytes_eq c.text_at.result.now text) (sym c.eq.ensures ∙ c.if-eq.false) ((bytes_decides c.text_at.result.now text).1 (c.text_at.ensures ∙ has)))

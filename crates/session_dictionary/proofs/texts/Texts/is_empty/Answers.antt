@@ -1,0 +1,7 @@
+use Rattle.std.proofs.Common.{rules, length}
+use Rattle.std.specs.Prelude.{◌==◌}
+use Rattle.session_dictionary.proofs.PieceFacts.{length-pieces}
+use Rattle.session_dictionary.proofs.texts.Texts.is_empty.Goals as goal
+
+pub returns : goal.returns
+returns c = let t = c.self.inside in rw (← c.self.view_is) (rw (length-pieces 0 t.ends.items t.bytes.items) (search rules))

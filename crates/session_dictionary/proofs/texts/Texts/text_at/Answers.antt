@@ -1,0 +1,12 @@
+use Rattle.std.proofs.Common.{◌≡◌, ℕ, suc, zero, List, [], ◌∷◌, get_or, Option, Some, None, sym, refl, arith}
+use Rattle.std.specs.Prelude.{slice_get}
+use Rattle.session_dictionary.proofs.texts.Texts.text_at.Goals as goal
+
+-- where there is nothing, the default stands
+none_there : (xs : List (List ℕ)) (i : ℕ) → None ≡ slice_get xs i → [] ≡ get_or xs i []
+none_there [] i e = refl
+none_there (x ∷ xs) zero e = cc e
+none_there (x ∷ xs) (suc i) e = none_there xs i e
+
+pub returns-in-None : goal.returns-in-None
+returns-in-None c = none_there c.args.self.now c.args.place c.in-None.ensures
