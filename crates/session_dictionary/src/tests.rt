@@ -49,3 +49,36 @@ fn strings_behind_a_mark(rt: HostRuntime) -> Result<(), Fail> {
     );
     Ok(())
 }
+
+// Two strings of each text, in falling order, and what is found of them where some are cut off.
+#[test]
+fn falling_strings(rt: HostRuntime) -> Result<(), Fail> {
+    let mut table = SessionTable::new(rt.alloc(), 4096);
+    for number in 0..1000u32 {
+        let text = format!(in rt.alloc(); "{:03}", (999 - number) / 2)?;
+        assert_eq!(rt; table.add(text.as_str()), Ok(2 * number + 1));
+    }
+    for half in 0..500u32 {
+        let text = format!(in rt.alloc(); "{half:03}")?;
+        assert_eq!(rt; table.id(text.as_str()), Some(1997 - 4 * half));
+    }
+    assert_eq!(rt; table.mark(), Mark { count: 1000, used: 3000 });
+    assert_eq!(rt; table.text(1201), Some("199"));
+    Ok(())
+}
+
+// As many strings as a search through all of them would take hours to find.
+#[test]
+fn million_strings(rt: HostRuntime) -> Result<(), Fail> {
+    let mut table = SessionTable::new(rt.alloc(), 1_073_741_824);
+    for number in 0..1_000_000u32 {
+        let text = format!(in rt.alloc(); "{number:07}")?;
+        assert_eq!(rt; table.add(text.as_str()), Ok(2 * number + 1));
+    }
+    for number in 0..1_000_000u32 {
+        let text = format!(in rt.alloc(); "{number:07}")?;
+        assert_eq!(rt; table.id(text.as_str()), Some(2 * number + 1));
+    }
+    assert_eq!(rt; table.id("1000000"), None);
+    Ok(())
+}

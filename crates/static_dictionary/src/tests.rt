@@ -127,6 +127,22 @@ fn two_faults(rt: HostRuntime) {
     refused(&rt, alloc, b"id,string\n3,a\n0\n", 1, TableKind::Odd);
 }
 
+// As many texts as a search through all of them would take hours to find.
+#[test]
+fn million_texts(rt: HostRuntime) -> Result<(), Fail> {
+    let mut file = String::from_str(rt.alloc(), "id,string\n")?;
+    for number in 0..1_000_000u32 {
+        writeln!(file, "{},{number:07}", 2 * number)?;
+    }
+    let table = StaticTable::read(rt.alloc(), file.as_bytes())?;
+    for number in 0..1_000_000u32 {
+        let text = format!(in rt.alloc(); "{number:07}")?;
+        assert_eq!(rt; table.id(text.as_str()), Some(2 * number));
+    }
+    assert_eq!(rt; table.id("1000000"), None);
+    Ok(())
+}
+
 // Takes what several threads may read at once.
 fn share<T: Sync>(_: &T) {}
 
