@@ -1,5 +1,7 @@
 -- the fields that hold the strings of a table
 pub mod TableFacts
+-- what a call ensures
+pub mod ResultFacts
 -- texts in one list of bytes
 pub mod PieceFacts
 -- the order of positions

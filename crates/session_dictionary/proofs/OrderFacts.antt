@@ -1,18 +1,17 @@
 -- How the order of positions goes on: by one more text, by runs that are joined, and where it is cut.
-use Rattle.std.proofs.Common.{◌≡◌, ℕ, ◌+◌, ◌≤◌, ◌<◌, Bool, true, false, List, [], ◌∷◌, ◌++◌, length, take, drop, get_or, nat_lt, refl, sym, ap, ◌∙◌, subst, arith, add-one, inl, inr, length-append, length-drop}
+use Rattle.std.proofs.Common.{◌≡◌, ℕ, ◌+◌, ◌≤◌, ◌<◌, Bool, true, List, [], ◌∷◌, ◌++◌, length, take, drop, get_or, nat_lt, sym, ◌∙◌, subst, arith, inl, inr, length-append, length-drop}
 use Rattle.std.specs.Prelude.{◌↔◌}
 use Rattle.std.specs.Cmp.{IsStrictWeakOrder, IsTotalOrder}
-use Rattle.std.specs.Cmp.Lexicographic.{slice_cmp}
 use Rattle.std.specs.List.{All, filter}
 use Rattle.std.specs.List.Sorted.{IsPermutation, IsSorted}
-use Rattle.std.specs.Ordering.{is_lt, nat_cmp}
-use Rattle.std.proofs.lemmas.Bool.{cases_Bool, cases_lt, lt-ltb, le-ltb, ltb-true, ltb-false}
+use Rattle.std.specs.Ordering.{is_lt}
+use Rattle.std.proofs.lemmas.Bool.{cases_Bool, cases_lt, lt-ltb, ltb-true, ltb-false}
 use Rattle.std.proofs.lemmas.Cmp.{nat_cmp_total, nat_list_cmp_total, on_total, then_total}
 use Rattle.std.proofs.lemmas.List.{get_or-drop, get_or-take, get_or_append_left, get_or_default, length-take, length-take-le, take-append-drop, take-append-le, take-take, take_at}
-use Rattle.std.proofs.lemmas.List.Elements.{All-append, All-filter, All-get_or, All-push, All-take, All-weaker, filter_passes}
+use Rattle.std.proofs.lemmas.List.Elements.{All-append, All-filter, All-push, All-take, All-weaker, filter_passes}
 use Rattle.std.proofs.lemmas.List.Sorted.{All-permutation, IsPermutation-append_right, ranks_by, sorted_far}
 use Rattle.session_dictionary.specs.Order.{ArePositions, EachPair, InOrder, IsOneRun, IsOrder, by_text, text_of}
-use Rattle.session_dictionary.proofs.CountFacts.{front_le, positions_below, positions_cut, positions_length, positions_moved, positions_push, rest_above}
+use Rattle.session_dictionary.proofs.CountFacts.{positions_below, positions_cut, positions_length, positions_moved, positions_push, rest_above}
 use Rattle.session_dictionary.proofs.PairFacts.{all_front, all_last, all_passing, pair_at, pairs-append, pairs-filter, pairs-push, pairs-take, pairs_from, pairs_turn, take-filter}
 
 -- positions have a total order

@@ -35,7 +35,9 @@ pub struct Mark {
 pub struct SessionTable {
     alloc: Global,
     texts: Texts,
+    /// The positions of all texts, in runs that are each sorted by text.
     positions: Vec<u32>,
+    /// Where a run begins.
     cuts: Vec<usize>,
     used: u32,
     limit: u32,

@@ -62,7 +62,13 @@ fn falling_strings(rt: HostRuntime) -> Result<(), Fail> {
         let text = format!(in rt.alloc(); "{half:03}")?;
         assert_eq!(rt; table.id(text.as_str()), Some(1997 - 4 * half));
     }
-    assert_eq!(rt; table.mark(), Mark { count: 1000, used: 3000 });
+    assert_eq!(rt;
+        table.mark(),
+        Mark {
+            count: 1000,
+            used: 3000
+        }
+    );
     assert_eq!(rt; table.text(1201), Some("199"));
     Ok(())
 }

@@ -1,7 +1,7 @@
-use Rattle.std.proofs.Common.{◌≡◌, ◌≢◌, ◌+◌, ◌<◌, ℕ, ◌∷◌, List, Option, Some, None, length, get_or, sym, refl, ap, ◌∙◌, subst, arith, add-one}
+use Rattle.std.proofs.Common.{◌≡◌, ◌<◌, ℕ, ◌∷◌, List, Option, Some, None, length, get_or, sym, refl, ap, ◌∙◌, subst, arith, add-one}
 use Rattle.std.specs.Option.{IfNone}
 use Rattle.std.proofs.lemmas.Option.{IfSome_then}
-use Rattle.session_dictionary.specs.Order.{IsOrder, IsFirst, text_of}
+use Rattle.session_dictionary.specs.Order.{IsOrder}
 use Rattle.session_dictionary.proofs.CountFacts.{positions_length}
 use Rattle.session_dictionary.proofs.RunFacts.{IsRun, first_upto, none_upto, run_at, run_last}
 use Rattle.session_dictionary.proofs.order.first_of.Goals as goal

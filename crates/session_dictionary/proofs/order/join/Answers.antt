@@ -1,9 +1,9 @@
-use Rattle.std.proofs.Common.{◌≡◌, ◌++◌, ◌+◌, ◌≤◌, ◌<◌, List, ℕ, length, get_or, take, drop, sym, ap, ◌∙◌, subst, arith, length-append, rules, Result, is_ok, true, Ok, Err}
-use Rattle.std.specs.Result.{OnOk}
+use Rattle.std.proofs.Common.{◌≡◌, ◌++◌, ◌+◌, ◌<◌, List, ℕ, length, get_or, take, drop, sym, ap, ◌∙◌, subst, arith, length-append, rules}
 use Rattle.std.specs.List.Sorted.{IsPermutation, IsSorted}
 use Rattle.std.proofs.lemmas.List.{get_or_default, take-append-drop, take_at}
 use Rattle.std.proofs.lemmas.List.Sorted.{length_permutation}
 use Rattle.session_dictionary.specs.Order.{IsOrder, by_text}
+use Rattle.session_dictionary.proofs.ResultFacts.{on_ok}
 use Rattle.session_dictionary.proofs.OrderFacts.{cut_le, order_join}
 use Rattle.session_dictionary.proofs.order.join.Goals as goal
 
@@ -18,10 +18,6 @@ sort_from-requires c =
     let there : c.joined-place.result < length cuts = omega (arith, c.joined-place.ensures, ap length c.deref.ensures.value) in
     let start = c.index-start.result.now in
     rw c.deref_mut.ensures.value (omega (arith, c.index-start.ensures, cut_le c.args.texts.now c.args.positions.now.items cuts c.requires.order c.joined-place.result start there))
-
-on_ok : {T E P : Type 0} (r : Result T E) → is_ok r ≡ true → OnOk r P → P
-on_ok (Ok x) e p = p
-on_ok (Err x) e p = absurd (cc e)
 
 module _ (strings : List (List ℕ)) (old given positions cuts : List ℕ) (k s n : ℕ) (order : IsOrder strings old cuts) (given_is : given ≡ old) (h : k < length cuts) (is : s ≡ get_or cuts k s)
     (n_is : n ≡ length old) (before : take s positions ≡ take s given) (same : IsPermutation (drop s given) (drop s positions)) (sorted : IsSorted (by_text strings) (drop s positions)) where

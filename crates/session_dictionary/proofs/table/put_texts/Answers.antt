@@ -1,9 +1,9 @@
-use Rattle.std.proofs.Common.{◌≡◌, ◌≤◌, ◌<◌, ◌+◌, ◌-◌, ℕ, zero, suc, List, [], ◌∷◌, ◌++◌, length, take, drop, get_or, sym, ap, ◌∙◌, subst, arith, length-drop, Result, Ok, Err, is_ok, true}
+use Rattle.std.proofs.Common.{◌≡◌, ◌≤◌, ◌<◌, ◌+◌, ◌-◌, ℕ, List, [], ◌∷◌, ◌++◌, length, take, drop, get_or, sym, ap, ◌∙◌, arith, length-drop}
 use Rattle.std.specs.List.{flat_map}
 use Rattle.std.specs.Prelude.{slice_range}
-use Rattle.std.specs.Result.{OnOk}
-use Rattle.std.proofs.lemmas.List.{flat_map_more, get_or-drop, take_more, take_rest}
+use Rattle.std.proofs.lemmas.List.{flat_map_more, get_or-drop, take_more}
 use Rattle.multibyte_ints.specs.Text.{string_bytes_of}
+use Rattle.session_dictionary.proofs.ResultFacts.{on_ok}
 use Rattle.session_dictionary.proofs.table.put_texts.Goals as goal
 
 -- one more of the texts from a place on
@@ -12,10 +12,6 @@ one_more texts from place low high =
     let next : place + 1 - from ≡ place - from + 1 = omega arith in
     let at : from + (place - from) ≡ place = omega arith in
     ap (λ n. take n (drop from texts)) next ∙ take_more (drop from texts) (place - from) [] (omega (arith, length-drop from texts)) ∙ ap (λ text. slice_range texts from place ++ text ∷ []) (get_or-drop from texts (place - from) [] ∙ ap (λ i. get_or texts i []) at)
-
-on_ok : {T E P : Type 0} (r : Result T E) → is_ok r ≡ true → OnOk r P → P
-on_ok (Ok x) e p = p
-on_ok (Err x) e p = absurd (cc e)
 
 pub loop-place-preserved : goal.loop-place-preserved
 loop-place-preserved c =

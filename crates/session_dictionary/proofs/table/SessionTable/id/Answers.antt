@@ -1,4 +1,4 @@
-use Rattle.std.proofs.Common.{arith, sym, ◌∙◌}
+use Rattle.std.proofs.Common.{arith}
 use Rattle.string_tables.proofs.LeastFacts.{found_least, found_none}
 use Rattle.string_tables.proofs.SessionFacts.{gives_least_session}
 use Rattle.string_tables.specs.SessionStrings.{least_session_id, session_text}

@@ -1,5 +1,4 @@
-use Rattle.std.proofs.Common.{◌≡◌, ℕ, List, [], ◌∷◌, ◌++◌, length, ◌∙◌, sym, ap, subst, arith, rules}
-use Rattle.session_dictionary.specs.Pieces.{AreTexts, pieces}
+use Rattle.std.proofs.Common.{◌≡◌, ◌++◌, length, rules}
 use Rattle.session_dictionary.proofs.PieceFacts.{are-push, pieces-push}
 use Rattle.session_dictionary.proofs.texts.Texts.push.Goals as goal
 

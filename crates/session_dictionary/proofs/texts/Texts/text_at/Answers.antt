@@ -1,4 +1,4 @@
-use Rattle.std.proofs.Common.{◌≡◌, ℕ, suc, zero, List, [], ◌∷◌, get_or, Option, Some, None, sym, refl, arith}
+use Rattle.std.proofs.Common.{◌≡◌, ℕ, suc, zero, List, [], ◌∷◌, get_or, None, refl}
 use Rattle.std.specs.Prelude.{slice_get}
 use Rattle.session_dictionary.proofs.texts.Texts.text_at.Goals as goal
 

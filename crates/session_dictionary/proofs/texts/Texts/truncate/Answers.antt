@@ -1,5 +1,4 @@
-use Rattle.std.proofs.Common.{◌≡◌, ◌≤◌, ℕ, List, [], ◌∷◌, length, take, get_or, ◌∙◌, sym, ap, subst, arith}
-use Rattle.session_dictionary.specs.Pieces.{AreTexts, pieces}
+use Rattle.std.proofs.Common.{◌≤◌, length, ap, arith}
 use Rattle.session_dictionary.proofs.PieceFacts.{are-cut, length-pieces, pieces-cut}
 use Rattle.session_dictionary.proofs.texts.Texts.truncate.Goals as goal
 

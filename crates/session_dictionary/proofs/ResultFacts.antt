@@ -1,0 +1,7 @@
+-- What a call that went well ensures.
+use Rattle.std.proofs.Common.{◌≡◌, Result, Ok, Err, is_ok, true}
+use Rattle.std.specs.Result.{OnOk}
+
+pub on_ok : {T E P : Type 0} (r : Result T E) → is_ok r ≡ true → OnOk r P → P
+on_ok (Ok x) e p = p
+on_ok (Err x) e p = absurd (cc e)
