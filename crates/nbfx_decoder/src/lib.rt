@@ -3,10 +3,10 @@
 //!
 //! The one idea: a payload is units, one behind the other (the size of its table, the table's
 //! strings, nodes), and `specs/Payload` says which may come in which situation, where each leads
-//! and why one is refused, as a grammar of `unit_streams`. `specs/Spelled` says apart from that
-//! which bytes are a payload of a document, by the standards' tables, and `laws` that both are one.
-//! A [`Decoder`] takes a payload's bytes in any pieces and holds of them the bytes of the
-//! unfinished unit alone; what it stands for and shows is in `specs/Standing`.
+//! and why one is refused, as a grammar of `unit_streams`. `nbfx_records` says apart from that
+//! (`specs/Payloads`) which bytes are a payload of a document, by the standards' tables, and `laws`
+//! that both are one. A [`Decoder`] takes a payload's bytes in any pieces and holds of them the
+//! bytes of the unfinished unit alone; what it stands for and shows is in `specs/Standing`.
 #![tactic(auto)]
 
 mod begun;

@@ -44,7 +44,7 @@ use Rattle.nbfx_records.specs.Laws.{ChosenIsShortest}
 use Rattle.nbfx_records.specs.Records.{AreCells, SpellsAs}
 use Rattle.nbfx_records.specs.Shapes.{ArrayShape, AttributeShape, NamedShape, ScalarShape, Shape, ValueShape, adds, bytes_of, named_by, one, qualified_by, repeats, several}
 use Rattle.nbfx_records.specs.TypeBytes.{is_kind, is_letter, text_byte}
-use Rattle.nbfx_records.proofs.ArrayBytes.{array_node, array_says, one_there}
+use Rattle.nbfx_records.proofs.ArrayBytes.{array_says, one_there}
 use Rattle.nbfx_records.proofs.AttributeBytes.{PartIs, attribute_form, declaration_form, element_form}
 use Rattle.nbfx_records.proofs.ChosenShort.{fixed_length, of_utf16, shortest_least, sixteen_length, spelled_long}
 use Rattle.nbfx_records.proofs.KindBytes.{byte_is}

@@ -1,5 +1,5 @@
 -- A node says the same where strings are appended.
-use Rattle.std.proofs.Common.{◌≡◌, ℕ, List, [], ◌∷◌}
+use Rattle.std.proofs.Common.{ℕ, List, [], ◌∷◌}
 use Rattle.nbfx_values.specs.declared.content.ArrayItem.{ArrayItem}
 use Rattle.nbfx_values.specs.declared.content.AttrItem.{AttrItem}
 use Rattle.nbfx_values.specs.declared.content.Item.{Item}

@@ -1,5 +1,5 @@
 -- A node that says what is valid, with no more content and no greater identifiers than 31 bits hold, may be written.
-use Rattle.std.proofs.Common.{◌≡◌, ℕ, ◌+◌, ◌^◌, ◌<◌, ◌≤◌, List, [], ◌∷◌, ◌++◌, length, Bool, true, false, refl, sym, ap, ◌∙◌, subst, arith}
+use Rattle.std.proofs.Common.{◌≡◌, ℕ, ◌+◌, ◌^◌, ◌<◌, ◌≤◌, List, [], ◌∷◌, ◌++◌, length, Bool, true, refl, sym, ap, ◌∙◌, subst, arith}
 use Rattle.std.specs.Prelude.{◌&&◌, nat_le, nat_lt, flat_map, sum_by}
 use Rattle.std.specs.List.{list_all}
 use Rattle.std.specs.Str.{is_utf8}
@@ -15,13 +15,11 @@ use Rattle.nbfx_values.specs.declared.content.ArrayItem.{ArrayItem}
 use Rattle.nbfx_values.specs.declared.content.ArrayKind.{ArrayKind}
 use Rattle.nbfx_values.specs.declared.content.ArrayKind.TheVariants as arrays
 use Rattle.nbfx_values.specs.declared.content.AttrItem.{AttrItem}
-use Rattle.nbfx_values.specs.declared.content.AttrItem.TheVariants as attributes
 use Rattle.nbfx_values.specs.declared.content.Item.{Item}
 use Rattle.nbfx_values.specs.declared.content.Item.TheVariants as items
 use Rattle.nbfx_values.specs.declared.scalars.Scalar.{Scalar}
 use Rattle.nbfx_values.specs.declared.scalars.Scalar.TheVariants as scalars
 use Rattle.nbfx_values.specs.declared.scalars.Value.{Value}
-use Rattle.nbfx_values.specs.declared.scalars.Value.TheVariants as values
 use Rattle.string_tables.specs.StringTable.{StringTable}
 use Rattle.nbfx_records.specs.declared.nodes.NameRef.{NameRef}
 use Rattle.nbfx_records.specs.declared.nodes.NameRef.TheVariants.{Inline, Id}
@@ -35,7 +33,7 @@ use Rattle.nbfx_records.specs.declared.nodes.ArrayNode.{ArrayNode}
 use Rattle.nbfx_records.specs.declared.nodes.Node.{Node}
 use Rattle.nbfx_records.specs.declared.nodes.Node.TheVariants.{EndElement, Comment, Array, Attribute, Xmlns, Element, Text}
 use Rattle.nbfx_records.specs.Meaning.{ArrayMeans, EachMeans, Means, NameMeans, PartMeans, ScalarMeans, ValueMeans, closing, identifiers, ids_of_name, ids_of_part, ids_of_scalar, ids_of_value}
-use Rattle.nbfx_records.specs.Valid.{are_valid_names, fit_names, fits_array, fits_known, fits_name, fits_node, fits_part, fits_raw, fits_text, is_short, is_valid_array, is_valid_known, is_valid_name, is_valid_node, is_valid_part, is_valid_raw, is_valid_text, names_qnames, names_qnames_part, names_qnames_raw, names_qnames_text}
+use Rattle.nbfx_records.specs.Valid.{are_valid_names, fit_names, fits_array, fits_known, fits_node, fits_part, fits_raw, fits_text, is_short, is_valid_array, is_valid_known, is_valid_node, is_valid_part, is_valid_raw, is_valid_text, names_qnames, names_qnames_part, names_qnames_raw, names_qnames_text}
 use Rattle.nbfx_records.specs.WritingLaws.{SaidMayBeWritten}
 
 -- in both ways a record asks for

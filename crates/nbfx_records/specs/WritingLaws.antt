@@ -1,6 +1,6 @@
 -- What holds of what is written by the definitions alone: of nodes, of records one behind the other,
 -- and of the strings of a table.
-use Rattle.std.specs.Prelude.{◌≡◌, ℕ, ◌^◌, ◌<◌, ◌≤◌, ◌&&◌, List, ◌++◌, length, IsTrue, flat_map}
+use Rattle.std.specs.Prelude.{◌≡◌, ℕ, ◌^◌, ◌<◌, ◌≤◌, ◌&&◌, List, ◌++◌, IsTrue, flat_map}
 use Rattle.std.specs.List.{list_all}
 use Rattle.std.specs.Str.{is_utf8}
 use Rattle.multibyte_ints.specs.Text.{string_bytes_of}
