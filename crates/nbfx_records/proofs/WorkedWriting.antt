@@ -1,4 +1,5 @@
--- What is written of the strings of a table, and of which nodes each QName has an identifier: at written ones.
+-- What is written of the strings of a table, and of which nodes each QName has an identifier: at
+-- written ones.
 use Rattle.std.specs.Prelude.{◌≡◌, ℕ, List, [], ◌∷◌, Bool, true, false, codes, map, pos, refl}
 use Rattle.nbfx_values.specs.declared.scalars.Scalar.TheVariants as scalars
 use Rattle.nbfx_records.specs.declared.nodes.NameRef.TheVariants.{Id}
@@ -15,7 +16,8 @@ abbrev StringsRow : Type 0
 StringsRow = List (List ℕ) × List ℕ
 
 abbrev AreWritten : List StringsRow → Type 0
-AreWritten rows = map (λ (r : StringsRow). table_bytes r.0) rows ≡ map (λ (r : StringsRow). r.1) rows
+AreWritten rows = map (λ (r : StringsRow). table_bytes r.0) rows
+    ≡ map (λ (r : StringsRow). r.1) rows
 
 tables : AreWritten (
     ([], 0 ∷ []) ∷
@@ -36,8 +38,11 @@ qnames : AreNamed (
     (EndElement, true) ∷
     (Text (One (Dictionary 2)) true, true) ∷
     (Text (One (QName 0 2)) false, true) ∷
-    (Text (One (Known (scalars.QName 0 (codes "Sender")))) false, false) ∷
-    (Attribute [] (Id 2) (ListOf (Known (scalars.Number (pos 7)) ∷ Known (scalars.QName 0 (codes "a")) ∷ [])), false) ∷
+    (Text (One (Known (scalars.QName 0 (codes "Sender")))) false, false) ∷ (
+      Attribute [] (Id 2) (ListOf (Known (scalars.Number (pos 7))
+          ∷ Known (scalars.QName 0 (codes "a")) ∷ [])),
+      false,
+    ) ∷
     [])
 unfolding records_on_literals
 qnames = refl

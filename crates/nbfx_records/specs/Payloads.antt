@@ -1,5 +1,5 @@
--- Which bytes are a payload of a document (MC-NBFS, and MC-NBFSE where it begins with strings of its
--- own), by the tables of the standards alone.
+-- Which bytes are a payload of a document (MC-NBFS, and MC-NBFSE where it begins with strings of
+-- its own), by the tables of the standards alone.
 use Rattle.std.specs.Prelude.{◌≡◌, ℕ, ◌≤◌, List, [], ◌∷◌, ◌++◌, length}
 use Rattle.multibyte_ints.specs.Integer.{Spells}
 use Rattle.multibyte_ints.specs.Text.{IsString}

@@ -1,5 +1,5 @@
--- What holds of what is written by the definitions alone: of nodes, of records one behind the other,
--- and of the strings of a table.
+-- What holds of what is written by the definitions alone: of nodes, of records one behind the
+-- other, and of the strings of a table.
 use Rattle.std.specs.Prelude.{◌≡◌, ℕ, ◌^◌, ◌<◌, ◌≤◌, ◌&&◌, List, ◌++◌, IsTrue, flat_map}
 use Rattle.std.specs.List.{list_all}
 use Rattle.std.specs.Str.{is_utf8}

@@ -58,8 +58,8 @@ pub fn meanings()
     ensures writable { SaidMayBeWritten }
 {}
 
-/// Records one behind the other are records of the items of all, also where strings are appended. So
-/// are those that are written of nodes.
+/// Records one behind the other are records of the items of all, also where strings are appended.
+/// So are those that are written of nodes.
 pub fn joined_records()
     ensures join { RecordsJoin }
     ensures stay { RecordsStay }

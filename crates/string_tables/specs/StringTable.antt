@@ -55,7 +55,8 @@ pub record IsLeastName (text_of : ℕ → Option (List ℕ)) (text : List ℕ) (
 abbrev pub IsUnnamed : (ℕ → Option (List ℕ)) → List ℕ → Type 0
 IsUnnamed text_of text = (id : ℕ) → text_of id ≢ Some text
 
--- the text's least static identifier, or where no static string is the text its least in the session
+-- the text's least static identifier, or where no static string is the text its least in the
+-- session
 abbrev pub IsChosenName : StringTable → List ℕ → ℕ → Type 0
 IsChosenName table text id =
     IsLeastName (static_text table.statics) text id

@@ -4,7 +4,8 @@ use Rattle.nbfx_records.proofs.put_parts.put_raw_string.Goals as goal
 
 pub returns-in_err-put_integer : goal.returns-in_err-put_integer
 unfolding string_bytes_of
-returns-in_err-put_integer c = put_first c.args.text.now c.from_residual.ensures.0 c.in_err-put_integer.ensures
+returns-in_err-put_integer c = put_first c.args.text.now c.from_residual.ensures.0
+    c.in_err-put_integer.ensures
 
 pub returns : goal.returns
 unfolding string_bytes_of
