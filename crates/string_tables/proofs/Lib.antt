@@ -1,5 +1,5 @@
--- Facts about the words of specs/. LeastFacts is for any look-up; then come one file for each half of a
--- table, EntryFacts for entries that are added to the static strings, and TableFacts and
+-- Facts about the words of specs/. LeastFacts is for any look-up; then come one file for each half
+-- of a table, EntryFacts for entries that are added to the static strings, and TableFacts and
 -- ChosenFacts for both halves.
 pub mod LeastFacts
 pub mod StaticFacts

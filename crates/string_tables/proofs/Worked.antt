@@ -95,8 +95,8 @@ least_in_session : least_id table (codes "x") ≡ Some 5
 unfolding table statics strings
 least_in_session = refl
 
--- a text in both halves, of which the session's identifier is the less; one in the session alone; and
--- one in neither
+-- a text in both halves, of which the session's identifier is the less; one in the session alone;
+-- and one in neither
 brought_too : StringTable
 unfolding statics
 brought_too = record { statics = statics; strings = codes "x" ∷ codes "a" ∷ [] }
