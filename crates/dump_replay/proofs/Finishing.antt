@@ -10,16 +10,16 @@ use Rattle.io_edges.specs.Puts.{PutsAll}
 use Rattle.io_edges.proofs.Putting.{PutsAll-then}
 use Rattle.io_edges.specs.declared.SinkFault.{SinkFault}
 use Rattle.io_edges.specs.declared.SinkFault.TheVariants as faults
+use Rattle.unit_streams.proofs.Telling.{told_nothing}
 use Rattle.nbfx_values.specs.declared.refusals.Offence.{Offence}
 use Rattle.stream_reader.specs.Judging.{offence}
-use Rattle.stream_reader.specs.Stream.{Settings}
+use Rattle.stream_reader.specs.Stream.{Settings, stream}
 use Rattle.dump_replay.specs.declared.reporting.Ending.{Ending}
 use Rattle.dump_replay.specs.declared.reporting.Ending.TheVariants as endings
 use Rattle.dump_replay.specs.declared.report.Detail.{Detail}
 use Rattle.dump_replay.specs.Reporting.{Decides, Breaks, Grows, Reaches, Writes}
 use Rattle.dump_replay.specs.Reading.{AreDue, HasReported, IsAllRead, ReportsAs, done, ended_by, Judges, Reports}
-use Rattle.dump_replay.specs.Report.{report, event_lines}
-use Rattle.dump_replay.proofs.Lines.{nothing_lines}
+use Rattle.dump_replay.specs.Report.{report, event_lines, lines_of}
 use Rattle.dump_replay.proofs.Writing.{told_some, grown_within, put_either}
 use Rattle.dump_replay.proofs.ReportSteps.{known_told, told_as, counted_with, lines_due, puts_grow}
 
@@ -95,7 +95,7 @@ prefix_writes d x h lines w w' g =
           let n : ℕ = g.kept - length h in
           let e : g.kept ≡ length h + n = omega arith in
           let shape : take g.kept (h ++ lines) ≡ h ++ take n lines = ap (λ k. take k (h ++ lines)) e ∙ take-append-add h lines n in
-          let none : w ++ h ++ event_lines d x [] ≡ w ++ h = ap (λ l. w ++ h ++ l) (nothing_lines d x) ∙ append-nil (w ++ h) in
+          let none : w ++ h ++ event_lines d x [] ≡ w ++ h = ap (λ l. w ++ h ++ l) (told_nothing (stream x) (lines_of d)) ∙ append-nil (w ++ h) in
           inl (record { more = take n lines; grown = g.grown ∙ ap (λ l. w ++ l) shape ∙ sym (append_assoc w h (take n lines)) ∙ ap (λ l. l ++ take n lines) (sym none) })
       | inr ge ↦ inr (refl, record { kept = g.kept; grown = g.grown ∙ ap (λ l. w ++ l) (take-append-le g.kept h lines ge) })
     ]

@@ -1,5 +1,4 @@
 -- a run (specs/Reading, Reporting, Running): lines, what is written and read, statuses
-pub mod Lines
 pub mod Writing
 pub mod ReadSteps
 pub mod ReportSteps

@@ -12,10 +12,11 @@ use Rattle.io_edges.specs.declared.SinkFault.{SinkFault}
 use Rattle.io_edges.specs.declared.SinkFault.TheVariants as faults
 use Rattle.unit_streams.specs.Front.{wrong_of}
 use Rattle.unit_streams.specs.Grammar.{next_unit, standing}
-use Rattle.unit_streams.specs.Judging.{given_at, refusal_at, is_over_at, history_from}
+use Rattle.unit_streams.specs.Judging.{given_at, refusal_at, is_over_at}
 use Rattle.unit_streams.specs.Going.{IsGoing, IsPending, IsOpenAt}
 use Rattle.unit_streams.proofs.Standing.{standing_nothing}
 use Rattle.unit_streams.proofs.Passing.{refusal_from, going_refusal}
+use Rattle.unit_streams.proofs.Pieces.{told_due}
 use Rattle.unit_streams.proofs.Pending.{pending_open, pending_unrefused, open_going_on, open_first}
 use Rattle.nbfx_values.specs.declared.refusals.Offence.{Offence}
 use Rattle.nbfx_values.specs.Limits.{IsGood, Limits}
@@ -31,8 +32,7 @@ use Rattle.dump_replay.specs.declared.reporting.Ending.TheVariants as endings
 use Rattle.dump_replay.specs.declared.report.Detail.{Detail}
 use Rattle.dump_replay.specs.Reporting.{Grows, Reaches, Writes}
 use Rattle.dump_replay.specs.Reading.{AreDue, EndsAs, HasRead, HasReported, ReadsOf, ReportsAs}
-use Rattle.dump_replay.specs.Report.{history_lines, report, event_lines}
-use Rattle.dump_replay.proofs.Lines.{open_report}
+use Rattle.dump_replay.specs.Report.{lines_of, report, event_lines}
 use Rattle.dump_replay.proofs.Writing.{told_some}
 
 -- what is told afterwards wherever it was told before
@@ -252,8 +252,7 @@ flush_cut d x p none w w1 w2 held held1 (inr so_far) cut =
 
 -- the lines of what was read are due, whatever follows
 pub lines_due : (d : Detail) (x : Settings) (p : List ℕ) → IsPending (stream x) p → AreDue d x (p ++ []) [] (event_lines d x p)
-lines_due d x p pending more =
-    (history_lines d (history_from (stream x) p more), ap (λ l. report d x (l ++ more)) (append-nil p) ∙ open_report d x p (pending_open (stream x) p pending) more)
+lines_due d x p pending = told_due (stream x) (lines_of d) p (pending_open (stream x) p pending)
 
 -- what was known of the input with no piece more
 pub left_still : (left mid left' : Option (List ℕ)) (p : List ℕ) → ((bytes : List ℕ) → left ≡ Some bytes → (rest : List ℕ) × (mid ≡ Some rest) × (bytes ≡ p ++ rest)) → Told mid left' (λ l l'. l' ≡ l)

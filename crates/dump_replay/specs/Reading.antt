@@ -9,6 +9,7 @@ use Rattle.io_edges.specs.declared.SinkFault.TheVariants as faults
 use Rattle.static_dictionary.specs.declared.fault.TableFault.{TableFault}
 use Rattle.static_dictionary.specs.declared.fault.TableFault.TheVariants as tables
 use Rattle.unit_streams.specs.Going.{IsPending, IsOpenAt}
+use Rattle.unit_streams.specs.Tellers.{AreDue as DueBy}
 use Rattle.nbfx_values.specs.declared.refusals.Offence.{Offence}
 use Rattle.stream_reader.specs.Judging.{offence}
 use Rattle.stream_reader.specs.Stream.{Settings, stream}
@@ -22,7 +23,7 @@ use Rattle.dump_replay.specs.declared.reporting.Ending.TheVariants as endings
 use Rattle.dump_replay.specs.declared.statics.FileFault.{FileFault}
 use Rattle.dump_replay.specs.declared.statics.FileFault.TheVariants as file_faults
 use Rattle.dump_replay.specs.Reporting.{Breaks, Decides, Reaches}
-use Rattle.dump_replay.specs.Report.{report, event_lines}
+use Rattle.dump_replay.specs.Report.{report, event_lines, lines_of}
 use Rattle.dump_replay.specs.Running.{file_note, note_of, status_of}
 use Rattle.dump_replay.specs.Statics.{Has, bad, missing}
 
@@ -37,11 +38,9 @@ abbrev pub done : {A : Type 0} → Result A SinkFault → Result ⊤ SinkFault
 done (Ok a) = Ok tt
 done (Err fault) = Err fault
 
--- with these lines the report of a stream begins at whose front these bytes stand, behind other
--- lines
+-- with these lines the report of a stream goes on at whose front these bytes stand, behind others
 abbrev pub AreDue : Detail → Settings → (bytes before lines : List ℕ) → Type 0
-AreDue d x bytes before lines =
-    (more : List ℕ) → (rest : List ℕ) × (report d x (bytes ++ more) ≡ before ++ lines ++ rest)
+AreDue d x bytes before lines = DueBy (stream x) (lines_of d) bytes before lines
 
 -- what is said of a stream of which p is read, when the bytes y came, and which lines are put then
 abbrev pub ReadsOf : Detail → (List ℕ → Type 0) → Settings → List ℕ → List ℕ

@@ -1,6 +1,5 @@
 -- What a report of an initiator's stream tells, in lines.
 use Rattle.std.specs.Prelude.{ℕ, List, [], ◌∷◌, ◌++◌, length, Option, Some, None, codes}
-use Rattle.std.specs.List.{flat_map}
 use Rattle.std.specs.Fmt.{decimal}
 use Rattle.line_notation.specs.Quoted.{quoted}
 use Rattle.line_notation.specs.Lines.{items_text, with_line_feed}
@@ -16,7 +15,7 @@ use Rattle.nbfx_values.specs.declared.session.Kind.{Kind}
 use Rattle.nbfx_values.specs.declared.session.Mode.{Mode}
 use Rattle.nbfx_values.specs.declared.session.Mode.TheVariants.{Singleton, Duplex, Simplex}
 use Rattle.string_tables.specs.SessionStrings.{used_cost}
-use Rattle.unit_streams.specs.Judging.{History, history, events_of}
+use Rattle.unit_streams.specs.Tellers.{Teller, report as report_by, told_so_far}
 use Rattle.stream_reader.specs.Stream.{Settings, Envelope, StreamEvent, opened, message, ended, stream}
 use Rattle.dump_replay.specs.declared.report.Detail.{Detail}
 use Rattle.dump_replay.specs.declared.report.Detail.TheVariants.{Summary, Whole}
@@ -80,14 +79,19 @@ abbrev pub offence_line_of : Option Offence → List ℕ
 offence_line_of None = []
 offence_line_of (Some o) = offence_line o
 
--- the lines of a history: those of each event, and then the offence's
-abbrev pub history_lines : Detail → History StreamEvent Offence → List ℕ
-history_lines d h = flat_map (told_of d) h.events ++ offence_line_of h.offence
+-- what a report tells: of each event, and then of the offence
+abbrev pub lines_of : Detail → Teller (Unit {0}) StreamEvent Offence
+lines_of d = record {
+  start = tt;
+  told = λ s event. told_of d event;
+  next = λ s event. s;
+  ends = λ s o. offence_line_of o;
+}
 
 -- the report of a stream
-unfoldable pub report : Detail → Settings → List ℕ → List ℕ
-report d x bytes = history_lines d (history (stream x) bytes)
+abbrev pub report : Detail → Settings → List ℕ → List ℕ
+report d x bytes = report_by (stream x) (lines_of d) bytes
 
 -- the lines for the events of bytes so far
-unfoldable pub event_lines : Detail → Settings → List ℕ → List ℕ
-event_lines d x bytes = flat_map (told_of d) (events_of (stream x) bytes)
+abbrev pub event_lines : Detail → Settings → List ℕ → List ℕ
+event_lines d x bytes = told_so_far (stream x) (lines_of d) bytes

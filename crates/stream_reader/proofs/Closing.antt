@@ -1,16 +1,13 @@
--- Behind the event that ends a stream nothing comes.
-use Rattle.std.proofs.Common.{◌≡◌, ℕ, List, true, Option, Some, None, refl, subst}
+-- The events that end a stream close it.
+use Rattle.std.proofs.Common.{◌≡◌, ℕ, true, Option, Some, None, refl, subst}
 use Rattle.std.specs.Option.{option_map}
-use Rattle.unit_streams.specs.Grammar.{standing}
-use Rattle.unit_streams.specs.Judging.{event_at, is_over_at, history_from, only}
-use Rattle.unit_streams.specs.Going.{IsGoing}
-use Rattle.unit_streams.proofs.Passing.{given_some}
-use Rattle.unit_streams.proofs.Standing.{standing_last}
-use Rattle.unit_streams.proofs.Ends.{over_closed}
+use Rattle.unit_streams.specs.Tellers.{Closes}
 use Rattle.nbfx_values.specs.declared.refusals.Offence.{Offence}
 use Rattle.nmf_records.specs.declared.frame.Frame.{Frame}
 use Rattle.nmf_records.specs.declared.frame.Frame.TheVariants as frames
+use Rattle.stream_reader.specs.Laws.{IsInitiators}
 use Rattle.stream_reader.specs.Stream.{Settings, Situation, Stage, record_due, payload_open, StreamUnit, frame, payload_byte, Envelope, StreamEvent, message, ends, envelope_in, payload_begun, with_byte, completed_record, completed_byte, completed, refused_record, refused_byte, refused, stream}
+use Rattle.stream_reader.proofs.Ending.{tells}
 use Rattle.stream_reader.proofs.Grammar.{readable, quiet_over}
 
 -- an event that ends the stream comes without a refusal
@@ -46,16 +43,11 @@ module _ (x : Settings) where
   unit_unrefused z from (frame read) = record_unrefused z from read.frame
   unit_unrefused z from (payload_byte byte) = byte_unrefused z z.stage byte
 
-  last_unrefused : (p : List ℕ) → Unrefused (standing (stream x) p).event (standing (stream x) p).refusal
-  last_unrefused p = standing_last (stream x) (readable x) (λ z from event refusal. Unrefused event refusal) tt (λ z from event refusal b u k e some h. unit_unrefused z from u) p
-
-  module _ (p : List ℕ) (event : StreamEvent) (last : event_at (stream x) p ≡ Some event) (is_end : ends event ≡ true) where
-    end_going : IsGoing (stream x) (standing (stream x) p)
-    unfolding event_at
-    end_going =
-        let g = given_some (standing (stream x) p).begun (standing (stream x) p).event event last in
-        let none : (standing (stream x) p).refusal ≡ None = subst (λ (v : Option StreamEvent). Unrefused v (standing (stream x) p).refusal) g.1 (last_unrefused p) is_end in
-        record { next = rw g.0 ((readable x).nothing (standing (stream x) p).situation (standing (stream x) p).from); last = rw g.0 none }
-
-    pub closed_behind : is_over_at (stream x) p ≡ true → (y : List ℕ) → history_from (stream x) p y ≡ only None
-    closed_behind over y = over_closed (stream x) (readable x) (quiet_over x) y p over end_going
+-- of an initiator's stream
+pub closes : (x : Settings) → IsInitiators x → Closes (stream x) ends
+closes x set = record {
+  readable = readable x;
+  quiet = quiet_over x;
+  tells = tells x set;
+  unrefused = λ z from to u event some is_end. subst (λ (v : Option StreamEvent). Unrefused v (refused x z from u)) some (unit_unrefused x z from u) is_end;
+}

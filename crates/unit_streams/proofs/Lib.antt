@@ -28,3 +28,7 @@ pub mod Units
 pub mod Quiet
 pub mod Along
 pub mod Accepted
+-- what tellers tell (specs/Tellers): of events and histories, of pieces, ends and prefixes;
+-- and of a piece that is used up event by event
+pub mod Telling
+pub mod Pieces

@@ -1,9 +1,10 @@
 -- A small grammar, and what it says of a few streams, by computation alone.
-use Rattle.std.proofs.Common.{◌≡◌, ℕ, ◌+◌, List, [], ◌∷◌, length, take, Bool, true, false, Option, Some, None, refl}
-use Rattle.std.specs.Prelude.{nat_lt, nat_le, ◌==◌, not, ◌&&◌, if◌then◌else◌}
+use Rattle.std.proofs.Common.{◌≡◌, ℕ, ◌+◌, List, [], ◌∷◌, ◌++◌, length, take, Bool, true, false, Option, Some, None, refl}
+use Rattle.std.specs.Prelude.{nat_lt, nat_le, ◌==◌, not, ◌&&◌, ◌||◌, if◌then◌else◌}
 use Rattle.unit_streams.specs.Front.{Front, begun, whole, wrong}
 use Rattle.unit_streams.specs.Grammar.{Grammar, peeled, peel, standing}
-use Rattle.unit_streams.specs.Judging.{event_at, refusal_at, ending_at, history_from, history, goes_on, completes, offends, answer_from, answer}
+use Rattle.unit_streams.specs.Judging.{event_at, refusal_at, ending_at, history_from, history, events_in, events_of, goes_on, completes, offends, answer_from, answer}
+use Rattle.unit_streams.specs.Tellers.{Teller, report, told_so_far, told_along, state_behind}
 
 data Why : Type 0 where
   too_long : Why
@@ -73,6 +74,35 @@ nothing_at_all : history texts [] ≡ record { events = []; offence = Some (at 0
 unfolding history history_from event_at refusal_at ending_at standing peel peeled
 nothing_at_all = refl
 
+-- where the input may end between texts: behind one, and not within one that is begun
+abbrev between_texts : Grammar Bool (List ℕ) (List ℕ) Refusal
+between_texts = record texts { at_end = λ over from n. if over || (from == n) then None else Some (at from cut_off) }
+
+ends_between : history between_texts (1 ∷ 5 ∷ []) ≡ record { events = (5 ∷ []) ∷ []; offence = None }
+unfolding history history_from event_at refusal_at ending_at standing peel peeled
+ends_between = refl
+
+cut_in_begun : history between_texts (1 ∷ 5 ∷ 2 ∷ []) ≡ record { events = (5 ∷ []) ∷ []; offence = Some (at 2 cut_off) }
+unfolding history history_from event_at refusal_at ending_at standing peel peeled
+cut_in_begun = refl
+
+-- an event that tells the offset behind its unit
+abbrev ends_told : Grammar Bool (List ℕ) ℕ Refusal
+ends_told = record {
+  start = false;
+  unit_at = unit_at;
+  after = λ over from text. length text == 0;
+  refused = λ over from text. None;
+  completed = λ over from to text. Some to;
+  is_over = λ over. over;
+  at_length = λ over from n. None;
+  at_end = λ over from n. None;
+}
+
+offsets : history ends_told (2 ∷ 7 ∷ 8 ∷ 1 ∷ 5 ∷ 0 ∷ 99 ∷ []) ≡ record { events = 3 ∷ 5 ∷ 6 ∷ []; offence = None }
+unfolding history history_from event_at refusal_at ending_at standing peel peeled
+offsets = refl
+
 -- pieces: an event at the byte that completes it, a piece that decides nothing, a refusal at its byte
 piece_completes : answer texts (2 ∷ 7 ∷ []) (8 ∷ 1 ∷ 5 ∷ []) ≡ completes 1 (7 ∷ 8 ∷ [])
 unfolding answer answer_from event_at refusal_at standing peel peeled
@@ -90,3 +120,33 @@ piece_offends = refl
 empty_offends : answer texts (1 ∷ 0 ∷ []) [] ≡ offends 0 (at 0 all_zero)
 unfolding answer answer_from event_at refusal_at standing peel peeled
 empty_offends = refl
+
+-- Each text behind its number, and at last how many there were, behind why the stream is refused.
+abbrev numbers : Teller ℕ (List ℕ) Refusal
+numbers = record {
+  start = 0;
+  told = λ n text. n ∷ text;
+  next = λ n text. n + 1;
+  ends = λ n offence. ending offence ++ n ∷ [];
+} where
+  ending : Option Refusal → List ℕ
+  ending None = []
+  ending (Some r) = 200 ∷ r.place ∷ []
+
+-- what is told of a stream that ends, of one that is refused and of one that is cut off
+whole_report : report texts numbers (2 ∷ 7 ∷ 8 ∷ 1 ∷ 5 ∷ 0 ∷ 99 ∷ []) ≡ 0 ∷ 7 ∷ 8 ∷ 1 ∷ 5 ∷ 2 ∷ 3 ∷ []
+unfolding report told_along state_behind history history_from event_at refusal_at ending_at standing peel peeled
+whole_report = refl
+
+refused_report : report texts numbers (1 ∷ 5 ∷ 10 ∷ []) ≡ 0 ∷ 5 ∷ 200 ∷ 2 ∷ 1 ∷ []
+unfolding report told_along state_behind history history_from event_at refusal_at ending_at standing peel peeled
+refused_report = refl
+
+cut_report : report texts numbers (1 ∷ 5 ∷ 3 ∷ 1 ∷ []) ≡ 0 ∷ 5 ∷ 200 ∷ 2 ∷ 1 ∷ []
+unfolding report told_along state_behind history history_from event_at refusal_at ending_at standing peel peeled
+cut_report = refl
+
+-- what is told of the bytes so far
+so_far : told_so_far texts numbers (1 ∷ 5 ∷ 3 ∷ 1 ∷ []) ≡ 0 ∷ 5 ∷ []
+unfolding told_so_far told_along events_of events_in event_at standing peel peeled
+so_far = refl

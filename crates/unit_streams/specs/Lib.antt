@@ -7,3 +7,4 @@ pub mod Going
 pub mod Units
 pub mod Refusals
 pub mod Laws
+pub mod Tellers

@@ -3,10 +3,11 @@
 //! whose situations, units, events and refusals are numbers, by a proof that holds at any types; a crate
 //! with a grammar of its own says it of that.
 
-ghost use Rattle.std.specs.Prelude.{ℕ};
+ghost use Rattle.std.specs.Prelude.{ℕ, Bool};
 ghost use Rattle.unit_streams.specs.Grammar.{Grammar, IsReadable, IsQuietWhenOver};
 ghost use Rattle.unit_streams.specs.Laws.{StandingsGoOn, AnswersAreFirst, CutsChangeNothing, HistoryIsAnswers, PendingHistories, NoUnitGoesOn, EndsAreClosed, OffencesAreFirst, AcceptedOrOffended};
 ghost use Rattle.unit_streams.specs.Refusals.{RefusalsAreThree};
+ghost use Rattle.unit_streams.specs.Tellers.{Teller, Closes, PiecesAdd, EndsAdd, PrefixesTellFronts, OpenTellFronts};
 
 /// A stream stands where it stood before some bytes and went on by them.
 pub fn standings_go_on()
@@ -61,4 +62,23 @@ pub fn refusals_are_three()
 /// may end: what is left behind them has only begun, and no length on the way is too great.
 pub fn accepted_or_offended()
     ensures { (g : Grammar ℕ ℕ ℕ ℕ) → IsReadable g → AcceptedOrOffended g }
+{}
+
+/// What a piece adds to what is told of a stream is said by its answer. An event that ends the
+/// stream, and a refusal, end what is told of it, whatever follows.
+pub fn pieces_add()
+    ensures { (g : Grammar ℕ ℕ ℕ ℕ) (t : Teller ℕ ℕ ℕ) (ends : ℕ → Bool) → Closes g ends
+        → PiecesAdd g t ends }
+{}
+
+/// What the end of the input adds is what is told of the refusal that it is, or of none.
+pub fn ends_add()
+    ensures { (g : Grammar ℕ ℕ ℕ ℕ) (t : Teller ℕ ℕ ℕ) → EndsAdd g t }
+{}
+
+/// What is told of the events of a stream's prefix, or of bytes behind which it may go on, is a
+/// front of what is told of the stream.
+pub fn fronts_are_told()
+    ensures prefixes { (g : Grammar ℕ ℕ ℕ ℕ) (t : Teller ℕ ℕ ℕ) → PrefixesTellFronts g t }
+    ensures on { (g : Grammar ℕ ℕ ℕ ℕ) (t : Teller ℕ ℕ ℕ) → OpenTellFronts g t }
 {}

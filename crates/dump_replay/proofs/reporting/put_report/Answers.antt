@@ -6,12 +6,12 @@ use Rattle.io_edges.specs.Flow.{Told}
 use Rattle.io_edges.specs.Puts.{PutsAll}
 use Rattle.io_edges.specs.declared.SinkFault.{SinkFault}
 use Rattle.io_edges.proofs.Putting.{PutsAll-nothing, PutsAll-then}
+use Rattle.unit_streams.proofs.Telling.{told_nothing}
 use Rattle.stream_reader.specs.Stream.{Settings}
 use Rattle.dump_replay.specs.declared.reporting.Progress.{Progress}
 use Rattle.dump_replay.specs.declared.report.Detail.{Detail}
 use Rattle.dump_replay.specs.Report.{event_lines, report}
 use Rattle.dump_replay.specs.Reading.{AreDue, HasRead, ReadsOf, done}
-use Rattle.dump_replay.proofs.Lines.{nothing_lines}
 use Rattle.dump_replay.proofs.ReportSteps.{counted_with, counted_none, room_is, first_read, first_pending, read_at, reads_at, ends_at, less_left, Came, piece_came, has_reported, lines_due, left_still, taken_still, end_left, end_taken, end_over, after_flush, WritesLines, flush_cut, left_as, taken_as, puts_grow, writes_lines, writes_more, writes_none, writes_some}
 use Rattle.dump_replay.proofs.reporting.put_report.Given.{Over}
 use Rattle.dump_replay.proofs.reporting.put_report.Goals as goal
@@ -32,7 +32,7 @@ loop-end-init g c =
         first_pending x (g.met.E.ReadingEnd.initiators c.args.end) c.requires.room,
         λ bytes e. (bytes, e, refl),
         λ t e. e ∙ ap Some (sym (append-nil t)),
-        rw nothing_lines (PutsAll-nothing _ _ _ _),
+        rw told_nothing (PutsAll-nothing _ _ _ _),
         inl (refl, refl, refl),
       );
     }

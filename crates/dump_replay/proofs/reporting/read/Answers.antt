@@ -1,25 +1,23 @@
-use Rattle.std.proofs.Common.{refl, ◌≡◌, ℕ, ◌-◌, List, [], ◌++◌, length, take, ◌+◌, false, Bool, Option, Some, Result, Ok, Err, sym, ap, ◌∙◌, subst, arith, length-drop}
-use Rattle.std.proofs.lemmas.List.{append-nil, take_rest}
+use Rattle.std.proofs.Common.{refl, ◌≡◌, ℕ, List, [], ◌++◌, length, take, ◌+◌, false, Bool, Option, Some, Result, Ok, Err, sym, ap, ◌∙◌, subst, arith}
+use Rattle.std.proofs.lemmas.List.{append-nil}
 use Rattle.std.proofs.lemmas.Result.{err_from_is_err_and}
 use Rattle.io_edges.specs.Puts.{PutsAll}
 use Rattle.io_edges.specs.declared.SinkFault.{SinkFault}
 use Rattle.io_edges.proofs.Putting.{PutsAll-nothing, PutsAll-then}
 use Rattle.unit_streams.specs.Judging.{event_at, is_over_at, answer}
+use Rattle.unit_streams.proofs.Pieces.{rest_of, rest_length, further, joined, none_due, due_behind, last_due}
 use Rattle.receiver_machine.specs.Saying.{Says, step_for}
 use Rattle.receiver_machine.specs.declared.receiver.Step.{Step}
 use Rattle.receiver_machine.specs.declared.receiver.Step.TheVariants.{More}
 use Rattle.stream_reader.specs.Laws.{IsInitiators}
-use Rattle.stream_reader.specs.Stream.{Settings, StreamEvent, stream}
+use Rattle.stream_reader.specs.Stream.{Settings, StreamEvent, ends, stream}
 use Rattle.stream_reader.specs.declared.reader.ReadRefusal.{ReadRefusal}
-use Rattle.dump_replay.specs.Report.{told_of, event_lines, offence_line}
+use Rattle.dump_replay.specs.Report.{told_of, event_lines, lines_of, offence_line}
 use Rattle.dump_replay.specs.Reading.{HasRead}
-use Rattle.dump_replay.proofs.ReadSteps.{rest_of, ReadsEvent, further, none_due, read_more, event_answered, offence_read, told_at, due_behind, last_due, joined}
+use Rattle.dump_replay.proofs.ReadSteps.{ReadsEvent, stays_open, last_line, read_more, event_answered, offence_read, told_at}
 use Rattle.dump_replay.proofs.reporting.read.Given.{Over}
 use Rattle.dump_replay.proofs.reporting.read.Goals as goal
 use Rattle.dump_replay.proofs.reporting.read.Goals.{After-feed}
-
-rest_length : (piece : List ℕ) (used : ℕ) → length (rest_of piece used) ≡ length piece - used
-rest_length piece used = ap length (take_rest piece used) ∙ length-drop used piece
 
 -- the rest of the piece is fed to an end that has read so far
 module _ (g : Over) (f : After-feed g) (p : List ℕ) (read : HasRead (g.E.ReadingEnd.stands f.args.end.now) (g.E.ReadingEnd.settings f.args.end.now) p) where
@@ -72,7 +70,7 @@ module _ (g : Over) (f : After-feed g) (p : List ℕ) (read : HasRead (g.E.Readi
   module _ (n : ℕ) (step : Step) (b : ReadsEvent f.args.detail x p piece used n step) (settings : g.E.ReadingEnd.settings f.feed.new.self ≡ g.E.ReadingEnd.settings f.loop-answer.end)
       (stands : (b : List ℕ) → g.E.ReadingEnd.stands f.loop-answer.end b → g.E.ReadingEnd.stands f.feed.new.self (b ++ take n rest)) where
     here : event_at (stream (g.E.ReadingEnd.settings f.feed.new.self)) (q ++ take n rest) ≡ Some b.event
-    here = subst (λ s. event_at (stream s) (q ++ take n rest) ≡ Some b.event) (sym (settings ∙ f.loop-answer.invariant.settings)) b.here
+    here = subst (λ s. event_at (stream s) (q ++ take n rest) ≡ Some b.event) (sym (settings ∙ f.loop-answer.invariant.settings)) b.tells.here
 
     line_put : (r : Result (Unit {0}) SinkFault) (w : Option (List ℕ)) (h : List ℕ) (k : ℕ) (m : Bool)
         → ((a : List ℕ) (event : StreamEvent) → g.E.ReadingEnd.stands f.feed.new.self a → event_at (stream (g.E.ReadingEnd.settings f.feed.new.self)) a ≡ Some event → step ≡ step_for event
@@ -94,7 +92,7 @@ loop-answer-init g c =
 pub returns-in-Err-Memory-clause-reads : goal.returns-in-Err-Memory-clause-reads
 returns-in-Err-Memory-clause-reads g c = λ p read.
     let f : After-feed g = (goal.at-returns-in-Err-Memory-clause-reads g c).After-feed in
-    let due = due_behind c.args.detail (x g f p read) (p ++ piece g f p read) (event_lines c.args.detail (x g f p read) p) (lines g f p read) [] _ (lines_are g f p read) (none_due c.args.detail (x g f p read) p (piece g f p read) (used g f p read) (so_far g f p read).on) in
+    let due = due_behind (stream (x g f p read)) (lines_of c.args.detail) (p ++ piece g f p read) (event_lines c.args.detail (x g f p read) p) (lines g f p read) [] _ (lines_are g f p read) (none_due (stream (x g f p read)) (lines_of c.args.detail) ends p (piece g f p read) (used g f p read) (so_far g f p read).on) in
     (lines g f p read, before g f p read, rw append-nil at due)
 
 -- an offence
@@ -107,7 +105,7 @@ returns-in_err-put_offence-in-Err-Offence-clause-reads g c = λ p read.
     rw (r.1, r.2) (
       lines g f p read ++ offence_line o,
       PutsAll-then _ (before g f p read) (rw c.in-Err-Offence.field-0-is at c.in_err-put_offence-in-Err-Offence.ensures),
-      last_due c.args.detail (x g f p read) (p ++ piece g f p read) (event_lines c.args.detail (x g f p read) p) (lines g f p read ++ offence_line o) (λ more. joined _ _ _ (lines g f p read) (offence_line o) (all more).0 (lines_are g f p read)),
+      last_due (stream (x g f p read)) (lines_of c.args.detail) (p ++ piece g f p read) (event_lines c.args.detail (x g f p read) p) (lines g f p read ++ offence_line o) (λ more. joined _ _ _ (lines g f p read) (offence_line o) (all more).0 (lines_are g f p read)),
     )
 
 pub returns-in-Err-Offence-clause-reads : goal.returns-in-Err-Offence-clause-reads
@@ -140,8 +138,8 @@ returns-in_err-put_event-in-Ended-clause-reads g c = λ p read.
     rw (r.1, r.2) (
       lines g f p read ++ told_of c.args.detail b.event,
       line_put g f p read _ _ b c.in-Ok.ensures.settings c.in-Ok.ensures.stands _ _ _ _ _ (λ a event at here is. c.in_err-put_event-in-Ended.ensures a event at here (sym c.in-Ended.is ∙ is)),
-      last_due c.args.detail (x g f p read) (p ++ piece g f p read) (event_lines c.args.detail (x g f p read) p) (lines g f p read ++ told_of c.args.detail b.event)
-          (λ more. joined _ _ _ (lines g f p read) (told_of c.args.detail b.event) (b.last c.in-Ended.is more).0 (lines_are g f p read)),
+      last_due (stream (x g f p read)) (lines_of c.args.detail) (p ++ piece g f p read) (event_lines c.args.detail (x g f p read) p) (lines g f p read ++ told_of c.args.detail b.event)
+          (λ more. joined _ _ _ (lines g f p read) (told_of c.args.detail b.event) (last_line c.args.detail (x g f p read) p (piece g f p read) (used g f p read) c.in-Ok.answer.0 c.in-Ok.answer.1 b c.in-Ended.is more).0 (lines_are g f p read)),
     )
 
 pub returns-in-Ended-clause-reads : goal.returns-in-Ended-clause-reads
@@ -150,7 +148,7 @@ returns-in-Ended-clause-reads g c = λ p read.
     let b = event g f p read c.in-Ok.answer.0 c.in-Ok.answer.1 (λ m. let is_end = c.in-Ended.is in cc) c.in-Ok.ensures.answers in (
       lines g f p read ++ told_of c.args.detail b.event,
       line_put g f p read _ _ b c.in-Ok.ensures.settings c.in-Ok.ensures.stands _ _ _ _ _ (λ a event at here is. c.in_ok-put_event-in-Ended.ensures a event at here (sym c.in-Ended.is ∙ is)),
-      λ more. ((b.last c.in-Ended.is more).1, joined _ _ _ (lines g f p read) (told_of c.args.detail b.event) (b.last c.in-Ended.is more).0 (lines_are g f p read)),
+      λ more. ((last_line c.args.detail (x g f p read) p (piece g f p read) (used g f p read) c.in-Ok.answer.0 c.in-Ok.answer.1 b c.in-Ended.is more).1, joined _ _ _ (lines g f p read) (told_of c.args.detail b.event) (last_line c.args.detail (x g f p read) p (piece g f p read) (used g f p read) c.in-Ok.answer.0 c.in-Ok.answer.1 b c.in-Ended.is more).0 (lines_are g f p read)),
     )
 
 -- an event
@@ -162,14 +160,14 @@ returns-in_err-put_event-in_default-clause-reads g c = λ p read.
     rw (r.1, r.2) (
       lines g f p read ++ told_of c.args.detail b.event,
       line_put g f p read _ _ b c.in-Ok.ensures.settings c.in-Ok.ensures.stands _ _ _ _ _ c.in_err-put_event-in_default.ensures,
-      due_behind c.args.detail (x g f p read) (p ++ piece g f p read) (event_lines c.args.detail (x g f p read) p) (lines g f p read) (told_of c.args.detail b.event) _ (lines_are g f p read) (b.due c.in_default.not-Ended),
+      due_behind (stream (x g f p read)) (lines_of c.args.detail) (p ++ piece g f p read) (event_lines c.args.detail (x g f p read) p) (lines g f p read) (told_of c.args.detail b.event) _ (lines_are g f p read) b.tells.due,
     )
 
 pub loop-answer-smaller : goal.loop-answer-smaller
 loop-answer-smaller g c =
     let f : After-feed g = (goal.at-loop-answer-smaller g c).After-feed in
     let b = event g f c.requires.going.0 c.requires.going.1 c.in-Ok.answer.0 c.in-Ok.answer.1 c.in_default.not-More c.in-Ok.ensures.answers in
-    omega (arith, b.some, b.within, rest_length c.args.piece.now c.loop-answer.used, c.loop-answer.invariant.within)
+    omega (arith, b.tells.some, b.tells.within, rest_length c.args.piece.now c.loop-answer.used, c.loop-answer.invariant.within)
 
 pub loop-answer-preserved : goal.loop-answer-preserved
 loop-answer-preserved g c =
@@ -179,20 +177,20 @@ loop-answer-preserved g c =
     = λ p read. event g f p read n c.in-Ok.answer.1 c.in_default.not-More c.in-Ok.ensures.answers in
     let first = read_on c.requires.going.0 c.requires.going.1 in
     record {
-      within = omega (arith, first.within, rest_length c.args.piece.now c.loop-answer.used, c.loop-answer.invariant.within);
+      within = omega (arith, first.tells.within, rest_length c.args.piece.now c.loop-answer.used, c.loop-answer.invariant.within);
       settings = c.hand_back.ensures.settings ∙ c.in-Ok.ensures.settings ∙ c.loop-answer.invariant.settings;
       reads = λ p read.
           let b = read_on p read in
           let h = so_far g f p read in
-          let on : (q g f p read) ++ take n (rest g f p read) ≡ p ++ take (c.loop-answer.used + n) c.args.piece.now = further c.args.detail (x g f p read) p (piece g f p read) (used g f p read) n b.within in
+          let on : (q g f p read) ++ take n (rest g f p read) ≡ p ++ take (c.loop-answer.used + n) c.args.piece.now = further p (piece g f p read) (used g f p read) n in
           subst
           (λ (a : List ℕ). HasRead (g.E.ReadingEnd.stands c.hand_back.new.self) (g.E.ReadingEnd.settings c.args.end.now) a × (lines : List ℕ) × (event_lines c.args.detail (g.E.ReadingEnd.settings c.args.end.now) a ≡ event_lines c.args.detail (g.E.ReadingEnd.settings c.args.end.now) p ++ lines)
           × PutsAll lines (Ok tt) (g.O.Sink.written c.args.output.now) (g.O.Sink.written c.put_event-in_default.new.output) (g.O.Sink.held c.args.output.now) (g.O.Sink.held c.put_event-in_default.new.output)
           (g.O.Sink.faults c.args.output.now) (g.O.Sink.faults c.put_event-in_default.new.output) (g.O.Sink.may_want c.args.output.now) (g.O.Sink.may_want c.put_event-in_default.new.output))
           on (
-            record { stands_for = c.hand_back.ensures.stands _ (c.in-Ok.ensures.stands _ h.stands_for); on = b.stays_open c.in_default.not-Ended },
+            record { stands_for = c.hand_back.ensures.stands _ (c.in-Ok.ensures.stands _ h.stands_for); on = stays_open c.args.detail (x g f p read) p (piece g f p read) (used g f p read) n c.in-Ok.answer.1 b c.in_default.not-Ended },
             lines g f p read ++ told_of c.args.detail b.event,
-            joined _ _ _ (lines g f p read) (told_of c.args.detail b.event) b.lines (lines_are g f p read),
+            joined _ _ _ (lines g f p read) (told_of c.args.detail b.event) b.tells.told (lines_are g f p read),
             line_put g f p read _ _ b c.in-Ok.ensures.settings c.in-Ok.ensures.stands _ _ _ _ _ c.in_ok-put_event-in_default.ensures,
           );
     }
