@@ -10,6 +10,9 @@ pub mod Records
 pub mod Causes
 pub mod Faults
 pub mod Short
+-- what is written of a record (specs/Writing)
+pub mod Written
+mod WorkedWriting
 -- a reader (specs/Reader): where bytes lead, where it stands then, which text it shows
 pub mod TextBytes
 pub mod Leading

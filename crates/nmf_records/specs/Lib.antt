@@ -4,6 +4,7 @@ pub mod Reading
 pub mod Reader
 pub mod Script
 pub mod Laws
+pub mod Writing
 -- cited by private calls
 pub mod Steps
 pub mod Advancing

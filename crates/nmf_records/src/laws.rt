@@ -5,6 +5,7 @@ ghost use Rattle.std.specs.Prelude.{ℕ};
 ghost use Rattle.unit_streams.specs.Front.{ReadsFront};
 ghost use Rattle.nmf_records.specs.declared.frame.Expect.{Expect};
 ghost use Rattle.nmf_records.specs.Reading.{frame_at};
+ghost use Rattle.nmf_records.specs.Writing.{WrittenAreRecords, WrittenAreRead};
 ghost use Rattle.nmf_records.specs.Laws.{RecordsAreRead, NoRecordGoesOn, BegunIsShort, WholeIsShort, WrongIsShort, UnknownByType, UnexpectedByType, BadByInteger, BadByLength, BadByText, ScriptsLeadToEnd, NoScriptGoesOn};
 
 /// A record is known by its own bytes: it is wrong or whole at the byte that shows it, whatever
@@ -36,6 +37,12 @@ pub fn faults()
     ensures bad_int { BadByInteger }
     ensures text_too_long { BadByLength }
     ensures text_not_utf8 { BadByText }
+{}
+
+/// What is written of a record is the record, and is read back as it, whatever follows.
+pub fn writers()
+    ensures written { WrittenAreRecords }
+    ensures read { WrittenAreRead }
 {}
 
 /// The scripts of the grammar are the lists of records of which each may come where those before it

@@ -15,18 +15,25 @@
 //! Which records may come is the script of a session: `Due` says what may come next in the stream of a
 //! direction and where each record leads. `IsScript` of `specs/Script.antt` is the same as a grammar on
 //! lists of records.
+//!
+//! `put_head` and `put_text_frame` write what `frame_bytes` of `specs/Writing.antt` says, with the
+//! shortest spelling of each size, and `laws` has that this is the record, which is read back as it.
 #![tactic(auto)]
 
+mod fault_texts;
 mod frame;
 pub mod laws;
 mod reader;
 pub mod record_types;
 mod script;
 mod stage;
+mod writing;
 
+pub use fault_texts::fault_text;
 pub use frame::{Expect, Frame, FrameFault, FrameRefusal, FrameStep};
 pub use reader::FrameReader;
 pub use script::{Direction, Due};
+pub use writing::{put_head, put_text_frame};
 
 #[cfg(test)]
 mod tests;

@@ -88,3 +88,23 @@ fn a_fault_is_repeated(rt: HostRuntime) -> Result<(), Fail> {
     }
     Ok(())
 }
+
+#[test]
+fn what_is_written_is_read(rt: HostRuntime) -> Result<(), Fail> {
+    let mut out = Vec::new(rt.alloc());
+    put_text_frame(record_types::VIA, "net.tcp://h/e", &mut out).map_err(|_| "no memory")?;
+    assert_eq!(rt; out.as_slice(), b"\x02\x0Dnet.tcp://h/e".as_slice());
+    let mut head = [0xFF; 8];
+    let used = put_head(Frame::SizedEnvelope(65_537), &mut head);
+    assert_eq!(rt; used, 4);
+    assert_eq!(rt; head, [0x06, 0x81, 0x80, 0x04, 0xFF, 0xFF, 0xFF, 0xFF]);
+    let mut reader = FrameReader::new(rt.alloc(), 2048).map_err(|_| "no memory")?;
+    let read = reader.feed(&out, Expect::Types(1 << 2));
+    assert_eq!(rt; read, Ok((15, FrameStep::Done(Frame::Via))));
+    let read = reader.feed(&head, Expect::Types(1 << 6));
+    assert_eq!(rt;
+        read,
+        Ok((4, FrameStep::Done(Frame::SizedEnvelope(65_537))))
+    );
+    Ok(())
+}
