@@ -1,5 +1,5 @@
 -- What a decoder's public calls answer, and what they leave.
-use Rattle.std.proofs.Common.{◌≡◌, ℕ, suc, ◌+◌, ◌<◌, ◌≤◌, ◌^◌, ◌↔◌, ◌⊎◌, inl, inr, List, [], ◌∷◌, ◌++◌, length, take, false, Option, Some, None, Result, Ok, Err, refl, sym, ap, ◌∙◌, subst, arith, length-append}
+use Rattle.std.proofs.Common.{◌≡◌, ℕ, suc, ◌+◌, ◌*◌, ◌<◌, ◌≤◌, ◌^◌, ◌↔◌, ◌⊎◌, inl, inr, List, [], ◌∷◌, ◌++◌, length, take, false, Option, Some, None, Result, Ok, Err, refl, sym, ap, ◌∙◌, subst, arith, length-append}
 use Rattle.unit_streams.specs.Front.{Front, begun, whole, wrong}
 use Rattle.unit_streams.specs.Parts.{◌>>=◌, seen}
 use Rattle.unit_streams.specs.Grammar.{Standing, standing}
@@ -34,7 +34,8 @@ use Rattle.nbfx_decoder.specs.declared.section.Section.TheVariants.{TableSize, S
 use Rattle.nbfx_decoder.specs.Sections.{first_section}
 use Rattle.nbfx_decoder.specs.Faults.{reason_of}
 use Rattle.nbfx_decoder.specs.Payload.{Settings, Situation, PayloadUnit, node, NoEvent, Refusal, place_of, unit_of, unit_in, refusal, after, cut_at, beginning, payload}
-use Rattle.nbfx_decoder.specs.Standing.{settings_of, failure_of, taken_of, situation_of, from_of, begun_of, Reached, StandsSo, StandsFor, Failed, FailedBehind, FailedWithin, ShownBy, FeedAnswers, FinishAnswers}
+use Rattle.nbfx_decoder.specs.Values.{values_of}
+use Rattle.nbfx_decoder.specs.Standing.{IsPlacedAt, settings_of, failure_of, taken_of, situation_of, from_of, begun_of, Reached, StandsSo, StandsFor, Failed, FailedBehind, FailedWithin, ShownBy, FeedAnswers, FinishAnswers}
 use Rattle.nbfx_decoder.specs.Taking.{AllAnswers}
 use Rattle.nbfx_decoder.specs.Units.{HasStrings, IsAt, Keeps, KeepsSettings}
 use Rattle.string_tables.specs.SessionStrings.{used_cost}
@@ -193,10 +194,11 @@ module _ (d mid : Decoder) (strings : List (List ℕ)) (p y : List ℕ) (h : Sta
     all_kept : KeepsSettings d.units new.units
     all_kept = settings_through kept (keeps_settings same)
 
-    failed_at : (q : List ℕ) (at : ℕ) → HasStrings mid.units (settings_of d) (situation_of (settings_of d) strings q).strings at → FailedBehind new told strings q
-    failed_at q at set =
+    failed_at : (q : List ℕ) (at : ℕ) → HasStrings mid.units (settings_of d) (situation_of (settings_of d) strings q).strings at → IsPlacedAt told mid.units.from → FailedBehind new told strings q
+    failed_at q at set place =
         failed_of new (settings_of d) told strings q (settings_kept d new all_kept) (record {
           failure = failure;
+          place = subst (IsPlacedAt told) (sym from) place;
           strings_are = strings_kept same set refl;
           no_bytes = no_bytes;
           no_items = no_items;
@@ -234,7 +236,7 @@ module _ (d mid : Decoder) (strings : List (List ℕ)) (p y : List ℕ) (h : Sta
             before = unrefused_before n quiet;
             shown = subst (λ (t : DecodeFault). ShownBy t (length p + n)) (sym (told_as reason k n at is quiet.within sum set.from_is)) refl;
             wanted = λ memory. let bad = sym (told_as reason k n at is quiet.within sum set.from_is) ∙ memory in cc;
-            behind = failed_at (p ++ take n y) at set;
+            behind = failed_at (p ++ take n y) at set (subst (λ (t : DecodeFault). IsPlacedAt t mid.units.from) (sym (told_as reason k n at is quiet.within sum set.from_is)) set.from_is);
           }
           by_fault Memory is (n, at, quiet, more, none, set) =
               let s : ShowsFault mid.units.from Memory told = subst (λ (f : UnitFault). ShowsFault mid.units.from f told) is shows in
@@ -244,7 +246,7 @@ module _ (d mid : Decoder) (strings : List (List ℕ)) (p y : List ℕ) (h : Sta
                 before = unrefused_before n quiet;
                 shown = subst (λ (t : DecodeFault). ShownBy t (length p + n)) (sym s) tt;
                 wanted = λ memory. (more, ap (λ s. refusal_at (payload s strings) (p ++ take n y)) (settings_kept d new all_kept) ∙ none);
-                behind = failed_at (p ++ take n y) at set;
+                behind = failed_at (p ++ take n y) at set (subst (λ (t : DecodeFault). IsPlacedAt t mid.units.from) (sym s) tt);
               }
 
 -- before the nodes there are no items
@@ -334,11 +336,12 @@ module _ (d : Decoder) (strings : List (List ℕ)) (p : List ℕ) (h : StandsFor
         by_position (Some (positions.Within inner attributes)) e = refl
 
     -- it fails for good then
-    pub finish_failed : (new : Decoder) (told : DecodeFault) → new.failure ≡ Some told → new.begun ≡ [] → new.units.document ≡ [] → Keeps d.units new.units → FailedBehind new told strings p
-    finish_failed new told failure no_bytes no_items same =
+    pub finish_failed : (new : Decoder) (told : DecodeFault) → new.failure ≡ Some told → new.begun ≡ [] → new.units.document ≡ [] → Keeps d.units new.units → IsPlacedAt told new.units.from → FailedBehind new told strings p
+    finish_failed new told failure no_bytes no_items same place =
         let set = (reached_of d strings p h).at.set in
         failed_of new (settings_of d) told strings p (settings_kept d new (keeps_settings same)) (record {
           failure = failure;
+          place = place;
           strings_are = strings_kept same set refl;
           no_bytes = no_bytes;
           no_items = no_items;
@@ -352,6 +355,13 @@ module _ (d : Decoder) (strings : List (List ℕ)) (p : List ℕ) (h : StandsFor
         let place = (reached_of d strings p h).at.set.from_is in
         rw (shows (omega (arith, size, le, most, gone, bytes))) (cut_there ∙ ap (λ n. Some (refusal n DocumentCut)) (sym (gone ∙ place)), omega (arith, size, gone, bytes))
 
+    pub finish_place : (told : DecodeFault) (from len new : ℕ) → from ≡ d.units.from → len ≡ length d.begun → new ≡ from → ShowsFault from (Refused DocumentCut len) told → IsPlacedAt told new
+    finish_place told from len new gone bytes same shows =
+        let size = counts_taken d strings p h in
+        let le = (stands_as d strings p h).within in
+        let most = payload_small d in
+        rw (shows (omega (arith, size, le, most, gone, bytes))) same
+
 -- what the decoder shows of what it stands for
 module _ (d : Decoder) (strings : List (List ℕ)) (p : List ℕ) (h : StandsFor d strings p) where
   pub raw_here : length d.begun ≡ length (begun_of (settings_of d) strings p)
@@ -359,6 +369,12 @@ module _ (d : Decoder) (strings : List (List ℕ)) (p : List ℕ) (h : StandsFor
 
   bounds : KeepsWithin (settings_of d).limits strings (situation_of (settings_of d) strings p) (from_of (settings_of d) strings p)
   bounds = keeps_within (settings_of d) strings (readable (settings_of d) strings) p
+
+  pub items_few : length (situation_of (settings_of d) strings p).items ≤ 2 * length p
+  items_few = let le = bounds.few_items in let place = standing_length (payload (settings_of d) strings) (readable (settings_of d) strings) p in omega (arith, le, place)
+
+  pub values_few : values_of (situation_of (settings_of d) strings p).items ≤ length p
+  values_few = let le = bounds.few_values in let place = standing_length (payload (settings_of d) strings) (readable (settings_of d) strings) p in omega (arith, le, place)
 
   pub content_small : content_of d.units.document ≤ (settings_of d).limits.content
   content_small = let le = bounds.content in let same = ap content_of (items_here d strings p h) in omega (arith, le, same)
@@ -397,6 +413,9 @@ module _ (d : Decoder) (fault : DecodeFault) (strings : List (List ℕ)) (p : Li
   pub failed_table : d.units.table ≡ record { strings = (situation_of (settings_of d) strings p).strings; limit = (settings_of d).limits.dictionary }
   failed_table = failed_here.strings_are.table
 
+  pub failed_place : IsPlacedAt fault d.units.from
+  failed_place = failed_here.place
+
   pub failed_bytes : d.begun ≡ []
   failed_bytes = failed_here.no_bytes
 
@@ -434,6 +453,7 @@ module _ (d new : Decoder) (items : new.units.document ≡ d.units.document) (se
       let f = failed_here d fault strings p h in
       failed_of new (settings_of d) fault strings p settings_stay (record {
         failure = failure ∙ f.failure;
+        place = subst (IsPlacedAt fault) (sym from) f.place;
         strings_are = subst (λ (n : ℕ). HasStrings new.units (settings_of d) (situation_of (settings_of d) strings p).strings n) (sym from) (set_stays (settings_of d) _ _ f.strings_are);
         no_bytes = bytes ∙ f.no_bytes;
         no_items = items ∙ f.no_items;

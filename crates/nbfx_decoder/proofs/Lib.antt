@@ -6,6 +6,7 @@ mod WorkedRefusals
 -- one after the other (meaning.rt). Places: where nodes stand, and where their items lead.
 pub mod Readable
 pub mod MeaningFacts
+pub mod MeasureFacts
 pub mod Places
 -- what the functions of strings.rt, units.rt and decoder.rt answer
 pub mod Waits

@@ -1,13 +1,18 @@
 -- A whole record is read where it stands, and what it means is put behind the items.
-use Rattle.std.proofs.Common.{◌≡◌, ℕ, ◌+◌, ◌^◌, ◌<◌, ◌≤◌, List, [], ◌++◌, length, Result, Ok, Err, inr, refl, sym, ap, ◌∙◌, subst, arith}
+use Rattle.std.proofs.Common.{◌≡◌, ℕ, ◌+◌, ◌^◌, ◌<◌, ◌≤◌, List, [], ◌++◌, length, Option, Some, None, Result, Ok, Err, inr, refl, sym, ap, ◌∙◌, subst, arith}
 use Rattle.std.specs.Prelude.{IsErrAnd, IsTrue}
 use Rattle.std.proofs.lemmas.Result.{err_from_is_err_and}
 use Rattle.std.proofs.lemmas.List.{append-nil}
+use Rattle.std.proofs.lemmas.List.Sums.{sum_by-append}
 use Rattle.unit_streams.specs.Front.{begun, whole}
 use Rattle.unit_streams.specs.Parts as parts
 use Rattle.unit_streams.proofs.Fronts.{whole_some}
 use Rattle.multibyte_ints.specs.Integer.{IsBytes}
-use Rattle.nbfx_values.specs.Positions.{position_of}
+use Rattle.nbfx_values.specs.Measures.{capped, content_of, item_content}
+use Rattle.nbfx_values.specs.declared.content.Item.{Item}
+use Rattle.nbfx_values.specs.declared.refusals.Reason.TheVariants.{UnknownString, TooMuchContent}
+use Rattle.string_tables.specs.StringTable.{StringTable}
+use Rattle.nbfx_values.specs.declared.refusals.Reason.{Reason}
 use Rattle.nbfx_records.specs.declared.nodes.Node.{Node}
 use Rattle.nbfx_records.specs.declared.nodes.NodeFault.{NodeFault}
 use Rattle.nbfx_records.specs.declared.nodes.NodePlace.{NodePlace}
@@ -22,7 +27,9 @@ use Rattle.nbfx_records.specs.Contents.{contents}
 use Rattle.nbfx_records.specs.Places.{Stands}
 use Rattle.nbfx_records.specs.Reading.{node_at}
 use Rattle.nbfx_records.specs.Cursor.{IsWhole, Stops}
-use Rattle.nbfx_records.specs.Judged.{Made, Makes}
+use Rattle.nbfx_records.specs.Judged.{Makes}
+use Rattle.nbfx_records.specs.Meaning.{items_of}
+use Rattle.nbfx_records.proofs.ValueBytes.{mapped_some}
 use Rattle.nbfx_records.specs.Shapes.{Shape, ends_element, shape_at}
 use Rattle.nbfx_records.specs.declared.nodes.Node.TheVariants.{EndElement}
 use Rattle.nbfx_records.proofs.CursorFacts.{further_whole}
@@ -35,11 +42,12 @@ use Rattle.nbfx_decoder.specs.declared.faults.UnitFault.TheVariants.{Refused, Me
 use Rattle.nbfx_decoder.specs.declared.section.Section.TheVariants.{Nodes}
 use Rattle.nbfx_decoder.specs.declared.units.UnitRead.{UnitRead}
 use Rattle.nbfx_decoder.specs.declared.units.UnitReader.{UnitReader}
-use Rattle.nbfx_decoder.specs.Faults.{unmade}
-use Rattle.nbfx_decoder.specs.Payload.{Settings, Situation, node, place_of}
+use Rattle.nbfx_decoder.specs.Payload.{Settings, Situation, node, refused, unit_in}
 use Rattle.nbfx_decoder.specs.declared.units.UnitRead.TheVariants as units_read
-use Rattle.nbfx_decoder.specs.Units.{AddAnswers, HasShape, IsAt, MakesOfRecord, Keeps, KeepsSettings, Reads, SayAnswers, UnitAnswers, place_in}
-use Rattle.nbfx_decoder.proofs.UnitSteps.{node_stands, node_unread, node_whole, passed}
+use Rattle.nbfx_decoder.specs.Units.{HasShape, IsAdded, IsAt, Judged, Judges, MayAdd, MayMake, RefusedAs, unfit, unnamed_in, too_much_in, Keeps, KeepsSettings, Reads, SayAnswers, StandsAt, UnitAnswers, names_in, place_in}
+use Rattle.nbfx_decoder.specs.Faults.{unmade}
+use Rattle.nbfx_decoder.specs.Measuring.{Measured, weigh_node, weighed}
+use Rattle.nbfx_decoder.proofs.UnitSteps.{node_stands, node_unread, node_whole, passed, too_much, unnamed}
 
 -- a record of any shape has some bytes
 shape_of_nothing : (place : NodePlace) → shape_at place [] ≡ begun
@@ -55,9 +63,9 @@ shape_size place bytes shape used h =
     (omega (arith, size.0, same), omega (arith, size.1, same))
 
 -- behind a whole record its bytes are few enough to count
-pub record_few : (r : UnitReader) (made : Result Node Unfit) (used : ℕ) → MakesOfRecord r made used → r.from + used < 2 ^ 32
-record_few r made used it =
-    let size = shape_size (place_in r) it.bytes it.shape used it.has.whole in
+pub record_few : (r : UnitReader) (shape : Shape) (used : ℕ) → StandsAt r shape used → r.from + used < 2 ^ 32
+record_few r shape used it =
+    let size = shape_size (place_in r) it.bytes shape used it.has.whole in
     let few = it.few in
     omega (arith, size.1, few)
 
@@ -79,19 +87,81 @@ module _ (place : NodePlace) (bytes : List ℕ) (shape : Shape) (used : ℕ) (ha
   pub shape_stands : (n : Node) → contents shape ≡ Ok n → Stands place n
   shape_stands n e = node_stands place bytes n used (shape_answers n e)
 
--- its node is put behind the items, or isn't
-pub node_said : (r : UnitReader) (x : Settings) (z : Situation) (from : ℕ) → IsAt r x z from → r.section ≡ Nodes → (bytes : List ℕ) (n : Node) (used : ℕ)
-    → node_at (place_of r.quotas.depth (position_of r.document)) bytes ≡ whole n used → (new : UnitReader) (res : Result (Unit {0}) UnitFault) → AddAnswers x z from n used new res
-    → SayAnswers x z from bytes used new res
-node_said r x z from at here bytes n used is new (Ok done) h = (n, node_whole r x z from at here bytes n used is, h.0, h.1)
-node_said r x z from at here bytes n used is new (Err (Refused reason k)) h = (inr (node n, node_whole r x z from at here bytes n used is ∙ ap (whole (node n)) (sym h.1), h.0), h.2)
-node_said r x z from at here bytes n used is new (Err Memory) h = h
+-- why it is refused by what it says
+module _ (r : UnitReader) (x : Settings) (z : Situation) (from : ℕ) (at : IsAt r x z from) (here : r.section ≡ Nodes) (bytes : List ℕ) (shape : Shape) (used : ℕ)
+    (has : HasShape (place_in r) shape used bytes) where
+  said_whole : (n : Node) → contents shape ≡ Ok n → unit_in x z from bytes ≡ whole (node n) used
+  said_whole n e = node_whole r x z from at here bytes n used (shape_answers (place_in r) bytes shape used has n e)
 
--- no node is made of it
-pub node_unmade : (r : UnitReader) (x : Settings) (z : Situation) (from : ℕ) → IsAt r x z from → r.section ≡ Nodes → (bytes : List ℕ) (shape : Shape) (used : ℕ)
-    → HasShape (place_of r.quotas.depth (position_of r.document)) shape used bytes → (unfit : Unfit) → Made {X = Node} (Err unfit) (contents shape) → SayAnswers x z from bytes used r (Err (unmade unfit used))
-node_unmade r x z from at here bytes shape used has (unfits.Fault fault) e = node_unread r x z from at here bytes (Fault fault used) (shape_refused (place_of r.quotas.depth (position_of r.document)) bytes shape used has fault e)
-node_unmade r x z from at here bytes shape used has unfits.Memory e = at.set
+  refused_at : (n : Node) → contents shape ≡ Ok n → (reason : Reason) (k : ℕ) → k ≡ used → refused x z (node n) ≡ Some reason → UnitAnswers x z from bytes r (Err (Refused reason k))
+  refused_at n e reason k same is = (inr (node n, said_whole n e ∙ ap (whole (node n)) (sym same), is), at.set)
+
+  refused_said : (reason : Reason) (k : ℕ) → k ≡ used → RefusedAs r shape reason → UnitAnswers x z from bytes r (Err (Refused reason k))
+  refused_said reason k same (unfit fault e is) =
+      subst (λ (m : ℕ). UnitAnswers x z from bytes r (Err (Refused reason m))) (sym same)
+      (subst (λ (other : Reason). UnitAnswers x z from bytes r (Err (Refused other used))) (sym is)
+      (node_unread r x z from at here bytes (Fault fault used) (shape_refused (place_in r) bytes shape used has fault e)))
+  refused_said reason k same (unnamed_in n e none is) = refused_at n e reason k same (unnamed r x z from at n None none refl ∙ ap Some (sym is))
+  refused_said reason k same (too_much_in n more e found above is) =
+      refused_at n e reason k same
+      (too_much r x z from at n (Some more) found more refl (r.document ++ more) refl (capped (content_of (r.document ++ more))) refl
+      (let small = r.quotas.good.content_most in omega (arith, above, small)) ∙ ap Some (sym is))
+
+  pub judged_said : (fault : UnitFault) → Judged r shape used (Err fault) → UnitAnswers x z from bytes r (Err fault)
+  judged_said (Refused reason k) h = refused_said reason k h.0 h.1
+  judged_said Memory h = at.set
+
+  -- what it means stands behind the items
+  pub added_said : (n : Node) → contents shape ≡ Ok n → (new : UnitReader) → IsAdded x z from n new → SayAnswers x z from bytes used new
+  added_said n e new is = (n, said_whole n e, is.unrefused, is.at)
+
+-- the node that is made is the one that was judged
+pub made_fits : (r : UnitReader) (shape : Shape) (n : Node) → contents shape ≡ Ok n → MayMake r shape → MayAdd r n
+made_fits r shape n e (other, is, may) = let same : other ≡ n = (let ends : Ok other ≡ Ok n = sym is ∙ e in cc) in subst (MayAdd r) same may
+
+-- a node that counts so much may be added where there is room for it
+module _ (r : UnitReader) (table : StringTable) (same : table ≡ names_in r) where
+  meant_so : (n : Node) (size : ℕ) → weigh_node table n ≡ Some size → (more : List Item) × (items_of (names_in r) n ≡ Some more) × (size ≡ capped (content_of more))
+  meant_so n size e =
+      let it = mapped_some (λ (items : List Item). capped (content_of items)) (items_of table n) size e in
+      (it.0, ap (λ t. items_of t n) (sym same) ∙ it.1, sym it.2)
+
+  pub room_for_node : (n : Node) (size : ℕ) → weigh_node table n ≡ Some size → ((m : ℕ) → size ≡ capped m → content_of r.document + m ≤ r.quotas.content) → MayAdd r n
+  room_for_node n size e room =
+      let it = meant_so n size e in
+      let fits = room (content_of it.0) it.2 in
+      let sum = sum_by-append item_content r.document it.0 in
+      (it.0, it.1, omega (arith, fits, sum))
+
+  unweighed : (o : Option (List Item)) → weighed content_of o ≡ None → o ≡ None
+  unweighed None e = refl
+  unweighed (Some items) e = cc
+
+  module _ (shape : Shape) (used : ℕ) where
+    pub judged_unfit : (why : Unfit) → Measured (contents shape) (weigh_node table) (Err why) → Judges r shape used (Err (unmade why used))
+    judged_unfit (unfits.Fault fault) e = record { judged = (refl, unfit fault e refl) }
+    judged_unfit unfits.Memory e = record { judged = tt }
+
+    pub judged_unnamed : (size : Option ℕ) → size ≡ None → Measured (contents shape) (weigh_node table) (Ok size) → Judges r shape used (Err (Refused UnknownString used))
+    judged_unnamed size none (n, e, counts) =
+        record { judged = (refl, unnamed_in n e (ap (λ t. items_of t n) (sym same) ∙ unweighed (items_of table n) (sym counts ∙ none)) refl) }
+
+    pub judged_room : (size : Option ℕ) (k : ℕ) → size ≡ Some k → Measured (contents shape) (weigh_node table) (Ok size) → ((m : ℕ) → k ≡ capped m → content_of r.document + m ≤ r.quotas.content) → Judges r shape used (Ok tt)
+    judged_room size k some (n, e, counts) room = record { judged = (n, e, room_for_node n k (sym counts ∙ some) room) }
+
+    pub judged_too_much : (size : Option ℕ) (k : ℕ) → size ≡ Some k → Measured (contents shape) (weigh_node table) (Ok size) → ((m : ℕ) → k ≡ capped m → r.quotas.content < content_of r.document + m)
+        → Judges r shape used (Err (Refused TooMuchContent used))
+    judged_too_much size k some (n, e, counts) no_room =
+        let it = meant_so n k (sym counts ∙ some) in
+        let above = no_room (content_of it.0) it.2 in
+        let sum = sum_by-append item_content r.document it.0 in
+        record { judged = (refl, too_much_in n it.0 e it.1 (omega (arith, above, sum)) refl) }
+
+pub never_too_much : (r : UnitReader) (n : Node) (items : List Item) → MayAdd r n → items_of (names_in r) n ≡ Some items → r.quotas.content < capped (content_of (r.document ++ items)) → ⊥
+never_too_much r n items (more, is, fits) found above =
+    let same : more ≡ items = (let both : Some more ≡ Some items = sym is ∙ found in cc) in
+    let size = ap (λ (i : List Item). content_of (r.document ++ i)) same in
+    absurd (omega (arith, fits, size, above))
 
 -- what is answered where it isn't whole
 module _ (place at : NodePlace) (bytes : List ℕ) (stop : Stop) (same : at ≡ place) (told : Stops (shape_at at) (asked.shape_at at) bytes 0 stop) where
@@ -104,22 +174,18 @@ module _ (place at : NodePlace) (bytes : List ℕ) (stop : Stop) (same : at ≡ 
   pub stop_wants : Wants place bytes (stopped_by stop)
   stop_wants = stopped_wants place bytes stop there
 
--- a fault that is handed on
-pub unsaid : (x : Settings) (z : Situation) (from : ℕ) (bytes : List ℕ) (used : ℕ) (new : UnitReader) (fault : UnitFault) (r : Result UnitRead UnitFault) → IsErrAnd r (λ y. y ≡ fault)
-    → SayAnswers x z from bytes used new (Err fault) → UnitAnswers x z from bytes new r
-unsaid x z from bytes used new fault r e h =
-    let p = err_from_is_err_and r e in
-    subst (λ (q : Result UnitRead UnitFault). UnitAnswers x z from bytes new q) (ap Err (sym p.2) ∙ sym p.1) h
-
 -- what a reader leaves that hands a fault on
-pub reads_fault : (r new : UnitReader) (bytes : List ℕ) (used : ℕ) (fault : UnitFault) (res : Result UnitRead UnitFault) → IsErrAnd res (λ y. y ≡ fault)
-    → ((x : Settings) (z : Situation) (from : ℕ) → IsAt r x z from → SayAnswers x z from bytes used new (Err fault)) → KeepsSettings r new → Reads r new bytes res
-reads_fault r new bytes used fault (Ok read) e said kept = absurd e
-reads_fault r new bytes used fault (Err f) e said kept =
-    record { answers = λ x z from at. unsaid x z from bytes used new fault (Err f) e (said x z from at); counts = tt; goes_on = tt; kept = kept }
+pub reads_fault : (r new : UnitReader) (bytes : List ℕ) (fault : UnitFault) (res : Result UnitRead UnitFault) → IsErrAnd res (λ y. y ≡ fault)
+    → ((x : Settings) (z : Situation) (from : ℕ) → IsAt r x z from → UnitAnswers x z from bytes new (Err fault)) → KeepsSettings r new → Reads r new bytes res
+reads_fault r new bytes fault res e said kept = by res (err_from_is_err_and res e)
+  where
+    by : (res : Result UnitRead UnitFault) → (f : UnitFault) × (res ≡ Err f) × (f ≡ fault) → Reads r new bytes res
+    by res p =
+        subst (λ (q : Result UnitRead UnitFault). Reads r new bytes q) (ap Err (sym p.2) ∙ sym p.1)
+        (record { answers = said; counts = tt; goes_on = tt; kept = kept })
 
 -- and one that goes behind a whole unit
-pub reads_done : (r put new : UnitReader) (bytes : List ℕ) (used : ℕ) → ((x : Settings) (z : Situation) (from : ℕ) → IsAt r x z from → SayAnswers x z from bytes used put (Ok tt))
+pub reads_done : (r put new : UnitReader) (bytes : List ℕ) (used : ℕ) → ((x : Settings) (z : Situation) (from : ℕ) → IsAt r x z from → SayAnswers x z from bytes used put)
     → (0 < used) × (used ≤ length bytes) → KeepsSettings r put → put.from ≡ r.from → Keeps put new → new.from ≡ put.from + used → new.section ≡ put.section → new.document ≡ put.document
     → Reads r new bytes (Ok (units_read.Done used))
 reads_done r put new bytes used said size kept same keeps from section items =

@@ -50,7 +50,7 @@ use Rattle.nbfx_decoder.specs.Sections.{section_of, left_in}
 use Rattle.nbfx_decoder.specs.Faults.{reason_of, unread}
 use Rattle.nbfx_decoder.specs.Tables.{TableString, table_string_at}
 use Rattle.nbfx_decoder.specs.Payload.{Settings, Situation, table_size, table_string, node, refusal, place_of, room_for, unit_of, unit_in, table_in, reason_in, added, after, refused}
-use Rattle.nbfx_decoder.specs.Units.{AwaitsBytes, Keeps, IsAt, StringStands, AddAnswers, UnitAnswers}
+use Rattle.nbfx_decoder.specs.Units.{AwaitsBytes, Keeps, IsAt, StringStands, UnitAnswers}
 use Rattle.nbfx_decoder.proofs.Keeping.{strings_kept}
 use Rattle.nbfx_decoder.proofs.Readable.{reads_string, no_string}
 use Rattle.nbfx_decoder.proofs.Places.{stands_behind}
@@ -190,17 +190,6 @@ module _ (r : UnitReader) (x : Settings) (z : Situation) (from : ℕ) (at : IsAt
 
     pub node_wrong : (b : List ℕ) (fault : NodeFault) (k : ℕ) → node_at (place_of r.quotas.depth (position_of r.document)) b ≡ wrong fault k → unit_in x z from b ≡ wrong (refusal from (reason_of fault)) k
     node_wrong b fault k e = node_here b (wrong fault k) e
-
-    -- a whole node that is refused by what it says
-    pub node_refused : (b : List ℕ) (n : Node) (used : ℕ) (new : UnitReader) (fault : UnitFault) (res : Result UnitRead UnitFault) → node_at (place_of r.quotas.depth (position_of r.document)) b ≡ whole n used
-        → IsErrAnd res (λ y. y ≡ fault) → AddAnswers x z from n used new (Err fault) → UnitAnswers x z from b new res
-    node_refused b n used new fault res whole_there e told =
-        let p = err_from_is_err_and res e in
-        subst (λ (q : Result UnitRead UnitFault). UnitAnswers x z from b new q) (ap Err (sym p.2) ∙ sym p.1) (by_fault fault told)
-      where
-        by_fault : (fault : UnitFault) → AddAnswers x z from n used new (Err fault) → UnitAnswers x z from b new (Err fault)
-        by_fault (Refused reason k) h = (inr (node n, node_whole b n used whole_there ∙ ap (whole (node n)) (sym h.1), h.0), h.2)
-        by_fault Memory h = h
 
     -- a node that isn't read
     pub node_unread : (b : List ℕ) (fault : ReadFault) → Answers (place_of r.quotas.depth (position_of r.document)) b (Err fault) → UnitAnswers x z from b r (Err (unread fault))

@@ -1,5 +1,5 @@
 -- The public contracts cite these, up to Laws and with Units, which Standing stands on; Meant,
--- Taking and Answers are for private calls.
+-- Measuring, Taking and Answers are for private calls.
 pub mod Sections
 pub mod Faults
 pub mod Tables
@@ -10,6 +10,7 @@ pub mod Standing
 pub mod Reasons
 pub mod Laws
 pub mod Meant
+pub mod Measuring
 pub mod Units
 pub mod Taking
 pub mod Answers

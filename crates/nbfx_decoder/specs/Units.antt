@@ -1,21 +1,26 @@
 -- What a reader of units answers. The public contracts cite of it, through Standing, where a unit
 -- may come, what it waits for and the strings that it has read.
-use Rattle.std.specs.Prelude.{◌≡◌, ℕ, ◌+◌, ◌-◌, ◌<◌, ◌≤◌, ◌^◌, ◌⊎◌, max, List, ◌++◌, length, Option, Some, None, Result, Ok, Err, IfOk, IfSome, IfNone}
+use Rattle.std.specs.Prelude.{◌≡◌, ⊤, ℕ, ◌+◌, ◌-◌, ◌<◌, ◌≤◌, ◌^◌, ◌⊎◌, max, List, ◌++◌, length, Option, Some, None, Result, Ok, Err, IfOk, IfSome, IfNone}
 use Rattle.unit_streams.specs.Front.{Front, begun, whole, wrong}
+use Rattle.nbfx_values.specs.Measures.{content_of}
 use Rattle.nbfx_values.specs.Positions.{position_of}
+use Rattle.nbfx_values.specs.declared.content.Item.{Item}
 use Rattle.nbfx_values.specs.QuotasOf.{limits_of}
 use Rattle.string_tables.specs.SessionStrings.{cost}
 use Rattle.string_tables.specs.StringTable.{StringTable}
 use Rattle.nbfx_values.specs.declared.refusals.Reason.{Reason}
+use Rattle.nbfx_values.specs.declared.refusals.Reason.TheVariants.{UnknownString, TooMuchContent}
 use Rattle.nbfx_decoder.specs.declared.faults.UnitFault.{UnitFault}
 use Rattle.nbfx_decoder.specs.declared.faults.UnitFault.TheVariants.{Refused, Memory}
 use Rattle.nbfx_records.specs.declared.nodes.Node.{Node}
+use Rattle.nbfx_records.specs.declared.nodes.NodeFault.{NodeFault}
 use Rattle.nbfx_records.specs.declared.nodes.NodePlace.{NodePlace}
 use Rattle.nbfx_records.specs.declared.values.Unfit.{Unfit}
 use Rattle.multibyte_ints.specs.Integer.{IsBytes}
 use Rattle.nbfx_records.specs.Contents.{contents}
 use Rattle.nbfx_records.specs.Cursor.{IsWhole}
 use Rattle.nbfx_records.specs.Judged.{Makes}
+use Rattle.nbfx_records.specs.Meaning.{items_of}
 use Rattle.nbfx_records.specs.Shapes.{Shape, shape_at}
 use Rattle.nbfx_decoder.specs.declared.strings.Head.{Head}
 use Rattle.nbfx_decoder.specs.declared.strings.StringRead.{StringRead}
@@ -23,6 +28,7 @@ use Rattle.nbfx_decoder.specs.declared.strings.StringRead.TheVariants as strings
 use Rattle.nbfx_decoder.specs.declared.units.UnitRead.{UnitRead}
 use Rattle.nbfx_decoder.specs.declared.units.UnitRead.TheVariants.{More, Done}
 use Rattle.nbfx_decoder.specs.declared.units.UnitReader.{UnitReader}
+use Rattle.nbfx_decoder.specs.Faults.{reason_of}
 use Rattle.nbfx_decoder.specs.Tables.{StringHead, head_at, table_string_at}
 use Rattle.nbfx_decoder.specs.Payload.{Settings, Situation, PayloadUnit, node, place_of, refusal, unit_in, after, refused}
 
@@ -141,32 +147,61 @@ pub record ReadsQuickly (old new : UnitReader) (bytes : List ℕ) (result : Opti
   pub read : IfSome result (λ used. Reads old new bytes (Ok (Done used)))
   pub unread : IfNone result (Stays old new)
 
--- what a whole node of so many bytes is answered with
-abbrev pub AddAnswers : Settings → Situation → ℕ → Node → ℕ → UnitReader
-    → Result (Unit {0}) UnitFault → Type 0
-AddAnswers x z from n used new (Ok done) = (refused x z (node n) ≡ None)
-    × IsAt new x (after x z (node n)) from
-AddAnswers x z from n used new (Err (Refused reason shown_by)) =
-    (refused x z (node n) ≡ Some reason) × (shown_by ≡ used) × HasStrings new x z.strings from
-AddAnswers x z from n used new (Err Memory) = HasStrings new x z.strings from
+-- what a node means is known, and no more content than may come behind the items
+abbrev pub MayAdd : UnitReader → Node → Type 0
+MayAdd r n = (more : List Item) × (items_of (names_in r) n ≡ Some more)
+    × (content_of (r.document ++ more) ≤ r.quotas.content)
+
+-- the same of a whole record of this shape
+abbrev pub MayMake : UnitReader → Shape → Type 0
+MayMake r shape = (n : Node) × (contents shape ≡ Ok n) × MayAdd r n
+
+-- what it means stands behind the items
+pub record IsAdded (x : Settings) (z : Situation) (from : ℕ) (n : Node) (new : UnitReader)
+    : Type 0 where
+  pub unrefused : refused x z (node n) ≡ None
+  pub at : IsAt new x (after x z (node n)) from
 
 -- a whole record of this shape stands at the front, of so many bytes
 pub record HasShape (place : NodePlace) (shape : Shape) (used : ℕ) (bytes : List ℕ) : Type 0 where
   pub whole : IsWhole (shape_at place) bytes 0 shape used
 
--- this is made of a whole record of so many bytes, at whose front a reader is
-pub record MakesOfRecord (r : UnitReader) (made : Result Node Unfit) (used : ℕ) : Type 0 where
-  pub shape : Shape
+-- a whole record of this shape, of so many bytes, stands at the front of some at whose front it is
+pub record StandsAt (r : UnitReader) (shape : Shape) (used : ℕ) : Type 0 where
   pub bytes : List ℕ
   pub are : IsBytes bytes
   pub few : r.from + length bytes < 2 ^ 32
   pub has : HasShape (place_in r) shape used bytes
+
+-- this is made of a whole record that stands so
+pub record MakesOfRecord (r : UnitReader) (made : Result Node Unfit) (used : ℕ) : Type 0 where
+  pub shape : Shape
+  pub stands : StandsAt r shape used
   pub makes : Makes made (contents shape)
 
--- what bytes are answered with at whose front a whole record of so many bytes stands
-abbrev pub SayAnswers : Settings → Situation → ℕ → List ℕ → ℕ → UnitReader
-    → Result (Unit {0}) UnitFault → Type 0
-SayAnswers x z from bytes used new (Ok done) =
-    (n : Node) × (unit_in x z from bytes ≡ whole (node n) used) × (refused x z (node n) ≡ None)
-    × IsAt new x (after x z (node n)) from
-SayAnswers x z from bytes used new (Err fault) = UnitAnswers x z from bytes new (Err fault)
+-- what bytes are answered with, at whose front a whole record of so many bytes stands, where what it
+-- means is put behind the items
+abbrev pub SayAnswers : Settings → Situation → ℕ → List ℕ → ℕ → UnitReader → Type 0
+SayAnswers x z from bytes used new = (n : Node) × (unit_in x z from bytes ≡ whole (node n) used)
+    × (refused x z (node n) ≡ None) × IsAt new x (after x z (node n)) from
+
+-- why a whole record is refused by what it says: a text or a value, an identifier, or its content
+pub data RefusedAs (r : UnitReader) (shape : Shape) (reason : Reason) : Type 0 where
+  unfit : (fault : NodeFault) → contents shape ≡ Err fault → reason ≡ reason_of fault
+      → RefusedAs r shape reason
+  unnamed_in : (n : Node) → contents shape ≡ Ok n → items_of (names_in r) n ≡ None
+      → reason ≡ UnknownString → RefusedAs r shape reason
+  too_much_in : (n : Node) (more : List Item) → contents shape ≡ Ok n
+      → items_of (names_in r) n ≡ Some more
+      → r.quotas.content < content_of (r.document ++ more) → reason ≡ TooMuchContent
+      → RefusedAs r shape reason
+
+-- what a whole record of so many bytes is judged to be
+abbrev pub Judged : UnitReader → Shape → ℕ → Result (Unit {0}) UnitFault → Type 0
+Judged r shape used (Ok done) = MayMake r shape
+Judged r shape used (Err (Refused reason shown_by)) = (shown_by ≡ used) × RefusedAs r shape reason
+Judged r shape used (Err Memory) = ⊤
+
+pub record Judges (r : UnitReader) (shape : Shape) (used : ℕ)
+    (result : Result (Unit {0}) UnitFault) : Type 0 where
+  pub judged : Judged r shape used result

@@ -1,10 +1,10 @@
 //! The bytes of a unit that has begun.
 
 ghost use Rattle.std.specs.Prelude.{◌≡◌, [], ◌++◌, length, OnErr, OnOk};
-ghost use Rattle.nbfx_records.specs.Answers.{Answers, ReadsValid, Wants};
+ghost use Rattle.nbfx_records.specs.Resuming.{Fits};
 
+use nbfx_records::Resume;
 use nbfx_records::laws::resumed;
-use nbfx_records::{NodePlace, NodeRead, ReadFault, Resume, read_node_on};
 use std::alloc::Global;
 use std::marker::Model;
 use unit_streams::Memory;
@@ -70,19 +70,20 @@ impl Begun {
         self.resume = Resume::new();
     }
 
-    /// Reads the node at their front, and keeps what was seen of it.
-    pub(crate) fn read_node(
-        &mut self,
-        alloc: Global,
-        place: NodePlace,
-    ) -> Result<NodeRead, ReadFault>
-        ensures read { Answers place self.old result }
-        ensures wants { Wants place self.old result }
-        ensures valid { ReadsValid result }
-        ensures unchanged { self.new ≡ self.old }
+    /// What was seen of them.
+    pub(crate) fn resume(&self) -> Resume
+        ensures { Fits result self.now }
+    {
+        self.resume
+    }
+
+    /// Keeps what is seen of them now.
+    pub(crate) fn keep_resume(&mut self, resume: Resume)
+        requires { Fits resume self.old }
+        ensures { self.new ≡ self.old }
     {
         // What was seen of fewer bytes holds of more.
         resumed();
-        read_node_on(alloc, self.bytes.as_slice(), place, &mut self.resume)
+        self.resume = resume;
     }
 }

@@ -1,6 +1,6 @@
 //! A payload, in any pieces.
 
-ghost use Rattle.std.specs.Prelude.{◌≡◌, ℕ, ◌+◌, ◌-◌, ◌<◌, ◌≤◌, ◌^◌, ◌↔◌, List, [], ◌++◌, length, IfOk, IfErr, OnOk, Ok, Err, Some, None};
+ghost use Rattle.std.specs.Prelude.{◌≡◌, ℕ, ◌+◌, ◌*◌, ◌-◌, ◌<◌, ◌≤◌, ◌^◌, ◌↔◌, List, [], ◌++◌, length, IfOk, IfErr, OnOk, Ok, Err, Some, None};
 ghost use Rattle.nbfx_values.specs.Measures.{content_of, opened_by};
 ghost use Rattle.nbfx_values.specs.QuotasOf.{limits_of};
 ghost use Rattle.string_tables.specs.SessionStrings.{used_cost};
@@ -33,7 +33,8 @@ impl<'s> Decoder<'s> {
     ghost use Rattle.nbfx_values.specs.declared.content.Item.{Item as Content};
     ghost use Rattle.nbfx_decoder.specs.Laws.{IsWholePayload};
     ghost use Rattle.nbfx_decoder.specs.Payload.{Settings};
-    ghost use Rattle.nbfx_decoder.specs.Standing.{settings_of, failure_of, taken_of, held_of, content_held_of, situation_of, begun_of, table_at, Reached, StandsFor, FailedBehind, FailedWithin, WhereItStands, WhereItFailed, FeedAnswers, FinishAnswers};
+    ghost use Rattle.nbfx_decoder.specs.Standing.{settings_of, failure_of, taken_of, held_of, content_held_of, situation_of, begun_of, table_at, Reached, StandsFor, FailedBehind, FailedWithin, WhereItStands, WhereItFailed, IsPlacedAt, FeedAnswers, FinishAnswers};
+    ghost use Rattle.nbfx_decoder.specs.Values.{values_of};
     ghost use Rattle.nbfx_decoder.specs.Taking.{AllAnswers, KeepsRest, TakeAnswers, TakesSome};
     ghost use Rattle.nbfx_decoder.specs.Units.{Keeps, KeepsSettings};
 
@@ -96,6 +97,7 @@ impl<'s> Decoder<'s> {
             (StandsFor self.new (situation_of (settings_of self.old) strings p).strings [])) }
         ensures failed { WhereItStands self.old (λ strings p.
             IfErr result (λ fault. FailedBehind self.new fault strings p)) }
+        ensures takes_none { failure_of self.old ≡ None → result ≡ Err DecodeFault.Memory → ⊥ }
         ensures refused { IfErr result (λ fault. failure_of self.new ≡ Some fault) }
         ensures repeated { (fault : Fault) → failure_of self.old ≡ Some fault → result ≡ Err fault }
         ensures unchanged { (fault : Fault) → failure_of self.old ≡ Some fault
@@ -138,6 +140,11 @@ impl<'s> Decoder<'s> {
         ensures within { WhereItStands self.now (λ strings p.
             (result.raw ≤ (settings_of self.now).limits.payload)
             × (result.content ≤ (settings_of self.now).limits.content)) }
+        // The items that it holds are at most twice as many as the bytes, and their values as many.
+        ensures few_items { WhereItStands self.now (λ strings p.
+            length (situation_of (settings_of self.now) strings p).items ≤ 2 * length p) }
+        ensures few_values { WhereItStands self.now (λ strings p.
+            values_of (situation_of (settings_of self.now) strings p).items ≤ length p) }
         ensures failed { WhereItFailed self.now (λ fault strings p.
             result ≡ record { raw = 0; content = 0 }) }
     {
@@ -149,10 +156,12 @@ impl<'s> Decoder<'s> {
         }
     }
 
-    /// How many bytes of the payload it has taken, of one that isn't refused; 0 before the first one.
+    /// How many bytes of the payload it has taken; 0 before the first one. Of a payload that is
+    /// refused it is the offset at which the refused unit begins.
     pub fn taken(&self) -> u32
         ensures counted { result < 2 ^ 32 - 1 → result ≡ taken_of self.now }
         ensures stands { WhereItStands self.now (λ strings p. result ≡ length p) }
+        ensures placed { WhereItFailed self.now (λ fault strings p. IsPlacedAt fault result) }
     {
         let begun = self.begun.len().min(u32::MAX as usize) as u32;
         self.units.from().saturating_add(begun)
@@ -265,6 +274,7 @@ impl<'s> Decoder<'s> {
     // Fails for good, and holds nothing of the payload any more.
     fn fail(&mut self, fault: UnitFault) -> DecodeFault
         ensures fault { ShowsFault self.old.units.from fault result }
+        ensures memory { result ≡ DecodeFault.Memory → fault ≡ UnitFault.Memory }
         ensures failure { self.new.failure ≡ Some result }
         ensures begun { self.new.begun ≡ [] }
         ensures items { self.new.units.document ≡ [] }

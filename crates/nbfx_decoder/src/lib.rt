@@ -14,6 +14,7 @@ mod decoder;
 mod faults;
 pub mod laws;
 mod meaning;
+mod measuring;
 mod section;
 mod strings;
 mod units;

@@ -56,7 +56,7 @@ pub(crate) struct Lookup<'a> {
 
 impl Lookup<'_> {
     #[inline(always)]
-    fn text(&self, id: u32) -> Option<&str>
+    pub(crate) fn text(&self, id: u32) -> Option<&str>
         ensures { option_map (λ text. text.now) result ≡ named_text (table_of self.now) id }
     {
         if id % 2 == 1 {

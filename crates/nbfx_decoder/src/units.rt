@@ -1,22 +1,21 @@
 //! The units of a payload, each read where all its bytes are there.
 
-ghost use Rattle.std.specs.Prelude.{◌≡◌, ℕ, ◌+◌, ◌<◌, ◌≤◌, ◌^◌, ◌↔◌, true, [], ◌∷◌, ◌++◌, List, length, IfSome, IfNone, IfOk, OnErr, OnOk, OnSome, IsSome, IsErrOf, IsTrue, Err, None};
+ghost use Rattle.std.specs.Prelude.{◌≡◌, ℕ, ◌+◌, ◌<◌, ◌≤◌, ◌^◌, ◌↔◌, true, false, [], ◌∷◌, ◌++◌, List, length, IfSome, IfNone, IfOk, OnErr, OnOk, OnSome, IsSome, IsErrOf, IsTrue, Ok, None, Some};
 ghost use Rattle.std.specs.List.{list_all};
 ghost use Rattle.nbfx_values.specs.Documents.{IsDocument};
 ghost use Rattle.nbfx_values.specs.Measures.{capped, content_of, opened_by};
 ghost use Rattle.nbfx_values.specs.Positions.{position_of};
 ghost use Rattle.nbfx_values.specs.QuotasOf.{limits_of};
 ghost use Rattle.nbfx_values.specs.Items.{is_valid_item};
-ghost use Rattle.nbfx_decoder.specs.Meant.{FindsItems, items_in};
-ghost use Rattle.multibyte_ints.specs.Integer.{IsBytes};
+ghost use Rattle.nbfx_decoder.specs.Meant.{items_in, table_of};
 ghost use Rattle.nbfx_records.specs.Beginning.{BeginsKind, MayStand};
 ghost use Rattle.nbfx_records.specs.Contents.{contents};
 ghost use Rattle.nbfx_records.specs.Judged.{Makes};
 ghost use Rattle.nbfx_records.specs.Meaning.{items_of};
 ghost use Rattle.nbfx_records.specs.Places.{Stands};
 ghost use Rattle.nbfx_records.specs.Shapes.{Shape};
-ghost use Rattle.nbfx_records.specs.Answers.{Answers, ReadsValid, Wants};
-ghost use Rattle.nbfx_records.specs.Views.{record_seen};
+ghost use Rattle.nbfx_records.specs.Resuming.{Fits};
+ghost use Rattle.nbfx_records.specs.Views.{HoldsLists, IsSoundRecord, record_seen};
 ghost use Rattle.nbfx_records.specs.Valid.{is_valid_node};
 ghost use Rattle.nbfx_decoder.specs.Sections.{first_section, left_in};
 
@@ -27,8 +26,8 @@ use crate::section::Section;
 use crate::strings::{StringRead, string_at};
 use multibyte_ints::{IntRead, read_int};
 use nbfx_records::{
-    AttributePart, NameForm, Node, NodePlace, NodeRead, PrefixForm, ReadFault, RecordKind,
-    RecordPart, Resume, ScalarPart, Stop, TextKind, Unfit, ValuePart, attribute_node,
+    AttributePart, NameForm, NamePart, Node, NodePlace, PrefixForm, PrefixPart, ReadFault,
+    RecordKind, RecordPart, Resume, ScalarPart, Stop, TextKind, Unfit, ValuePart, attribute_node,
     attribute_parts, chars_node, declaration_node, declaration_parts, element_node, element_parts,
     is_chars, kind_at, may_stand, node, scalar_parts, shape_at, text_node,
 };
@@ -36,6 +35,7 @@ use nbfx_values::{Doc, DocBuilder, Kind, Position, PushFault, Quotas, Reason};
 use session_dictionary::{AddFault, SessionTable};
 use static_dictionary::StaticTable;
 use std::alloc::Global;
+use unit_streams::Memory;
 
 /// What was read at the front of some bytes.
 #[derive(Clone, Copy, Debug, PartialEq, Eq)]
@@ -63,7 +63,7 @@ pub(crate) struct UnitReader<'s> {
 
 impl<'s> UnitReader<'s> {
     ghost use Rattle.nbfx_decoder.specs.Payload.{Settings, Situation, beginning};
-    ghost use Rattle.nbfx_decoder.specs.Units.{IsAt, Keeps, KeepsSettings, Counts, counted, place_in, AddAnswers, HasShape, SayAnswers, UnitAnswers, MakesOfRecord, Reads, ReadsQuickly, Stays, names_in};
+    ghost use Rattle.nbfx_decoder.specs.Units.{IsAt, Keeps, KeepsSettings, Counts, counted, place_in, IsAdded, HasShape, Judges, MakesOfRecord, MayAdd, MayMake, Reads, ReadsQuickly, StandsAt, Stays, UnitAnswers, names_in};
 
     /// Before a payload's first byte, with no strings.
     pub(crate) fn new(alloc: Global, statics: &'s StaticTable, quotas: Quotas, kind: Kind) -> Self
@@ -95,7 +95,7 @@ impl<'s> UnitReader<'s> {
         match self.section {
             Section::TableSize => self.table_size(bytes),
             Section::Strings { left } => self.table_string(left, bytes),
-            Section::Nodes => self.record(bytes),
+            Section::Nodes => self.record(bytes, &mut Resume::new()),
         }
     }
 
@@ -114,8 +114,10 @@ impl<'s> UnitReader<'s> {
             Section::TableSize => self.table_size(begun.as_slice()),
             Section::Strings { left } => self.table_string(left, begun.as_slice()),
             Section::Nodes => {
-                let read = begun.read_node(self.alloc, self.place());
-                self.node(begun.len(), read)
+                let mut resume = begun.resume();
+                let read = self.record(begun.as_slice(), &mut resume);
+                begun.keep_resume(resume);
+                read
             }
         }
     }
@@ -192,34 +194,6 @@ impl<'s> UnitReader<'s> {
                 deeper: inner + 1 < self.quotas.depth as usize,
             },
             Position::After => NodePlace::AfterRoot,
-        }
-    }
-
-    // Goes behind a node that was read at the front of some bytes.
-    #[inline(never)]
-    fn node(&mut self, len: usize, read: Result<NodeRead, ReadFault>) -> Result<UnitRead, UnitFault>
-        requires here { self.old.section ≡ Section.Nodes }
-        requires few { self.old.from + len < 2 ^ 32 }
-        requires valid { ReadsValid read }
-        requires there { (bytes : List ℕ) × (length bytes ≡ len)
-            × Answers (place_in self.old) bytes read
-            × Wants (place_in self.old) bytes read }
-        ensures answers { (x : Settings) (z : Situation) (from : ℕ) (bytes : List ℕ)
-            → IsAt self.old x z from
-            → Answers (place_in self.old) bytes read
-            → Wants (place_in self.old) bytes read
-            → UnitAnswers x z from bytes self.new result }
-        ensures counts { IfOk result (Counts len) }
-        ensures from { IfOk result (λ read. self.new.from ≡ self.old.from + counted read) }
-        ensures kept { KeepsSettings self.old self.new }
-    {
-        match read {
-            Ok(NodeRead::More { wants }) => Ok(UnitRead::More { wants }),
-            Ok(NodeRead::Done { used, node }) => {
-                self.add(node, used)?;
-                Ok(self.pass(used))
-            }
-            Err(fault) => Err(unread(fault)),
         }
     }
 
@@ -301,9 +275,32 @@ impl<'s> UnitReader<'s> {
                     },
                     used,
                 ),
-            ) => self.pass_quickly(attribute_node(self.alloc, &prefix, &name, &value), used),
+            ) => self.attribute_of(&prefix, &name, value, used),
             _ => None,
         }
+    }
+
+    // An attribute of so many bytes, whose value is no list.
+    #[inline(always)]
+    fn attribute_of(
+        &mut self,
+        prefix: &PrefixPart,
+        name: &NamePart,
+        value: ValuePart,
+        used: usize,
+    ) -> Option<usize>
+        requires here { self.old.section ≡ Section.Nodes }
+        requires sound { HoldsLists value }
+        requires stands { StandsAt self.old (record_seen (RecordPart.Attribute
+            (AttributePart.Attribute prefix.now name.now value))) used }
+        ensures { (bytes : List ℕ) → HasShape (place_in self.old) (record_seen (RecordPart.Attribute
+            (AttributePart.Attribute prefix.now name.now value.entry))) used bytes
+            → ReadsQuickly self.old self.new bytes result }
+    {
+        if let ValuePart::List(_) = value {
+            return None;
+        }
+        self.pass_quickly(attribute_node(self.alloc, prefix, name, &value), used)
     }
 
     #[inline(never)]
@@ -348,9 +345,8 @@ impl<'s> UnitReader<'s> {
     #[inline(never)]
     fn scalar(&mut self, part: ScalarPart, ends: bool, used: usize) -> Option<usize>
         requires here { self.old.section ≡ Section.Nodes }
-        requires stands { (bytes : List ℕ) × (self.old.from + length bytes < 2 ^ 32) × IsBytes bytes
-            × HasShape (place_in self.old) (record_seen (RecordPart.Text (ValuePart.One part) ends))
-            used bytes }
+        requires stands { StandsAt self.old (record_seen (RecordPart.Text (ValuePart.One part) ends))
+            used }
         ensures { (bytes : List ℕ) → HasShape (place_in self.old)
             (record_seen (RecordPart.Text (ValuePart.One part.entry) ends)) used bytes
             → ReadsQuickly self.old self.new bytes result }
@@ -359,7 +355,8 @@ impl<'s> UnitReader<'s> {
     }
 
     // Puts what is made of a whole record of so many bytes behind the items, and goes behind it, if
-    // it is in order and there is memory. Else nothing changes.
+    // it is in order, within the content quota, neither a list nor an array, and there is memory.
+    // Else nothing changes.
     #[inline(always)]
     fn pass_quickly(&mut self, made: Result<Node, Unfit>, used: usize) -> Option<usize>
         requires here { self.old.section ≡ Section.Nodes }
@@ -367,7 +364,13 @@ impl<'s> UnitReader<'s> {
         ensures { (shape : Shape) (bytes : List ℕ) → HasShape (place_in self.old) shape used bytes
             → Makes made (contents shape) → ReadsQuickly self.old self.new bytes result }
     {
-        match self.put(made, used) {
+        let Ok(node) = made else {
+            return None;
+        };
+        if !self.may_add(&node) {
+            return None;
+        }
+        match self.add(node) {
             Ok(()) => {
                 self.pass(used);
                 Some(used)
@@ -376,15 +379,18 @@ impl<'s> UnitReader<'s> {
         }
     }
 
-    // Reads the record at the front of the bytes, and puts what it means behind the items.
+    // Reads the record at the front of the bytes, as far as it wasn't read before, and puts what it
+    // means behind the items.
     #[inline(never)]
-    fn record(&mut self, bytes: &[u8]) -> Result<UnitRead, UnitFault>
+    fn record(&mut self, bytes: &[u8], resume: &mut Resume) -> Result<UnitRead, UnitFault>
         requires here { self.old.section ≡ Section.Nodes }
         requires few { self.old.from + length bytes.now < 2 ^ 32 }
-        ensures { Reads self.old self.new bytes.now result }
+        requires fits { Fits resume.old bytes.now }
+        ensures reads { Reads self.old self.new bytes.now result }
+        ensures fits { Fits resume.new bytes.now }
     {
-        match shape_at(self.place(), bytes, &mut Resume::new()) {
-            Ok((part, used)) => self.pass_record(node(self.alloc, &part), used),
+        match shape_at(self.place(), bytes, resume) {
+            Ok((part, used)) => self.pass_record(&part, used),
             Err(Stop::More { wants }) => Ok(UnitRead::More { wants }),
             Err(Stop::Fault { fault, shown_by }) => {
                 Err(unread(ReadFault::Fault { fault, shown_by }))
@@ -392,75 +398,121 @@ impl<'s> UnitReader<'s> {
         }
     }
 
-    // Puts what is made of a whole record of so many bytes behind the items, and goes behind it.
-    #[inline(always)]
-    fn pass_record(&mut self, made: Result<Node, Unfit>, used: usize) -> Result<UnitRead, UnitFault>
+    // Puts what a whole record of so many bytes means behind the items, and goes behind it.
+    fn pass_record(&mut self, part: &RecordPart, used: usize) -> Result<UnitRead, UnitFault>
         requires here { self.old.section ≡ Section.Nodes }
-        requires stands { MakesOfRecord self.old made used }
-        ensures { (shape : Shape) (bytes : List ℕ) → HasShape (place_in self.old) shape used bytes
-            → Makes made (contents shape) → Reads self.old self.new bytes result }
+        requires sound { IsSoundRecord part.now }
+        requires stands { StandsAt self.old (record_seen part.now) used }
+        ensures { (bytes : List ℕ) → HasShape (place_in self.old) (record_seen part.now) used bytes
+            → Reads self.old self.new bytes result }
     {
-        self.put(made, used)?;
+        self.judge(part, used)?;
+        let node = self.made(part)?;
+        self.add(node)?;
         Ok(self.pass(used))
     }
 
-    // Puts what is made of a whole record behind the items, if a node is.
+    // What identifiers name.
     #[inline(always)]
-    fn put(&mut self, made: Result<Node, Unfit>, used: usize) -> Result<(), UnitFault>
-        requires here { self.old.section ≡ Section.Nodes }
-        requires stands { MakesOfRecord self.old made used }
-        ensures answers { (x : Settings) (z : Situation) (from : ℕ) (shape : Shape)
-            (bytes : List ℕ) → IsAt self.old x z from → HasShape (place_in self.old) shape used bytes
-            → Makes made (contents shape)
-            → SayAnswers x z from bytes used self.new result }
-        ensures section { self.new.section ≡ self.old.section }
-        ensures from { self.new.from ≡ self.old.from }
-        ensures kept { KeepsSettings self.old self.new }
-        ensures stays { OnErr result (Stays self.old self.new) }
+    fn names(&self) -> Lookup<'_>
+        ensures { table_of result ≡ names_in self.now }
     {
-        match made {
-            Ok(node) => self.add(node, used),
-            Err(unfit) => Err(unmade(unfit, used)),
-        }
-    }
-
-    // What a node means.
-    #[inline(always)]
-    fn meant(&self, node: Node) -> Result<Meant, Unmeant>
-        ensures found { FindsItems (items_of (names_in self.now) node) result }
-        ensures valid { IsTrue (is_valid_node node)
-            → IfOk result (λ meant. IsTrue (list_all is_valid_item (items_in meant))) }
-    {
-        let names = Lookup {
+        Lookup {
             alloc: self.alloc,
             statics: self.statics,
             strings: &self.table,
-        };
-        names.meant(node)
+        }
     }
 
-    // Puts what a node of so many bytes means behind the items.
+    // Whether items that count so much may come behind the others.
     #[inline(always)]
-    fn add(&mut self, node: Node, used: usize) -> Result<(), UnitFault>
+    fn has_room(&self, size: u64) -> bool
+        ensures room { result ≡ true → (n : ℕ) → size ≡ capped n
+            → content_of self.now.document + n ≤ self.now.quotas.content }
+        ensures no_room { result ≡ false → (n : ℕ) → size ≡ capped n
+            → self.now.quotas.content < content_of self.now.document + n }
+    {
+        self.document.content().saturating_add(size) <= self.quotas.content as u64
+    }
+
+    // Whether a node may be added that is neither a list nor an array. It says nothing of others.
+    #[inline(always)]
+    fn may_add(&self, node: &Node) -> bool
+        ensures { result ≡ true → MayAdd self.now node.now }
+    {
+        match self.names().plain_size(node) {
+            Some(size) => self.has_room(size),
+            None => false,
+        }
+    }
+
+    // Judges what a whole record of so many bytes says, of which nothing is kept yet.
+    fn judge(&self, part: &RecordPart, used: usize) -> Result<(), UnitFault>
+        requires { IsSoundRecord part.now }
+        ensures { Judges self.now (record_seen part.now) used result }
+    {
+        let size = match self.names().record_size(part) {
+            Ok(size) => size,
+            Err(unfit) => return Err(unmade(unfit, used)),
+        };
+        let Some(size) = size else {
+            return refused(Reason::UnknownString, used);
+        };
+        if self.has_room(size) {
+            Ok(())
+        } else {
+            refused(Reason::TooMuchContent, used)
+        }
+    }
+
+    // The node of a whole record whose meaning is within the content quota.
+    fn made(&self, part: &RecordPart) -> Result<Node, Memory>
+        requires sound { IsSoundRecord part.now }
+        requires within { MayMake self.now (record_seen part.now) }
+        ensures { IfOk result (λ node. contents (record_seen part.now) ≡ Ok node) }
+    {
+        match node(self.alloc, part) {
+            Ok(node) => Ok(node),
+            Err(Unfit::Memory) => Err(Memory),
+            Err(Unfit::Fault(_)) => unreachable!(),
+        }
+    }
+
+    // What a node means that is within the content quota.
+    #[inline(always)]
+    fn meant(&self, node: Node) -> Result<Meant, Memory>
+        requires within { MayAdd self.now node }
+        ensures found { IfOk result (λ meant. items_of (names_in self.now) node
+            ≡ Some (items_in meant)) }
+        ensures valid { IsTrue (is_valid_node node)
+            → IfOk result (λ meant. IsTrue (list_all is_valid_item (items_in meant))) }
+    {
+        match self.names().meant(node) {
+            Ok(meant) => Ok(meant),
+            Err(Unmeant::Memory) => Err(Memory),
+            Err(Unmeant::UnknownString) => unreachable!(),
+        }
+    }
+
+    // Puts what a node means behind the items.
+    #[inline(always)]
+    fn add(&mut self, node: Node) -> Result<(), Memory>
         requires valid { IsTrue (is_valid_node node) }
         requires stands { Stands (place_in self.old) node }
+        requires within { MayAdd self.old node }
         ensures answers { (x : Settings) (z : Situation) (from : ℕ) → IsAt self.old x z from
-            → AddAnswers x z from node used self.new result }
+            → OnOk result (IsAdded x z from node self.new) }
         ensures section { self.new.section ≡ self.old.section }
         ensures from { self.new.from ≡ self.old.from }
-        ensures kept { KeepsSettings self.old self.new }
+        ensures kept { Keeps self.old self.new }
         ensures stays { OnErr result (Stays self.old self.new) }
     {
-        let meant = match self.meant(node) {
-            Ok(meant) => meant,
-            Err(Unmeant::UnknownString) => return refused(Reason::UnknownString, used),
-            Err(Unmeant::Memory) => return Err(UnitFault::Memory),
-        };
+        let meant = self.meant(node)?;
         match push(&mut self.document, self.quotas.content as u64, meant) {
             Ok(()) => Ok(()),
-            Err(PushFault::OutOfPlace) => refused(Reason::NodeOutOfPlace, used),
-            Err(PushFault::TooMuchContent) => refused(Reason::TooMuchContent, used),
-            Err(PushFault::Memory) => Err(UnitFault::Memory),
+            Err(PushFault::Memory) => Err(Memory),
+            Err(PushFault::OutOfPlace) => unreachable!(),
+            Err(PushFault::TooMuchContent) => unreachable!(),
         }
     }
 

@@ -22,9 +22,9 @@ use crate::values::{Unfit, is_text, known, text};
 use nbfx_values::{Scalar, Txt, Values};
 use std::alloc::Global;
 
-// The text of a prefix.
+/// The text of a prefix.
 #[inline(always)]
-fn prefix(alloc: Global, part: &PrefixPart) -> Result<Txt, Unfit>
+pub fn prefix(alloc: Global, part: &PrefixPart) -> Result<Txt, Unfit>
     ensures { Makes result (spec.text_judged (prefix_seen part.now)) }
 {
     match part {
@@ -46,9 +46,9 @@ fn has_text(part: &ScalarPart) -> bool
     }
 }
 
-// A name.
+/// A name.
 #[inline(always)]
-fn name(alloc: Global, part: &NamePart) -> Result<NameRef, Unfit>
+pub fn name(alloc: Global, part: &NamePart) -> Result<NameRef, Unfit>
     ensures { Makes result (spec.name_judged (name_seen part.now)) }
 {
     match part {
@@ -57,9 +57,9 @@ fn name(alloc: Global, part: &NamePart) -> Result<NameRef, Unfit>
     }
 }
 
-// One value.
+/// One value.
 #[inline(always)]
-fn scalar(alloc: Global, part: &ScalarPart) -> Result<RawScalar, Unfit>
+pub fn scalar(alloc: Global, part: &ScalarPart) -> Result<RawScalar, Unfit>
     ensures { Makes result (spec.scalar_judged (scalar_seen part.now)) }
 {
     match part {
@@ -74,8 +74,8 @@ fn scalar(alloc: Global, part: &ScalarPart) -> Result<RawScalar, Unfit>
     }
 }
 
-// The first value of a list, and the bytes behind it.
-fn next_value(list: &[u8]) -> Option<(ScalarPart<'_>, &[u8])>
+/// The first value of a list, and the bytes behind it.
+pub fn next_value(list: &[u8]) -> Option<(ScalarPart<'_>, &[u8])>
     requires { IsList list.now }
     ensures none { IfNone result (listed list.now ≡ []) }
     ensures value { IfSome result
@@ -105,9 +105,9 @@ fn are_texts(list: &[u8]) -> bool
     true
 }
 
-// One value, where others come behind it: a text of them that isn't UTF-8 goes before a wrong
-// value.
-fn scalar_before(alloc: Global, part: &ScalarPart, rest: &[u8]) -> Result<RawScalar, Unfit>
+/// One value, where others come behind it: a text of them that isn't UTF-8 goes before a wrong
+/// value.
+pub fn scalar_before(alloc: Global, part: &ScalarPart, rest: &[u8]) -> Result<RawScalar, Unfit>
     requires { IsList rest.now }
     ensures { Makes result (spec.behind_texts (list_all spec.scalar_is_text (listed rest.now))
         (spec.scalar_judged (scalar_seen part.now))) }
@@ -223,8 +223,8 @@ fn attribute_has_text(part: &AttributePart) -> bool
     }
 }
 
-// The first attribute of an array's element, and the bytes behind it.
-fn next_part(parts: &[u8]) -> Option<(AttributePart<'_>, &[u8])>
+/// The first attribute of an array's element, and the bytes behind it.
+pub fn next_part(parts: &[u8]) -> Option<(AttributePart<'_>, &[u8])>
     requires { AreParts parts.now }
     ensures none { IfNone result (parts_of parts.now ≡ []) }
     ensures part { IfSome result
@@ -240,8 +240,8 @@ fn next_part(parts: &[u8]) -> Option<(AttributePart<'_>, &[u8])>
     }
 }
 
-// Whether each text of the attributes is UTF-8.
-fn parts_have_text(parts: &[u8]) -> bool
+/// Whether each text of the attributes is UTF-8.
+pub fn parts_have_text(parts: &[u8]) -> bool
     requires { AreParts parts.now }
     ensures { result ≡ list_all spec.attribute_is_text (parts_of parts.now) }
 {

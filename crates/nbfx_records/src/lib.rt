@@ -11,7 +11,7 @@
 mod arrays;
 mod attributes;
 mod begun;
-mod building;
+pub mod building;
 mod cursor;
 mod kinds;
 pub mod laws;
@@ -26,7 +26,7 @@ mod read;
 mod records;
 mod resume;
 mod type_bytes;
-mod values;
+pub mod values;
 
 pub use arrays::{ArrayPart, CellsPart};
 pub use attributes::{AttributePart, ValuePart};
@@ -50,7 +50,7 @@ pub use put_values::{ScalarChoice, put_list_end, put_list_start, put_scalar};
 pub use read::{NodeRead, ReadFault, read_node, read_node_on};
 pub use records::{RecordPart, shape_at};
 pub use resume::Resume;
-pub use type_bytes::is_chars;
+pub use type_bytes::{is_chars, text_kind_in, width};
 pub use values::Unfit;
 
 #[cfg(test)]

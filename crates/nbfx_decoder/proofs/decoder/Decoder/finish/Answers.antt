@@ -1,6 +1,7 @@
-use Rattle.std.proofs.Common.{◌∙◌, Ok, Err, ap, refl}
+use Rattle.std.proofs.Common.{◌≡◌, ◌∙◌, Ok, Err, sym, ap, refl}
+use Rattle.nbfx_decoder.specs.declared.faults.DecodeFault.TheVariants.{Memory}
 use Rattle.nbfx_decoder.proofs.Keeping.{keeps_settings, settings_through}
-use Rattle.nbfx_decoder.proofs.FeedSteps.{settings_kept, failure_is, unfailed_stands, unfailed_failure, same_failure, items_here, nothing_cut, stands_anew, finish_failed, finish_fault, finishes_whole, carries_on}
+use Rattle.nbfx_decoder.proofs.FeedSteps.{settings_kept, failure_is, unfailed_stands, unfailed_failure, same_failure, items_here, nothing_cut, stands_anew, finish_failed, finish_fault, finish_place, finishes_whole, carries_on}
 use Rattle.nbfx_decoder.proofs.decoder.Decoder.finish.Goals as goal
 
 pub returns-in-Some-clause-answers : goal.returns-in-Some-clause-answers
@@ -46,6 +47,8 @@ returns-clause-failed c strings p h =
     let then = c.fail.ensures.kept in
     finish_failed c.args.self.now strings p h (λ document. let bad = c.in_default-finish.ensures.document.1 document in cc) c.fail.new.self c.fail.result c.fail.ensures.failure c.fail.ensures.begun c.fail.ensures.items
     (record { statics = then.statics ∙ same.statics; quotas = then.quotas ∙ same.quotas; kind = then.kind ∙ same.kind; table = then.table ∙ same.table })
+    (finish_place c.args.self.now strings p h (λ document. let bad = c.in_default-finish.ensures.document.1 document in cc) c.fail.result c.finish.new.self.from c.len.result c.fail.new.self.units.from
+    c.in_default-finish.ensures.unchanged.0 c.len.ensures c.fail.ensures.from c.fail.ensures.fault)
 
 pub returns-clause-refused : goal.returns-clause-refused
 returns-clause-refused c = failure_is c.fail.new.self _ c.fail.ensures.failure
@@ -82,3 +85,12 @@ returns-in-Some-finish-clause-carried c strings p h own items whole =
     carries_on c.args.self.now strings p h (Ok c.in-Some-finish.doc)
     (nothing_cut c.args.self.now strings p h (c.in-Some-finish.ensures.document.0 refl), c.in-Some-finish.ensures.same ∙ items_here c.args.self.now strings p h) own items _ whole
     (stands_anew c.args.self.now strings p h (c.in-Some-finish.ensures.document.0 refl) _ c.finish.ensures.kept c.in-Some-finish.ensures.anew.0 c.in-Some-finish.ensures.anew.1 c.in-Some-finish.ensures.anew.2 refl refl)
+
+pub returns-in-Some-clause-takes_none : goal.returns-in-Some-clause-takes_none
+returns-in-Some-clause-takes_none c none memory = let bad = sym none ∙ failure_is c.args.self.now _ c.in-Some.is in cc
+
+pub returns-clause-takes_none : goal.returns-clause-takes_none
+returns-clause-takes_none c none memory =
+    let told : c.fail.result ≡ Memory = cc in
+    let bad = c.fail.ensures.memory told in
+    cc

@@ -12,22 +12,19 @@ use Rattle.nbfx_decoder.proofs.units.UnitReader.record.Goals as goal
 
 pub pass_record-requires-clause-stands : goal.pass_record-requires-clause-stands
 pass_record-requires-clause-stands c = record {
-  shape = record_seen c.in-Ok.part;
   bytes = c.args.bytes.now;
   are = λ i. (c.type_inv.bytes i).fits;
   few = c.requires.few;
   has = record { whole = subst (λ (p : NodePlace). IsWhole (shape_at p) c.args.bytes.now 0 (record_seen c.in-Ok.part) c.in-Ok.used) c.place.ensures c.in-Ok.ensures.tells.told };
-  makes = c.node.ensures;
 }
 
-pub returns-in-Ok : goal.returns-in-Ok
-returns-in-Ok c =
-    c.pass_record.ensures (record_seen c.in-Ok.part) c.args.bytes.now
+pub returns-in-Ok-clause-reads : goal.returns-in-Ok-clause-reads
+returns-in-Ok-clause-reads c =
+    c.pass_record.ensures c.args.bytes.now
     (record { whole = subst (λ (p : NodePlace). IsWhole (shape_at p) c.args.bytes.now 0 (record_seen c.in-Ok.part) c.in-Ok.used) c.place.ensures c.in-Ok.ensures.tells.told })
-    c.node.ensures
 
-pub returns-in-Err-More : goal.returns-in-Err-More
-returns-in-Err-More c =
+pub returns-in-Err-More-clause-reads : goal.returns-in-Err-More-clause-reads
+returns-in-Err-More-clause-reads c =
     let told = rw c.in-Err-More.field-0-is at c.in-Err-More.ensures.tells.told in
     record {
       answers = λ x z from at. (
@@ -40,8 +37,8 @@ returns-in-Err-More c =
       kept = record { statics = refl; quotas = refl; kind = refl };
     }
 
-pub returns-in-Err-Fault : goal.returns-in-Err-Fault
-returns-in-Err-Fault c =
+pub returns-in-Err-Fault-clause-reads : goal.returns-in-Err-Fault-clause-reads
+returns-in-Err-Fault-clause-reads c =
     let told = rw c.in-Err-Fault.field-0-is at c.in-Err-Fault.ensures.tells.told in
     record {
       answers = λ x z from at. rw c.unread.ensures (node_unread c.args.self.now x z from at c.requires.here c.args.bytes.now (read_faults.Fault c.in-Err-Fault.fault c.in-Err-Fault.shown_by)
