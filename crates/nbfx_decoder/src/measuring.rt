@@ -1,7 +1,7 @@
 //! How much the meaning of a record counts in a document's content. It is found before anything of
 //! it is kept: a few bytes may name long texts many times.
 
-ghost use Rattle.std.specs.Prelude.{◌≡◌, ◌+◌, ◌&&◌, IfSome, Some, length, sum_by};
+ghost use Rattle.std.specs.Prelude.{◌≡◌, ◌+◌, ◌&&◌, Some, length, sum_by};
 ghost use Rattle.std.specs.List.{list_all};
 ghost use Rattle.std.specs.Str.{is_utf8};
 ghost use Rattle.nbfx_values.specs.Measures.{capped, scalar_content};
@@ -18,8 +18,8 @@ use nbfx_records::building::{
 };
 use nbfx_records::values::{known, text};
 use nbfx_records::{
-    ArrayPart, AttributePart, CellsPart, NamePart, NameRef, Node, NodeFault, PrefixPart, RawScalar,
-    RawValue, RecordPart, Unfit, ValuePart, text_kind_in, width,
+    ArrayPart, AttributePart, CellsPart, NamePart, NameRef, NodeFault, PrefixPart, RawScalar,
+    RecordPart, Unfit, ValuePart, text_kind_in, width,
 };
 
 // What two count together, where each identifier names a string.
@@ -221,34 +221,6 @@ impl Lookup<'_> {
             RecordPart::Attribute(part) => self.attribute_size(part),
             RecordPart::Text(part, _) => self.value_size(part),
             RecordPart::Array(part) => self.array_size(part),
-        }
-    }
-
-    /// What the meaning of a node counts that holds neither a list nor an array, where each of its
-    /// identifiers names a string.
-    #[inline(always)]
-    pub(crate) fn plain_size(&self, node: &Node) -> Option<u64>
-        ensures { IfSome result (λ n. weigh_node (table_of self.now) node.now ≡ Some n) }
-    {
-        match node {
-            Node::EndElement => Some(0),
-            Node::Comment(text) => Some(text.len() as u64),
-            Node::Element { prefix, name } | Node::Xmlns { prefix, uri: name } => {
-                together(Some(prefix.len() as u64), self.name_size(name))
-            }
-            Node::Attribute {
-                prefix,
-                name,
-                value: RawValue::One(raw),
-            } => together(
-                together(Some(prefix.len() as u64), self.name_size(name)),
-                self.scalar_size(raw),
-            ),
-            Node::Text {
-                value: RawValue::One(raw),
-                ..
-            } => self.scalar_size(raw),
-            _ => None,
         }
     }
 }

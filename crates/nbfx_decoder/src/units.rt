@@ -367,15 +367,31 @@ impl<'s> UnitReader<'s> {
         let Ok(node) = made else {
             return None;
         };
-        if !self.may_add(&node) {
+        if !self.add_quickly(node) {
             return None;
         }
-        match self.add(node) {
-            Ok(()) => {
-                self.pass(used);
-                Some(used)
-            }
-            Err(_) => None,
+        self.pass(used);
+        Some(used)
+    }
+
+    // Puts what a node means behind the items that is neither a list nor an array, and so names two
+    // texts at most: they are copied before they are judged.
+    #[inline(always)]
+    fn add_quickly(&mut self, node: Node) -> bool
+        requires { IsTrue (is_valid_node node) }
+        ensures answers { result ≡ true → (x : Settings) (z : Situation) (from : ℕ)
+            → IsAt self.old x z from → IsAdded x z from node self.new }
+        ensures section { self.new.section ≡ self.old.section }
+        ensures from { self.new.from ≡ self.old.from }
+        ensures kept { Keeps self.old self.new }
+        ensures stays { result ≡ false → Stays self.old self.new }
+    {
+        match self.names().meant(node) {
+            Ok(meant) => match push(&mut self.document, self.quotas.content as u64, meant) {
+                Ok(()) => true,
+                Err(_) => false,
+            },
+            Err(_) => false,
         }
     }
 
@@ -433,17 +449,6 @@ impl<'s> UnitReader<'s> {
             → self.now.quotas.content < content_of self.now.document + n }
     {
         self.document.content().saturating_add(size) <= self.quotas.content as u64
-    }
-
-    // Whether a node may be added that is neither a list nor an array. It says nothing of others.
-    #[inline(always)]
-    fn may_add(&self, node: &Node) -> bool
-        ensures { result ≡ true → MayAdd self.now node.now }
-    {
-        match self.names().plain_size(node) {
-            Some(size) => self.has_room(size),
-            None => false,
-        }
     }
 
     // Judges what a whole record of so many bytes says, of which nothing is kept yet.

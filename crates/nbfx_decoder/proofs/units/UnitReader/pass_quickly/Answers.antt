@@ -1,4 +1,4 @@
-use Rattle.std.proofs.Common.{◌≡◌, Result, Ok, subst, arith}
+use Rattle.std.proofs.Common.{◌≡◌, true, Result, Ok, subst, arith}
 use Rattle.nbfx_records.specs.declared.nodes.Node.{Node}
 use Rattle.nbfx_records.specs.declared.values.Unfit.{Unfit}
 use Rattle.nbfx_records.specs.Contents.{contents}
@@ -6,33 +6,28 @@ use Rattle.nbfx_records.specs.Judged.{Made}
 use Rattle.nbfx_records.specs.Shapes.{Shape}
 use Rattle.nbfx_decoder.specs.Units.{place_in}
 use Rattle.nbfx_decoder.proofs.Keeping.{keeps_settings}
-use Rattle.nbfx_decoder.proofs.Saying.{added_said, record_few, reads_done, shape_size, shape_stands, shape_valid}
+use Rattle.nbfx_decoder.proofs.Saying.{added_said, record_few, reads_done, shape_size, shape_valid}
 use Rattle.nbfx_decoder.proofs.units.UnitReader.pass_quickly.Goals as goal
 
-pub add-requires-clause-valid : goal.add-requires-clause-valid
-add-requires-clause-valid c =
+pub add_quickly-requires : goal.add_quickly-requires
+add_quickly-requires c =
     let it = c.requires.stands in
     let e : contents it.shape ≡ Ok c.in-Ok.node = subst (λ (m : Result Node Unfit). Made m (contents it.shape)) c.in-Ok.is it.makes.made in
     shape_valid (place_in c.args.self.now) it.stands.bytes it.shape c.args.used it.stands.has c.in-Ok.node e it.stands.are
 
-pub add-requires-clause-stands : goal.add-requires-clause-stands
-add-requires-clause-stands c =
-    let it = c.requires.stands in
-    let e : contents it.shape ≡ Ok c.in-Ok.node = subst (λ (m : Result Node Unfit). Made m (contents it.shape)) c.in-Ok.is it.makes.made in
-    shape_stands (place_in c.args.self.now) it.stands.bytes it.shape c.args.used it.stands.has c.in-Ok.node e
-
 pub pass-requires : goal.pass-requires
 pass-requires c =
     let few = record_few c.args.self.now c.requires.stands.shape c.args.used c.requires.stands.stands in
-    let same = c.add.ensures.from in
+    let same = c.add_quickly.ensures.from in
     omega (arith, few, same)
 
-pub returns-in-Ok-add : goal.returns-in-Ok-add
-returns-in-Ok-add c shape bytes has makes =
+pub returns : goal.returns
+returns c shape bytes has makes =
     let e : contents shape ≡ Ok c.in-Ok.node = subst (λ (m : Result Node Unfit). Made m (contents shape)) c.in-Ok.is makes.made in
+    let is : c.add_quickly.result ≡ true = (let no = c.if-not-add_quickly.false in cc) in
     record {
-      read = reads_done c.args.self.now c.add.new.self c.pass.new.self bytes c.args.used
-          (λ x z from at. added_said c.args.self.now x z from at c.requires.here bytes shape c.args.used has c.in-Ok.node e c.add.new.self (c.in-Ok-add.ensures.answers x z from at))
-          (shape_size (place_in c.args.self.now) bytes shape c.args.used has.whole) (keeps_settings c.add.ensures.kept) c.add.ensures.from c.pass.ensures.kept c.pass.ensures.from c.pass.ensures.section c.pass.ensures.items;
+      read = reads_done c.args.self.now c.add_quickly.new.self c.pass.new.self bytes c.args.used
+          (λ x z from at. added_said c.args.self.now x z from at c.requires.here bytes shape c.args.used has c.in-Ok.node e c.add_quickly.new.self (c.add_quickly.ensures.answers is x z from at))
+          (shape_size (place_in c.args.self.now) bytes shape c.args.used has.whole) (keeps_settings c.add_quickly.ensures.kept) c.add_quickly.ensures.from c.pass.ensures.kept c.pass.ensures.from c.pass.ensures.section c.pass.ensures.items;
       unread = tt;
     }
