@@ -6,20 +6,16 @@ use Rattle.std.specs.Option.{option_map, option_and_then}
 use Rattle.std.proofs.lemmas.List.{append-nil}
 use Rattle.std.proofs.lemmas.List.Sums.{sum_by-append}
 use Rattle.std.proofs.lemmas.Result.{err_from_is_err_and}
-use Rattle.nbfx_values.specs.Measures.{attribute_content, array_content, capped, content_of, item_content, scalar_content, value_content}
+use Rattle.nbfx_values.specs.Measures.{attribute_content, array_content, capped, content_of, scalar_content, value_content}
 use Rattle.nbfx_values.specs.declared.content.ArrayItem.{ArrayItem}
-use Rattle.nbfx_values.specs.declared.content.AttrItem.{AttrItem}
 use Rattle.nbfx_values.specs.declared.content.AttrItem.TheVariants as attributes
-use Rattle.nbfx_values.specs.declared.content.Item.{Item}
 use Rattle.nbfx_values.specs.declared.content.Item.TheVariants as items
 use Rattle.nbfx_values.specs.declared.scalars.Scalar.{Scalar}
-use Rattle.nbfx_values.specs.declared.scalars.Value.{Value}
 use Rattle.string_tables.specs.StringTable.{StringTable}
 use Rattle.nbfx_records.specs.declared.nodes.ArrayNode.{ArrayNode}
 use Rattle.nbfx_records.specs.declared.nodes.AttrNode.{AttrNode}
 use Rattle.nbfx_records.specs.declared.nodes.AttrNode.TheVariants as attribute_nodes
 use Rattle.nbfx_records.specs.declared.nodes.NameRef.{NameRef}
-use Rattle.nbfx_records.specs.declared.nodes.Node.{Node}
 use Rattle.nbfx_records.specs.declared.nodes.Node.TheVariants as nodes
 use Rattle.nbfx_records.specs.declared.nodes.NodeFault.{NodeFault}
 use Rattle.nbfx_records.specs.declared.nodes.NodeFault.TheVariants as faults
@@ -29,16 +25,13 @@ use Rattle.nbfx_records.specs.declared.values.Unfit.TheVariants.{Fault, Memory}
 use Rattle.nbfx_records.specs.Contents.{array_of, attribute_is_text, attribute_node, attribute_value, attributes_judged, behind_texts, cell_values, each, judge, led}
 use Rattle.nbfx_records.specs.Judged.{Made, Makes}
 use Rattle.nbfx_records.specs.Shapes.{ArrayShape}
-use Rattle.nbfx_records.specs.Meaning.{array_with, closing, items_of, meant_array, meant_part, meant_value, name_text, with_both}
+use Rattle.nbfx_records.specs.Meaning.{array_with, meant_array, meant_part, meant_value, name_text, with_both}
 use Rattle.nbfx_records.proofs.JudgedFacts.{all_judged, judged_more, unmade}
 use Rattle.nbfx_decoder.specs.Measuring.{Measured, Measures, sum_of, weigh_array, weigh_node, weigh_part, weigh_parts, weigh_value, weighed}
 
 -- counts that stand still at the last number of 64 bits
 capped_sum : (m n k : ℕ) → k ≡ m + n → capped (capped m + capped n) ≡ capped k
 capped_sum m n k e = omega (arith, e)
-
-capped_more : (m n k : ℕ) → k ≡ m + n → capped (m + capped n) ≡ capped k
-capped_more m n k e = omega (arith, e)
 
 -- what is meant otherwise counts the same
 pub weighed-map : {A B : Type 0} (c : B → ℕ) (f : A → B) (o : Option A) → weighed c (option_map f o) ≡ weighed (λ a. c (f a)) o
@@ -55,11 +48,7 @@ with_same c d make other same None p = refl
 with_same c d make other same (Some a) None = refl
 with_same c d make other same (Some a) (Some b) = ap (λ n. Some (capped n)) (same a b)
 
--- a part of so many, and one that is meant
-pub sum_with : {A B : Type 0} (p : ℕ) (c : A → ℕ) (d : B → ℕ) (f : A → B) → ((a : A) → d (f a) ≡ p + c a) → (o : Option A) → sum_of (Some p) (weighed c o) ≡ weighed d (option_map f o)
-sum_with p c d f same None = refl
-sum_with p c d f same (Some a) = ap Some (capped_more p (c a) _ (same a))
-
+-- one that is meant, and a part of so many
 pub sum_behind : {A : Type 0} (p : ℕ) (c d : A → ℕ) → ((a : A) → d a ≡ c a + p) → (o : Option A) → sum_of (weighed c o) (Some (capped p)) ≡ weighed d o
 sum_behind p c d same None = refl
 sum_behind p c d same (Some a) = ap Some (capped_sum (c a) p _ (same a))

@@ -1,5 +1,5 @@
 -- What the meaning of a record counts in a document's content. Public contracts cite none of this.
-use Rattle.std.specs.Prelude.{◌≡◌, ⊤, ℕ, ◌+◌, ◌≤◌, List, ◌++◌, length, sum_by, Option, Some, None, Result, Ok, Err, IsSomeAnd}
+use Rattle.std.specs.Prelude.{◌≡◌, ⊤, ℕ, ◌+◌, List, length, sum_by, Option, Some, None, Result, Ok, Err}
 use Rattle.std.specs.Option.{option_map}
 use Rattle.nbfx_values.specs.Measures.{array_content, attribute_content, capped, content_of, scalar_content, value_content}
 use Rattle.string_tables.specs.StringTable.{StringTable}

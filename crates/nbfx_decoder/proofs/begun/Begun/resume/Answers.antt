@@ -1,4 +1,4 @@
-use Rattle.std.proofs.Common.{◌≡◌, ◌++◌, [], List, ℕ, ◌∙◌, subst}
+use Rattle.std.proofs.Common.{◌≡◌, [], List, ℕ, ◌∙◌, subst}
 use Rattle.std.proofs.lemmas.List.{append-nil}
 use Rattle.nbfx_records.specs.Resuming.{Fits}
 use Rattle.nbfx_decoder.proofs.begun.Begun.resume.Goals as goal

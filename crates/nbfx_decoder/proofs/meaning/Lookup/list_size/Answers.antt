@@ -1,5 +1,5 @@
 use Rattle.nbfx_values.specs.Measures.{scalar_content}
-use Rattle.nbfx_records.specs.Contents.{scalar_is_text, scalar_value, scalars_judged}
+use Rattle.nbfx_records.specs.Contents.{scalar_is_text, scalar_value}
 use Rattle.nbfx_records.specs.Meaning.{meant_scalar}
 use Rattle.nbfx_records.specs.Views.{listed, scalar_seen}
 use Rattle.nbfx_decoder.specs.Meant.{table_of}

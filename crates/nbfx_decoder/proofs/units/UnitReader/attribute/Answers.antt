@@ -1,6 +1,3 @@
-use Rattle.nbfx_records.specs.declared.attributes.AttributePart.TheVariants.{Attribute}
-use Rattle.nbfx_records.specs.declared.records.RecordPart.TheVariants as records
-use Rattle.nbfx_records.specs.Views.{record_seen}
 use Rattle.nbfx_decoder.specs.Units.{place_in}
 use Rattle.nbfx_decoder.proofs.units.UnitReader.attribute.Goals as goal
 

@@ -3,7 +3,6 @@ use Rattle.nbfx_records.specs.declared.nodes.Node.{Node}
 use Rattle.nbfx_records.specs.declared.values.Unfit.{Unfit}
 use Rattle.nbfx_records.specs.Contents.{contents}
 use Rattle.nbfx_records.specs.Judged.{Made}
-use Rattle.nbfx_records.specs.Shapes.{Shape}
 use Rattle.nbfx_decoder.specs.Units.{place_in}
 use Rattle.nbfx_decoder.proofs.Keeping.{keeps_settings}
 use Rattle.nbfx_decoder.proofs.Saying.{added_said, record_few, reads_done, shape_size, shape_valid}
