@@ -141,7 +141,7 @@ string_length text lt =
     let spelled = (shortest_spells (length text) lt).0.at_most_five in
     omega (arith, spelled, length-append (shortest (length text)) text)
 
-strings_length : (texts : List (List ℕ)) → used_cost texts ≤ 2 ^ 28
+pub strings_length : (texts : List (List ℕ)) → used_cost texts ≤ 2 ^ 28
     → length (flat_map string_bytes_of texts) ≤ 6 * used_cost texts
 strings_length [] few = omega arith
 strings_length (text ∷ texts) few =

@@ -21,19 +21,19 @@ use Rattle.nbfx_records.specs.declared.nodes.Node.TheVariants.{EndElement, Comme
 use Rattle.nbfx_records.specs.Meaning.{ArrayMeans, EachMeans, Means, NameMeans, PartMeans, ScalarMeans, ValueMeans}
 use Rattle.nbfx_records.specs.WritingLaws.{MeaningsStay}
 
-each_stays : {A B : Type 0} (M N : A → B → Type 0) → ((x : A) (y : B) → M x y → N x y)
+pub each_stays : {A B : Type 0} (M N : A → B → Type 0) → ((x : A) (y : B) → M x y → N x y)
     → (xs : List A) (ys : List B) → EachMeans M xs ys → EachMeans N xs ys
 each_stays M N one [] ys none = none
 each_stays M N one (x ∷ xs) ys (y, rest, is, others, made) =
     (y, rest, one x y is, each_stays M N one xs rest others, made)
 
 module _ (table : StringTable) (more : List (List ℕ)) where
-  name_stays : (name : NameRef) (text : List ℕ) → NameMeans table name text
+  pub name_stays : (name : NameRef) (text : List ℕ) → NameMeans table name text
       → NameMeans (with_strings table more) name text
   name_stays (Inline s) text is = is
   name_stays (Id id) text names = names-append table more id text names
 
-  scalar_stays : (raw : RawScalar) (scalar : Scalar) → ScalarMeans table raw scalar
+  pub scalar_stays : (raw : RawScalar) (scalar : Scalar) → ScalarMeans table raw scalar
       → ScalarMeans (with_strings table more) raw scalar
   scalar_stays (Known value) scalar is = is
   scalar_stays (Dictionary id) scalar (text, names, is) =
@@ -41,7 +41,7 @@ module _ (table : StringTable) (more : List (List ℕ)) where
   scalar_stays (QName letter id) scalar (text, names, is) =
       (text, names-append table more id text names, is)
 
-  value_stays : (raw : RawValue) (value : Value) → ValueMeans table raw value
+  pub value_stays : (raw : RawValue) (value : Value) → ValueMeans table raw value
       → ValueMeans (with_strings table more) raw value
   value_stays (One raw) value (scalar, says, is) = (scalar, scalar_stays raw scalar says, is)
   value_stays (ListOf raws) value (found, say, is) = (
@@ -51,14 +51,14 @@ module _ (table : StringTable) (more : List (List ℕ)) where
     is,
   )
 
-  part_stays : (part : AttrNode) (item : AttrItem) → PartMeans table part item
+  pub part_stays : (part : AttrNode) (item : AttrItem) → PartMeans table part item
       → PartMeans (with_strings table more) part item
   part_stays (attribute_nodes.Attribute prefix name raw) item (local, value, named, says, is) =
       (local, value, name_stays name local named, value_stays raw value says, is)
   part_stays (attribute_nodes.Xmlns prefix name) item (uri, named, is) =
       (uri, name_stays name uri named, is)
 
-  array_stays : (a : ArrayNode) (item : ArrayItem) → ArrayMeans table a item
+  pub array_stays : (a : ArrayNode) (item : ArrayItem) → ArrayMeans table a item
       → ArrayMeans (with_strings table more) a item
   array_stays a item says = record {
     local = says.local;
@@ -69,7 +69,7 @@ module _ (table : StringTable) (more : List (List ℕ)) where
     is = says.is;
   }
 
-  node_stays : (node : Node) (said : List Item) → Means table node said
+  pub node_stays : (node : Node) (said : List Item) → Means table node said
       → Means (with_strings table more) node said
   node_stays EndElement said is = is
   node_stays (Comment text) said is = is

@@ -110,7 +110,7 @@ cell_counts arrays.TimeSpan (scalars.TimeSpan n) fits = omega arith
 cell_counts arrays.Uuid (scalars.Uuid s) fits = omega arith
 cell_counts kind value fits = cc fits
 
-cells_count : (kind : ArrayKind) (cells : List Scalar) → list_all (fits_kind kind) cells ≡ true
+pub cells_count : (kind : ArrayKind) (cells : List Scalar) → list_all (fits_kind kind) cells ≡ true
     → length cells ≤ sum_by scalar_content cells
 cells_count kind [] fits = omega arith
 cells_count kind (value ∷ cells) fits =

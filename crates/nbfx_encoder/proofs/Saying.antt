@@ -1,0 +1,278 @@
+-- What is spelled of a name, a value or an item says it under the table behind it.
+use Rattle.std.proofs.Common.{◌≡◌, ℕ, ◌+◌, ◌*◌, ◌≤◌, ◌^◌, List, [], ◌∷◌, ◌++◌, length, Bool, true, false, Option, Some, None, refl, sym, subst, arith, inr}
+use Rattle.std.specs.Prelude.{nat_le}
+use Rattle.std.specs.Option.{option_map, option_and_then}
+use Rattle.std.specs.List.{list_all}
+use Rattle.std.specs.Str.{is_utf8}
+use Rattle.std.proofs.lemmas.Bool.{and_parts, and_from, lt-ltb, leb-true}
+use Rattle.nbfx_values.specs.Scalars.{is_unsigned, is_valid_scalar}
+use Rattle.nbfx_values.specs.declared.scalars.Scalar.{Scalar}
+use Rattle.nbfx_values.specs.declared.scalars.Scalar.TheVariants as scalars
+use Rattle.nbfx_values.specs.declared.scalars.Value.{Value}
+use Rattle.string_tables.specs.SessionStrings.{cost, used_cost}
+use Rattle.string_tables.specs.StringTable.{Names, StringTable, chosen_id, with_strings}
+use Rattle.string_tables.proofs.ChosenFacts.{names_chosen, names_small}
+use Rattle.string_tables.proofs.SessionFacts.{used_cost-append}
+use Rattle.string_tables.proofs.TableFacts.{names-push}
+use Rattle.nbfx_records.specs.declared.nodes.NameRef.{NameRef}
+use Rattle.nbfx_records.specs.declared.nodes.NameRef.TheVariants.{Inline, Id}
+use Rattle.nbfx_records.specs.declared.nodes.RawScalar.{RawScalar}
+use Rattle.nbfx_records.specs.declared.nodes.RawScalar.TheVariants.{Known, QName}
+use Rattle.nbfx_records.specs.declared.nodes.RawValue.{RawValue}
+use Rattle.nbfx_records.specs.Meaning.{EachMeans, NameMeans, ScalarMeans, ValueMeans, ids_of_name, ids_of_scalar, ids_of_value}
+use Rattle.nbfx_records.specs.Valid.{names_qnames_raw, names_qnames_text}
+use Rattle.nbfx_records.proofs.StayFacts.{name_stays, scalar_stays, value_stays}
+use Rattle.nbfx_encoder.specs.Placing.{Placed, Writing, brings_strings, has_room, place, place_found, place_new, qualified, spell_each, spell_scalar, spell_text, text_found}
+use Rattle.nbfx_encoder.specs.Sound.{IsSound}
+use Rattle.nbfx_encoder.proofs.Growing.{Grows, grows_not, grows_on, sound_behind}
+
+-- what is placed says something under the table behind it
+pub record Spells {X : Type 0} (w : Writing) (table : StringTable) (Says : StringTable → X → Type 0)
+    (placed : Placed X) : Type 0 where
+  pub grows : Grows w table placed.1
+  pub says : Says placed.1 placed.0
+
+-- identifiers have 31 bits
+abbrev pub Small : List ℕ → Type 0
+Small ids = list_all (is_unsigned 31) ids ≡ true
+
+pub record SaysName (text : List ℕ) (table : StringTable) (name : NameRef) : Type 0 where
+  pub means : NameMeans table name text
+  pub small : Small (ids_of_name name)
+
+pub record SaysScalar (scalar : Scalar) (table : StringTable) (raw : RawScalar) : Type 0 where
+  pub means : ScalarMeans table raw scalar
+  pub small : Small (ids_of_scalar raw)
+  pub qnamed : names_qnames_raw raw ≡ true
+
+pub record SaysValue (value : Value) (table : StringTable) (raw : RawValue) : Type 0 where
+  pub means : ValueMeans table raw value
+  pub small : Small (ids_of_value raw)
+  pub qnamed : names_qnames_text raw ≡ true
+
+pub name_says_behind : (w : Writing) (text : List ℕ) (table behind : StringTable) (name : NameRef)
+    → Grows w table behind → SaysName text table name → SaysName text behind name
+name_says_behind w text table behind name grows says = record {
+  means = subst (λ (t : StringTable). NameMeans t name text) (sym grows.is)
+      (name_stays table grows.more name text says.means);
+  small = says.small;
+}
+
+pub scalar_says_behind : (w : Writing) (scalar : Scalar) (table behind : StringTable)
+    (raw : RawScalar) → Grows w table behind → SaysScalar scalar table raw
+    → SaysScalar scalar behind raw
+scalar_says_behind w scalar table behind raw grows says = record {
+  means = subst (λ (t : StringTable). ScalarMeans t raw scalar) (sym grows.is)
+      (scalar_stays table grows.more raw scalar says.means);
+  small = says.small;
+  qnamed = says.qnamed;
+}
+
+pub value_says_behind : (w : Writing) (value : Value) (table behind : StringTable) (raw : RawValue)
+    → Grows w table behind → SaysValue value table raw → SaysValue value behind raw
+value_says_behind w value table behind raw grows says = record {
+  means = subst (λ (t : StringTable). ValueMeans t raw value) (sym grows.is)
+      (value_stays table grows.more raw value says.means);
+  small = says.small;
+  qnamed = says.qnamed;
+}
+
+-- an identifier that names a text has 31 bits
+small_name : (w : Writing) (table : StringTable) (id : ℕ) (text : List ℕ) → IsSound w table
+    → Names table id text → Small (id ∷ [])
+small_name w table id text sound names =
+    and_from (is_unsigned 31 id) true
+    (lt-ltb id (2 ^ 31) (names_small table id text sound.statics
+    (omega (arith, sound.cost, sound.small)) names)) refl
+
+-- a text that becomes the next string of the session
+added : (w : Writing) (table : StringTable) (text : List ℕ) → IsSound w table → is_utf8 text ≡ true
+    → brings_strings w.kind ≡ true → used_cost table.strings + cost text ≤ w.dictionary
+    → Spells w table (SaysName text)
+    (Id (2 * length table.strings + 1), with_strings table (text ∷ []))
+added w table text sound utf8 brings fits =
+    let named : Names (with_strings table (text ∷ [])) (2 * length table.strings + 1) text =
+    (names-push table text (2 * length table.strings + 1) text).1 (inr (refl, refl)) in
+    let spent : used_cost (table.strings ++ text ∷ []) ≤ w.dictionary =
+    omega (arith, used_cost-append table.strings (text ∷ []), fits) in
+    let grows : Grows w table (with_strings table (text ∷ [])) =
+    record {
+      more = text ∷ [];
+      is = refl;
+      cost = spent;
+      texts =
+          and_from (is_utf8 text) true utf8 refl;
+      none = λ plain. absurd (cc (plain, brings));
+    } in
+    record {
+      grows = grows;
+      says = record {
+        means = named;
+        small =
+            small_name w (with_strings table (text ∷ [])) (2 * length table.strings + 1) text
+            (sound_behind w table (with_strings table (text ∷ [])) sound grows) named;
+      };
+    }
+
+placed_new : (w : Writing) (table : StringTable) (text : List ℕ) (room : Bool)
+    → has_room w table text ≡ room → IsSound w table → is_utf8 text ≡ true
+    → Spells w table (SaysName text) (place_new w table text)
+placed_new w table text true room sound utf8 =
+    let parts = and_parts (brings_strings w.kind)
+    (nat_le (used_cost table.strings + cost text) w.dictionary) room in
+    rw room (added w table text sound utf8 parts.0
+    (leb-true (used_cost table.strings + cost text) w.dictionary parts.1))
+placed_new w table text false room sound utf8 =
+    rw room (record {
+      grows = grows_not w table sound;
+      says =
+          record { means = refl; small = refl };
+    })
+
+placed_found : (w : Writing) (table : StringTable) (text : List ℕ) (found : Option ℕ)
+    → chosen_id table text ≡ found → IsSound w table → is_utf8 text ≡ true
+    → Spells w table (SaysName text) (place_found w table text found)
+placed_found w table text (Some id) is sound utf8 =
+    let names = names_chosen table text id sound.statics is in
+    record {
+      grows = grows_not w table sound;
+      says =
+          record { means = names; small = small_name w table id text sound names };
+    }
+placed_found w table text None is sound utf8 =
+    placed_new w table text (has_room w table text) refl sound utf8
+
+pub placed_says : (w : Writing) (table : StringTable) (text : List ℕ) → IsSound w table
+    → is_utf8 text ≡ true → Spells w table (SaysName text) (place w table text)
+placed_says w table text sound utf8 =
+    placed_found w table text (chosen_id table text) refl sound utf8
+
+-- a text as a value
+found_says : (w : Writing) (table : StringTable) (text : List ℕ) (found : Option ℕ)
+    → chosen_id table text ≡ found → IsSound w table
+    → SaysScalar (scalars.Text text) table (text_found text found)
+found_says w table text (Some id) is sound =
+    let names = names_chosen table text id sound.statics is in
+    record {
+      means = (text, names, refl);
+      small = small_name w table id text sound names;
+      qnamed =
+          refl;
+    }
+found_says w table text None is sound = record { means = refl; small = refl; qnamed = refl }
+
+text_says : (w : Writing) (table : StringTable) (text : List ℕ) → IsSound w table
+    → SaysScalar (scalars.Text text) table (spell_text table text)
+text_says w table [] sound = record { means = refl; small = refl; qnamed = refl }
+text_says w table (c ∷ text) sound =
+    found_says w table (c ∷ text) (chosen_id table (c ∷ text)) refl sound
+
+qualified_says : (w : Writing) (table behind : StringTable) (letter : ℕ) (text : List ℕ)
+    (name : NameRef) (placed : Placed RawScalar) → Grows w table behind → SaysName text behind name
+    → qualified letter behind name ≡ Some placed
+    → Spells w table (SaysScalar (scalars.QName letter text)) placed
+qualified_says w table behind letter text (Id id) placed grows says is =
+    let same : (QName letter id, behind) ≡ placed = cc is in
+    subst (Spells w table (SaysScalar (scalars.QName letter text))) same
+    (record {
+      grows = grows;
+      says =
+          record { means = (text, says.means, refl); small = says.small; qnamed = refl };
+    })
+qualified_says w table behind letter text (Inline s) placed grows says is = absurd (cc is)
+
+known_says : (w : Writing) (table : StringTable) (scalar : Scalar) (placed : Placed RawScalar)
+    → IsSound w table → names_qnames_raw (Known scalar) ≡ true
+    → Some (Known scalar, table) ≡ Some placed → Spells w table (SaysScalar scalar) placed
+known_says w table scalar placed sound qnamed is =
+    let same : (Known scalar, table) ≡ placed = cc is in
+    subst (Spells w table (SaysScalar scalar)) same
+    (record {
+      grows = grows_not w table sound;
+      says =
+          record { means = refl; small = refl; qnamed = qnamed };
+    })
+
+pub scalar_says : (w : Writing) (table : StringTable) (scalar : Scalar) → IsSound w table
+    → is_valid_scalar scalar ≡ true → (placed : Placed RawScalar)
+    → spell_scalar w table scalar ≡ Some placed → Spells w table (SaysScalar scalar) placed
+scalar_says w table (scalars.Text text) sound valid placed is =
+    let same : (spell_text table text, table) ≡ placed = cc is in
+    subst (Spells w table (SaysScalar (scalars.Text text))) same
+    (record { grows = grows_not w table sound; says = text_says w table text sound })
+scalar_says w table (scalars.QName letter name) sound valid placed is =
+    let utf8 = (and_parts (nat_le letter 25) (is_utf8 name) valid).1 in
+    let said = placed_says w table name sound utf8 in
+    qualified_says w table (place w table name).1 letter name (place w table name).0 placed
+    said.grows said.says is
+scalar_says w table (scalars.Number n) sound valid placed is =
+    known_says w table (scalars.Number n) placed sound refl is
+scalar_says w table (scalars.Truth t) sound valid placed is =
+    known_says w table (scalars.Truth t) placed sound refl is
+scalar_says w table (scalars.Float n) sound valid placed is =
+    known_says w table (scalars.Float n) placed sound refl is
+scalar_says w table (scalars.Double n) sound valid placed is =
+    known_says w table (scalars.Double n) placed sound refl is
+scalar_says w table (scalars.Decimal d) sound valid placed is =
+    known_says w table (scalars.Decimal d) placed sound refl is
+scalar_says w table (scalars.DateTime n) sound valid placed is =
+    known_says w table (scalars.DateTime n) placed sound refl is
+scalar_says w table (scalars.TimeSpan n) sound valid placed is =
+    known_says w table (scalars.TimeSpan n) placed sound refl is
+scalar_says w table (scalars.Bytes b) sound valid placed is =
+    known_says w table (scalars.Bytes b) placed sound refl is
+scalar_says w table (scalars.UniqueId b) sound valid placed is =
+    known_says w table (scalars.UniqueId b) placed sound refl is
+scalar_says w table (scalars.Uuid b) sound valid placed is =
+    known_says w table (scalars.Uuid b) placed sound refl is
+
+-- each of a list, where one says what it should, and goes on to where tables grow
+module _ {A B : Type 0} (w : Writing) (spell : StringTable → A → Option (Placed B))
+    (Says : A → StringTable → B → Type 0) (ok : A → Bool)
+    (one : (table : StringTable) (x : A) → IsSound w table → ok x ≡ true → (placed : Placed B)
+    → spell table x ≡ Some placed → Spells w table (Says x) placed)
+    (stays : (x : A) (table behind : StringTable) (y : B) → Grows w table behind → Says x table y
+    → Says x behind y) where
+  -- what the others are, and all
+  ends_so : (table : StringTable) (x : A) (xs : List A) (first : Placed B)
+      (rest : Option (Placed (List B))) (placed : Placed (List B)) → Spells w table (Says x) first
+      → ((others : Placed (List B)) → rest ≡ Some others
+      → Spells w first.1 (λ t ys. EachMeans (λ y x. Says x t y) ys xs) others)
+      → option_map (λ r. (first.0 ∷ r.0, r.1)) rest ≡ Some placed
+      → Spells w table (λ t ys. EachMeans (λ y x. Says x t y) ys (x ∷ xs)) placed
+  ends_so table x xs first None placed said behind is = absurd (cc is)
+  ends_so table x xs first (Some others) placed said behind is =
+      let same : (first.0 ∷ others.0, others.1) ≡ placed = cc is in
+      let more = behind others refl in
+      subst (Spells w table (λ t ys. EachMeans (λ y x. Says x t y) ys (x ∷ xs))) same
+      (record {
+        grows = grows_on w table first.1 others.1 said.grows more.grows;
+        says =
+            (x, xs, stays x first.1 others.1 first.0 more.grows said.says, more.says, refl);
+      })
+
+  first_so : (table : StringTable) (x : A) (xs : List A) (first : Option (Placed B))
+      (placed : Placed (List B)) → spell table x ≡ first
+      → ((p : Placed B) → first ≡ Some p → Spells w table (Says x) p)
+      → ((p : Placed B) → Spells w table (Says x) p → (others : Placed (List B))
+      → spell_each spell p.1 xs ≡ Some others
+      → Spells w p.1 (λ t ys. EachMeans (λ y x. Says x t y) ys xs) others)
+      → option_and_then (λ p. option_map (λ r. (p.0 ∷ r.0, r.1)) (spell_each spell p.1 xs)) first
+      ≡ Some placed → Spells w table (λ t ys. EachMeans (λ y x. Says x t y) ys (x ∷ xs)) placed
+  first_so table x xs None placed e said behind is = absurd (cc is)
+  first_so table x xs (Some p) placed e said behind is =
+      ends_so table x xs p (spell_each spell p.1 xs) placed (said p refl) (behind p (said p refl))
+      is
+
+  pub each_says : (xs : List A) (table : StringTable) → IsSound w table → list_all ok xs ≡ true
+      → (placed : Placed (List B)) → spell_each spell table xs ≡ Some placed
+      → Spells w table (λ t ys. EachMeans (λ y x. Says x t y) ys xs) placed
+  each_says [] table sound good placed is =
+      let same : ([], table) ≡ placed = cc is in
+      subst (Spells w table (λ t ys. EachMeans (λ y x. Says x t y) ys [])) same
+      (record { grows = grows_not w table sound; says = refl })
+  each_says (x ∷ xs) table sound good placed is =
+      let parts = and_parts (ok x) (list_all ok xs) good in
+      first_so table x xs (spell table x) placed refl (λ p e. one table x sound parts.0 p e)
+      (λ p said others e. each_says xs p.1 (sound_behind w table p.1 sound said.grows) parts.1
+      others e) is

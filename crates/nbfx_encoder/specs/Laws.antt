@@ -1,0 +1,54 @@
+-- What holds of the chosen spelling by the definitions alone.
+use Rattle.std.specs.Prelude.{◌≡◌, ◌↔◌, ℕ, ◌+◌, ◌≤◌, List, [], ◌∷◌, ◌++◌, length, Ok}
+use Rattle.nbfx_values.specs.Documents.{IsDocument}
+use Rattle.nbfx_values.specs.Limits.{IsGood, Limits}
+use Rattle.nbfx_values.specs.declared.content.Item.{Item}
+use Rattle.nbfx_values.specs.declared.session.Kind.{Kind}
+use Rattle.string_tables.specs.SessionStrings.{used_cost}
+use Rattle.string_tables.specs.StaticStrings.{IsStaticMap}
+use Rattle.string_tables.specs.StringTable.{StringTable, with_strings}
+use Rattle.nbfx_records.specs.Payloads.{IsPayload, IsWithin}
+use Rattle.nbfx_values.specs.declared.session.Mode.{Mode}
+use Rattle.nbfx_encoder.specs.Envelopes.{behind_bytes, envelope_then, envelopes_from}
+use Rattle.nbfx_encoder.specs.Placing.{Placed}
+use Rattle.nbfx_encoder.specs.Spelling.{Fits, encoded}
+
+-- limits that admit as much as others
+pub record AdmitsAsMuch (reader writer : Limits) : Type 0 where
+  pub payload : writer.payload ≤ reader.payload
+  pub depth : writer.depth ≤ reader.depth
+  pub dictionary : writer.dictionary ≤ reader.dictionary
+  pub content : writer.content ≤ reader.content
+
+-- what a payload brings, and that it is one within limits
+pub record IsRead (limits : Limits) (kind : Kind) (table : StringTable) (items : List Item)
+    (bytes : List ℕ) (behind : StringTable) : Type 0 where
+  pub own : List (List ℕ)
+  pub is_payload : IsPayload kind table own items bytes
+  pub behind_is : behind ≡ with_strings table own
+  pub within : IsWithin limits items bytes behind.strings
+
+-- What is written of a document that fits is a payload of it, within the limits of any reader that
+-- admits as much, and leaves the table that was chosen.
+abbrev pub ChosenIsPayload : Type 0
+ChosenIsPayload = (writer reader : Limits) (kind : Kind) (table : StringTable) (items : List Item)
+    → IsGood writer → AdmitsAsMuch reader writer → IsStaticMap table.statics
+    → used_cost table.strings ≤ writer.dictionary → IsDocument items
+    → (fits : Fits writer kind table items)
+    → IsRead reader kind table items fits.payload.0 fits.payload.1
+
+-- a document is written exactly where it fits, and then as that says
+abbrev pub WritesWhatFits : Type 0
+WritesWhatFits = (limits : Limits) (kind : Kind) (table : StringTable) (items : List Item)
+    (payload : Placed (List ℕ))
+    → (encoded limits kind table items ≡ Ok payload)
+    ↔ ((fits : Fits limits kind table items) × (fits.payload ≡ payload))
+
+-- a document more is one envelope more, under the strings that those before have left
+abbrev pub SendsOneMore : Type 0
+SendsOneMore = (limits : Limits) (kind : Kind) (mode : Mode) (table behind : StringTable)
+    (number : ℕ) (documents : List (List Item)) (document : List Item) (bytes : List ℕ)
+    → envelopes_from limits kind mode table number documents ≡ Ok (bytes, behind)
+    → envelopes_from limits kind mode table number (documents ++ document ∷ [])
+    ≡ behind_bytes bytes (envelope_then mode (number + length documents)
+    (encoded limits kind behind document) (λ last. Ok ([], last)))

@@ -1,0 +1,12 @@
+-- Tables that a writer goes on with.
+use Rattle.std.specs.Prelude.{◌≤◌, ◌^◌}
+use Rattle.string_tables.specs.SessionStrings.{used_cost}
+use Rattle.string_tables.specs.StaticStrings.{IsStaticMap}
+use Rattle.string_tables.specs.StringTable.{StringTable}
+use Rattle.nbfx_encoder.specs.Placing.{Writing}
+
+-- a table that a writer goes on with
+pub record IsSound (w : Writing) (table : StringTable) : Type 0 where
+  pub statics : IsStaticMap table.statics
+  pub cost : used_cost table.strings ≤ w.dictionary
+  pub small : w.dictionary ≤ 2 ^ 28

@@ -1,0 +1,31 @@
+//! Why a document isn't written.
+
+ghost use Rattle.std.specs.Prelude.{◌≡◌};
+
+use unit_streams::Memory;
+
+/// Why a document isn't written. The writer is as before, and so is its output.
+#[derive(Clone, Copy, Debug, PartialEq, Eq)]
+pub enum EncodeFault {
+    /// This many elements are open at one moment, which are more than the depth quota admits.
+    TooDeep { depth: u64 },
+    /// The content counts this many bytes, which are more than the content quota admits.
+    TooMuchContent { size: u64 },
+    /// The item with this number, from 0, has a QName whose name gets no identifier: the static
+    /// strings have none for it, and as a string of the session it would cost too much.
+    NoIdForQName { item: u64 },
+    /// The payload has this many bytes, which are more than the payload quota admits.
+    TooLarge { size: u64 },
+    /// There was no memory.
+    Memory,
+}
+
+impl From<Memory> for EncodeFault {
+    ghost use Rattle.nbfx_encoder.specs.declared.faults.EncodeFault.{EncodeFault};
+
+    ghost from_gives = { λ _ fault. fault ≡ EncodeFault.Memory };
+
+    fn from(_memory: Memory) -> EncodeFault {
+        EncodeFault::Memory
+    }
+}

@@ -1,0 +1,18 @@
+//! What holds of the chosen spelling by its definitions alone. Each function does nothing: its
+//! contract is a law, which a caller has where it calls the function.
+
+ghost use Rattle.nbfx_encoder.specs.Laws.{ChosenIsPayload, SendsOneMore, WritesWhatFits};
+
+/// What is written of a document that fits is a payload of it, within the limits of any reader that
+/// admits as much, and leaves the strings that such a reader has behind it. A document is written
+/// exactly where it fits.
+pub fn payloads()
+    ensures payload { ChosenIsPayload }
+    ensures fits { WritesWhatFits }
+{}
+
+/// One document more is one envelope more, under the strings that those before have left; or it is
+/// the first that doesn't fit.
+pub fn envelopes()
+    ensures { SendsOneMore }
+{}
