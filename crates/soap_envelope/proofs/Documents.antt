@@ -1,0 +1,68 @@
+-- Literal documents for worked cases.
+use Rattle.std.proofs.Common.{ℕ, List, [], ◌∷◌, ◌++◌, codes, pos}
+use Rattle.nbfx_values.specs.declared.content.ArrayKind.TheVariants.{Int32}
+use Rattle.nbfx_values.specs.declared.content.AttrItem.{AttrItem}
+use Rattle.nbfx_values.specs.declared.content.Item.{Item}
+use Rattle.nbfx_values.specs.declared.content.Item.TheVariants.{Start, Xmlns, Attr, Text, Array, Close}
+use Rattle.nbfx_values.specs.declared.scalars.Scalar.TheVariants.{Number, Text as TextOf, UniqueId}
+use Rattle.nbfx_values.specs.declared.scalars.Value.TheVariants.{One}
+use Rattle.soap_envelope.specs.Names.{addressing, soap}
+
+abbrev pub words : List ℕ → Item
+words bytes = Text (One (TextOf bytes))
+
+abbrev pub identifier : List ℕ
+identifier = 0x33 ∷ 0x22 ∷ 0x11 ∷ 0x00 ∷ 0x55 ∷ 0x44 ∷ 0x77 ∷ 0x66 ∷ 0x88 ∷ 0x99 ∷ 0xAA ∷ 0xBB ∷ 0xCC ∷ 0xDD ∷ 0xEE ∷ 0xFF ∷ []
+
+-- an element of SOAP's, of addressing's and of no namespace, with what stands behind its beginning
+abbrev pub s : List ℕ → List Item → List Item
+s local inner = Start (codes "s") local ∷ (inner ++ Close ∷ [])
+
+abbrev pub a : List ℕ → List Item → List Item
+a local inner = Start (codes "a") local ∷ (inner ++ Close ∷ [])
+
+abbrev pub x : List Item → List Item
+x inner = Start [] (codes "x") ∷ (inner ++ Close ∷ [])
+
+abbrev pub attribute : (prefix local value : List ℕ) → Item
+attribute prefix local value = Attr prefix local (One (TextOf value))
+
+abbrev pub must : List ℕ → Item
+must value = attribute (codes "s") (codes "mustUnderstand") value
+
+abbrev pub role : List ℕ → Item
+role value = attribute (codes "s") (codes "role") value
+
+abbrev pub array : List ℕ → List AttrItem → Item
+array prefix attributes = Array (record {
+  prefix = prefix;
+  local = codes "n";
+  attrs = attributes;
+  kind = Int32;
+  values = Number (pos 1) ∷ [];
+})
+
+-- a root Envelope with the usual declarations: its children begin at place 3
+abbrev pub enveloped : List Item → List Item
+enveloped children =
+    s (codes "Envelope") (Xmlns (codes "s") soap ∷ Xmlns (codes "a") addressing ∷ children)
+
+-- an envelope with these blocks, which begin at place 4, and one with this content of Body, which
+-- begins at place 4
+abbrev pub with_blocks : List Item → List Item
+with_blocks blocks = enveloped (s (codes "Header") blocks ++ s (codes "Body") [])
+
+abbrev pub with_body : List Item → List Item
+with_body content = enveloped (s (codes "Body") content)
+
+abbrev pub action : List Item
+action =
+    a (codes "Action")
+    (Attr (codes "s") (codes "mustUnderstand") (One (Number (pos 1))) ∷ words (codes "urn:echo") ∷ [])
+
+abbrev pub message : List Item
+message = a (codes "MessageID") (Text (One (UniqueId identifier)) ∷ [])
+
+abbrev pub echo : List Item
+echo =
+    enveloped (s (codes "Header") (action ++ message) ++ s (codes "Body") (x (words (codes "hi") ∷ [])))

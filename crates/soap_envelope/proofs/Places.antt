@@ -1,0 +1,121 @@
+-- Where the items of replies and faults lead in a document.
+use Rattle.std.proofs.Common.{◌≡◌, ◌∙◌, ℕ, zero, suc, Bool, true, false, List, [], ◌∷◌, ◌++◌, append_assoc, Option, None, Some, refl, sym, ap}
+use Rattle.std.specs.Str.{is_utf8}
+use Rattle.std.specs.List.{list_all}
+use Rattle.std.proofs.lemmas.Bool.{and_parts}
+use Rattle.nbfx_values.specs.declared.content.Item.{Item}
+use Rattle.nbfx_values.specs.declared.content.Item.TheVariants.{Start, Xmlns, Attr, Text, Comment, Array, Close}
+use Rattle.nbfx_values.specs.declared.position.Position.{Position}
+use Rattle.nbfx_values.specs.declared.position.Position.TheVariants.{Before, Within, After}
+use Rattle.nbfx_values.specs.Documents.{IsDocument}
+use Rattle.nbfx_values.specs.Items.{is_valid_item}
+use Rattle.nbfx_values.specs.Positions.{position_from}
+use Rattle.nbfx_values.specs.Scalars.{is_valid_value}
+use Rattle.nbfx_values.proofs.Positions.{passed, position_from-append, position_from-none, stepped}
+use Rattle.nbfx_values.proofs.Walks.{position_of-document}
+use Rattle.soap_envelope.specs.Making.{action_block, ending, envelope_items, is_valid_text, middle, opening, relates_block, words}
+use Rattle.soap_envelope.proofs.OnLiterals.{envelopes_on_literals}
+
+-- one element more around
+abbrev deeper : Position → Position
+deeper (Within n a) = Within (suc n) a
+deeper Before = Before
+deeper After = After
+
+-- what leads on within an element leads on one element deeper
+pub deeper-leads : (xs : List Item) (n m : ℕ) (a b : Bool) → position_from (Some (Within n a)) xs ≡ Some (Within m b)
+    → position_from (Some (Within (suc n) a)) xs ≡ Some (Within (suc m) b)
+deeper-leads [] n m a b h = ap (λ o. o) (let e : Within n a ≡ Within m b = cc in ap (λ p. Some (deeper p)) e)
+deeper-leads (Start p l ∷ xs) n m a b h =
+    let q = passed (is_valid_item (Start p l)) (Some (Within (suc n) true)) xs (Within m b) h in
+    stepped (Within (suc n) a) (Start p l) xs q.0 ∙ deeper-leads xs (suc n) m true b q.1
+deeper-leads (Xmlns p u ∷ xs) n m true b h =
+    let q = passed (is_valid_item (Xmlns p u)) (Some (Within n true)) xs (Within m b) h in
+    stepped (Within (suc n) true) (Xmlns p u) xs q.0 ∙ deeper-leads xs n m true b q.1
+deeper-leads (Xmlns p u ∷ xs) n m false b h =
+    absurd (let e : None ≡ Some (Within m b) = sym (position_from-none xs) ∙ (passed (is_valid_item (Xmlns p u)) None xs (Within m b) h).1 in cc)
+deeper-leads (Attr p l v ∷ xs) n m true b h =
+    let q = passed (is_valid_item (Attr p l v)) (Some (Within n true)) xs (Within m b) h in
+    stepped (Within (suc n) true) (Attr p l v) xs q.0 ∙ deeper-leads xs n m true b q.1
+deeper-leads (Attr p l v ∷ xs) n m false b h =
+    absurd (let e : None ≡ Some (Within m b) = sym (position_from-none xs) ∙ (passed (is_valid_item (Attr p l v)) None xs (Within m b) h).1 in cc)
+deeper-leads (Text v ∷ xs) n m a b h =
+    let q = passed (is_valid_item (Text v)) (Some (Within n false)) xs (Within m b) h in
+    stepped (Within (suc n) a) (Text v) xs q.0 ∙ deeper-leads xs n m false b q.1
+deeper-leads (Comment v ∷ xs) n m a b h =
+    let q = passed (is_valid_item (Comment v)) (Some (Within n false)) xs (Within m b) h in
+    stepped (Within (suc n) a) (Comment v) xs q.0 ∙ deeper-leads xs n m false b q.1
+deeper-leads (Array v ∷ xs) n m a b h =
+    let q = passed (is_valid_item (Array v)) (Some (Within n false)) xs (Within m b) h in
+    stepped (Within (suc n) a) (Array v) xs q.0 ∙ deeper-leads xs n m false b q.1
+deeper-leads (Close ∷ xs) (suc n) m a b h = deeper-leads xs n m false b h
+deeper-leads (Close ∷ xs) zero m a b h = absurd (let e = behind-root xs m b h in e)
+  where
+    behind-root : (xs : List Item) (m : ℕ) (b : Bool) → position_from (Some After) xs ≡ Some (Within m b) → ⊥
+    behind-root [] m b h = cc
+    behind-root (x ∷ xs) m b h = let q = passed (is_valid_item x) None xs (Within m b) h in let e : None ≡ Some (Within m b) = sym (position_from-none xs) ∙ q.1 in cc
+
+-- content leads on also right behind the beginning of its element
+pub content-leads : (xs : List Item) (n : ℕ) → position_from (Some (Within n false)) xs ≡ Some (Within n false)
+    → (b : Bool) × (position_from (Some (Within n true)) xs ≡ Some (Within n b))
+content-leads [] n h = (true, refl)
+content-leads (Start p l ∷ xs) n h = (false, h)
+content-leads (Xmlns p u ∷ xs) n h =
+    absurd (let e : None ≡ Some (Within n false) = sym (position_from-none xs) ∙ (passed (is_valid_item (Xmlns p u)) None xs (Within n false) h).1 in cc)
+content-leads (Attr p l v ∷ xs) n h =
+    absurd (let e : None ≡ Some (Within n false) = sym (position_from-none xs) ∙ (passed (is_valid_item (Attr p l v)) None xs (Within n false) h).1 in cc)
+content-leads (Text v ∷ xs) n h = (false, h)
+content-leads (Comment v ∷ xs) n h = (false, h)
+content-leads (Array v ∷ xs) n h = (false, h)
+content-leads (Close ∷ xs) zero h = (false, h)
+content-leads (Close ∷ xs) (suc n) h = (false, h)
+
+-- texts lead nowhere else
+pub texts-lead : (xs : List Item) (n : ℕ) (a : Bool) → list_all is_valid_text xs ≡ true
+    → (b : Bool) × (position_from (Some (Within n a)) xs ≡ Some (Within n b))
+texts-lead [] n a h = (a, refl)
+texts-lead (Text v ∷ xs) n a h =
+    let q = and_parts (is_valid_value v) (list_all is_valid_text xs) h in
+    let more = texts-lead xs n false q.1 in
+    (more.0, stepped (Within n a) (Text v) xs q.0 ∙ more.1)
+texts-lead (x ∷ xs) n a h = absurd cc
+
+-- one list behind another
+pub leads-on : (o p q : Option Position) (xs ys : List Item) → position_from o xs ≡ p → position_from p ys ≡ q
+    → position_from o (xs ++ ys) ≡ q
+leads-on o p q xs ys h k = position_from-append o xs ys ∙ ap (λ r. position_from r ys) h ∙ k
+
+action-leads : (action : List ℕ) → is_utf8 action ≡ true
+    → position_from (Some (Within 1 true)) (action_block action) ≡ Some (Within 1 false)
+unfolding envelopes_on_literals
+action-leads action h = stepped (Within 2 true) (words action) (Close ∷ []) h
+
+relates-lead : (texts : List Item) → list_all is_valid_text texts ≡ true
+    → position_from (Some (Within 1 false)) (relates_block texts) ≡ Some (Within 1 false)
+unfolding envelopes_on_literals
+relates-lead [] h = refl
+relates-lead (text ∷ more) h =
+    let p = texts-lead (text ∷ more) 2 true h in
+    leads-on (Some (Within 2 true)) (Some (Within 2 p.0)) (Some (Within 1 false)) (text ∷ more) (Close ∷ []) p.1 refl
+
+-- an envelope is a document, where its action is UTF-8, its texts are valid, and its blocks and its content lead
+-- nowhere else
+pub envelope-document : (action : List ℕ) (relates blocks body : List Item) → is_utf8 action ≡ true
+    → list_all is_valid_text relates ≡ true
+    → position_from (Some (Within 1 false)) blocks ≡ Some (Within 1 false)
+    → position_from (Some (Within 0 false)) body ≡ Some (Within 0 false)
+    → IsDocument (envelope_items action relates blocks body)
+unfolding envelopes_on_literals
+envelope-document action relates blocks body utf8 texts leads content =
+    let inside = content-leads body 1 (deeper-leads body 0 0 false false content) in
+    let closed = leads-on (Some (Within 1 true)) (Some (Within 1 inside.0)) (Some After) body ending inside.1 refl in
+    let from_blocks = leads-on (Some (Within 1 false)) (Some (Within 1 false)) (Some After) blocks (middle ++ (body ++ ending)) leads closed in
+    let from_relates = leads-on (Some (Within 1 false)) (Some (Within 1 false)) (Some After) (relates_block relates) (blocks ++ (middle ++ (body ++ ending))) (relates-lead relates texts) from_blocks in
+    let from_action = leads-on (Some (Within 1 true)) (Some (Within 1 false)) (Some After) (action_block action) (relates_block relates ++ (blocks ++ (middle ++ (body ++ ending)))) (action-leads action utf8) from_relates in
+    position_of-document (envelope_items action relates blocks body) from_action
+
+-- the items of an envelope in the order in which they are put
+pub grouped : (old : List Item) (action : List ℕ) (relates blocks body : List Item)
+    → ((((((old ++ opening) ++ action_block action) ++ relates_block relates) ++ blocks) ++ middle) ++ body) ++ ending
+    ≡ old ++ envelope_items action relates blocks body
+grouped old action relates blocks body = simp append_assoc

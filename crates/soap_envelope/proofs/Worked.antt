@@ -1,0 +1,150 @@
+-- Worked cases: the view of literal documents.
+use Rattle.std.proofs.Common.{◌≡◌, List, [], ◌∷◌, ◌++◌, codes, refl, pos, map, Some, None, Result, Ok, Err, Bool, true, false}
+use Rattle.nbfx_values.specs.declared.content.AttrItem.TheVariants.{Xmlns as DeclaresOn}
+use Rattle.nbfx_values.specs.declared.content.Item.{Item}
+use Rattle.nbfx_values.specs.declared.content.Item.TheVariants.{Start, Xmlns, Attr, Text, Comment, Close}
+use Rattle.nbfx_values.specs.declared.scalars.Scalar.TheVariants.{Number, Truth, UniqueId}
+use Rattle.nbfx_values.specs.declared.scalars.Value.TheVariants.{One}
+use Rattle.soap_envelope.specs.declared.blocks.Block.{Block}
+use Rattle.soap_envelope.specs.declared.refusals.SoapFault.{SoapFault}
+use Rattle.soap_envelope.specs.Names.{addressing, qualified_name, role_next, role_ultimate_receiver, soap}
+use Rattle.soap_envelope.specs.View.{View, view}
+use Rattle.soap_envelope.proofs.Documents.{a, action, array, attribute, echo, enveloped, identifier, must, role, s, with_blocks, with_body, words, x}
+use Rattle.soap_envelope.proofs.OnLiterals.{envelopes_on_literals}
+
+-- an envelope as WCF sends them
+an_echo : view echo ≡ Ok (record {
+  blocks =
+      record { name = qualified_name addressing (codes "Action"); must_understand = true; targeted = true; from = 4; to = 7 }
+      ∷ record { name = qualified_name addressing (codes "MessageID"); must_understand = false; targeted = true; from = 8; to = 10 }
+      ∷ [];
+  action = Some (codes "urn:echo");
+  reply_address = None;
+  message_id = Text (One (UniqueId identifier)) ∷ [];
+  body = Start [] (codes "x") ∷ words (codes "hi") ∷ Close ∷ [];
+})
+unfolding envelopes_on_literals
+an_echo = refl
+
+-- what a view says of one thing
+abbrev Told : Type 0 → Type 0
+Told X = List Item × Result X SoapFault
+
+abbrev told : {X : Type 0} → (View → X) → Result View SoapFault → Result X SoapFault
+told f (Ok v) = Ok (f v)
+told f (Err fault) = Err fault
+
+abbrev seen : {X : Type 0} → X → Result X SoapFault
+seen v = Ok v
+
+abbrev AllTold : {X : Type 0} → (View → X) → List (List Item × X) → Type 0
+AllTold {X} f rows =
+    map (λ (r : List Item × X). told f (view r.0)) rows ≡ map (λ (r : List Item × X). seen r.1) rows
+
+-- for each block, whether it must be understood, and whether it is targeted
+abbrev flags : View → List (Bool × Bool)
+flags v = map (λ (b : Block). (b.must_understand, b.targeted)) v.blocks
+
+block : List Item → List Item
+block inner = with_blocks (a (codes "Sec") inner)
+
+flags_of_blocks : AllTold flags (
+    (block [], (false, true) ∷ [])
+    ∷ (block (must (codes "1") ∷ []), (true, true) ∷ [])
+    ∷ (block (must (codes "true") ∷ []), (true, true) ∷ [])
+    ∷ (block (must (codes "0") ∷ []), (false, true) ∷ [])
+    ∷ (block (must (codes "false") ∷ []), (false, true) ∷ [])
+    ∷ (block (Attr (codes "s") (codes "mustUnderstand") (One (Truth true)) ∷ []), (true, true) ∷ [])
+    ∷ (block (must (codes "1") ∷ must (codes "TRUE") ∷ []), (true, true) ∷ [])
+    ∷ (block (attribute [] (codes "mustUnderstand") (codes "1") ∷ []), (false, true) ∷ [])
+    ∷ (block (attribute (codes "a") (codes "mustUnderstand") (codes "1") ∷ []), (false, true) ∷ [])
+    ∷ (block (Xmlns [] soap ∷ attribute [] (codes "mustUnderstand") (codes "1") ∷ []), (false, true) ∷ [])
+    ∷ (block (attribute (codes "p") (codes "mustUnderstand") (codes "1") ∷ Xmlns (codes "p") soap ∷ []), (true, true) ∷ [])
+    ∷ (block (role [] ∷ []), (false, true) ∷ [])
+    ∷ (block (role role_next ∷ []), (false, true) ∷ [])
+    ∷ (block (role role_ultimate_receiver ∷ []), (false, true) ∷ [])
+    ∷ (block (role (codes "http://www.w3.org/2003/05/soap-envelope/role/none") ∷ []), (false, false) ∷ [])
+    ∷ (block (role (codes "urn:other") ∷ role role_next ∷ []), (false, false) ∷ [])
+    ∷ [])
+unfolding envelopes_on_literals block
+flags_of_blocks = refl
+
+-- the action: the first that is targeted, its texts joined, nothing trimmed
+acting : List Item → List Item
+acting inner = with_blocks (a (codes "Action") inner)
+
+actions : AllTold (λ v. v.action) (
+    (with_blocks [], None)
+    ∷ (with_body [], None)
+    ∷ (acting [], Some [])
+    ∷ (acting (words (codes " a") ∷ Comment (codes "b") ∷ Text (One (Number (pos 1))) ∷ []), Some (codes " a1"))
+    ∷ (acting (role (codes "urn:other") ∷ words (codes "b") ∷ []), None)
+    ∷ (with_blocks (a (codes "Action") (role (codes "urn:other") ∷ words (codes "b") ∷ []) ++ action), Some (codes "urn:echo"))
+    ∷ (with_blocks (a (codes "Action") (role (codes "urn:other") ∷ x []) ++ action), Some (codes "urn:echo"))
+    ∷ (with_blocks (s (codes "Action") (words (codes "b") ∷ [])), None)
+    ∷ [])
+unfolding envelopes_on_literals acting
+actions = refl
+
+-- the reply address: the only Address of characters alone
+replying : List Item → List Item
+replying inner = with_blocks (a (codes "ReplyTo") inner)
+
+reply_addresses : AllTold (λ v. v.reply_address) (
+    (with_blocks [], None)
+    ∷ (replying (a (codes "Address") (words (codes "urn:a") ∷ [])), Some (codes "urn:a"))
+    ∷ (replying (x [] ++ a (codes "Address") (words (codes "urn:a") ∷ []) ++ words (codes "z") ∷ []), Some (codes "urn:a"))
+    ∷ (replying (a (codes "Address") (x []) ++ a (codes "Address") (words (codes "urn:a") ∷ [])), Some (codes "urn:a"))
+    ∷ (replying (Start (codes "q") (codes "Address") ∷ Xmlns (codes "q") addressing ∷ words (codes "urn:a") ∷ Close ∷ []), Some (codes "urn:a"))
+    ∷ [])
+unfolding envelopes_on_literals replying
+reply_addresses = refl
+
+-- what may stand about, and other prefixes for the same namespaces
+passed : AllTold (λ v. v.body) (
+    (enveloped (words (codes " ") ∷ s (codes "Header") [] ++ Comment [] ∷ s (codes "Body") [] ++ words (0x0D ∷ 0x0A ∷ 0x09 ∷ []) ∷ []), [])
+    ∷ (with_blocks (Comment [] ∷ words [] ∷ action ++ words (codes " ") ∷ []), [])
+    ∷ (Start [] (codes "Envelope") ∷ Xmlns [] soap ∷ Start [] (codes "Body") ∷ words (codes "hi") ∷ Close ∷ Close ∷ [], words (codes "hi") ∷ [])
+    ∷ (Start (codes "e") (codes "Envelope") ∷ Xmlns (codes "e") soap ∷ Start (codes "e") (codes "Body") ∷ Close ∷ Close ∷ [], [])
+    ∷ (with_body (x (attribute (codes "xml") (codes "lang") (codes "en") ∷ [])), x (attribute (codes "xml") (codes "lang") (codes "en") ∷ []))
+    ∷ (with_body (x (attribute (codes "q") (codes "k") [] ∷ Xmlns (codes "q") [] ∷ [])), x (attribute (codes "q") (codes "k") [] ∷ Xmlns (codes "q") [] ∷ []))
+    ∷ [])
+unfolding envelopes_on_literals
+passed = refl
+
+-- the declarations that children of Body need, by the order of their prefixes
+declaring : List Item → List Item
+declaring inner =
+    s (codes "Envelope")
+    (Xmlns (codes "s") soap ∷ Xmlns (codes "z") (codes "urn:z") ∷ Xmlns (codes "a") (codes "urn:a")
+    ∷ s (codes "Body") (Xmlns (codes "b") (codes "urn:b") ∷ Xmlns [] (codes "urn:d") ∷ inner))
+
+bodies : AllTold (λ v. v.body) (
+    (declaring [], [])
+    ∷ (declaring (words (codes "hi") ∷ Comment [] ∷ []), words (codes "hi") ∷ Comment [] ∷ [])
+    ∷ (
+      declaring (x (x [])),
+      Start [] (codes "x") ∷ Xmlns [] (codes "urn:d") ∷ Xmlns (codes "a") (codes "urn:a") ∷ Xmlns (codes "b") (codes "urn:b")
+          ∷ Xmlns (codes "z") (codes "urn:z") ∷ (x [] ++ Close ∷ []),
+    )
+    ∷ (
+      declaring (x (Xmlns (codes "b") (codes "urn:c") ∷ words (codes "hi") ∷ [])),
+      Start [] (codes "x") ∷ Xmlns [] (codes "urn:d") ∷ Xmlns (codes "a") (codes "urn:a") ∷ Xmlns (codes "z") (codes "urn:z")
+          ∷ Xmlns (codes "b") (codes "urn:c") ∷ words (codes "hi") ∷ Close ∷ [],
+    )
+    ∷ (
+      declaring (array [] (DeclaresOn (codes "a") [] ∷ []) ∷ []),
+      array [] (DeclaresOn [] (codes "urn:d") ∷ DeclaresOn (codes "b") (codes "urn:b") ∷ DeclaresOn (codes "z") (codes "urn:z") ∷ DeclaresOn (codes "a") [] ∷ []) ∷ [],
+    )
+    ∷ (
+      s (codes "Envelope") (Xmlns (codes "s") soap ∷ Xmlns (codes "q") (codes "urn:q") ∷ s (codes "Body") (Xmlns (codes "q") (codes "urn:r") ∷ x [])),
+      x (Xmlns (codes "q") (codes "urn:r") ∷ []),
+    )
+    ∷ (s (codes "Envelope") (Xmlns (codes "s") soap ∷ Xmlns (codes "xml") (codes "urn:q") ∷ s (codes "Body") (x [])), x (Xmlns (codes "xml") (codes "urn:q") ∷ []))
+    ∷ (
+      Start (codes "e") (codes "Envelope") ∷ Xmlns (codes "e") soap ∷ Xmlns (codes "s") (codes "urn:s") ∷ Start (codes "e") (codes "Body") ∷ (x [] ++ Close ∷ Close ∷ []),
+      x (Xmlns (codes "e") soap ∷ Xmlns (codes "s") (codes "urn:s") ∷ []),
+    )
+    ∷ [])
+unfolding envelopes_on_literals declaring
+bodies = refl

@@ -1,0 +1,121 @@
+-- Worked cases: documents without a view, and why they have none.
+use Rattle.std.proofs.Common.{◌≡◌, ℕ, List, [], ◌∷◌, ◌++◌, codes, refl, map, true, Result, Err}
+use Rattle.nbfx_values.specs.declared.content.AttrItem.TheVariants.{Xmlns as DeclaresOn, Attr as AttrOn}
+use Rattle.nbfx_values.specs.declared.content.Item.{Item}
+use Rattle.nbfx_values.specs.declared.content.Item.TheVariants.{Start, Xmlns, Attr, Text, Comment, Close}
+use Rattle.nbfx_values.specs.declared.scalars.Scalar.TheVariants.{Truth, Float, QName}
+use Rattle.nbfx_values.specs.declared.scalars.Value.TheVariants.{One}
+use Rattle.soap_envelope.specs.declared.refusals.SoapFault.{SoapFault}
+use Rattle.soap_envelope.specs.declared.refusals.SoapFault.TheVariants.{BadNames, NotAnEnvelope, VersionMismatch, Misplaced, NoBody, RepeatedHeader, BadHeader}
+use Rattle.soap_envelope.specs.Names.{addressing, soap}
+use Rattle.soap_envelope.specs.View.{View, view}
+use Rattle.soap_envelope.proofs.Documents.{a, action, array, attribute, enveloped, must, role, s, with_blocks, with_body, words, x}
+use Rattle.soap_envelope.proofs.OnLiterals.{envelopes_on_literals}
+
+abbrev Row : Type 0
+Row = List Item × SoapFault
+
+abbrev refused : SoapFault → Result View SoapFault
+refused fault = Err fault
+
+abbrev AllRefused : List Row → Type 0
+AllRefused rows =
+    map (λ (r : Row). view r.0) rows ≡ map (λ (r : Row). refused r.1) rows
+
+-- prefixes that nothing declares, or that an element declares twice; the first such item counts
+names : AllRefused (
+    (with_body (Start (codes "q") (codes "x") ∷ Close ∷ []), BadNames 4)
+    ∷ (with_body (x (attribute (codes "q") (codes "k") [] ∷ [])), BadNames 5)
+    ∷ (with_body (x (Xmlns (codes "q") (codes "urn:q") ∷ []) ++ Start (codes "q") (codes "x") ∷ Close ∷ []), BadNames 7)
+    ∷ (with_body (x (Xmlns (codes "q") [] ∷ Xmlns (codes "q") [] ∷ [])), BadNames 6)
+    ∷ (with_body (x (Xmlns [] (codes "urn:q") ∷ Xmlns [] (codes "urn:r") ∷ [])), BadNames 6)
+    ∷ (with_body (Start (codes "q") (codes "x") ∷ Xmlns (codes "r") [] ∷ Xmlns (codes "r") [] ∷ Close ∷ []), BadNames 4)
+    ∷ (with_body (x (attribute (codes "q") (codes "k") [] ∷ Xmlns (codes "r") [] ∷ Xmlns (codes "r") [] ∷ [])), BadNames 5)
+    ∷ (with_body (array (codes "q") [] ∷ []), BadNames 4)
+    ∷ (with_body (array [] (AttrOn (codes "q") (codes "k") (One (Truth true)) ∷ []) ∷ []), BadNames 4)
+    ∷ (with_body (array [] (DeclaresOn (codes "q") [] ∷ DeclaresOn (codes "q") [] ∷ []) ∷ []), BadNames 4)
+    ∷ (with_body (array [] (DeclaresOn (codes "q") [] ∷ []) ∷ Start (codes "q") (codes "x") ∷ Close ∷ []), BadNames 5)
+    ∷ (Start (codes "s") (codes "Envelope") ∷ Close ∷ [], BadNames 0)
+    ∷ [])
+unfolding envelopes_on_literals
+names = refl
+
+-- roots
+roots : AllRefused (
+    (s (codes "Other") (Xmlns (codes "s") soap ∷ []), NotAnEnvelope)
+    ∷ (s (codes "envelope") (Xmlns (codes "s") soap ∷ []), NotAnEnvelope)
+    ∷ (x [], NotAnEnvelope)
+    ∷ (s (codes "Envelope") (Xmlns (codes "s") addressing ∷ []), VersionMismatch)
+    ∷ (Start [] (codes "Envelope") ∷ Xmlns (codes "s") soap ∷ Close ∷ [], VersionMismatch)
+    ∷ [])
+unfolding envelopes_on_literals
+roots = refl
+
+-- children of the root
+children : AllRefused (
+    (enveloped [], NoBody)
+    ∷ (enveloped (s (codes "Header") []), NoBody)
+    ∷ (enveloped (Comment (codes "note") ∷ words (codes " ") ∷ []), NoBody)
+    ∷ (enveloped (s (codes "Body") [] ++ s (codes "Header") []), Misplaced 5)
+    ∷ (enveloped (s (codes "Header") [] ++ s (codes "Header") []), Misplaced 5)
+    ∷ (enveloped (s (codes "Body") [] ++ s (codes "Body") []), Misplaced 5)
+    ∷ (enveloped (s (codes "Header") [] ++ x []), Misplaced 5)
+    ∷ (enveloped (a (codes "Body") []), Misplaced 3)
+    ∷ (enveloped (Start [] (codes "Body") ∷ Close ∷ []), Misplaced 3)
+    ∷ (enveloped (words (codes "hi") ∷ s (codes "Body") []), Misplaced 3)
+    ∷ (enveloped (s (codes "Body") [] ++ words (codes "hi") ∷ []), Misplaced 5)
+    ∷ (enveloped (s (codes "Body") [] ++ Text (One (Float 0)) ∷ []), Misplaced 5)
+    ∷ (enveloped (s (codes "Body") [] ++ Text (One (QName 0 (codes " "))) ∷ []), Misplaced 5)
+    ∷ (enveloped (array [] [] ∷ s (codes "Body") []), Misplaced 3)
+    ∷ [])
+unfolding envelopes_on_literals
+children = refl
+
+-- blocks that stand once: a repeated one goes before other faults of Header
+repeated_blocks : AllRefused (
+    (with_blocks (action ++ action), RepeatedHeader 8)
+    ∷ (with_blocks (a (codes "To") [] ++ a (codes "To") []), RepeatedHeader 6)
+    ∷ (with_blocks (a (codes "MessageID") [] ++ action ++ a (codes "MessageID") []), RepeatedHeader 10)
+    ∷ (with_blocks (x [] ++ a (codes "ReplyTo") [] ++ a (codes "ReplyTo") []), RepeatedHeader 8)
+    ∷ (with_blocks (action ++ a (codes "Action") (role [] ∷ [])), RepeatedHeader 8)
+    ∷ [])
+unfolding envelopes_on_literals
+repeated_blocks = refl
+
+-- what stands in Header and isn't as the standards have it
+address : List ℕ → List Item
+address text = a (codes "Address") (words text ∷ [])
+
+headers : AllRefused (
+    (with_blocks (words (codes "hi") ∷ []), BadHeader 4)
+    ∷ (with_blocks (array [] [] ∷ []), BadHeader 4)
+    ∷ (with_blocks (x []), BadHeader 4)
+    ∷ (with_blocks (a (codes "Sec") (must (codes "TRUE") ∷ [])), BadHeader 5)
+    ∷ (with_blocks (a (codes "Sec") (must [] ∷ [])), BadHeader 5)
+    ∷ (with_blocks (a (codes "Sec") (must (codes " 1") ∷ [])), BadHeader 5)
+    ∷ (with_blocks (a (codes "Sec") (Attr (codes "s") (codes "mustUnderstand") (One (Float 0)) ∷ [])), BadHeader 5)
+    ∷ (with_blocks (a (codes "Sec") (Attr (codes "s") (codes "role") (One (Float 0)) ∷ [])), BadHeader 5)
+    ∷ (with_blocks (a (codes "Sec") (Attr (codes "s") (codes "role") (One (Float 0)) ∷ must (codes "TRUE") ∷ [])), BadHeader 5)
+    ∷ (with_blocks (a (codes "Sec") (must (codes "TRUE") ∷ Attr (codes "s") (codes "role") (One (Float 0)) ∷ [])), BadHeader 5)
+    ∷ (with_blocks (a (codes "Action") (must (codes "TRUE") ∷ x [])), BadHeader 4)
+    ∷ (with_blocks (a (codes "Action") (Text (One (Float 0)) ∷ [])), BadHeader 4)
+    ∷ (with_blocks (a (codes "To") (array [] [] ∷ [])), BadHeader 4)
+    ∷ (with_blocks (a (codes "MessageID") (x [])), BadHeader 4)
+    ∷ (with_blocks (a (codes "ReplyTo") []), BadHeader 4)
+    ∷ (with_blocks (a (codes "ReplyTo") (s (codes "Address") [])), BadHeader 4)
+    ∷ (with_blocks (a (codes "ReplyTo") (address [] ++ address [])), BadHeader 4)
+    ∷ (with_blocks (a (codes "ReplyTo") (a (codes "Address") (x []))), BadHeader 4)
+    ∷ (with_blocks (a (codes "Sec") [] ++ a (codes "To") (x []) ++ x []), BadHeader 6)
+    ∷ [])
+unfolding envelopes_on_literals address
+headers = refl
+
+-- names go before the root, the root before its children, and those before Header
+in_order : AllRefused (
+    (Start [] (codes "x") ∷ attribute (codes "q") (codes "k") [] ∷ Close ∷ [], BadNames 1)
+    ∷ (s (codes "Envelope") (Xmlns (codes "s") addressing ∷ x []), VersionMismatch)
+    ∷ (enveloped (s (codes "Header") (x []) ++ x []), Misplaced 7)
+    ∷ (enveloped (s (codes "Header") (x [])), NoBody)
+    ∷ [])
+unfolding envelopes_on_literals
+in_order = refl

@@ -1,0 +1,13 @@
+use Rattle.std.proofs.Common.{append_assoc}
+use Rattle.soap_envelope.proofs.faults.put_code.Goals as goal
+
+pub returns : goal.returns
+returns c =
+    rw (
+      c.in_ok-put_close.ensures,
+      c.in_ok-put_sub.ensures,
+      c.in_ok-put_value.ensures,
+      c.text.ensures,
+      c.in_ok-put_start.ensures,
+    )
+    (simp append_assoc)

@@ -1,0 +1,7 @@
+-- No item so far is bad, so the rest gives the answer.
+use Rattle.std.proofs.Common.{◌≡◌, [], drop}
+use Rattle.soap_envelope.specs.BadNames.{first_bad_name}
+use Rattle.soap_envelope.proofs.names.bad_name.Given as goal
+
+abbrev pub invariant-loop-at : goal.invariant-loop-at
+invariant-loop-at l = first_bad_name l.scopes l.at (drop l.at l.items) ≡ first_bad_name [] 0 l.items

@@ -1,0 +1,109 @@
+-- The content of Body, so that it means the same in any other place: each child element declares
+-- what was in scope at Body.
+use Rattle.std.specs.Prelude.{ℕ, ◌+◌, ◌==◌, if◌then◌else◌, List, [], ◌∷◌, ◌++◌, Option, None, Some, Bool, not, ◌&&◌, ◌||◌, codes, drop, is_none, map}
+use Rattle.std.specs.Cmp.Lexicographic.{slice_cmp}
+use Rattle.std.specs.Ordering.{nat_cmp}
+use Rattle.std.specs.declared.cmp.Ordering.{Ordering}
+use Rattle.std.specs.declared.cmp.Ordering.TheVariants.{Less, Equal, Greater}
+use Rattle.std.specs.List.{filter}
+use Rattle.std.specs.Str.{bytes_eq}
+use Rattle.nbfx_values.specs.declared.content.ArrayItem.{ArrayItem}
+use Rattle.nbfx_values.specs.declared.content.AttrItem.{AttrItem}
+use Rattle.nbfx_values.specs.declared.content.AttrItem.TheVariants.{Xmlns as DeclaresOn}
+use Rattle.nbfx_values.specs.declared.content.Item.{Item}
+use Rattle.nbfx_values.specs.declared.content.Item.TheVariants.{Start, Xmlns, Attr, Array}
+use Rattle.soap_envelope.specs.Children.{open_behind}
+use Rattle.soap_envelope.specs.Names.{addressing, soap}
+use Rattle.soap_envelope.specs.Scopes.{Declaration, Scope, declared, declared_on, uri_in, within}
+
+-- one declaration and another with those behind it, by the order of the two; and those behind it with
+-- the first at its place
+abbrev pub placed : Ordering → (d e : Declaration) → (more put_behind : List Declaration)
+    → List Declaration
+placed Less d e more put_behind = d ∷ e ∷ more
+placed Equal d e more put_behind = d ∷ more
+placed Greater d e more put_behind = e ∷ put_behind
+
+-- a declaration at its place among others by the order of their prefixes' bytes, and in place of one
+-- of its prefix
+abbrev pub put : Declaration → List Declaration → List Declaration
+put d [] = d ∷ []
+put d (e ∷ more) = placed (slice_cmp nat_cmp d.prefix e.prefix) d e more (put d more)
+
+abbrev pub put_all : List Declaration → List Declaration → List Declaration
+put_all [] others = others
+put_all (d ∷ more) others = put_all more (put d others)
+
+-- the declarations in scope, by the order of their prefixes
+abbrev pub in_scope : Scope → List Declaration
+in_scope [] = []
+in_scope (layer ∷ outer) = put_all layer (in_scope outer)
+
+-- whether every reply declares it
+abbrev pub is_usual : Declaration → Bool
+is_usual d =
+    (bytes_eq d.prefix (codes "s") && bytes_eq d.uri soap)
+    || (bytes_eq d.prefix (codes "a") && bytes_eq d.uri addressing)
+
+-- those that an element in Body may rest on
+abbrev pub needed : Scope → List Declaration
+needed scope = filter (λ d. not (is_usual d)) (in_scope scope)
+
+-- whether an element with these declarations doesn't declare a prefix itself
+abbrev pub is_missing : List Declaration → Declaration → Bool
+is_missing own d = is_none (uri_in own d.prefix)
+
+abbrev pub missing : List Declaration → List Declaration → List Declaration
+missing needs own = filter (is_missing own) needs
+
+abbrev pub xmlns_of : Declaration → Item
+xmlns_of d = Xmlns d.prefix d.uri
+
+abbrev pub attribute_of : Declaration → AttrItem
+attribute_of d = DeclaresOn d.prefix d.uri
+
+abbrev pub array_with : List Declaration → ArrayItem → ArrayItem
+array_with needs a = record {
+  prefix = a.prefix;
+  local = a.local;
+  attrs = map attribute_of (missing needs (declared_on a.attrs)) ++ a.attrs;
+  kind = a.kind;
+  values = a.values;
+}
+
+-- a child, or the beginning of one with what stands behind that, and the declarations that it needs
+abbrev pub child_items : List Declaration → Item → List Item → List Item
+child_items needs (Start prefix local) more =
+    Start prefix local ∷ map xmlns_of (missing needs (declared more))
+child_items needs (Array a) more = Array (array_with needs a) ∷ []
+child_items needs item more = item ∷ []
+
+-- an item that stands in so many elements within Body
+abbrev pub standing_items : List Declaration → ℕ → Item → List Item → List Item
+standing_items needs inner item more =
+    if inner == 0 then child_items needs item more else item ∷ []
+
+-- nothing of an item that ends Body
+abbrev pub while_open : Option ℕ → List Item → List Item
+while_open None items = []
+while_open (Some inner) items = items
+
+-- the items up to the end of the element that holds them, the first of which stands in so many
+-- elements within that, with the declarations that children need
+abbrev pub self_standing : List Declaration → Option ℕ → List Item → List Item
+self_standing needs None items = []
+self_standing needs (Some inner) [] = []
+self_standing needs (Some inner) (item ∷ more) =
+    while_open (open_behind inner item) (standing_items needs inner item more)
+    ++ self_standing needs (open_behind inner item) more
+
+-- what stands behind the declarations and attributes at the head of items
+abbrev pub behind_head : List Item → List Item
+behind_head (Xmlns prefix uri ∷ more) = behind_head more
+behind_head (Attr prefix local value ∷ more) = behind_head more
+behind_head items = items
+
+-- the content of the Body that begins at a place, by the declarations within the root
+abbrev pub body_items : List Item → Scope → ℕ → List Item
+body_items items root at =
+    self_standing (needed (within items at root)) (Some 0) (behind_head (drop (at + 1) items))

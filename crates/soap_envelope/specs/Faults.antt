@@ -1,0 +1,80 @@
+-- Faults, item by item.
+use Rattle.std.specs.Prelude.{ℕ, List, [], ◌∷◌, ◌++◌, Bool, ◌&&◌, codes}
+use Rattle.std.specs.List.{flat_map}
+use Rattle.std.specs.Str.{is_utf8}
+use Rattle.nbfx_values.specs.declared.content.Item.{Item}
+use Rattle.nbfx_values.specs.declared.content.Item.TheVariants.{Xmlns, Attr, Close}
+use Rattle.nbfx_values.specs.declared.scalars.Scalar.TheVariants.{Text as TextOf}
+use Rattle.nbfx_values.specs.declared.scalars.Value.TheVariants.{One}
+use Rattle.soap_envelope.specs.declared.blocks.QualifiedName.{QualifiedName}
+use Rattle.soap_envelope.specs.declared.report.Code.{Code}
+use Rattle.soap_envelope.specs.declared.report.Code.TheVariants.{VersionMismatch, MustUnderstand, Sender, Receiver}
+use Rattle.soap_envelope.specs.declared.report.FaultReport.{FaultReport}
+use Rattle.soap_envelope.specs.declared.report.Sub.{Sub}
+use Rattle.soap_envelope.specs.declared.report.Sub.TheVariants as sub
+use Rattle.soap_envelope.specs.Making.{envelope_items, soap_start, words}
+use Rattle.soap_envelope.specs.Names.{addressing_fault, soap_fault}
+
+-- the name of each code, with the prefix that every fault declares
+abbrev pub code_text : Code → List ℕ
+code_text VersionMismatch = codes "s:VersionMismatch"
+code_text MustUnderstand = codes "s:MustUnderstand"
+code_text Sender = codes "s:Sender"
+code_text Receiver = codes "s:Receiver"
+
+-- the subcodes of addressing, the outer one first
+abbrev pub sub_texts : Sub → List (List ℕ)
+sub_texts sub.None = []
+sub_texts sub.HeaderRequired = codes "a:MessageAddressingHeaderRequired" ∷ []
+sub_texts sub.ActionNotSupported = codes "a:ActionNotSupported" ∷ []
+sub_texts sub.OnlyAnonymous =
+    codes "a:InvalidAddressingHeader" ∷ codes "a:OnlyAnonymousAddressSupported" ∷ []
+sub_texts sub.InvalidCardinality =
+    codes "a:InvalidAddressingHeader" ∷ codes "a:InvalidCardinality" ∷ []
+
+-- a fault of addressing has a subcode, and its action
+abbrev pub fault_action : Sub → List ℕ
+fault_action sub.None = soap_fault
+fault_action _ = addressing_fault
+
+-- the Value of a code or a subcode
+abbrev pub value_items : List ℕ → List Item
+value_items text = soap_start (codes "Value") ∷ words text ∷ Close ∷ []
+
+-- subcodes in one another
+abbrev pub subcode_items : List (List ℕ) → List Item
+subcode_items [] = []
+subcode_items (text ∷ more) =
+    soap_start (codes "Subcode") ∷ (value_items text ++ (subcode_items more ++ (Close ∷ [])))
+
+abbrev pub reason_items : List ℕ → List Item
+reason_items reason =
+    soap_start (codes "Reason") ∷ soap_start (codes "Text")
+    ∷ Attr (codes "xml") (codes "lang") (One (TextOf (codes "en"))) ∷ words reason
+    ∷ Close ∷ Close ∷ []
+
+abbrev pub code_items : FaultReport → List Item
+code_items report =
+    soap_start (codes "Code")
+    ∷ (value_items (code_text report.code) ++ (subcode_items (sub_texts report.sub) ++ (Close ∷ [])))
+
+-- the content of a fault's Body
+abbrev pub fault_body : FaultReport → List Item
+fault_body report =
+    soap_start (codes "Fault")
+    ∷ (code_items report ++ (reason_items report.reason ++ (Close ∷ [])))
+
+-- the block that names what wasn't understood
+abbrev pub not_understood_block : QualifiedName → List Item
+not_understood_block name =
+    soap_start (codes "NotUnderstood") ∷ Xmlns (codes "n") name.uri
+    ∷ Attr [] (codes "qname") (One (TextOf (codes "n:" ++ name.local))) ∷ Close ∷ []
+
+-- whether the texts of that block are UTF-8
+abbrev pub is_nameable : QualifiedName → Bool
+is_nameable name = is_utf8 name.uri && is_utf8 (codes "n:" ++ name.local)
+
+abbrev pub fault_items : FaultReport → List Item → List Item
+fault_items report relates =
+    envelope_items (fault_action report.sub) relates (flat_map not_understood_block report.names)
+    (fault_body report)

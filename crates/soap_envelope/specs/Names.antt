@@ -1,0 +1,40 @@
+-- The names to which SOAP 1.2, WS-Addressing 1.0 and XML Namespaces 1.0 give a meaning. The namespace
+-- of addressing stands here alone.
+use Rattle.std.specs.Prelude.{ℕ, List, Bool, ◌&&◌, codes}
+use Rattle.std.specs.Str.{bytes_eq}
+use Rattle.soap_envelope.specs.declared.blocks.QualifiedName.{QualifiedName}
+
+-- the namespaces of envelopes, of addressing, and of the prefix `xml`
+unfoldable pub soap : List ℕ
+soap = codes "http://www.w3.org/2003/05/soap-envelope"
+
+unfoldable pub addressing : List ℕ
+addressing = codes "http://www.w3.org/2005/08/addressing"
+
+unfoldable pub xml_namespace : List ℕ
+xml_namespace = codes "http://www.w3.org/XML/1998/namespace"
+
+-- the roles of the ultimate receiver
+unfoldable pub role_next : List ℕ
+role_next = codes "http://www.w3.org/2003/05/soap-envelope/role/next"
+
+unfoldable pub role_ultimate_receiver : List ℕ
+role_ultimate_receiver = codes "http://www.w3.org/2003/05/soap-envelope/role/ultimateReceiver"
+
+-- the actions of faults: those of addressing, and those of SOAP
+unfoldable pub addressing_fault : List ℕ
+addressing_fault = codes "http://www.w3.org/2005/08/addressing/fault"
+
+unfoldable pub soap_fault : List ℕ
+soap_fault = codes "http://www.w3.org/2005/08/addressing/soap/fault"
+
+abbrev pub qualified_name : (uri local : List ℕ) → QualifiedName
+qualified_name uri local = record { uri = uri; local = local }
+
+-- whether a name is this one
+abbrev pub is_named : QualifiedName → (uri local : List ℕ) → Bool
+is_named name uri local = bytes_eq name.uri uri && bytes_eq name.local local
+
+-- whether two names are one
+abbrev pub is_same_name : QualifiedName → QualifiedName → Bool
+is_same_name name other = is_named name other.uri other.local

@@ -1,0 +1,107 @@
+-- The view of a document as an envelope of SOAP 1.2 with WS-Addressing 1.0.
+use Rattle.std.specs.Prelude.{ℕ, List, [], Option, None, Some, Result, Ok, Err, codes, option_and_then, option_map, slice_get}
+use Rattle.std.specs.List.{flat_map}
+use Rattle.std.specs.Option.{option_or, option_to_list}
+use Rattle.nbfx_values.specs.declared.content.Item.{Item}
+use Rattle.nbfx_values.specs.declared.content.Item.TheVariants.{Text}
+use Rattle.soap_envelope.specs.declared.blocks.Block.{Block}
+use Rattle.soap_envelope.specs.declared.parts.Parts.{Parts}
+use Rattle.soap_envelope.specs.declared.refusals.SoapFault.{SoapFault}
+use Rattle.soap_envelope.specs.declared.refusals.SoapFault.TheVariants.{BadNames, RepeatedHeader, BadHeader}
+use Rattle.soap_envelope.specs.BadNames.{bad_name}
+use Rattle.soap_envelope.specs.Blocks.{blocks_among}
+use Rattle.soap_envelope.specs.Body.{body_items}
+use Rattle.soap_envelope.specs.Characters.{text_of}
+use Rattle.soap_envelope.specs.Children.{children_of}
+use Rattle.soap_envelope.specs.Headers.{addresses, bad_header, counted_at, only, repeated}
+use Rattle.soap_envelope.specs.Parts.{kept_children, parts_of, root_scope, wrong_root}
+use Rattle.soap_envelope.specs.Scopes.{Scope, within}
+
+-- what servers and callers go by
+pub record View : Type 0 where
+  pub blocks : List Block
+  -- the characters of the Action that counts
+  pub action : Option (List ℕ)
+  -- those of the Address of the ReplyTo that counts
+  pub reply_address : Option (List ℕ)
+  -- the texts of the MessageID that counts
+  pub message_id : List Item
+  -- the content of Body, so that it stands by itself
+  pub body : List Item
+
+-- the declarations within Header, and its children that aren't passed over
+abbrev pub header_scope : List Item → Option ℕ → Scope
+header_scope items None = root_scope items
+header_scope items (Some at) = within items at (root_scope items)
+
+abbrev pub header_children : List Item → Option ℕ → List ℕ
+header_children items None = []
+header_children items (Some at) = kept_children items at
+
+abbrev pub blocks_of : List Item → Option ℕ → List Block
+blocks_of items header = blocks_among items (header_scope items header) (header_children items header)
+
+-- the texts among the children of the element at a place
+abbrev pub text_item : Option Item → Option Item
+text_item (Some (Text value)) = Some (Text value)
+text_item _ = None
+
+abbrev pub texts_in : List Item → ℕ → List Item
+texts_in items at = option_to_list (text_item (slice_get items at))
+
+abbrev pub texts_among : List Item → List ℕ → List Item
+texts_among items children = flat_map (texts_in items) children
+
+abbrev pub texts_of : List Item → ℕ → List Item
+texts_of items at = texts_among items (children_of items at)
+
+abbrev pub texts_at : List Item → Option ℕ → List Item
+texts_at items None = []
+texts_at items (Some at) = texts_of items at
+
+-- the Address of the ReplyTo that begins at a place
+abbrev pub address_in : List Item → Scope → ℕ → Option ℕ
+address_in items header at = only (addresses items header at)
+
+abbrev pub reply_address_at : List Item → Scope → List Block → Option ℕ
+reply_address_at items header blocks =
+    option_and_then (address_in items header) (counted_at (codes "ReplyTo") blocks)
+
+abbrev pub viewed : List Item → Parts → View
+viewed items parts =
+    let blocks = blocks_of items parts.header in
+    record {
+      blocks = blocks;
+      action = option_map (text_of items) (counted_at (codes "Action") blocks);
+      reply_address =
+          option_map (text_of items)
+          (reply_address_at items (header_scope items parts.header) blocks);
+      message_id = texts_at items (counted_at (codes "MessageID") blocks);
+      body = body_items items (root_scope items) parts.body;
+    }
+
+-- the first of a repeated block and of what else is wrong among children
+abbrev pub fault_among : List Item → Scope → List ℕ → List Block → Option SoapFault
+fault_among items header children blocks =
+    option_or (option_map RepeatedHeader (repeated blocks))
+    (option_map BadHeader (bad_header items header children))
+
+-- the first fault of Header: a block that is repeated goes before any other
+abbrev pub header_fault : List Item → Option ℕ → Option SoapFault
+header_fault items header =
+    fault_among items (header_scope items header) (header_children items header)
+    (blocks_of items header)
+
+abbrev pub unless : {X : Type 0} → Option SoapFault → Result X SoapFault → Result X SoapFault
+unless None result = result
+unless (Some fault) result = Err fault
+
+abbrev pub viewed_by : List Item → Result Parts SoapFault → Result View SoapFault
+viewed_by items (Err fault) = Err fault
+viewed_by items (Ok parts) = unless (header_fault items parts.header) (Ok (viewed items parts))
+
+-- the view, or the first refusal: names, the root, its children, and then Header
+abbrev pub view : List Item → Result View SoapFault
+view items =
+    unless (option_map BadNames (bad_name items))
+    (unless (wrong_root items) (viewed_by items (parts_of items)))

@@ -1,0 +1,212 @@
+// The SOAP attributes of header blocks.
+ghost use Rattle.std.specs.Prelude.{◌≡◌, ◌∷◌, ◌+◌, ◌<◌, ◌^◌, IfOk, IsTrue, codes, drop, length, map};
+ghost use Rattle.std.specs.List.{list_all};
+ghost use Rattle.nbfx_values.specs.Items.{is_valid_item};
+ghost use Rattle.soap_envelope.specs.Blocks as spec;
+ghost use Rattle.soap_envelope.specs.Headers as headers;
+ghost use Rattle.soap_envelope.specs.Layers.{kept};
+ghost use Rattle.soap_envelope.specs.Scopes as scope;
+
+use crate::children::behind;
+use crate::namespaces::{role_next, role_ultimate_receiver, soap};
+use crate::parts::element_uri;
+use crate::scopes::{Declared, Scopes, declared_in};
+use nbfx_values::{Item, Txt};
+use std::alloc::Global;
+use unit_streams::Memory;
+
+// An attribute's place, and the characters of its value where it has some.
+#[derive(Drop)]
+pub(crate) struct Found {
+    pub(crate) at: usize,
+    pub(crate) characters: Option<Txt>,
+}
+
+// The namespace of an attribute with this prefix. One without prefix has none.
+fn attribute_uri<'a>(outer: &'a Scopes<'_>, own: &'a [Declared<'_>], prefix: &Txt) -> &'a str
+    ensures { result.now ≡ scope.attribute_uri (map kept own.now ∷ outer.now) prefix.now }
+{
+    if prefix.len() == 0 {
+        return "";
+    }
+    element_uri(outer, own, prefix)
+}
+
+// Whether an attribute is SOAP's of a local name.
+fn is_soap_attribute(
+    outer: &Scopes<'_>,
+    own: &[Declared<'_>],
+    name: &str,
+    prefix: &Txt,
+    local: &Txt,
+) -> bool
+    ensures { result ≡ spec.is_soap_attribute (map kept own.now ∷ outer.now) name.now
+        prefix.now local.now }
+{
+    local.as_str() == name && attribute_uri(outer, own, prefix) == soap()
+}
+
+// The first attribute that is, at the head of items of which the first is at this place.
+fn soap_attribute(
+    alloc: Global,
+    outer: &Scopes<'_>,
+    own: &[Declared<'_>],
+    name: &str,
+    at: usize,
+    behind: &[Item],
+) -> Result<Option<Found>, Memory>
+    requires few { at + length behind.now < 2 ^ 64 }
+    requires valid { IsTrue (list_all is_valid_item behind.now) }
+    ensures { IfOk result (λ found. found
+        ≡ spec.soap_attribute (map kept own.now ∷ outer.now) name.now at behind.now) }
+{
+    for (i, item) in behind.iter().enumerate() {
+        match item {
+            Item::Xmlns { .. } => {}
+            Item::Attr {
+                prefix,
+                local,
+                value,
+            } => {
+                if is_soap_attribute(outer, own, name, prefix, local) {
+                    let characters = value.characters(alloc)?;
+                    return Ok(Some(Found {
+                        at: at + i,
+                        characters,
+                    }));
+                }
+            }
+            _ => return Ok(None),
+        }
+    }
+    Ok(None)
+}
+
+// The same of the element that begins at a place.
+fn soap_attribute_of(
+    alloc: Global,
+    items: &[Item],
+    outer: &Scopes<'_>,
+    name: &str,
+    at: usize,
+) -> Result<Option<Found>, Memory>
+    requires within { at < length items.now }
+    requires valid { IsTrue (list_all is_valid_item items.now) }
+    ensures { IfOk result
+        (λ found. found ≡ spec.soap_attribute_of items.now outer.now name.now at) }
+{
+    let behind = behind(items, at);
+    let own = declared_in(alloc, behind)?;
+    soap_attribute(alloc, outer, own.as_slice(), name, at + 1, behind)
+}
+
+pub(crate) fn must_understand_of(
+    alloc: Global,
+    items: &[Item],
+    outer: &Scopes<'_>,
+    at: usize,
+) -> Result<Option<Found>, Memory>
+    requires within { at < length items.now }
+    requires valid { IsTrue (list_all is_valid_item items.now) }
+    ensures { IfOk result (λ found. found ≡ spec.must_understand_of items.now outer.now at) }
+{
+    soap_attribute_of(alloc, items, outer, "mustUnderstand", at)
+}
+
+pub(crate) fn role_of(
+    alloc: Global,
+    items: &[Item],
+    outer: &Scopes<'_>,
+    at: usize,
+) -> Result<Option<Found>, Memory>
+    requires within { at < length items.now }
+    requires valid { IsTrue (list_all is_valid_item items.now) }
+    ensures { IfOk result (λ found. found ≡ spec.role_of items.now outer.now at) }
+{
+    soap_attribute_of(alloc, items, outer, "role", at)
+}
+
+// The spellings of a truth, as XML Schema has them.
+fn is_yes(characters: &Option<Txt>) -> bool
+    ensures { result ≡ spec.is_yes characters.now }
+{
+    match characters {
+        Some(text) => text.as_str() == "1" || text.as_str() == "true",
+        None => false,
+    }
+}
+
+fn is_no(characters: &Option<Txt>) -> bool
+    ensures { result ≡ spec.is_no characters.now }
+{
+    match characters {
+        Some(text) => text.as_str() == "0" || text.as_str() == "false",
+        None => false,
+    }
+}
+
+// Whether a mustUnderstand attribute is there and true.
+pub(crate) fn must_be_understood(found: &Option<Found>) -> bool
+    ensures { result ≡ spec.must_be_understood found.now }
+{
+    match found {
+        Some(found) => is_yes(&found.characters),
+        None => false,
+    }
+}
+
+// Whether characters are a role of the ultimate receiver's.
+fn is_own_role(characters: &Option<Txt>) -> bool
+    ensures { result ≡ spec.is_own_role characters.now }
+{
+    match characters {
+        Some(text) => {
+            text.as_str() == ""
+                || text.as_str() == role_next()
+                || text.as_str() == role_ultimate_receiver()
+        }
+        None => false,
+    }
+}
+
+// Whether a role is left out or the ultimate receiver's.
+pub(crate) fn is_targeted(found: &Option<Found>) -> bool
+    ensures { result ≡ spec.is_targeted found.now }
+{
+    match found {
+        Some(found) => is_own_role(&found.characters),
+        None => true,
+    }
+}
+
+// The place of an attribute mustUnderstand that is no truth.
+pub(crate) fn bad_must_understand(found: &Option<Found>) -> Option<usize>
+    ensures { result ≡ headers.bad_must_understand found.now }
+{
+    match found {
+        Some(found) => {
+            if is_yes(&found.characters) || is_no(&found.characters) {
+                None
+            } else {
+                Some(found.at)
+            }
+        }
+        None => None,
+    }
+}
+
+// The place of a role without characters.
+pub(crate) fn bad_role(found: &Option<Found>) -> Option<usize>
+    ensures { result ≡ headers.bad_role found.now }
+{
+    match found {
+        Some(found) => {
+            if found.characters.is_some() {
+                None
+            } else {
+                Some(found.at)
+            }
+        }
+        None => None,
+    }
+}

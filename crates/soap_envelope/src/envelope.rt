@@ -1,0 +1,330 @@
+//! The view of a document as an envelope.
+
+ghost use Rattle.std.specs.Prelude.{◌≡◌, ◌≢◌, ◌++◌, Err, IfOk, IsTrue, MatchResult, Ok, OnOk, slice_get};
+ghost use Rattle.std.specs.List.{list_all};
+ghost use Rattle.std.specs.Option.{option_copied, option_map};
+ghost use Rattle.nbfx_values.specs.Items.{is_valid_item};
+ghost use Rattle.soap_envelope.specs.Characters as characters;
+ghost use Rattle.soap_envelope.specs.Parts.{root_scope};
+ghost use Rattle.soap_envelope.specs.Understanding as understanding;
+ghost use Rattle.soap_envelope.specs.View as spec;
+ghost use Rattle.soap_envelope.specs.View.{blocks_of, header_children, header_scope, view};
+
+use crate::blocks::{Block, Blocks, Names, QualifiedName};
+use crate::body::body_items;
+use crate::children::{behind, children_of};
+use crate::headers::{bad_header, blocks_among, counted_at, foreign_names, only_address, repeated};
+use crate::names::bad_name;
+use crate::parts::{Parts, kept_children, parts_of, wrong_root};
+use crate::refusals::SoapFault;
+use crate::scopes::{Scopes, declared_in};
+use crate::texts::text_of;
+use nbfx_values::{Copied, Doc, Item, Items, Txt};
+use std::alloc::Global;
+use std::marker::Model;
+use unit_streams::Memory;
+
+/// The view of a document as an envelope of SOAP 1.2 with WS-Addressing 1.0, which contracts see as
+/// what servers and callers go by.
+#[derive(Drop)]
+pub struct Envelope<'d> {
+    items: &'d [Item],
+    blocks: Blocks,
+    action: Option<Txt>,
+    reply_address: Option<Txt>,
+    message: Option<usize>,
+    body: usize,
+}
+
+impl<'d> Model for Envelope<'d> {
+    ghost use Rattle.soap_envelope.specs.View.{View};
+    ghost use Rattle.soap_envelope.specs.Seen.{seen};
+
+    ghost Value = { View };
+
+    ghost view = { λ e. seen e.items.now e.blocks e.action e.reply_address e.message e.body };
+}
+
+// Into the root.
+fn in_root<'d>(alloc: Global, items: &'d [Item]) -> Result<Scopes<'d>, Memory>
+    ensures { IfOk result (λ scopes. scopes ≡ root_scope items.now) }
+{
+    let layer = declared_in(alloc, behind(items, 0))?;
+    let mut scopes = Scopes::new(alloc);
+    scopes.enter(layer)?;
+    Ok(scopes)
+}
+
+// Into Header, if there is one.
+fn enter_header<'d>(
+    alloc: Global,
+    items: &'d [Item],
+    scopes: &mut Scopes<'d>,
+    header: Option<usize>,
+) -> Result<(), Memory>
+    requires { scopes.old ≡ root_scope items.now }
+    ensures { OnOk result (scopes.new ≡ header_scope items.now header) }
+{
+    if let Some(at) = header {
+        let layer = declared_in(alloc, behind(items, at))?;
+        scopes.enter(layer)?;
+        return Ok(());
+    }
+    Ok(())
+}
+
+// The children of Header that aren't passed over.
+fn children_in_header(
+    alloc: Global,
+    items: &[Item],
+    header: Option<usize>,
+) -> Result<Vec<usize>, Memory>
+    requires { IsTrue (list_all is_valid_item items.now) }
+    ensures { IfOk result (λ children. children.items ≡ header_children items.now header) }
+{
+    match header {
+        Some(at) => kept_children(alloc, items, at),
+        None => Ok(Vec::new(alloc)),
+    }
+}
+
+// The first fault of Header, which has these children and blocks.
+fn fault_among<'d>(
+    alloc: Global,
+    items: &'d [Item],
+    scopes: &mut Scopes<'d>,
+    children: &[usize],
+    blocks: &[Block],
+) -> Result<Option<SoapFault>, Memory>
+    requires { IsTrue (list_all is_valid_item items.now) }
+    ensures fault { IfOk result
+        (λ fault. fault ≡ spec.fault_among items.now scopes.old children.now blocks.now) }
+    ensures unchanged { OnOk result (scopes.new ≡ scopes.old) }
+{
+    if let Some(item) = repeated(blocks) {
+        return Ok(Some(SoapFault::RepeatedHeader { item }));
+    }
+    match bad_header(alloc, items, scopes, children)? {
+        Some(item) => Ok(Some(SoapFault::BadHeader { item })),
+        None => Ok(None),
+    }
+}
+
+// The characters of the element at a place, if there is one.
+fn text_at(alloc: Global, items: &[Item], at: Option<usize>) -> Result<Option<Txt>, Memory>
+    requires { IsTrue (list_all is_valid_item items.now) }
+    ensures { IfOk result (λ text. text ≡ option_map (characters.text_of items.now) at) }
+{
+    match at {
+        Some(at) => {
+            let text = text_of(alloc, items, at)?;
+            Ok(Some(text))
+        }
+        None => Ok(None),
+    }
+}
+
+// The Address of the ReplyTo that counts.
+fn reply_address_at<'d>(
+    alloc: Global,
+    items: &'d [Item],
+    scopes: &mut Scopes<'d>,
+    blocks: &[Block],
+) -> Result<Option<usize>, Memory>
+    requires { IsTrue (list_all is_valid_item items.now) }
+    ensures { IfOk result
+        (λ at. at ≡ spec.reply_address_at items.now scopes.old blocks.now) }
+{
+    match counted_at(blocks, "ReplyTo") {
+        Some(at) => only_address(alloc, items, scopes, at),
+        None => Ok(None),
+    }
+}
+
+// The view, where these are the parts and Header is as the standards have it.
+fn envelope_with<'d>(
+    alloc: Global,
+    items: &'d [Item],
+    scopes: &mut Scopes<'d>,
+    blocks: Blocks,
+    parts: Parts,
+) -> Result<Envelope<'d>, Memory>
+    requires valid { IsTrue (list_all is_valid_item items.now) }
+    requires scope { scopes.old ≡ header_scope items.now parts.header }
+    requires blocks { blocks ≡ blocks_of items.now parts.header }
+    ensures { IfOk result (λ e. e ≡ spec.viewed items.now parts) }
+{
+    let action = text_at(alloc, items, counted_at(blocks.as_slice(), "Action"))?;
+    let address = reply_address_at(alloc, items, scopes, blocks.as_slice())?;
+    let reply_address = text_at(alloc, items, address)?;
+    let message = counted_at(blocks.as_slice(), "MessageID");
+    Ok(Envelope {
+        items,
+        blocks,
+        action,
+        reply_address,
+        message,
+        body: parts.body,
+    })
+}
+
+// The view, where these are the parts, or what is wrong with Header.
+fn viewed<'d>(
+    alloc: Global,
+    items: &'d [Item],
+    mut scopes: Scopes<'d>,
+    parts: Parts,
+) -> Result<Result<Envelope<'d>, SoapFault>, Memory>
+    requires valid { IsTrue (list_all is_valid_item items.now) }
+    requires scope { scopes ≡ root_scope items.now }
+    ensures { IfOk result (λ seen. seen ≡ spec.viewed_by items.now (Ok parts)) }
+{
+    enter_header(alloc, items, &mut scopes, parts.header)?;
+    let children = children_in_header(alloc, items, parts.header)?;
+    let blocks = blocks_among(alloc, items, &scopes, children.as_slice())?;
+    let fault = fault_among(
+        alloc,
+        items,
+        &mut scopes,
+        children.as_slice(),
+        blocks.as_slice(),
+    )?;
+    if let Some(fault) = fault {
+        return Ok(Err(fault));
+    }
+    let seen = envelope_with(alloc, items, &mut scopes, blocks, parts)?;
+    Ok(Ok(seen))
+}
+
+// The view, or the first refusal.
+fn view_of<'d>(alloc: Global, items: &'d [Item]) -> Result<Result<Envelope<'d>, SoapFault>, Memory>
+    requires { IsTrue (list_all is_valid_item items.now) }
+    ensures { IfOk result (λ seen. seen ≡ view items.now) }
+{
+    if let Some(item) = bad_name(alloc, items)? {
+        return Ok(Err(SoapFault::BadNames { item }));
+    }
+    if let Some(fault) = wrong_root(alloc, items)? {
+        return Ok(Err(fault));
+    }
+    let root = in_root(alloc, items)?;
+    match parts_of(alloc, items, &root)? {
+        Ok(parts) => viewed(alloc, items, root, parts),
+        Err(fault) => Ok(Err(fault)),
+    }
+}
+
+// A copy of the text at a place, if one stands there.
+fn text_copy(items: &[Item], at: usize) -> Result<Option<Item>, Memory>
+    ensures { IfOk result (λ text. text ≡ spec.text_item (slice_get items.now at)) }
+{
+    match items.get(at) {
+        Some(Item::Text(value)) => {
+            let value = value.copy()?;
+            Ok(Some(Item::Text(value)))
+        }
+        _ => Ok(None),
+    }
+}
+
+// Puts the text at a place, if one stands there.
+fn put_text_at(out: &mut Items, items: &[Item], at: usize) -> Result<(), Memory>
+    ensures { OnOk result (out.new ≡ out.old ++ spec.texts_in items.now at) }
+{
+    let text = text_copy(items, at)?;
+    match text {
+        Some(text) => {
+            out.push(text)?;
+            Ok(())
+        }
+        None => Ok(()),
+    }
+}
+
+// The texts among these children.
+fn texts_among(alloc: Global, items: &[Item], children: &[usize]) -> Result<Items, Memory>
+    ensures { IfOk result (λ texts. texts ≡ spec.texts_among items.now children.now) }
+{
+    let mut texts = Items::new(alloc);
+    for child in children {
+        put_text_at(&mut texts, items, *child)?;
+    }
+    Ok(texts)
+}
+
+// The texts of the element at a place, if there is one.
+fn texts_at(alloc: Global, items: &[Item], at: Option<usize>) -> Result<Items, Memory>
+    ensures { IfOk result (λ texts. texts ≡ spec.texts_at items.now at) }
+{
+    match at {
+        Some(at) => {
+            let children = children_of(alloc, items, at)?;
+            texts_among(alloc, items, children.as_slice())
+        }
+        None => Ok(Items::new(alloc)),
+    }
+}
+
+impl<'d> Envelope<'d> {
+    /// The view of a document. Any refusal but for want of memory is the first that applies.
+    pub fn of(alloc: Global, doc: &'d Doc) -> Result<Envelope<'d>, SoapFault>
+        ensures { MatchResult result (λ e. view doc.now ≡ Ok e)
+            (λ fault. fault ≢ SoapFault.Memory → view doc.now ≡ Err fault) }
+    {
+        match view_of(alloc, doc.items().as_slice()) {
+            Ok(seen) => seen,
+            Err(Memory) => Err(SoapFault::Memory),
+        }
+    }
+
+    /// The header blocks in order.
+    pub fn blocks(&self) -> &Blocks
+        ensures { result.now ≡ self.now.blocks }
+    {
+        &self.blocks
+    }
+
+    /// The characters of the Action, if there is one that is targeted.
+    pub fn action(&self) -> Option<&str>
+        ensures { option_copied result ≡ self.now.action }
+    {
+        match &self.action {
+            Some(action) => Some(action.as_str()),
+            None => None,
+        }
+    }
+
+    /// The characters of the ReplyTo's Address, if there is a ReplyTo that is targeted.
+    pub fn reply_address(&self) -> Option<&str>
+        ensures { option_copied result ≡ self.now.reply_address }
+    {
+        match &self.reply_address {
+            Some(address) => Some(address.as_str()),
+            None => None,
+        }
+    }
+
+    /// The texts of the MessageID, in order, if there is one that is targeted.
+    pub fn message_id(&self, alloc: Global) -> Result<Items, Memory>
+        ensures { IfOk result (λ texts. texts ≡ self.now.message_id) }
+    {
+        texts_at(alloc, self.items, self.message)
+    }
+
+    /// The content of Body, so that it means the same in a reply: each child element declares what
+    /// was in scope at Body and it doesn't declare itself.
+    pub fn body(&self, alloc: Global) -> Result<Items, Memory>
+        ensures { IfOk result (λ items. items ≡ self.now.body) }
+    {
+        body_items(alloc, self.items, self.body)
+    }
+
+    /// The names, in order, of the blocks that are targeted and must be understood, and whose names
+    /// aren't among those known.
+    pub fn not_understood(&self, alloc: Global, known: &[QualifiedName]) -> Result<Names, Memory>
+        ensures { IfOk result
+            (λ names. names ≡ understanding.not_understood known.now self.now.blocks) }
+    {
+        foreign_names(alloc, known, self.blocks.as_slice())
+    }
+}

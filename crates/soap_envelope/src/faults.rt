@@ -1,0 +1,201 @@
+//! Faults.
+
+ghost use Rattle.std.specs.Prelude.{◌≡◌, [], ◌∷◌, ◌++◌, IfOk, IsTrue, OnOk, codes};
+ghost use Rattle.std.specs.List.{flat_map, list_all};
+ghost use Rattle.std.specs.Str.{is_utf8};
+ghost use Rattle.soap_envelope.specs.Faults as spec;
+ghost use Rattle.soap_envelope.specs.Faults.{code_items, code_text, fault_body, fault_items, is_nameable, not_understood_block, reason_items, subcode_items, sub_texts, value_items};
+ghost use Rattle.soap_envelope.specs.Making.{AreTexts, envelope_items};
+
+use crate::blocks::QualifiedName;
+use crate::making::{document, put_action, put_ending, put_middle, put_opening, put_relates};
+use crate::namespaces;
+use crate::puts::{put_attribute, put_close, put_start, put_text, put_xmlns};
+use crate::report::{Code, FaultReport, Sub};
+use nbfx_values::{Copied, Doc, Item, Items, Scalar, Txt, Value};
+use std::alloc::Global;
+use unit_streams::Memory;
+
+impl Code {
+    // The name, with the prefix that every fault declares.
+    fn text(self) -> &'static str
+        ensures { result.now ≡ code_text self }
+    {
+        match self {
+            Code::VersionMismatch => "s:VersionMismatch",
+            Code::MustUnderstand => "s:MustUnderstand",
+            Code::Sender => "s:Sender",
+            Code::Receiver => "s:Receiver",
+        }
+    }
+}
+
+// A fault of addressing has a subcode, and its action.
+fn fault_action(sub: Sub) -> &'static str
+    ensures { result.now ≡ spec.fault_action sub }
+{
+    match sub {
+        Sub::None => namespaces::soap_fault(),
+        _ => namespaces::addressing_fault(),
+    }
+}
+
+// The Value of a code or a subcode.
+fn put_value(alloc: Global, items: &mut Items, text: &str) -> Result<(), Memory>
+    ensures { OnOk result (items.new ≡ items.old ++ value_items text.now) }
+{
+    put_start(alloc, items, "s", "Value")?;
+    let text = Txt::of(alloc, text)?;
+    put_text(items, text)?;
+    put_close(items)?;
+    Ok(())
+}
+
+// A subcode without another in it.
+fn put_subcode(alloc: Global, items: &mut Items, text: &str) -> Result<(), Memory>
+    ensures { OnOk result (items.new ≡ items.old ++ subcode_items (text.now ∷ [])) }
+{
+    put_start(alloc, items, "s", "Subcode")?;
+    put_value(alloc, items, text)?;
+    put_close(items)?;
+    Ok(())
+}
+
+// A subcode, and another one in it.
+fn put_nested(alloc: Global, items: &mut Items, outer: &str, inner: &str) -> Result<(), Memory>
+    ensures { OnOk result
+        (items.new ≡ items.old ++ subcode_items (outer.now ∷ inner.now ∷ [])) }
+{
+    put_start(alloc, items, "s", "Subcode")?;
+    put_value(alloc, items, outer)?;
+    put_subcode(alloc, items, inner)?;
+    put_close(items)?;
+    Ok(())
+}
+
+// The subcodes of a fault, if it has some.
+fn put_sub(alloc: Global, items: &mut Items, sub: Sub) -> Result<(), Memory>
+    ensures { OnOk result (items.new ≡ items.old ++ subcode_items (sub_texts sub)) }
+{
+    let bad = "a:InvalidAddressingHeader";
+    match sub {
+        Sub::None => Ok(()),
+        Sub::HeaderRequired => put_subcode(alloc, items, "a:MessageAddressingHeaderRequired"),
+        Sub::ActionNotSupported => put_subcode(alloc, items, "a:ActionNotSupported"),
+        Sub::OnlyAnonymous => put_nested(alloc, items, bad, "a:OnlyAnonymousAddressSupported"),
+        Sub::InvalidCardinality => put_nested(alloc, items, bad, "a:InvalidCardinality"),
+    }
+}
+
+// The reason in English.
+fn put_reason(alloc: Global, items: &mut Items, reason: &Txt) -> Result<(), Memory>
+    ensures { OnOk result (items.new ≡ items.old ++ reason_items reason.now) }
+{
+    put_start(alloc, items, "s", "Reason")?;
+    put_start(alloc, items, "s", "Text")?;
+    let english = Value::One(Scalar::Text(Txt::of(alloc, "en")?));
+    put_attribute(alloc, items, "xml", "lang", english)?;
+    put_text(items, reason.copy()?)?;
+    put_close(items)?;
+    put_close(items)?;
+    Ok(())
+}
+
+// The code of a fault, with its subcodes.
+fn put_code(alloc: Global, items: &mut Items, report: &FaultReport) -> Result<(), Memory>
+    ensures { OnOk result (items.new ≡ items.old ++ code_items report.now) }
+{
+    put_start(alloc, items, "s", "Code")?;
+    put_value(alloc, items, report.code.text())?;
+    put_sub(alloc, items, report.sub)?;
+    put_close(items)?;
+    Ok(())
+}
+
+// The content of a fault's Body.
+fn put_fault(alloc: Global, items: &mut Items, report: &FaultReport) -> Result<(), Memory>
+    ensures { OnOk result (items.new ≡ items.old ++ fault_body report.now) }
+{
+    put_start(alloc, items, "s", "Fault")?;
+    put_code(alloc, items, report)?;
+    put_reason(alloc, items, &report.reason)?;
+    put_close(items)?;
+    Ok(())
+}
+
+// A local name with the prefix that its block declares.
+fn prefixed(alloc: Global, local: &Txt) -> Result<Txt, Memory>
+    ensures same { IfOk result (λ text. text ≡ codes "n:" ++ local.now) }
+    ensures utf8 { IfOk result (λ text. IsTrue (is_utf8 text)) }
+{
+    let mut text = String::from_str(alloc, "n:")?;
+    text.push_str(local.as_str())?;
+    let text = Txt::from(text);
+
+    // Characters are UTF-8.
+    let _characters = text.as_str();
+    Ok(text)
+}
+
+// The block that names what wasn't understood.
+fn put_not_understood(alloc: Global, items: &mut Items, name: &QualifiedName) -> Result<(), Memory>
+    ensures put { OnOk result (items.new ≡ items.old ++ not_understood_block name.now) }
+    ensures uri { OnOk result (IsTrue (is_utf8 name.now.uri)) }
+    ensures qname { OnOk result (IsTrue (is_utf8 (codes "n:" ++ name.now.local))) }
+{
+    put_start(alloc, items, "s", "NotUnderstood")?;
+    put_xmlns(alloc, items, "n", name.uri.as_str())?;
+    let qname = prefixed(alloc, &name.local)?;
+    put_attribute(alloc, items, "", "qname", Value::One(Scalar::Text(qname)))?;
+    put_close(items)?;
+    Ok(())
+}
+
+// The blocks that name what wasn't understood.
+fn put_names(alloc: Global, items: &mut Items, names: &[QualifiedName]) -> Result<(), Memory>
+    ensures put { OnOk result (items.new ≡ items.old ++ flat_map not_understood_block names.now) }
+    ensures valid { OnOk result (IsTrue (list_all is_nameable names.now)) }
+{
+    for name in names {
+        put_not_understood(alloc, items, name)?;
+    }
+    Ok(())
+}
+
+// A fault with this action.
+fn put_report(
+    alloc: Global,
+    items: &mut Items,
+    action: Txt,
+    relates: &[Item],
+    report: &FaultReport,
+) -> Result<(), Memory>
+    ensures put { OnOk result (items.new ≡ items.old ++ envelope_items action relates.now
+        (flat_map not_understood_block report.now.names) (fault_body report.now)) }
+    ensures names { OnOk result (IsTrue (list_all is_nameable report.now.names)) }
+{
+    put_opening(alloc, items)?;
+    put_action(alloc, items, action)?;
+    put_relates(alloc, items, relates)?;
+    put_names(alloc, items, report.names.as_slice())?;
+    put_middle(alloc, items)?;
+    put_fault(alloc, items, report)?;
+    put_ending(items)?;
+    Ok(())
+}
+
+/// The fault of this report, which is an envelope of SOAP 1.2: its RelatesTo has these texts, those
+/// of the MessageID of the request that it answers. A fault with a subcode has addressing's action
+/// for faults, and one without has SOAP's.
+pub fn fault_doc(alloc: Global, report: &FaultReport, relates: &Items) -> Result<Doc, Memory>
+    requires { AreTexts relates.now }
+    ensures { IfOk result (λ doc. doc ≡ fault_items report.now relates.now) }
+{
+    let action = Txt::of(alloc, fault_action(report.sub))?;
+    let mut items = Items::new(alloc);
+    put_report(alloc, &mut items, action, relates.as_slice(), report)?;
+
+    // Characters are UTF-8.
+    let _reason = report.reason.as_str();
+    Ok(document(items))
+}

@@ -1,0 +1,36 @@
+//! The view of a SOAP 1.2 envelope with WS-Addressing 1.0 that servers and callers go by, and exact
+//! replies and faults.
+//!
+//! The one idea: an envelope is a document seen by the names that its prefixes stand for. `view` of
+//! `specs/View.antt` is a function of the document's items, in the order in which it is judged: names
+//! (`Scopes`, `BadNames`), the root and its children (`Parts`), header blocks (`Blocks`, `Headers`),
+//! and the content of Body, so that it stands by itself (`Body`). `Envelope::of` is proved to answer
+//! that view, or the first refusal.
+//!
+//! `reply_doc` and `fault_doc` make documents whose items `specs/Making.antt` and `specs/Faults.antt`
+//! list one by one. The names of the standards are in `src/namespaces.rt` and `specs/Names.antt`.
+#![tactic(auto)]
+
+mod attributes;
+mod blocks;
+mod body;
+mod children;
+mod envelope;
+mod faults;
+mod headers;
+mod making;
+mod names;
+mod namespaces;
+mod parts;
+mod puts;
+mod refusals;
+mod report;
+mod scopes;
+mod texts;
+
+pub use blocks::{Block, Blocks, Names, QualifiedName};
+pub use envelope::Envelope;
+pub use faults::fault_doc;
+pub use making::reply_doc;
+pub use refusals::SoapFault;
+pub use report::{Code, FaultReport, Sub};

@@ -1,0 +1,132 @@
+//! Replies.
+
+ghost use Rattle.std.specs.Prelude.{◌≡◌, ◌++◌, [], IfOk, IsTrue, OnOk};
+ghost use Rattle.std.specs.Str.{is_utf8};
+ghost use Rattle.nbfx_values.specs.Documents.{IsDocument};
+ghost use Rattle.soap_envelope.specs.Making as spec;
+ghost use Rattle.soap_envelope.specs.Making.{AreTexts, IsContent, action_block, ending, envelope_items, middle, opening, relates_block, reply_items};
+
+use crate::namespaces::{addressing, soap};
+use crate::puts::{put_attribute, put_close, put_copies, put_start, put_text, put_xmlns};
+use nbfx_values::{Doc, Item, Items, Scalar, Txt, Value};
+use std::alloc::Global;
+use unit_streams::Memory;
+
+// From the root to the first block.
+pub(crate) fn put_opening(alloc: Global, items: &mut Items) -> Result<(), Memory>
+    ensures { OnOk result (items.new ≡ items.old ++ opening) }
+{
+    put_start(alloc, items, "s", "Envelope")?;
+    put_xmlns(alloc, items, "s", soap())?;
+    put_xmlns(alloc, items, "a", addressing())?;
+    put_start(alloc, items, "s", "Header")?;
+    Ok(())
+}
+
+// The block of addressing that says what the message is for.
+pub(crate) fn put_action(alloc: Global, items: &mut Items, action: Txt) -> Result<(), Memory>
+    ensures { OnOk result (items.new ≡ items.old ++ action_block action) }
+{
+    put_start(alloc, items, "a", "Action")?;
+    let one = Value::One(Scalar::Number(1));
+    put_attribute(alloc, items, "s", "mustUnderstand", one)?;
+    put_text(items, action)?;
+    put_close(items)?;
+    Ok(())
+}
+
+// The block of addressing that names the message that is answered, where that has a name.
+pub(crate) fn put_relates(alloc: Global, items: &mut Items, relates: &[Item]) -> Result<(), Memory>
+    ensures { OnOk result (items.new ≡ items.old ++ relates_block relates.now) }
+{
+    if relates.is_empty() {
+        return Ok(());
+    }
+    put_start(alloc, items, "a", "RelatesTo")?;
+    put_copies(items, relates)?;
+    put_close(items)?;
+    Ok(())
+}
+
+// From the end of Header to the content of Body.
+pub(crate) fn put_middle(alloc: Global, items: &mut Items) -> Result<(), Memory>
+    ensures { OnOk result (items.new ≡ items.old ++ middle) }
+{
+    put_close(items)?;
+    put_start(alloc, items, "s", "Body")?;
+    Ok(())
+}
+
+// The ends of Body and of the root.
+pub(crate) fn put_ending(items: &mut Items) -> Result<(), Memory>
+    ensures { OnOk result (items.new ≡ items.old ++ ending) }
+{
+    put_close(items)?;
+    put_close(items)?;
+    Ok(())
+}
+
+// The document with these items.
+pub(crate) fn document(items: Items) -> Doc
+    requires { IsDocument items }
+    ensures { result ≡ items }
+{
+    match Doc::of(items) {
+        Ok(doc) => doc,
+        Err(_) => unreachable!(),
+    }
+}
+
+// The action of the reply to a request.
+fn response_action(alloc: Global, action: &str) -> Result<Txt, Memory>
+    ensures same { IfOk result (λ text. text ≡ spec.response_action action.now) }
+    ensures utf8 { IfOk result (λ text. IsTrue (is_utf8 text)) }
+{
+    let mut text = String::from_str(alloc, action)?;
+    text.push_str("Response")?;
+    let text = Txt::from(text);
+
+    // Characters are UTF-8.
+    let _characters = text.as_str();
+    Ok(text)
+}
+
+// A reply with this action.
+fn put_reply(
+    alloc: Global,
+    items: &mut Items,
+    action: Txt,
+    relates: &[Item],
+    body: &[Item],
+) -> Result<(), Memory>
+    ensures { OnOk result
+        (items.new ≡ items.old ++ envelope_items action relates.now [] body.now) }
+{
+    put_opening(alloc, items)?;
+    put_action(alloc, items, action)?;
+    put_relates(alloc, items, relates)?;
+    put_middle(alloc, items)?;
+    put_copies(items, body)?;
+    put_ending(items)?;
+    Ok(())
+}
+
+/// The reply to a request with this action, which is an envelope of SOAP 1.2: its Action is the
+/// request's, followed by `Response`, its RelatesTo has these texts, those of the request's
+/// MessageID, and its Body has this content.
+pub fn reply_doc(alloc: Global, action: &str, relates: &Items, body: &Items) -> Result<Doc, Memory>
+    requires texts { AreTexts relates.now }
+    requires content { IsContent body.now }
+    ensures { IfOk result (λ doc. doc ≡ reply_items action.now relates.now body.now) }
+{
+    let action = response_action(alloc, action)?;
+    let mut items = Items::new(alloc);
+    put_reply(
+        alloc,
+        &mut items,
+        action,
+        relates.as_slice(),
+        body.as_slice(),
+    )?;
+    Ok(document(items))
+}
