@@ -38,3 +38,30 @@ pub mod Behind
 pub mod Vias
 pub mod RecordSteps
 pub mod FeedSteps
+-- streams of either side in each mode (specs/EitherSide), in the same order: by computation, and
+-- then the grammar, payloads, what the units lead to, reasons, sessions
+mod WorkedSides
+pub mod EitherGrammar
+pub mod EitherComing
+pub mod EitherDueRecords
+pub mod EitherOutcomes
+pub mod EitherEnding
+pub mod EitherClosing
+pub mod EitherLoneAck
+pub mod EitherSituations
+pub mod EitherPayloadBytes
+-- which bytes give each reason (specs/EitherReasons), of a prefix and of a whole stream
+pub mod EitherSaid
+pub mod EitherReasons
+pub mod EitherPayloadReasons
+pub mod EitherPayloadTrace
+pub mod EitherPayloadRefusals
+pub mod EitherReasonsOfStreams
+pub mod EitherPayloadSizes
+-- sessions (specs/EitherSessions): from their parts to units, and back
+pub mod EitherEnvelopes
+pub mod EitherFromSession
+pub mod EitherSessionEnds
+pub mod EitherToSession
+pub mod EitherAccepted
+pub mod EitherClosed

@@ -10,11 +10,14 @@
 //! `specs/Reasons` says which bytes give each reason for refusing a stream.
 //!
 //! A [`StreamReader`] takes a stream in any pieces; what it stands for and shows is in
-//! `specs/Standing`. It reads an initiator's stream in duplex mode so far.
+//! `specs/Standing`. It reads an initiator's stream in duplex mode so far; the streams of either side
+//! in each mode are defined in `specs/EitherSide` and `specs/EitherSessions`, with their laws in
+//! [`sides`].
 #![tactic(auto)]
 
 mod awaited;
 pub mod laws;
 mod reader;
+pub mod sides;
 
 pub use reader::{ReadRefusal, StreamReader, StreamStep};
