@@ -1,9 +1,11 @@
 -- The order of texts: their positions, in runs.
-use Rattle.std.specs.Prelude.{◌≡◌, ◌≢◌, ◌<◌, ◌≤◌, ◌↔◌, ◌+◌, ℕ, suc, zero, Bool, false, ⊤, if◌then◌else◌, List, [], ◌∷◌, length, take, slice_index_or, count_by}
+use Rattle.std.specs.Prelude.{◌≡◌, ◌≢◌, ◌<◌, ◌≤◌, ◌↔◌, ◌+◌, ℕ, suc, zero, Bool, false, Option, ⊤, if◌then◌else◌, List, [], ◌∷◌, length, take, slice_index_or, count_by}
 use Rattle.std.specs.Cmp.Lexicographic.{slice_cmp}
 use Rattle.std.specs.List.{All, Contains}
 use Rattle.std.specs.Ordering.{is_lt, nat_cmp, ordering_then}
+use Rattle.std.specs.Option.{IfSome}
 use Rattle.std.specs.declared.cmp.Ordering.{Ordering}
+use Rattle.session_dictionary.specs.declared.order.TextOrder.{TextOrder}
 
 -- the text at a position
 abbrev pub text_of : List (List ℕ) → ℕ → List ℕ
@@ -24,7 +26,7 @@ count_below test (suc n) = count_below test n + (if test n then 1 else 0)
 pub record ArePositions (bound : ℕ) (positions : List ℕ) : Type 0 where
   pub each : (test : ℕ → Bool) → count_by test positions ≡ count_below test bound
 
--- what holds of each element and each behind it
+-- what holds of each element and each after it
 abbrev pub EachPair : {A : Type 0} → (A → A → Type 0) → List A → Type 0
 EachPair R [] = ⊤
 EachPair R (x ∷ xs) = All (R x) xs × EachPair R xs
@@ -33,18 +35,28 @@ EachPair R (x ∷ xs) = All (R x) xs × EachPair R xs
 abbrev pub IsOneRun : List ℕ → ℕ → ℕ → Type 0
 IsOneRun cuts first second = All (λ cut. (cut ≤ first) ↔ (cut ≤ second)) cuts
 
--- the first does not come behind the second
+-- the first does not come after the second
 abbrev pub InOrder : List (List ℕ) → ℕ → ℕ → Type 0
 InOrder strings first second = is_lt (by_text strings second first) ≡ false
+
+-- those of one run stand in order
+abbrev pub InRuns : List (List ℕ) → List ℕ → ℕ → ℕ → Type 0
+InRuns strings cuts first second = IsOneRun cuts first second → InOrder strings first second
 
 -- all positions, in runs that are cut off from one another: those below a cut stand before it, and
 -- those of a run stand in order
 pub record IsOrder (strings : List (List ℕ)) (positions : List ℕ) (cuts : List ℕ) : Type 0 where
   pub all : ArePositions (length strings) positions
   pub apart : All (λ cut. ArePositions cut (take cut positions)) cuts
-  pub rises : EachPair (λ first second. first ≤ second) cuts
-  pub sorted : EachPair (λ first second. IsOneRun cuts first second → InOrder strings first second)
-      positions
+  pub rises : EachPair ◌≤◌ cuts
+  pub sorted : EachPair (InRuns strings cuts) positions
+
+-- the order that a table keeps of its texts, where it keeps one
+abbrev pub IsOrderOf : List (List ℕ) → TextOrder → Type 0
+IsOrderOf strings order = IsOrder strings order.positions.items order.cuts.items
+
+abbrev pub KeepsOrder : List (List ℕ) → Option TextOrder → Type 0
+KeepsOrder strings order = IfSome order (IsOrderOf strings)
 
 -- a position in a run that has a text, and no lesser one in it does
 pub record IsFirstIn (strings : List (List ℕ)) (run : List ℕ) (text : List ℕ)

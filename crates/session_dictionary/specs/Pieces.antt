@@ -1,4 +1,4 @@
--- Texts that lie one behind the other in one list of bytes.
+-- Texts that lie one after the other in one list of bytes.
 use Rattle.std.specs.Prelude.{◌≡◌, ◌≤◌, ℕ, List, [], ◌∷◌, length, slice_range}
 use Rattle.std.specs.Str.{IsUtf8}
 

@@ -1,15 +1,36 @@
-// The order of the texts: their positions in runs, each sorted by text and then by position. A run has
-// the positions from the one where it is cut off from those before up to the next such one.
+// The order of the texts: their positions in runs, each sorted by text and then by position. A run
+// has the positions from the one where it is cut off from those before up to the next such one.
 ghost use Rattle.std.specs.Prelude.{◌≡◌, ◌≢◌, ◌∷◌, [], ◌++◌, ◌+◌, ◌-◌, ◌≤◌, ◌<◌, ◌^◌, ℕ, length, nat_lt, OnOk, OnErr, IfSome, IfNone, drop, slice_range, take, vec_len, vec_capacity};
 ghost use Rattle.std.specs.List.{All, filter};
 ghost use Rattle.std.specs.Cmp.Lexicographic.{slice_cmp};
 ghost use Rattle.std.specs.List.Sorted.{IsPermutation, IsSorted};
 ghost use Rattle.std.specs.Ordering.{is_lt, nat_cmp};
-ghost use Rattle.session_dictionary.specs.Order.{EachPair, InOrder, IsFirst, IsFirstIn, IsOrder, by_text, text_of};
+ghost use Rattle.session_dictionary.specs.Order.{EachPair, InOrder, IsFirst, IsFirstIn, IsOrder, IsOrderOf, by_text, text_of};
 
 use crate::texts::Texts;
 use std::alloc::{AllocError, Global};
 use std::cmp::Ordering;
+
+#[derive(Drop)]
+pub(crate) struct TextOrder {
+    pub(crate) alloc: Global,
+    /// The positions of all texts, in runs that are each sorted by text.
+    pub(crate) positions: Vec<u32>,
+    /// Where a run begins.
+    pub(crate) cuts: Vec<usize>,
+}
+
+impl TextOrder {
+    pub(crate) fn new(alloc: Global) -> Self
+        ensures { IsOrderOf [] result }
+    {
+        TextOrder {
+            alloc,
+            positions: Vec::new(alloc),
+            cuts: Vec::new(alloc),
+        }
+    }
+}
 
 // How two positions compare.
 fn compare(texts: &Texts, first: u32, second: u32) -> Ordering
@@ -49,11 +70,11 @@ fn sort_from(
     sort_run(alloc, texts, &mut positions[start..])
 }
 
-// From which cut on the runs are to be one: each that is kept is then at least twice as long as what
-// comes behind it, so that there are few of them.
+// From which cut on the runs are to be one, so that each run is at least twice as long as the next,
+// and there are few of them.
 fn joined(cuts: &[usize], end: usize) -> usize
     requires some { 0 < length cuts.now }
-    requires rises { EachPair (λ first second. first ≤ second) cuts.now }
+    requires rises { EachPair ◌≤◌ cuts.now }
     requires within { All (λ cut. cut ≤ end) cuts.now }
     ensures { result < length cuts.now }
 {
@@ -168,4 +189,19 @@ pub(crate) fn first_of(texts: &Texts, positions: &[u32], cuts: &[usize], text: &
         }
     }
     first_between(texts, positions, start, positions.len(), text)
+}
+
+// The same by a walk through the texts.
+pub(crate) fn first_walked(texts: &Texts, text: &str) -> Option<u32>
+    requires few { length texts.now ≤ 2 ^ 30 }
+    ensures found { IfSome result (IsFirst texts.now text.now) }
+    ensures none { IfNone result
+        ((other : ℕ) → other < length texts.now → text_of texts.now other ≢ text.now) }
+{
+    for position in 0..texts.len() {
+        if texts.text_at(position) == text {
+            return Some(position as u32);
+        }
+    }
+    None
 }

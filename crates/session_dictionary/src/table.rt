@@ -5,9 +5,9 @@ ghost use Rattle.multibyte_ints.specs.Text.{string_bytes_of};
 ghost use Rattle.string_tables.specs.SessionStrings.{cost, least_session_id, session_text, used_cost};
 ghost use Rattle.string_tables.specs.StringTable.{IsLeastName};
 ghost use Rattle.session_dictionary.specs.Marks.{IsMarkOf};
-ghost use Rattle.session_dictionary.specs.Order.{IsOrder};
+ghost use Rattle.session_dictionary.specs.Order.{IsFirst, IsOrderOf, KeepsOrder, text_of};
 
-use crate::order::{add_last, cut_off, first_of};
+use crate::order::{TextOrder, add_last, cut_off, first_of, first_walked};
 use crate::texts::Texts;
 use multibyte_ints::put_string;
 use std::alloc::{AllocError, Global};
@@ -33,12 +33,9 @@ pub struct Mark {
 /// The strings of one direction of a session. String i has the identifier 2i + 1.
 #[derive(Drop)]
 pub struct SessionTable {
-    alloc: Global,
     texts: Texts,
-    /// The positions of all texts, in runs that are each sorted by text.
-    positions: Vec<u32>,
-    /// Where a run begins.
-    cuts: Vec<usize>,
+    /// None of a table for reading.
+    order: Option<TextOrder>,
     used: u32,
     limit: u32,
 }
@@ -56,16 +53,32 @@ impl Model for SessionTable {
 }
 
 impl SessionTable {
-    /// A table without strings, whose cost stays within `limit` bytes.
+    /// A table without strings, whose cost stays within `limit` bytes. It keeps the order of its
+    /// texts, by which `id` finds one.
     pub fn new(alloc: Global, limit: u32) -> Self
         requires { limit ≤ 2 ^ 30 }
         ensures { result ≡ record { strings = []; limit = limit } }
     {
+        Self::empty(alloc, limit, Some(TextOrder::new(alloc)))
+    }
+
+    /// The same for a reader, which asks for texts by their identifiers alone: no order is kept, so
+    /// `add` takes less time, and `id` walks through all texts.
+    pub fn for_reading(alloc: Global, limit: u32) -> Self
+        requires { limit ≤ 2 ^ 30 }
+        ensures { result ≡ record { strings = []; limit = limit } }
+    {
+        Self::empty(alloc, limit, None)
+    }
+
+    fn empty(alloc: Global, limit: u32, order: Option<TextOrder>) -> Self
+        requires small { limit ≤ 2 ^ 30 }
+        requires order { KeepsOrder [] order }
+        ensures { result ≡ record { strings = []; limit = limit } }
+    {
         SessionTable {
-            alloc,
             texts: Texts::new(alloc),
-            positions: Vec::new(alloc),
-            cuts: Vec::new(alloc),
+            order,
             used: 0,
             limit,
         }
@@ -88,7 +101,7 @@ impl SessionTable {
         ensures none { IfNone result ((id : ℕ) → session_text self.now.strings id ≢ Some text.now) }
         ensures small { IfSome result (λ id. id < 2 ^ 31) }
     {
-        let position = first_of(&self.texts, &self.positions, &self.cuts, text)?;
+        let position = first_position(&self.texts, &self.order, text)?;
         Some(2 * position + 1)
     }
 
@@ -133,13 +146,7 @@ impl SessionTable {
             return Err(AddFault::Full);
         }
         let id = 2 * self.texts.len() as u32 + 1;
-        match push_text(
-            self.alloc,
-            &mut self.texts,
-            &mut self.positions,
-            &mut self.cuts,
-            text,
-        ) {
+        match push_text(&mut self.texts, &mut self.order, text) {
             Ok(()) => {
                 self.used += cost as u32;
                 Ok(id)
@@ -164,12 +171,11 @@ impl SessionTable {
         requires { IsMarkOf mark self.old.strings }
         ensures { self.new ≡ record self.old { strings = take mark.count self.old.strings } }
     {
-        self.texts.truncate(mark.count as usize);
-        cut_off(&mut self.positions, &mut self.cuts, mark.count);
+        truncate(&mut self.texts, &mut self.order, mark.count);
         self.used = mark.used;
     }
 
-    /// Appends the strings behind a mark of its own to `out`, each as a String: its length as an
+    /// Appends the strings after a mark of its own to `out`, each as a String: its length as an
     /// integer, and its bytes. A refusal leaves `out` as it was.
     pub fn put_strings(&self, mark: Mark, out: &mut Vec<u8>) -> Result<(), Memory>
         requires { IsMarkOf mark self.now.strings }
@@ -199,23 +205,58 @@ fn put_texts(texts: &Texts, from: usize, out: &mut Vec<u8>) -> Result<(), Memory
     Ok(())
 }
 
-// Copies a text to the end of the texts. All growths come before any change.
-fn push_text(
-    alloc: Global,
-    texts: &mut Texts,
-    positions: &mut Vec<u32>,
-    cuts: &mut Vec<usize>,
-    text: &str,
-) -> Result<(), AllocError>
+// The first position that has a text, by the order of the texts where there is one.
+fn first_position(texts: &Texts, order: &Option<TextOrder>, text: &str) -> Option<u32>
+    requires few { length texts.now ≤ 2 ^ 30 }
+    requires order { KeepsOrder texts.now order.now }
+    ensures found { IfSome result (IsFirst texts.now text.now) }
+    ensures none { IfNone result
+        ((other : ℕ) → other < length texts.now → text_of texts.now other ≢ text.now) }
+{
+    match order {
+        Some(order) => first_of(texts, &order.positions, &order.cuts, text),
+        None => first_walked(texts, text),
+    }
+}
+
+// Copies a text to the end of the texts.
+fn push_text(texts: &mut Texts, order: &mut Option<TextOrder>, text: &str) -> Result<(), AllocError>
     requires few { length texts.old ≤ 2 ^ 30 }
-    requires order { IsOrder texts.old positions.old.items cuts.old.items }
+    requires order { KeepsOrder texts.old order.old }
     ensures ok { OnOk result (texts.new ≡ texts.old ++ text.now ∷ []) }
     ensures err { OnErr result (texts.new ≡ texts.old) }
-    ensures order { IsOrder texts.new positions.new.items cuts.new.items }
+    ensures order { KeepsOrder texts.new order.new }
 {
-    positions.reserve(1)?;
-    cuts.reserve(1)?;
+    match order {
+        Some(order) => push_in_order(texts, order, text),
+        None => texts.push(text),
+    }
+}
+
+// The same, and puts its position into the order. All growths come before any change.
+fn push_in_order(texts: &mut Texts, order: &mut TextOrder, text: &str) -> Result<(), AllocError>
+    requires few { length texts.old ≤ 2 ^ 30 }
+    requires order { IsOrderOf texts.old order.old }
+    ensures ok { OnOk result (texts.new ≡ texts.old ++ text.now ∷ []) }
+    ensures err { OnErr result (texts.new ≡ texts.old) }
+    ensures order { IsOrderOf texts.new order.new }
+{
+    order.positions.reserve(1)?;
+    order.cuts.reserve(1)?;
     texts.push(text)?;
-    add_last(alloc, texts, positions, cuts);
+    add_last(order.alloc, texts, &mut order.positions, &mut order.cuts);
     Ok(())
+}
+
+// Leaves the first so many texts.
+fn truncate(texts: &mut Texts, order: &mut Option<TextOrder>, count: u32)
+    requires there { count ≤ length texts.old }
+    requires order { KeepsOrder texts.old order.old }
+    ensures texts { texts.new ≡ take count texts.old }
+    ensures order { KeepsOrder texts.new order.new }
+{
+    texts.truncate(count as usize);
+    if let Some(order) = order {
+        cut_off(&mut order.positions, &mut order.cuts, count);
+    }
 }

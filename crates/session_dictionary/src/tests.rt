@@ -20,6 +20,22 @@ fn repeated_strings(rt: HostRuntime) -> Result<(), Fail> {
     Ok(())
 }
 
+// A reader's table finds the same by a walk.
+#[test]
+fn strings_for_reading(rt: HostRuntime) -> Result<(), Fail> {
+    let mut table = SessionTable::for_reading(rt.alloc(), 2048);
+    assert_eq!(rt; table.add("b"), Ok(1));
+    assert_eq!(rt; table.add("a"), Ok(3));
+    assert_eq!(rt; table.add("b"), Ok(5));
+    assert_eq!(rt; table.text(5), Some("b"));
+    assert_eq!(rt; table.id("b"), Some(1));
+    assert_eq!(rt; table.id("a"), Some(3));
+    assert_eq!(rt; table.id("c"), None);
+    table.back_to(Mark { count: 1, used: 1 });
+    assert_eq!(rt; table.id("a"), None);
+    Ok(())
+}
+
 #[test]
 fn full_table(rt: HostRuntime) -> Result<(), Fail> {
     let mut table = SessionTable::new(rt.alloc(), 3);
@@ -34,7 +50,7 @@ fn full_table(rt: HostRuntime) -> Result<(), Fail> {
 }
 
 #[test]
-fn strings_behind_a_mark(rt: HostRuntime) -> Result<(), Fail> {
+fn strings_after_a_mark(rt: HostRuntime) -> Result<(), Fail> {
     let mut table = SessionTable::new(rt.alloc(), 2048);
     assert_eq!(rt; table.add("s"), Ok(1));
     let mark = table.mark();
@@ -50,7 +66,24 @@ fn strings_behind_a_mark(rt: HostRuntime) -> Result<(), Fail> {
     Ok(())
 }
 
-// Two strings of each text, in falling order, and what is found of them where some are cut off.
+// A cut within strings that stand in one order, and one more string after it.
+#[test]
+fn strings_cut_off(rt: HostRuntime) -> Result<(), Fail> {
+    let mut table = SessionTable::new(rt.alloc(), 2048);
+    assert_eq!(rt; table.add("b"), Ok(1));
+    assert_eq!(rt; table.add("a"), Ok(3));
+    assert_eq!(rt; table.add("c"), Ok(5));
+    assert_eq!(rt; table.add("a"), Ok(7));
+    table.back_to(Mark { count: 2, used: 2 });
+    assert_eq!(rt; table.id("a"), Some(3));
+    assert_eq!(rt; table.id("b"), Some(1));
+    assert_eq!(rt; table.id("c"), None);
+    assert_eq!(rt; table.add("c"), Ok(5));
+    assert_eq!(rt; table.id("c"), Some(5));
+    Ok(())
+}
+
+// Two strings of each text, in falling order.
 #[test]
 fn falling_strings(rt: HostRuntime) -> Result<(), Fail> {
     let mut table = SessionTable::new(rt.alloc(), 4096);

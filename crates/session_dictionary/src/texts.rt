@@ -6,7 +6,7 @@ use std::alloc::{AllocError, Global};
 use std::marker::Model;
 use std::str::from_utf8_unchecked;
 
-// Texts one behind the other, each by the place where it ends.
+// Texts one after the other, each by the place where it ends.
 #[derive(Drop)]
 pub(crate) struct Texts {
     bytes: Vec<u8>,

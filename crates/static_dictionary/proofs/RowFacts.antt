@@ -11,7 +11,7 @@ use Rattle.csv.specs.Records.{field_at}
 use Rattle.static_dictionary.specs.Rows.{Row, entry_of, even_entry, id_of, is_plain_number, most_id, two_of}
 use Rattle.static_dictionary.specs.declared.fault.TableKind.TheVariants as kind
 
--- a row without a first field, without a second, with another number of fields than two, and with two
+-- a row without a first field, without a second, with other than two fields, and with two
 pub two_of-no_first : (fields : Row) → field_at fields 0 ≡ None → two_of fields ≡ None
 unfolding field_at
 two_of-no_first [] e = refl
@@ -29,7 +29,8 @@ two_of-more (a ∷ []) e = refl
 two_of-more (a ∷ b ∷ []) e = absurd (e refl)
 two_of-more (a ∷ b ∷ c ∷ fields) e = refl
 
-pub two_of-two : (fields : Row) (a b : List ℕ) → length fields ≡ 2 → field_at fields 0 ≡ Some a → field_at fields 1 ≡ Some b → two_of fields ≡ Some (a, b)
+pub two_of-two : (fields : Row) (a b : List ℕ) → length fields ≡ 2 → field_at fields 0 ≡ Some a
+    → field_at fields 1 ≡ Some b → two_of fields ≡ Some (a, b)
 unfolding field_at
 two_of-two [] a b two first second = cc
 two_of-two (x ∷ []) a b two first second = cc second
@@ -46,7 +47,8 @@ within_most None = None
 within_most (Some id) = if nat_le id most_id then Some id else None
 
 -- a choice that is refused
-refused : {A : Type 0} (a b : Bool) (x : A) → (a ≡ true → b ≡ true → ⊥) → (if a && b then Some x else None) ≡ None
+refused : {A : Type 0} (a b : Bool) (x : A) → (a ≡ true → b ≡ true → ⊥)
+    → (if a && b then Some x else None) ≡ None
 refused true true x not_both = absurd (not_both refl refl)
 refused true false x not_both = refl
 refused false b x not_both = refl
@@ -56,47 +58,68 @@ plain_some [] plain = cc plain
 plain_some (digit ∷ field) plain = omega arith
 
 module _ (field : List ℕ) (digits : is_plain_number field ≡ all_ascii_digits field) where
-  id_of-digits : id_of field ≡ (if all_ascii_digits field && nat_le (digits_value 10 field) most_id then Some (digits_value 10 field) else None)
-  id_of-digits = ap (λ plain. if plain && nat_le (digits_value 10 field) most_id then Some (digits_value 10 field) else None) digits
+  -- the identifier of a field that is plain where it passes a test
+  abbrev id_where : Bool → Option ℕ
+  id_where plain =
+      if plain && nat_le (digits_value 10 field) most_id
+      then Some (digits_value 10 field)
+      else None
 
-  pub id_of-parsed : {E : Type 0} (r : Result ℕ E) → get_or field 0 0 ≢ 43 → ParsesUnsigned 32 10 field r → id_of field ≡ within_most (result_ok r)
+  id_of-digits : id_of field ≡ id_where (all_ascii_digits field)
+  id_of-digits = ap id_where digits
+
+  pub id_of-parsed : {E : Type 0} (r : Result ℕ E) → get_or field 0 0 ≢ 43
+      → ParsesUnsigned 32 10 field r → id_of field ≡ within_most (result_ok r)
   id_of-parsed {E} (Ok id) unsigned parses =
       let is = parse_plain decimal {E = E} 32 field (Ok id) parses unsigned in
       id_of-digits ∙ rw (is.0.0, is.1) refl
   id_of-parsed {E} (Err e) unsigned parses =
       let is = parse_plain decimal {E = E} 32 field (Err e) parses unsigned in
-      id_of-digits ∙ refused (all_ascii_digits field) (nat_le (digits_value 10 field) most_id) (digits_value 10 field)
-      (λ all small. is (all, plain_some field (digits ∙ all), omega (arith, leb-true (digits_value 10 field) most_id small)))
+      id_of-digits ∙ refused (all_ascii_digits field) (nat_le (digits_value 10 field) most_id)
+      (digits_value 10 field)
+      (λ all small. is (
+        all,
+        plain_some field (digits ∙ all),
+        omega (arith, leb-true (digits_value 10 field) most_id small),
+      ))
 
 -- a field is text or not
 pub text-from : {E : Type 0} (field : List ℕ) (why : E → Type 0) (r : Result (Bor (List ℕ)) E)
     → MatchResult r (λ s. (s.now ≡ field) × IsUtf8 field) (λ e. ¬ (IsUtf8 field) × why e)
     → option_map (λ text. text.now) (result_ok r) ≡ (if is_utf8 field then Some field else None)
 text-from field why (Ok s) is = rw (is_utf8-from_IsUtf8 field is.1) (ap Some is.0)
-text-from field why (Err e) is = rw (false_from_ne_true (is_utf8 field) (λ yes. is.0 (IsUtf8-from_is_utf8 field yes))) refl
+text-from field why (Err e) is =
+    rw (false_from_ne_true (is_utf8 field) (λ yes. is.0 (IsUtf8-from_is_utf8 field yes))) refl
 
 -- what a field that was read as text shows
-pub text-is : (b : Bool) (field text : List ℕ) → Some text ≡ (if b then Some field else None) → (b ≡ true) × (text ≡ field)
+pub text-is : (b : Bool) (field text : List ℕ) → Some text ≡ (if b then Some field else None)
+    → (b ≡ true) × (text ≡ field)
 text-is true field text e = (refl, cc e)
 text-is false field text e = cc e
 
 -- the entry of a row of two texts, the first of which was tried as an identifier
-pub entry_of-read : (row : Row) (id text id_read text_read : List ℕ) (found : Option ℕ) → Some (id, text) ≡ two_of row
-    → Some id_read ≡ (if is_utf8 id then Some id else None) → Some text_read ≡ (if is_utf8 text then Some text else None) → found ≡ id_of id_read
+pub entry_of-read : (row : Row) (id text id_read text_read : List ℕ) (found : Option ℕ)
+    → Some (id, text) ≡ two_of row
+    → Some id_read ≡ (if is_utf8 id then Some id else None)
+    → Some text_read ≡ (if is_utf8 text then Some text else None) → found ≡ id_of id_read
     → entry_of row ≡ even_entry found text_read
 entry_of-read row id text id_read text_read found two id_text text_text tried =
     let first = text-is (is_utf8 id) id id_read id_text in
     let second = text-is (is_utf8 text) text text_read text_text in
     rw (← two, first.0, second.0, tried, first.1, second.1) refl
 
-pub even_entry-odd : (id : ℕ) (text : List ℕ) → id % 2 ≡ 1 → even_entry (Some id) text ≡ Err kind.Odd
+pub even_entry-odd : (id : ℕ) (text : List ℕ) → id % 2 ≡ 1
+    → even_entry (Some id) text ≡ Err kind.Odd
 even_entry-odd id text odd = rw (eq-eqb (id % 2) 1 odd) refl
 
-pub even_entry-even : (id : ℕ) (text : List ℕ) → id % 2 ≢ 1 → even_entry (Some id) text ≡ Ok (id, text)
+pub even_entry-even : (id : ℕ) (text : List ℕ) → id % 2 ≢ 1
+    → even_entry (Some id) text ≡ Ok (id, text)
 even_entry-even id text even = rw (ne_eqb (id % 2) 1 even) refl
 
 pub within_most-small : (id : ℕ) → id ≤ most_id → within_most (Some id) ≡ Some id
 within_most-small id small = rw (le-leb id most_id small) refl
 
 pub within_most-great : (id : ℕ) → most_id < id → within_most (Some id) ≡ None
-within_most-great id great = rw (false_from_ne_true (nat_le id most_id) (λ yes. absurd (omega (arith, leb-true id most_id yes)))) refl
+within_most-great id great =
+    rw (false_from_ne_true (nat_le id most_id)
+    (λ yes. absurd (omega (arith, leb-true id most_id yes)))) refl

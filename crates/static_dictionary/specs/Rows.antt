@@ -58,7 +58,7 @@ two_entry (Some fields) =
     then even_entry (id_of fields.0) fields.1
     else Err kind.NotUtf8
 
--- the entry that a row behind the first writes, or what is wrong with the row by itself
+-- the entry that a row after the first writes, or what is wrong with the row by itself
 abbrev pub entry_of : Row → Result Entry TableKind
 entry_of row = two_entry (two_of row)
 
@@ -72,16 +72,16 @@ is_header row =
 abbrev pub Fault : Type 0
 Fault = ℕ × TableKind
 
--- the fault of row n behind these entries, or else what comes behind it
+-- the fault of row n after these entries, or else what the rows after it give
 abbrev pub fault_or : (ℕ → List Entry → Option Fault) → ℕ → List Entry → Result Entry TableKind
     → Option Fault
-fault_or behind n before (Err wrong) = Some (n, wrong)
-fault_or behind n before (Ok entry) =
+fault_or later n before (Err wrong) = Some (n, wrong)
+fault_or later n before (Ok entry) =
     if is_some (static_text before entry.0)
     then Some (n, kind.Repeated)
-    else behind (n + 1) (before ++ entry ∷ [])
+    else later (n + 1) (before ++ entry ∷ [])
 
--- the first fault of the rows from row n on, behind these entries
+-- the first fault of the rows from row n on, after these entries
 abbrev pub fault_from : List Row → ℕ → List Entry → Option Fault
 fault_from [] n before = None
 fault_from (row ∷ rows) n before = fault_or (fault_from rows) n before (entry_of row)
@@ -95,6 +95,6 @@ fault_of (header ∷ rows) = if is_header header then fault_from rows 1 [] else 
 abbrev pub entries_of : List Row → List Entry
 entries_of rows = filter_map (λ row. result_ok (entry_of row)) rows
 
--- the entries of a file, which stand behind its first row, in rising order of their identifiers
+-- the entries of a file, which come after its first row, in rising order of their identifiers
 abbrev pub table_of : List Row → List Entry
 table_of rows = in_order (entries_of (drop 1 rows))

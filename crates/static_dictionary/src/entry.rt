@@ -57,7 +57,7 @@ fn text_of(field: &[u8]) -> Option<&str>
     from_utf8(field).ok()
 }
 
-/// The entry that a row behind the first writes, or what is wrong with the row by itself.
+/// The entry that a row after the first writes, or what is wrong with the row by itself.
 pub fn entry_of(row: &ByteRecord) -> Result<(u32, &str), TableKind>
     ensures { result_map_both (λ e. (e.0, e.1.now)) (λ kind. kind) result
         ≡ entry_of (fields_of row.now) }

@@ -67,8 +67,8 @@ impl StaticTable {
         Err(TableFault::Memory)
     }
 
-    /// Does nothing: its contract says that a table is a finite map on static identifiers, in rising
-    /// order, which a caller has where it calls it.
+    /// Does nothing: its contract says that a table is a finite map on static identifiers, in
+    /// rising order, which a caller has where it calls it.
     pub fn is_map(&self)
         ensures { IsStaticMap self.now }
     {
@@ -96,8 +96,9 @@ impl StaticTable {
         }
     }
 
-    /// A copy of the text of an identifier that takes no memory: where the text has at most 16 bytes
-    /// and the identifier is below 1,024, as most are. Else the text may be there all the same.
+    /// A copy of the text of an identifier that takes no memory: where the text has at most 16
+    /// bytes and the identifier is below 1,024, as most are. Else the text may be there all the
+    /// same.
     #[inline(always)]
     pub fn short_copy(&self, id: u32) -> Option<Txt>
         ensures text { IfSome result (λ copy. static_text self.now id ≡ Some copy) }
@@ -219,7 +220,7 @@ fn put_entry(
     Ok(())
 }
 
-// Adds the entry of a row behind the first to the two maps.
+// Adds the entry of a row after the first to the two maps.
 fn add_row(
     alloc: Global,
     by_id: &mut BTreeMap<u32, String>,

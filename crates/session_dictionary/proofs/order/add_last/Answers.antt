@@ -5,8 +5,10 @@ use Rattle.session_dictionary.proofs.OrderFacts.{order_push}
 use Rattle.session_dictionary.proofs.order.add_last.Goals as goal
 
 -- all but the last, and the last
-last_apart : (strings : List (List ℕ)) (n : ℕ) → n + 1 ≡ length strings → take n strings ++ get_or strings n [] ∷ [] ≡ strings
-last_apart strings n h = sym (take_more strings n [] (omega (arith, h))) ∙ take_all (n + 1) strings (omega (arith, h))
+last_apart : (strings : List (List ℕ)) (n : ℕ) → n + 1 ≡ length strings
+    → take n strings ++ get_or strings n [] ∷ [] ≡ strings
+last_apart strings n h =
+    sym (take_more strings n [] (omega (arith, h))) ∙ take_all (n + 1) strings (omega (arith, h))
 
 pub join-requires-clause-order : goal.join-requires-clause-order
 join-requires-clause-order c =
@@ -14,5 +16,11 @@ join-requires-clause-order c =
     let n = length strings - 1 in
     let whole : n + 1 ≡ length strings = omega (arith, c.requires.some) in
     let place : c.len-position.result - 1 ≡ n = ap (λ m. m - 1) c.len-position.ensures in
-    let pushed = order_push (take n strings) (get_or strings n []) c.args.positions.now.items c.args.cuts.now.items n (sym (length-take-le n strings (omega (arith, whole)))) c.requires.order in
-    rw (c.push_reserved.ensures.items, c.push_reserved-2.ensures.items, place) (subst (λ xs. IsOrder xs (c.args.positions.now.items ++ n ∷ []) (c.args.cuts.now.items ++ n ∷ [])) (last_apart strings n whole) pushed)
+    let positions = c.args.positions.now.items in
+    let cuts = c.args.cuts.now.items in
+    let long = sym (length-take-le n strings (omega (arith, whole))) in
+    let pushed =
+    order_push (take n strings) (get_or strings n []) positions cuts n long c.requires.order in
+    rw (c.push_reserved.ensures.items, c.push_reserved-2.ensures.items, place)
+    (subst (λ xs. IsOrder xs (positions ++ n ∷ []) (cuts ++ n ∷ [])) (last_apart strings n whole)
+    pushed)

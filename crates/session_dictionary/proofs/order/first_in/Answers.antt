@@ -13,9 +13,12 @@ returns-in_err-position-clause-none c =
     let text = c.args.text.now in
     let point =
     c.partition_point-place.ensures.partitioned (is_before strings text)
-    (answers_by _ _ (λ f. (f.0.now ≡ strings) × (f.1.now ≡ text)) (λ f a r g k same. search rules) _ (refl, take_all (length text) text (omega arith)))
+    (answers_by _ _ (λ f. (f.0.now ≡ strings) × (f.1.now ≡ text))
+    (λ f a r g k same. search rules) _ (refl, take_all (length text) text (omega arith)))
     (parted strings text c.args.run.now c.requires) in
-    rw c.from_residual.ensures (none_past strings c.args.text.now c.args.run.now c.partition_point-place.result c.in_err-position.ensures.lookup.3 point)
+    let past = c.in_err-position.ensures.lookup.3 in
+    rw c.from_residual.ensures
+    (none_past strings text c.args.run.now c.partition_point-place.result past point)
 
 pub returns-then-eq-clause-found : goal.returns-then-eq-clause-found
 returns-then-eq-clause-found c =
@@ -23,9 +26,13 @@ returns-then-eq-clause-found c =
     let text = c.args.text.now in
     let point =
     c.partition_point-place.ensures.partitioned (is_before strings text)
-    (answers_by _ _ (λ f. (f.0.now ≡ strings) × (f.1.now ≡ text)) (λ f a r g k same. search rules) _ (refl, take_all (length text) text (omega arith)))
+    (answers_by _ _ (λ f. (f.0.now ≡ strings) × (f.1.now ≡ text))
+    (λ f a r g k same. search rules) _ (refl, take_all (length text) text (omega arith)))
     (parted strings text c.args.run.now c.requires) in
-    first_found strings c.args.text.now c.args.run.now c.partition_point-place.result c.in_ok-position.field-0.now c.requires point c.in_ok-position.ensures.lookup.3.0 c.in_ok-position.ensures.lookup.1 (sym c.text_at.ensures ∙ (bytes_decides c.text_at.result.now c.args.text.now).0 (sym c.eq.ensures ∙ c.if-eq.true))
+    let found = c.in_ok-position.ensures.lookup in
+    let same = (bytes_decides c.text_at.result.now text).0 (sym c.eq.ensures ∙ c.if-eq.true) in
+    first_found strings text c.args.run.now c.partition_point-place.result
+    c.in_ok-position.field-0.now c.requires point found.3.0 found.1 (sym c.text_at.ensures ∙ same)
 
 pub returns-else-eq-clause-none : goal.returns-else-eq-clause-none
 returns-else-eq-clause-none c =
@@ -33,6 +40,12 @@ returns-else-eq-clause-none c =
     let text = c.args.text.now in
     let point =
     c.partition_point-place.ensures.partitioned (is_before strings text)
-    (answers_by _ _ (λ f. (f.0.now ≡ strings) × (f.1.now ≡ text)) (λ f a r g k same. search rules) _ (refl, take_all (length text) text (omega arith)))
+    (answers_by _ _ (λ f. (f.0.now ≡ strings) × (f.1.now ≡ text))
+    (λ f a r g k same. search rules) _ (refl, take_all (length text) text (omega arith)))
     (parted strings text c.args.run.now c.requires) in
-    none_found strings c.args.text.now c.args.run.now c.partition_point-place.result c.in_ok-position.field-0.now c.requires point c.in_ok-position.ensures.lookup.3.0 c.in_ok-position.ensures.lookup.1 (λ has. both_ways (bytes_eq c.text_at.result.now text) (sym c.eq.ensures ∙ c.if-eq.false) ((bytes_decides c.text_at.result.now text).1 (c.text_at.ensures ∙ has)))
+    let found = c.in_ok-position.ensures.lookup in
+    let held = c.text_at.result.now in
+    none_found strings text c.args.run.now c.partition_point-place.result
+    c.in_ok-position.field-0.now c.requires point found.3.0 found.1
+    (λ has. both_ways (bytes_eq held text) (sym c.eq.ensures ∙ c.if-eq.false)
+    ((bytes_decides held text).1 (c.text_at.ensures ∙ has)))

@@ -7,4 +7,5 @@ pub overflow_cast-result : goal.overflow_cast-result
 overflow_cast-result c = omega (arith, texts_few c.self.inside c.self.invariant)
 
 pub returns-clause-within : goal.returns-clause-within
-returns-clause-within c = rw (← c.self.view_is) (omega (arith, length-le-used_cost c.self.inside.texts))
+returns-clause-within c =
+    rw (← c.self.view_is) (omega (arith, length-le-used_cost c.self.inside.texts))

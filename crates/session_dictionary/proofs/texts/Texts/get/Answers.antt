@@ -8,10 +8,15 @@ use Rattle.session_dictionary.proofs.texts.Texts.get.Goals as goal
 pub returns-in_err-end : goal.returns-in_err-end
 returns-in_err-end c =
     let t = c.self.inside in
-    let past : length t.ends.items ≤ c.args.place = omega (arith, c.in_err-end.ensures.lookup.3, ap length c.deref.ensures.value) in
-    rw (c.from_residual.ensures, ← c.self.view_is) (sym (piece_past 0 t.ends.items t.bytes.items c.args.place past))
+    let past : length t.ends.items ≤ c.args.place =
+    omega (arith, c.in_err-end.ensures.lookup.3, ap length c.deref.ensures.value) in
+    rw (c.from_residual.ensures, ← c.self.view_is)
+    (sym (piece_past 0 t.ends.items t.bytes.items c.args.place past))
 
-module _ (bytes ends got starts all : List ℕ) (place start end : ℕ) (are : AreTexts ends bytes) (got_is : got ≡ ends) (starts_is : starts ≡ ends) (all_is : all ≡ bytes) (h : place < length got) (end_is : end ≡ get_or got place 0) (start_is : start ≡ get_or (0 ∷ starts) place 0) where
+module _ (bytes ends got starts all : List ℕ) (place start end : ℕ) (are : AreTexts ends bytes)
+    (got_is : got ≡ ends) (starts_is : starts ≡ ends) (all_is : all ≡ bytes)
+    (h : place < length got) (end_is : end ≡ get_or got place 0)
+    (start_is : start ≡ get_or (0 ∷ starts) place 0) where
   there : place < length ends
   there = omega (arith, h, ap length got_is)
 
@@ -25,7 +30,8 @@ module _ (bytes ends got starts all : List ℕ) (place start end : ℕ) (are : A
   rises = omega (arith, starts_at, ends_at, (piece_known 0 ends bytes place are there).rises)
 
   within : end ≤ length all
-  within = omega (arith, ends_at, ap length all_is, (piece_known 0 ends bytes place are there).within)
+  within =
+      omega (arith, ends_at, ap length all_is, (piece_known 0 ends bytes place are there).within)
 
   utf8 : IsUtf8 (slice_range all start end)
   utf8 = rw (all_is, starts_at, ends_at) (piece_known 0 ends bytes place are there).utf8
@@ -35,20 +41,38 @@ module _ (bytes ends got starts all : List ℕ) (place start end : ℕ) (are : A
 
 pub part_of-requires-clause-rises : goal.part_of-requires-clause-rises
 part_of-requires-clause-rises c =
-    rises c.self.inside.bytes.items c.self.inside.ends.items c.deref.result.now c.deref-2.result.now c.deref-3.result.now c.args.place c.start_at-start.result c.in_ok-end.field-0.now
-    c.self.invariant c.deref.ensures.value c.deref-2.ensures.value c.deref-3.ensures.value c.in_ok-end.ensures.lookup.3.0 (c.in_ok-end.ensures.lookup.3.1 0) c.start_at-start.ensures
+    let t = c.self.inside in
+    let found = c.in_ok-end.ensures.lookup.3 in
+    rises t.bytes.items t.ends.items c.deref.result.now c.deref-2.result.now c.deref-3.result.now
+    c.args.place c.start_at-start.result c.in_ok-end.field-0.now c.self.invariant
+    c.deref.ensures.value c.deref-2.ensures.value c.deref-3.ensures.value found.0 (found.1 0)
+    c.start_at-start.ensures
 
 pub part_of-requires-clause-within : goal.part_of-requires-clause-within
 part_of-requires-clause-within c =
-    within c.self.inside.bytes.items c.self.inside.ends.items c.deref.result.now c.deref-2.result.now c.deref-3.result.now c.args.place c.start_at-start.result c.in_ok-end.field-0.now
-    c.self.invariant c.deref.ensures.value c.deref-2.ensures.value c.deref-3.ensures.value c.in_ok-end.ensures.lookup.3.0 (c.in_ok-end.ensures.lookup.3.1 0) c.start_at-start.ensures
+    let t = c.self.inside in
+    let found = c.in_ok-end.ensures.lookup.3 in
+    within t.bytes.items t.ends.items c.deref.result.now c.deref-2.result.now c.deref-3.result.now
+    c.args.place c.start_at-start.result c.in_ok-end.field-0.now c.self.invariant
+    c.deref.ensures.value c.deref-2.ensures.value c.deref-3.ensures.value found.0 (found.1 0)
+    c.start_at-start.ensures
 
 pub part_of-requires-clause-utf8 : goal.part_of-requires-clause-utf8
 part_of-requires-clause-utf8 c =
-    utf8 c.self.inside.bytes.items c.self.inside.ends.items c.deref.result.now c.deref-2.result.now c.deref-3.result.now c.args.place c.start_at-start.result c.in_ok-end.field-0.now
-    c.self.invariant c.deref.ensures.value c.deref-2.ensures.value c.deref-3.ensures.value c.in_ok-end.ensures.lookup.3.0 (c.in_ok-end.ensures.lookup.3.1 0) c.start_at-start.ensures
+    let t = c.self.inside in
+    let found = c.in_ok-end.ensures.lookup.3 in
+    utf8 t.bytes.items t.ends.items c.deref.result.now c.deref-2.result.now c.deref-3.result.now
+    c.args.place c.start_at-start.result c.in_ok-end.field-0.now c.self.invariant
+    c.deref.ensures.value c.deref-2.ensures.value c.deref-3.ensures.value found.0 (found.1 0)
+    c.start_at-start.ensures
 
 pub returns : goal.returns
 returns c =
-    rw (← c.self.view_is) (ap Some c.part_of.ensures ∙ text_is c.self.inside.bytes.items c.self.inside.ends.items c.deref.result.now c.deref-2.result.now c.deref-3.result.now c.args.place c.start_at-start.result c.in_ok-end.field-0.now
-    c.self.invariant c.deref.ensures.value c.deref-2.ensures.value c.deref-3.ensures.value c.in_ok-end.ensures.lookup.3.0 (c.in_ok-end.ensures.lookup.3.1 0) c.start_at-start.ensures)
+    let t = c.self.inside in
+    let found = c.in_ok-end.ensures.lookup.3 in
+    let text =
+    text_is t.bytes.items t.ends.items c.deref.result.now c.deref-2.result.now c.deref-3.result.now
+    c.args.place c.start_at-start.result c.in_ok-end.field-0.now c.self.invariant
+    c.deref.ensures.value c.deref-2.ensures.value c.deref-3.ensures.value found.0 (found.1 0)
+    c.start_at-start.ensures in
+    rw (← c.self.view_is) (ap Some c.part_of.ensures ∙ text)
