@@ -18,7 +18,7 @@ use Rattle.nbfx_values.specs.declared.position.Position.{Position}
 use Rattle.nbfx_values.specs.declared.position.Position.TheVariants as positions
 use Rattle.nbfx_values.specs.declared.refusals.Reason.TheVariants.{DocumentCut}
 use Rattle.nbfx_records.specs.declared.nodes.Node.{Node}
-use Rattle.nbfx_records.specs.declared.nodes.NodeFault.{NodeFault}
+use Rattle.nbfx_records.specs.declared.nodes.RecordFault.{RecordFault}
 use Rattle.nbfx_records.specs.declared.nodes.NodePlace.TheVariants.{AfterRoot}
 use Rattle.nbfx_records.specs.Shapes.{shape_at}
 use Rattle.nbfx_records.specs.Reading.{node_at}
@@ -274,7 +274,7 @@ nothing_after [] e = refl
 nothing_after (byte ∷ bytes) e = cc
 
 -- what has begun of a node
-node_begun : (from : ℕ) (v : Front Node NodeFault) → seen (λ (unit : PayloadUnit). unit) (refusal from) (seen node reason_of v) ≡ begun → v ≡ begun
+node_begun : (from : ℕ) (v : Front Node RecordFault) → seen (λ (unit : PayloadUnit). unit) (refusal from) (seen node reason_of v) ≡ begun → v ≡ begun
 node_begun from begun e = refl
 node_begun from (whole n k) e = cc
 node_begun from (wrong r k) e = cc

@@ -13,6 +13,8 @@ pub mod Waits
 pub mod Keeping
 pub mod StringSteps
 pub mod UnitSteps
+pub mod Listing
+pub mod Singles
 pub mod Saying
 pub mod TakeSteps
 pub mod AllSteps

@@ -32,7 +32,7 @@ module _ {A B : Type 0} (f : A → Option B) where
   each_none (w ∷ xs) zero x lt is e = ap (λ o. option_and_then (λ y. option_map (λ ys. y ∷ ys) (each f xs)) o) (ap f (sym is) ∙ e)
   each_none (w ∷ xs) (suc n) x lt is e = bound_none (f w) (each f xs) (each_none xs n x (omega arith) is e)
 
-all_more : {A : Type 0} (p : A → Bool) (xs : List A) (x : A) → list_all p xs ≡ true → p x ≡ true → list_all p (xs ++ x ∷ []) ≡ true
+pub all_more : {A : Type 0} (p : A → Bool) (xs : List A) (x : A) → list_all p xs ≡ true → p x ≡ true → list_all p (xs ++ x ∷ []) ≡ true
 all_more p [] x all is = and_from (p x) true is refl
 all_more p (w ∷ xs) x all is = let parts = and_parts (p w) (list_all p xs) all in and_from (p w) (list_all p (xs ++ x ∷ [])) parts.0 (all_more p xs x parts.1 is)
 

@@ -17,11 +17,11 @@ use Rattle.nbfx_records.specs.declared.nodes.AttrNode.{AttrNode}
 use Rattle.nbfx_records.specs.declared.nodes.AttrNode.TheVariants as attribute_nodes
 use Rattle.nbfx_records.specs.declared.nodes.NameRef.{NameRef}
 use Rattle.nbfx_records.specs.declared.nodes.Node.TheVariants as nodes
-use Rattle.nbfx_records.specs.declared.nodes.NodeFault.{NodeFault}
-use Rattle.nbfx_records.specs.declared.nodes.NodeFault.TheVariants as faults
+use Rattle.nbfx_records.specs.declared.nodes.RecordFault.{RecordFault}
+use Rattle.nbfx_records.specs.declared.nodes.RecordFault.TheVariants as faults
 use Rattle.nbfx_records.specs.declared.nodes.RawValue.{RawValue}
-use Rattle.nbfx_records.specs.declared.values.Unfit.{Unfit}
-use Rattle.nbfx_records.specs.declared.values.Unfit.TheVariants.{Fault, Memory}
+use Rattle.nbfx_records.specs.declared.nodes.NodeFault.{NodeFault}
+use Rattle.nbfx_records.specs.declared.nodes.NodeFault.TheVariants.{Record, Memory}
 use Rattle.nbfx_records.specs.Contents.{array_of, attribute_is_text, attribute_node, attribute_value, attributes_judged, behind_texts, cell_values, each, judge, led}
 use Rattle.nbfx_records.specs.Judged.{Made, Makes}
 use Rattle.nbfx_records.specs.Shapes.{ArrayShape}
@@ -81,24 +81,24 @@ module _ {A B : Type 0} (f : A → Option B) where
   sum_more c xs x =
       sum_both (sum_by c) c (sum_by c) (λ ys y. ys ++ y ∷ []) (λ ys y. let e = sum_by-append c ys (y ∷ []) in omega (arith, e)) (each f xs) (f x) ∙ ap (weighed (sum_by c)) (sym (each_both xs x))
 
-led_none : {B : Type 0} (r : Result (List B) NodeFault) → r ≡ led [] r
+led_none : {B : Type 0} (r : Result (List B) RecordFault) → r ≡ led [] r
 led_none (Ok items) = refl
 led_none (Err fault) = refl
 
 -- a fault is the same, however much would be counted
-pub unmeasured : {A : Type 0} (judged : Result A NodeFault) (weigh : A → Option ℕ) (unfit : Unfit) → Made {X = A} (Err unfit) judged → Measured judged weigh (Err unfit)
-unmeasured judged weigh (Fault fault) e = e
+pub unmeasured : {A : Type 0} (judged : Result A RecordFault) (weigh : A → Option ℕ) (unfit : NodeFault) → Made {X = A} (Err unfit) judged → Measured judged weigh (Err unfit)
+unmeasured judged weigh (Record fault) e = e
 unmeasured judged weigh Memory e = tt
 
-pub unmade_so : {A : Type 0} (judged : Result A NodeFault) (weigh : A → Option ℕ) (unfit : Unfit) → Measured judged weigh (Err unfit) → Makes {X = A} (Err unfit) judged
-unmade_so judged weigh (Fault fault) e = record { made = e }
+pub unmade_so : {A : Type 0} (judged : Result A RecordFault) (weigh : A → Option ℕ) (unfit : NodeFault) → Measured judged weigh (Err unfit) → Makes {X = A} (Err unfit) judged
+unmade_so judged weigh (Record fault) e = record { made = e }
 unmade_so judged weigh Memory e = record { made = tt }
 
 -- what a `?` hands on
-pub leaves : {A : Type 0} {judged : Result A NodeFault} {weigh : A → Option ℕ} (unfit : Unfit) {r : Result (Option ℕ) Unfit} → IsErrAnd r (λ y. y ≡ unfit) → Measured judged weigh (Err unfit) → Measures judged weigh r
+pub leaves : {A : Type 0} {judged : Result A RecordFault} {weigh : A → Option ℕ} (unfit : NodeFault) {r : Result (Option ℕ) NodeFault} → IsErrAnd r (λ y. y ≡ unfit) → Measured judged weigh (Err unfit) → Measures judged weigh r
 leaves {A} {judged} {weigh} unfit {r} e h =
     let p = err_from_is_err_and r e in
-    record { told = subst (λ (q : Result (Option ℕ) Unfit). Measured judged weigh q) (ap Err (sym p.2) ∙ sym p.1) h }
+    record { told = subst (λ (q : Result (Option ℕ) NodeFault). Measured judged weigh q) (ap Err (sym p.2) ∙ sym p.1) h }
 
 -- some things, counted one by one: so much, of those before the others
 pub record AreWeighed {A B C : Type 0} (texts : A → Bool) (value : A → Option B) (f : B → Option C) (c : C → ℕ) (all rest : List A) (content : Option ℕ) : Type 0 where
@@ -122,7 +122,7 @@ module _ {A B C : Type 0} (texts : A → Bool) (value : A → Option B) (f : B �
       counts = new_is ∙ ap (λ n. sum_of n more) w.counts ∙ ap (sum_of (weighed (sum_by c) (each f w.made))) more_is ∙ sum_more f c w.made b;
     }
 
-    pub one_wrong : (a : A) (rest : List A) → here ≡ a ∷ rest → (unfit : Unfit) → Makes {X = B} (Err unfit) (behind_texts (list_all texts rest) (judge (texts a) (value a)))
+    pub one_wrong : (a : A) (rest : List A) → here ≡ a ∷ rest → (unfit : NodeFault) → Makes {X = B} (Err unfit) (behind_texts (list_all texts rest) (judge (texts a) (value a)))
         → Measured (all_judged texts value all) (λ bs. weighed (sum_by c) (each f bs)) (Err unfit)
     one_wrong a rest first unfit h = unmeasured (all_judged texts value all) (λ bs. weighed (sum_by c) (each f bs)) unfit (unmade texts value all here a rest w.made w.same first unfit h).made
 
@@ -135,26 +135,26 @@ judged_map see true (Some x) a e = let same : x ≡ a = cc in ap (λ y. Ok (see 
 judged_map see true None a e = cc
 judged_map see false found a e = cc
 
-unjudged_map : {A B : Type 0} (see : A → B) (texts : Bool) (found : Option A) (fault : NodeFault) → judge texts found ≡ Err fault → judge texts (option_map see found) ≡ Err fault
+unjudged_map : {A B : Type 0} (see : A → B) (texts : Bool) (found : Option A) (fault : RecordFault) → judge texts found ≡ Err fault → judge texts (option_map see found) ≡ Err fault
 unjudged_map see true (Some x) fault e = cc
 unjudged_map see true None fault e = let same : faults.BadValue ≡ fault = cc in ap Err same
 unjudged_map see false found fault e = let same : faults.BadUtf8 ≡ fault = cc in ap Err same
 
-pub measured_as : {A B : Type 0} (see : A → B) (texts : Bool) (found : Option A) (weigh : A → Option ℕ) (other : B → Option ℕ) → ((a : A) → other (see a) ≡ weigh a) → (r : Result (Option ℕ) Unfit)
+pub measured_as : {A B : Type 0} (see : A → B) (texts : Bool) (found : Option A) (weigh : A → Option ℕ) (other : B → Option ℕ) → ((a : A) → other (see a) ≡ weigh a) → (r : Result (Option ℕ) NodeFault)
     → Measured (judge texts found) weigh r → Measured (judge texts (option_map see found)) other r
 measured_as see texts found weigh other same (Ok n) (a, e, counts) = (see a, judged_map see texts found a e, counts ∙ sym (same a))
-measured_as see texts found weigh other same (Err (Fault fault)) e = unjudged_map see texts found fault e
+measured_as see texts found weigh other same (Err (Record fault)) e = unjudged_map see texts found fault e
 measured_as see texts found weigh other same (Err Memory) e = tt
 
 -- what stands behind a prefix and a name
-names_wrong : {N A : Type 0} (p n t : Bool) (name : N) (found : Option A) (fault : NodeFault) → judge {A = N} (p && n) (Some name) ≡ Err fault → judge (p && (n && t)) found ≡ Err fault
+names_wrong : {N A : Type 0} (p n t : Bool) (name : N) (found : Option A) (fault : RecordFault) → judge {A = N} (p && n) (Some name) ≡ Err fault → judge (p && (n && t)) found ≡ Err fault
 names_wrong true true t name found fault e = cc
 names_wrong true false t name found fault e = let same : faults.BadUtf8 ≡ fault = cc in ap Err same
 names_wrong false n t name found fault e = let same : faults.BadUtf8 ≡ fault = cc in ap Err same
 
-pub names_unmeasured : {N A : Type 0} (p n t : Bool) (name : N) (found : Option A) (weigh : N → Option ℕ) (other : A → Option ℕ) (unfit : Unfit) → Measured (judge {A = N} (p && n) (Some name)) weigh (Err unfit)
+pub names_unmeasured : {N A : Type 0} (p n t : Bool) (name : N) (found : Option A) (weigh : N → Option ℕ) (other : A → Option ℕ) (unfit : NodeFault) → Measured (judge {A = N} (p && n) (Some name)) weigh (Err unfit)
     → Measured (judge (p && (n && t)) found) other (Err unfit)
-names_unmeasured p n t name found weigh other (Fault fault) e = names_wrong p n t name found fault e
+names_unmeasured p n t name found weigh other (Record fault) e = names_wrong p n t name found fault e
 names_unmeasured p n t name found weigh other Memory e = tt
 
 pub behind_names : {N A : Type 0} (p n t : Bool) (name made : N) (found : Option A) → judge (p && n) (Some name) ≡ Ok made → (made ≡ name) × (judge (p && (n && t)) found ≡ judge t found)
@@ -184,9 +184,9 @@ module _ (table : StringTable) where
       ap (λ m. sum_of m value) named_here ∙ ap (sum_of (weighed (λ local. length prefix + length local) (name_text table name))) counts ∙ sym (part_weighed prefix name raw),
     )
 
-    pub value_unmeasured : (unfit : Unfit) → Measured (judge t found) (weigh_value table) (Err unfit)
+    pub value_unmeasured : (unfit : NodeFault) → Measured (judge t found) (weigh_value table) (Err unfit)
         → Measured (judge (p && (n && t)) (option_map (attribute_nodes.Attribute prefix name) found)) (weigh_part table) (Err unfit)
-    value_unmeasured (Fault fault) is = judged_here ∙ unjudged_map (attribute_nodes.Attribute prefix name) t found fault is
+    value_unmeasured (Record fault) is = judged_here ∙ unjudged_map (attribute_nodes.Attribute prefix name) t found fault is
     value_unmeasured Memory is = tt
 
   -- a declaration
@@ -234,14 +234,14 @@ module _ (table : StringTable) where
     array_here : judge (p && (n && list_all attribute_is_text a.attributes)) (array_of a) ≡ judge (list_all attribute_is_text a.attributes) (array_of a)
     array_here = (behind_names p n (list_all attribute_is_text a.attributes) a.name made (array_of a) e).1
 
-    no_parts : (t : Bool) (parts : Option (List AttrNode)) (then : List AttrNode → Option ArrayNode) (fault : NodeFault) → judge t parts ≡ Err fault → judge t (option_and_then then parts) ≡ Err fault
+    no_parts : (t : Bool) (parts : Option (List AttrNode)) (then : List AttrNode → Option ArrayNode) (fault : RecordFault) → judge t parts ≡ Err fault → judge t (option_and_then then parts) ≡ Err fault
     no_parts true (Some x) then fault h = cc
     no_parts true None then fault h = let same : faults.BadValue ≡ fault = cc in ap Err same
     no_parts false parts then fault h = let same : faults.BadUtf8 ≡ fault = cc in ap Err same
 
-    pub parts_unmeasured : (weigh : List AttrNode → Option ℕ) (unfit : Unfit) → Measured (attributes_judged a.attributes) weigh (Err unfit)
+    pub parts_unmeasured : (weigh : List AttrNode → Option ℕ) (unfit : NodeFault) → Measured (attributes_judged a.attributes) weigh (Err unfit)
         → Measured (judge (p && (n && list_all attribute_is_text a.attributes)) (array_of a)) (weigh_array table) (Err unfit)
-    parts_unmeasured weigh (Fault fault) h = array_here ∙ no_parts (list_all attribute_is_text a.attributes) (each attribute_value a.attributes) _ fault h
+    parts_unmeasured weigh (Record fault) h = array_here ∙ no_parts (list_all attribute_is_text a.attributes) (each attribute_value a.attributes) _ fault h
     parts_unmeasured weigh Memory h = tt
 
     with_parts : (t : Bool) (parts : Option (List AttrNode)) (attrs : List AttrNode) (then : List AttrNode → Option ArrayNode) → judge t parts ≡ Ok attrs → judge t (option_and_then then parts) ≡ judge true (then attrs)
@@ -254,9 +254,9 @@ module _ (table : StringTable) where
       unfolding made_array
       parts_here = array_here ∙ with_parts (list_all attribute_is_text a.attributes) (each attribute_value a.attributes) attrs _ parts_are
 
-      pub cells_unmeasured : (weigh : List Scalar → Option ℕ) (unfit : Unfit) → Measured (judge true (cell_values a.kind a.count a.bytes)) weigh (Err unfit)
+      pub cells_unmeasured : (weigh : List Scalar → Option ℕ) (unfit : NodeFault) → Measured (judge true (cell_values a.kind a.count a.bytes)) weigh (Err unfit)
           → Measured (judge (p && (n && list_all attribute_is_text a.attributes)) (array_of a)) (weigh_array table) (Err unfit)
-      cells_unmeasured weigh (Fault fault) h = parts_here ∙ unjudged_map (made_array a attrs) true (cell_values a.kind a.count a.bytes) fault h
+      cells_unmeasured weigh (Record fault) h = parts_here ∙ unjudged_map (made_array a attrs) true (cell_values a.kind a.count a.bytes) fault h
       cells_unmeasured weigh Memory h = tt
 
       pub array_measured : (names parts cells : Option ℕ) → names ≡ weighed (λ local. length a.prefix + length local) (name_text table made) → parts ≡ weigh_parts table attrs

@@ -18,8 +18,8 @@ use Rattle.nbfx_values.specs.declared.position.Position.TheVariants as positions
 use Rattle.nbfx_values.specs.declared.refusals.Reason.{Reason}
 use Rattle.nbfx_values.specs.declared.refusals.Reason.TheVariants as reasons
 use Rattle.nbfx_records.specs.declared.nodes.Node.{Node}
-use Rattle.nbfx_records.specs.declared.nodes.NodeFault.{NodeFault}
-use Rattle.nbfx_records.specs.declared.nodes.NodeFault.TheVariants as faults
+use Rattle.nbfx_records.specs.declared.nodes.RecordFault.{RecordFault}
+use Rattle.nbfx_records.specs.declared.nodes.RecordFault.TheVariants as faults
 use Rattle.nbfx_records.specs.Meaning.{items_of}
 use Rattle.nbfx_records.specs.Places.{Stands}
 use Rattle.nbfx_records.specs.Reading.{node_at}
@@ -88,7 +88,7 @@ module _ (x : Settings) (z : Situation) (bytes : List ℕ) where
     by_bytes : (k : ℕ) → unit_of x z section bytes ≡ wrong reason k → Refuses section reason
     by_unit : (n : Node) → unit_of x z section bytes ≡ whole (node n) (length bytes) → refused x z (node n) ≡ Some reason → Refuses section reason
 
-  found : (fault : NodeFault) → (n : ℕ) × (node_at (node_place x z) bytes ≡ wrong fault n) → Refuses Nodes (reason_of fault)
+  found : (fault : RecordFault) → (n : ℕ) × (node_at (node_place x z) bytes ≡ wrong fault n) → Refuses Nodes (reason_of fault)
   found fault h = by_bytes h.0 (ap (seen node reason_of) h.1)
 
   node_there : (n : Node) → IsNode n bytes → Stands (node_place x z) n → unit_of x z Nodes bytes ≡ whole (node n) (length bytes)

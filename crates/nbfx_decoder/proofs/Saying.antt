@@ -4,7 +4,7 @@ use Rattle.std.specs.Prelude.{IsErrAnd, IsTrue}
 use Rattle.std.proofs.lemmas.Result.{err_from_is_err_and}
 use Rattle.std.proofs.lemmas.List.{append-nil}
 use Rattle.std.proofs.lemmas.List.Sums.{sum_by-append}
-use Rattle.unit_streams.specs.Front.{begun, whole}
+use Rattle.unit_streams.specs.Front.{begun, whole, wrong}
 use Rattle.unit_streams.specs.Parts as parts
 use Rattle.unit_streams.proofs.Fronts.{whole_some}
 use Rattle.multibyte_ints.specs.Integer.{IsBytes}
@@ -14,14 +14,13 @@ use Rattle.nbfx_values.specs.declared.refusals.Reason.TheVariants.{UnknownString
 use Rattle.string_tables.specs.StringTable.{StringTable}
 use Rattle.nbfx_values.specs.declared.refusals.Reason.{Reason}
 use Rattle.nbfx_records.specs.declared.nodes.Node.{Node}
-use Rattle.nbfx_records.specs.declared.nodes.NodeFault.{NodeFault}
+use Rattle.nbfx_records.specs.declared.nodes.RecordFault.{RecordFault}
 use Rattle.nbfx_records.specs.declared.nodes.NodePlace.{NodePlace}
-use Rattle.nbfx_records.specs.declared.read.NodeRead.TheVariants.{Done}
-use Rattle.nbfx_records.specs.declared.read.ReadFault.TheVariants.{Fault}
 use Rattle.nbfx_records.specs.declared.cursor.Stop.{Stop}
-use Rattle.nbfx_records.specs.declared.values.Unfit.{Unfit}
-use Rattle.nbfx_records.specs.declared.values.Unfit.TheVariants as unfits
-use Rattle.nbfx_records.specs.Answers.{Answers, Wants, stopped_by}
+use Rattle.nbfx_records.specs.declared.cursor.Stop.TheVariants as stops
+use Rattle.nbfx_records.specs.declared.nodes.NodeFault.{NodeFault}
+use Rattle.nbfx_records.specs.declared.nodes.NodeFault.TheVariants as node_faults
+use Rattle.nbfx_records.specs.Answers.{StopsBy}
 use Rattle.nbfx_records.specs.Asked as asked
 use Rattle.nbfx_records.specs.Contents.{contents}
 use Rattle.nbfx_records.specs.Places.{Stands}
@@ -35,7 +34,7 @@ use Rattle.nbfx_records.specs.declared.nodes.Node.TheVariants.{EndElement}
 use Rattle.nbfx_records.proofs.CursorFacts.{further_whole}
 use Rattle.nbfx_records.proofs.ShapeFronts.{reads_shape}
 use Rattle.nbfx_records.specs.Valid.{is_valid_node}
-use Rattle.nbfx_records.proofs.AnswerFacts.{stopped_answers, stopped_wants, whole_answers}
+use Rattle.nbfx_records.proofs.AnswerFacts.{stops_by, whole_node, whole_wrong}
 use Rattle.nbfx_records.proofs.ValidFacts.{reads_valid}
 use Rattle.nbfx_decoder.specs.declared.faults.UnitFault.{UnitFault}
 use Rattle.nbfx_decoder.specs.declared.faults.UnitFault.TheVariants.{Refused, Memory}
@@ -45,9 +44,9 @@ use Rattle.nbfx_decoder.specs.declared.units.UnitReader.{UnitReader}
 use Rattle.nbfx_decoder.specs.Payload.{Settings, Situation, node, refused, unit_in}
 use Rattle.nbfx_decoder.specs.declared.units.UnitRead.TheVariants as units_read
 use Rattle.nbfx_decoder.specs.Units.{HasShape, IsAdded, IsAt, Judged, Judges, MayAdd, MayMake, RefusedAs, unfit, unnamed_in, too_much_in, Keeps, KeepsSettings, Reads, SayAnswers, StandsAt, UnitAnswers, names_in, place_in}
-use Rattle.nbfx_decoder.specs.Faults.{unmade}
+use Rattle.nbfx_decoder.specs.Faults.{stopped, unmade}
 use Rattle.nbfx_decoder.specs.Measuring.{Measured, weigh_node, weighed}
-use Rattle.nbfx_decoder.proofs.UnitSteps.{node_stands, node_unread, node_whole, passed, too_much, unnamed}
+use Rattle.nbfx_decoder.proofs.UnitSteps.{node_stands, node_unread, node_waits, node_whole, passed, too_much, unnamed}
 
 -- a record of any shape has some bytes
 shape_of_nothing : (place : NodePlace) → shape_at place [] ≡ begun
@@ -76,13 +75,14 @@ end_made = record { made = refl }
 
 module _ (place : NodePlace) (bytes : List ℕ) (shape : Shape) (used : ℕ) (has : HasShape place shape used bytes) where
   pub shape_answers : (n : Node) → contents shape ≡ Ok n → node_at place bytes ≡ whole n used
-  shape_answers n e = whole_answers place bytes shape used (Ok (Done used n)) has.whole (refl, e)
+  shape_answers n e = whole_node place bytes shape used n has.whole e
 
-  pub shape_refused : (fault : NodeFault) → contents shape ≡ Err fault → Answers place bytes (Err (Fault fault used))
-  shape_refused fault e = whole_answers place bytes shape used (Err (Fault fault used)) has.whole (refl, e)
+  pub shape_refused : (fault : RecordFault) → contents shape ≡ Err fault
+      → node_at place bytes ≡ wrong fault used
+  shape_refused fault e = whole_wrong place bytes shape used fault has.whole e
 
   pub shape_valid : (n : Node) → contents shape ≡ Ok n → IsBytes bytes → IsTrue (is_valid_node n)
-  shape_valid n e are = reads_valid place bytes (Ok (Done used n)) are (shape_answers n e)
+  shape_valid n e are = reads_valid place bytes n used are (shape_answers n e)
 
   pub shape_stands : (n : Node) → contents shape ≡ Ok n → Stands place n
   shape_stands n e = node_stands place bytes n used (shape_answers n e)
@@ -100,7 +100,7 @@ module _ (r : UnitReader) (x : Settings) (z : Situation) (from : ℕ) (at : IsAt
   refused_said reason k same (unfit fault e is) =
       subst (λ (m : ℕ). UnitAnswers x z from bytes r (Err (Refused reason m))) (sym same)
       (subst (λ (other : Reason). UnitAnswers x z from bytes r (Err (Refused other used))) (sym is)
-      (node_unread r x z from at here bytes (Fault fault used) (shape_refused (place_in r) bytes shape used has fault e)))
+      (node_unread r x z from at here bytes fault used (shape_refused (place_in r) bytes shape used has fault e)))
   refused_said reason k same (unnamed_in n e none is) = refused_at n e reason k same (unnamed r x z from at n None none refl ∙ ap Some (sym is))
   refused_said reason k same (too_much_in n more e found above is) =
       refused_at n e reason k same
@@ -138,9 +138,9 @@ module _ (r : UnitReader) (table : StringTable) (same : table ≡ names_in r) wh
   unweighed (Some items) e = cc
 
   module _ (shape : Shape) (used : ℕ) where
-    pub judged_unfit : (why : Unfit) → Measured (contents shape) (weigh_node table) (Err why) → Judges r shape used (Err (unmade why used))
-    judged_unfit (unfits.Fault fault) e = record { judged = (refl, unfit fault e refl) }
-    judged_unfit unfits.Memory e = record { judged = tt }
+    pub judged_unfit : (why : NodeFault) → Measured (contents shape) (weigh_node table) (Err why) → Judges r shape used (Err (unmade why used))
+    judged_unfit (node_faults.Record fault) e = record { judged = (refl, unfit fault e refl) }
+    judged_unfit node_faults.Memory e = record { judged = tt }
 
     pub judged_unnamed : (size : Option ℕ) → size ≡ None → Measured (contents shape) (weigh_node table) (Ok size) → Judges r shape used (Err (Refused UnknownString used))
     judged_unnamed size none (n, e, counts) =
@@ -168,11 +168,31 @@ module _ (place at : NodePlace) (bytes : List ℕ) (stop : Stop) (same : at ≡ 
   there : Stops (shape_at place) (asked.shape_at place) bytes 0 stop
   there = subst (λ (p : NodePlace). Stops (shape_at p) (asked.shape_at p) bytes 0 stop) same told
 
-  pub stop_answers : Answers place bytes (stopped_by stop)
-  stop_answers = stopped_answers place bytes stop there
+  pub stop_answers : StopsBy place bytes stop
+  stop_answers = stops_by place bytes stop there
 
-  pub stop_wants : Wants place bytes (stopped_by stop)
-  stop_wants = stopped_wants place bytes stop there
+-- what a reader answers then
+pub reads_stopped : (r : UnitReader) (bytes : List ℕ) → r.section ≡ Nodes → (place : NodePlace)
+    → place ≡ place_in r → (stop : Stop)
+    → Stops (shape_at place) (asked.shape_at place) bytes 0 stop → Reads r r bytes (stopped stop)
+reads_stopped r bytes here place same (stops.More wants) told = record {
+  answers = λ x z from at. (
+    node_waits r x z from at here bytes wants
+        (stop_answers (place_in r) place bytes (stops.More wants) same told),
+    at,
+  );
+  counts = told.why.above;
+  goes_on = omega arith;
+  kept = record { statics = refl; quotas = refl; kind = refl };
+}
+reads_stopped r bytes here place same (stops.Fault fault shown_by) told = record {
+  answers = λ x z from at.
+      node_unread r x z from at here bytes fault shown_by
+      (stop_answers (place_in r) place bytes (stops.Fault fault shown_by) same told);
+  counts = tt;
+  goes_on = tt;
+  kept = record { statics = refl; quotas = refl; kind = refl };
+}
 
 -- what a reader leaves that hands a fault on
 pub reads_fault : (r new : UnitReader) (bytes : List ℕ) (fault : UnitFault) (res : Result UnitRead UnitFault) → IsErrAnd res (λ y. y ≡ fault)

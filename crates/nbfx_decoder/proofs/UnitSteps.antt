@@ -29,7 +29,7 @@ use Rattle.string_tables.specs.SessionStrings.{used_cost}
 use Rattle.string_tables.specs.StringTable.{StringTable}
 use Rattle.session_dictionary.specs.Strings.{LimitedStrings}
 use Rattle.nbfx_records.specs.declared.nodes.Node.{Node}
-use Rattle.nbfx_records.specs.declared.nodes.NodeFault.{NodeFault}
+use Rattle.nbfx_records.specs.declared.nodes.RecordFault.{RecordFault}
 use Rattle.nbfx_records.specs.declared.nodes.NodePlace.{NodePlace}
 use Rattle.nbfx_records.proofs.ShapeFronts.{node_fronts, node_of_nothing}
 use Rattle.nbfx_records.proofs.NodeBytes.{records_are_read}
@@ -37,9 +37,7 @@ use Rattle.nbfx_records.specs.Meaning.{items_of}
 use Rattle.nbfx_records.specs.Places.{Stands}
 use Rattle.nbfx_records.proofs.MeaningFacts.{meanings_are_found}
 use Rattle.nbfx_records.specs.Reading.{node_at}
-use Rattle.nbfx_records.specs.declared.read.ReadFault.{ReadFault}
-use Rattle.nbfx_records.specs.declared.read.ReadFault.TheVariants.{Fault, Memory as NoMemory}
-use Rattle.nbfx_records.specs.Answers.{Answers, WaitsFor as NodeWaitsFor}
+use Rattle.nbfx_records.specs.Answers.{WaitsFor as NodeWaitsFor}
 use Rattle.nbfx_decoder.specs.declared.section.Section.{Section}
 use Rattle.nbfx_decoder.specs.declared.section.Section.TheVariants.{TableSize, Strings, Nodes}
 use Rattle.nbfx_decoder.specs.declared.faults.UnitFault.{UnitFault}
@@ -47,7 +45,7 @@ use Rattle.nbfx_decoder.specs.declared.faults.UnitFault.TheVariants.{Refused, Me
 use Rattle.nbfx_decoder.specs.declared.units.UnitRead.{UnitRead}
 use Rattle.nbfx_decoder.specs.declared.units.UnitReader.{UnitReader}
 use Rattle.nbfx_decoder.specs.Sections.{section_of, left_in}
-use Rattle.nbfx_decoder.specs.Faults.{reason_of, unread}
+use Rattle.nbfx_decoder.specs.Faults.{reason_of}
 use Rattle.nbfx_decoder.specs.Tables.{TableString, table_string_at}
 use Rattle.nbfx_decoder.specs.Payload.{Settings, Situation, table_size, table_string, node, refusal, place_of, room_for, unit_of, unit_in, table_in, reason_in, added, after, refused}
 use Rattle.nbfx_decoder.specs.Units.{AwaitsBytes, Keeps, IsAt, StringStands, UnitAnswers}
@@ -179,7 +177,7 @@ module _ (r : UnitReader) (x : Settings) (z : Situation) (from : ℕ) (at : IsAt
     same_place : place_of r.quotas.depth (position_of r.document) ≡ place_of x.limits.depth (position_of z.items)
     same_place = ap (λ d. place_of d (position_of r.document)) depth_here ∙ ap (λ items. place_of x.limits.depth (position_of items)) at.items
 
-    node_here : (b : List ℕ) (v : Front Node NodeFault) → node_at (place_of r.quotas.depth (position_of r.document)) b ≡ v
+    node_here : (b : List ℕ) (v : Front Node RecordFault) → node_at (place_of r.quotas.depth (position_of r.document)) b ≡ v
         → unit_in x z from b ≡ seen (λ unit. unit) (refusal from) (seen node reason_of v)
     node_here b v e =
         unit_here b Nodes here
@@ -188,13 +186,14 @@ module _ (r : UnitReader) (x : Settings) (z : Situation) (from : ℕ) (at : IsAt
     pub node_whole : (b : List ℕ) (n : Node) (k : ℕ) → node_at (place_of r.quotas.depth (position_of r.document)) b ≡ whole n k → unit_in x z from b ≡ whole (node n) k
     node_whole b n k e = node_here b (whole n k) e
 
-    pub node_wrong : (b : List ℕ) (fault : NodeFault) (k : ℕ) → node_at (place_of r.quotas.depth (position_of r.document)) b ≡ wrong fault k → unit_in x z from b ≡ wrong (refusal from (reason_of fault)) k
+    pub node_wrong : (b : List ℕ) (fault : RecordFault) (k : ℕ) → node_at (place_of r.quotas.depth (position_of r.document)) b ≡ wrong fault k → unit_in x z from b ≡ wrong (refusal from (reason_of fault)) k
     node_wrong b fault k e = node_here b (wrong fault k) e
 
     -- a node that isn't read
-    pub node_unread : (b : List ℕ) (fault : ReadFault) → Answers (place_of r.quotas.depth (position_of r.document)) b (Err fault) → UnitAnswers x z from b r (Err (unread fault))
-    node_unread b (Fault fault shown_by) e = (inl (node_wrong b fault shown_by e), at.set)
-    node_unread b NoMemory e = at.set
+    pub node_unread : (b : List ℕ) (fault : RecordFault) (shown_by : ℕ)
+        → node_at (place_of r.quotas.depth (position_of r.document)) b ≡ wrong fault shown_by
+        → UnitAnswers x z from b r (Err (Refused (reason_of fault) shown_by))
+    node_unread b fault shown_by e = (inl (node_wrong b fault shown_by e), at.set)
 
     pub node_waits : (b : List ℕ) (n : ℕ) → NodeWaitsFor (place_of r.quotas.depth (position_of r.document)) b n → AwaitsBytes (unit_in x z from) b n
     node_waits b n w = record { more = w.more; begins = λ next lt. node_here (b ++ next) begun (w.begins next lt) }

@@ -1,6 +1,7 @@
 -- Worked payloads that are documents, computed by the definitions.
-use Rattle.std.proofs.Common.{ℕ, List, [], ◌∷◌, refl}
-use Rattle.std.specs.Prelude.{codes, pos, negsuc}
+use Rattle.std.proofs.Common.{◌≡◌, ℕ, List, [], ◌∷◌, ◌++◌, refl}
+use Rattle.std.specs.Prelude.{None, codes, map, pos, negsuc}
+use Rattle.unit_streams.specs.Judging.{offence}
 use Rattle.nbfx_values.specs.declared.content.ArrayKind.TheVariants.{Int32}
 use Rattle.nbfx_values.specs.declared.content.Item.{Item}
 use Rattle.nbfx_values.specs.declared.content.Item.TheVariants.{Start, Xmlns, Attr, Text, Array, Close}
@@ -8,7 +9,8 @@ use Rattle.nbfx_values.specs.declared.scalars.Scalar.{Scalar}
 use Rattle.nbfx_values.specs.declared.scalars.Scalar.TheVariants.{Number, UniqueId, Text as TextOf}
 use Rattle.nbfx_values.specs.declared.scalars.Value.TheVariants.{One}
 use Rattle.nbfx_values.specs.declared.session.Kind.TheVariants.{Plain, Session}
-use Rattle.nbfx_decoder.specs.Laws.{IsDecoded}
+use Rattle.nbfx_decoder.specs.Payload.{Settings, payload}
+use Rattle.nbfx_decoder.specs.Standing.{situation_of}
 use Rattle.nbfx_decoder.proofs.OnLiterals.{payloads_on_literals, narrow, usual}
 
 -- the identifier of the worked messages
@@ -73,147 +75,149 @@ numbered = Start [] (codes "x")
     ∷ Array (record { prefix = []; local = codes "a"; attrs = []; kind = Int32; values = three })
     ∷ Close ∷ []
 
--- an envelope with a string of its own, and the next, which names it again
-an_envelope : IsDecoded (usual Session) []
-    (0x02 ∷ 0x01 ∷ 120 ∷ 0x56 ∷ 0x02 ∷ 0x0b ∷ 0x01 ∷ 115 ∷ 0x04 ∷ 0x0b ∷ 0x01 ∷ 97 ∷ 0x06 ∷
-    0x56 ∷ 0x08 ∷ 0x44 ∷ 0x0a ∷ 0x1e ∷ 0x00 ∷ 0x82 ∷ 0x99 ∷ 0x08 ∷ 117 ∷ 114 ∷ 110 ∷ 58 ∷ 101 ∷
-    99 ∷ 104 ∷ 111 ∷ 0x44 ∷ 0x1a ∷ 0xad ∷ 0x33 ∷ 0x22 ∷ 0x11 ∷ 0x00 ∷ 0x55 ∷ 0x44 ∷ 0x77 ∷
-    0x66 ∷ 0x88 ∷ 0x99 ∷ 0xaa ∷ 0xbb ∷ 0xcc ∷ 0xdd ∷ 0xee ∷ 0xff ∷ 0x01 ∷ 0x56 ∷ 0x0e ∷ 0x42 ∷
-    0x01 ∷ 0x99 ∷ 0x02 ∷ 104 ∷ 105 ∷ 0x01 ∷ 0x01 ∷ [])
-    (envelope (codes "urn:echo")) (codes "x" ∷ [])
-unfolding payloads_on_literals
-an_envelope = record { offenceless = refl; items_are = refl; strings_are = refl }
+-- settings, the strings so far, a document, the strings that its payload brings, and the payload
+abbrev Row : Type 0
+Row = Settings × List (List ℕ) × List Item × List (List ℕ) × List ℕ
 
-the_next_envelope : IsDecoded (usual Session) (codes "x" ∷ [])
-    (0x00 ∷ 0x56 ∷ 0x02 ∷ 0x0b ∷ 0x01 ∷ 115 ∷ 0x04 ∷ 0x0b ∷ 0x01 ∷ 97 ∷ 0x06 ∷ 0x56 ∷ 0x08 ∷
-    0x44 ∷ 0x0a ∷ 0x1e ∷ 0x00 ∷ 0x82 ∷ 0x99 ∷ 0x08 ∷ 117 ∷ 114 ∷ 110 ∷ 58 ∷ 101 ∷ 99 ∷ 104 ∷
-    111 ∷ 0x44 ∷ 0x1a ∷ 0xad ∷ 0x33 ∷ 0x22 ∷ 0x11 ∷ 0x00 ∷ 0x55 ∷ 0x44 ∷ 0x77 ∷ 0x66 ∷ 0x88 ∷
-    0x99 ∷ 0xaa ∷ 0xbb ∷ 0xcc ∷ 0xdd ∷ 0xee ∷ 0xff ∷ 0x01 ∷ 0x56 ∷ 0x0e ∷ 0x42 ∷ 0x01 ∷ 0x99 ∷
-    0x02 ∷ 104 ∷ 105 ∷ 0x01 ∷ 0x01 ∷ [])
-    (envelope (codes "urn:echo")) []
-unfolding payloads_on_literals
-the_next_envelope = record { offenceless = refl; items_are = refl; strings_are = refl }
+-- nothing refuses the payload, whose items and strings are these
+record AreDecoded (rows : List Row) : Type 0 where
+  offenceless : map (λ (r : Row). offence (payload r.0 r.1) r.4) rows ≡ map (λ (r : Row). None) rows
+  items_are : map (λ (r : Row). (situation_of r.0 r.1 r.4).items) rows
+      ≡ map (λ (r : Row). r.2) rows
+  strings_are : map (λ (r : Row). (situation_of r.0 r.1 r.4).strings) rows
+      ≡ map (λ (r : Row). r.1 ++ r.3) rows
 
--- what answers it
-an_answer : IsDecoded (usual Session) []
-    (0x02 ∷ 0x01 ∷ 120 ∷ 0x56 ∷ 0x02 ∷ 0x0b ∷ 0x01 ∷ 115 ∷ 0x04 ∷ 0x0b ∷ 0x01 ∷ 97 ∷ 0x06 ∷
-    0x56 ∷ 0x08 ∷ 0x44 ∷ 0x0a ∷ 0x1e ∷ 0x00 ∷ 0x82 ∷ 0x99 ∷ 0x10 ∷ 117 ∷ 114 ∷ 110 ∷ 58 ∷ 101 ∷
-    99 ∷ 104 ∷ 111 ∷ 82 ∷ 101 ∷ 115 ∷ 112 ∷ 111 ∷ 110 ∷ 115 ∷ 101 ∷ 0x44 ∷ 0x12 ∷ 0xad ∷ 0x33 ∷
-    0x22 ∷ 0x11 ∷ 0x00 ∷ 0x55 ∷ 0x44 ∷ 0x77 ∷ 0x66 ∷ 0x88 ∷ 0x99 ∷ 0xaa ∷ 0xbb ∷ 0xcc ∷ 0xdd ∷
-    0xee ∷ 0xff ∷ 0x01 ∷ 0x56 ∷ 0x0e ∷ 0x42 ∷ 0x01 ∷ 0x99 ∷ 0x02 ∷ 104 ∷ 105 ∷ 0x01 ∷ 0x01 ∷ [])
-    answered (codes "x" ∷ [])
+-- an envelope with a string of its own, the next, which names it again, what answers it, and one
+-- as WCF writes it, with the action and the address among its strings
+envelopes : AreDecoded ((
+  usual Session,
+  [],
+  envelope (codes "urn:echo"),
+  codes "x" ∷ [],
+  0x02 ∷ 0x01 ∷ 120 ∷ 0x56 ∷ 0x02 ∷ 0x0b ∷ 0x01 ∷ 115 ∷ 0x04 ∷ 0x0b ∷ 0x01 ∷ 97 ∷ 0x06 ∷
+      0x56 ∷ 0x08 ∷ 0x44 ∷ 0x0a ∷ 0x1e ∷ 0x00 ∷ 0x82 ∷ 0x99 ∷ 0x08 ∷ 117 ∷ 114 ∷ 110 ∷ 58 ∷ 101 ∷
+      99 ∷ 104 ∷ 111 ∷ 0x44 ∷ 0x1a ∷ 0xad ∷ 0x33 ∷ 0x22 ∷ 0x11 ∷ 0x00 ∷ 0x55 ∷ 0x44 ∷ 0x77 ∷
+      0x66 ∷ 0x88 ∷ 0x99 ∷ 0xaa ∷ 0xbb ∷ 0xcc ∷ 0xdd ∷ 0xee ∷ 0xff ∷ 0x01 ∷ 0x56 ∷ 0x0e ∷ 0x42 ∷
+      0x01 ∷ 0x99 ∷ 0x02 ∷ 104 ∷ 105 ∷ 0x01 ∷ 0x01 ∷ [],
+) ∷ (
+  usual Session,
+  codes "x" ∷ [],
+  envelope (codes "urn:echo"),
+  [],
+  0x00 ∷ 0x56 ∷ 0x02 ∷ 0x0b ∷ 0x01 ∷ 115 ∷ 0x04 ∷ 0x0b ∷ 0x01 ∷ 97 ∷ 0x06 ∷ 0x56 ∷ 0x08 ∷
+      0x44 ∷ 0x0a ∷ 0x1e ∷ 0x00 ∷ 0x82 ∷ 0x99 ∷ 0x08 ∷ 117 ∷ 114 ∷ 110 ∷ 58 ∷ 101 ∷ 99 ∷ 104 ∷
+      111 ∷ 0x44 ∷ 0x1a ∷ 0xad ∷ 0x33 ∷ 0x22 ∷ 0x11 ∷ 0x00 ∷ 0x55 ∷ 0x44 ∷ 0x77 ∷ 0x66 ∷ 0x88 ∷
+      0x99 ∷ 0xaa ∷ 0xbb ∷ 0xcc ∷ 0xdd ∷ 0xee ∷ 0xff ∷ 0x01 ∷ 0x56 ∷ 0x0e ∷ 0x42 ∷ 0x01 ∷ 0x99 ∷
+      0x02 ∷ 104 ∷ 105 ∷ 0x01 ∷ 0x01 ∷ [],
+) ∷ (
+  usual Session,
+  [],
+  answered,
+  codes "x" ∷ [],
+  0x02 ∷ 0x01 ∷ 120 ∷ 0x56 ∷ 0x02 ∷ 0x0b ∷ 0x01 ∷ 115 ∷ 0x04 ∷ 0x0b ∷ 0x01 ∷ 97 ∷ 0x06 ∷
+      0x56 ∷ 0x08 ∷ 0x44 ∷ 0x0a ∷ 0x1e ∷ 0x00 ∷ 0x82 ∷ 0x99 ∷ 0x10 ∷ 117 ∷ 114 ∷ 110 ∷ 58 ∷ 101 ∷
+      99 ∷ 104 ∷ 111 ∷ 82 ∷ 101 ∷ 115 ∷ 112 ∷ 111 ∷ 110 ∷ 115 ∷ 101 ∷ 0x44 ∷ 0x12 ∷ 0xad ∷ 0x33 ∷
+      0x22 ∷ 0x11 ∷ 0x00 ∷ 0x55 ∷ 0x44 ∷ 0x77 ∷ 0x66 ∷ 0x88 ∷ 0x99 ∷ 0xaa ∷ 0xbb ∷ 0xcc ∷ 0xdd ∷
+      0xee ∷ 0xff ∷ 0x01 ∷ 0x56 ∷ 0x0e ∷ 0x42 ∷ 0x01 ∷ 0x99 ∷ 0x02 ∷ 104 ∷ 105 ∷ 0x01 ∷ 0x01 ∷
+      [],
+) ∷ (
+  usual Session,
+  [],
+  addressed,
+  codes "urn:echo" ∷ codes "net.tcp://h/e" ∷ codes "x" ∷ [],
+  0x19 ∷ 0x08 ∷ 117 ∷ 114 ∷ 110 ∷ 58 ∷ 101 ∷ 99 ∷ 104 ∷ 111 ∷ 0x0d ∷ 110 ∷ 101 ∷ 116 ∷ 46 ∷
+      116 ∷ 99 ∷ 112 ∷ 58 ∷ 47 ∷ 47 ∷ 104 ∷ 47 ∷ 101 ∷ 0x01 ∷ 120 ∷ 0x56 ∷ 0x02 ∷ 0x0b ∷ 0x01 ∷
+      115 ∷ 0x04 ∷ 0x0b ∷ 0x01 ∷ 97 ∷ 0x06 ∷ 0x56 ∷ 0x08 ∷ 0x44 ∷ 0x0a ∷ 0x1e ∷ 0x00 ∷ 0x82 ∷
+      0xab ∷ 0x01 ∷ 0x44 ∷ 0x1a ∷ 0xad ∷ 0x33 ∷ 0x22 ∷ 0x11 ∷ 0x00 ∷ 0x55 ∷ 0x44 ∷ 0x77 ∷ 0x66 ∷
+      0x88 ∷ 0x99 ∷ 0xaa ∷ 0xbb ∷ 0xcc ∷ 0xdd ∷ 0xee ∷ 0xff ∷ 0x44 ∷ 0x2c ∷ 0x44 ∷ 0x2a ∷ 0xab ∷
+      0x14 ∷ 0x01 ∷ 0x44 ∷ 0x0c ∷ 0x1e ∷ 0x00 ∷ 0x82 ∷ 0xab ∷ 0x03 ∷ 0x01 ∷ 0x56 ∷ 0x0e ∷ 0x42 ∷
+      0x05 ∷ 0x99 ∷ 0x02 ∷ 104 ∷ 105 ∷ 0x01 ∷ 0x01 ∷ [],
+) ∷
+    [])
 unfolding payloads_on_literals
-an_answer = record { offenceless = refl; items_are = refl; strings_are = refl }
+envelopes = record { offenceless = refl; items_are = refl; strings_are = refl }
 
--- the envelope as WCF writes it, with the action and the address among its strings
-an_envelope_of_wcf : IsDecoded (usual Session) []
-    (0x19 ∷ 0x08 ∷ 117 ∷ 114 ∷ 110 ∷ 58 ∷ 101 ∷ 99 ∷ 104 ∷ 111 ∷ 0x0d ∷ 110 ∷ 101 ∷ 116 ∷ 46 ∷
-    116 ∷ 99 ∷ 112 ∷ 58 ∷ 47 ∷ 47 ∷ 104 ∷ 47 ∷ 101 ∷ 0x01 ∷ 120 ∷ 0x56 ∷ 0x02 ∷ 0x0b ∷ 0x01 ∷
-    115 ∷ 0x04 ∷ 0x0b ∷ 0x01 ∷ 97 ∷ 0x06 ∷ 0x56 ∷ 0x08 ∷ 0x44 ∷ 0x0a ∷ 0x1e ∷ 0x00 ∷ 0x82 ∷
-    0xab ∷ 0x01 ∷ 0x44 ∷ 0x1a ∷ 0xad ∷ 0x33 ∷ 0x22 ∷ 0x11 ∷ 0x00 ∷ 0x55 ∷ 0x44 ∷ 0x77 ∷ 0x66 ∷
-    0x88 ∷ 0x99 ∷ 0xaa ∷ 0xbb ∷ 0xcc ∷ 0xdd ∷ 0xee ∷ 0xff ∷ 0x44 ∷ 0x2c ∷ 0x44 ∷ 0x2a ∷ 0xab ∷
-    0x14 ∷ 0x01 ∷ 0x44 ∷ 0x0c ∷ 0x1e ∷ 0x00 ∷ 0x82 ∷ 0xab ∷ 0x03 ∷ 0x01 ∷ 0x56 ∷ 0x0e ∷ 0x42 ∷
-    0x05 ∷ 0x99 ∷ 0x02 ∷ 104 ∷ 105 ∷ 0x01 ∷ 0x01 ∷ [])
-    addressed (codes "urn:echo" ∷ codes "net.tcp://h/e" ∷ codes "x" ∷ [])
+-- an element with nothing in it, one with a text of no characters, and a static string, without a
+-- table
+elements : AreDecoded ((
+  usual Session,
+  [],
+  Start [] (codes "x") ∷ Close ∷ [],
+  codes "x" ∷ [],
+  0x02 ∷ 0x01 ∷ 120 ∷ 0x42 ∷ 0x01 ∷ 0x01 ∷ [],
+) ∷
+    (usual Session, [], element (TextOf []), [], 0x00 ∷ 0x40 ∷ 0x01 ∷ 120 ∷ 0xa9 ∷ []) ∷
+    (usual Plain, [], Start [] (codes "Envelope") ∷ Close ∷ [], [], 0x42 ∷ 0x02 ∷ 0x01 ∷ []) ∷
+    [])
 unfolding payloads_on_literals
-an_envelope_of_wcf = record { offenceless = refl; items_are = refl; strings_are = refl }
-
--- an element with nothing in it, and with a text of no characters
-an_element_without_content : IsDecoded (usual Session) []
-    (0x02 ∷ 0x01 ∷ 120 ∷ 0x42 ∷ 0x01 ∷ 0x01 ∷ [])
-    (Start [] (codes "x") ∷ Close ∷ []) (codes "x" ∷ [])
-unfolding payloads_on_literals
-an_element_without_content = record { offenceless = refl; items_are = refl; strings_are = refl }
-
-an_empty_text : IsDecoded (usual Session) []
-    (0x00 ∷ 0x40 ∷ 0x01 ∷ 120 ∷ 0xa9 ∷ [])
-    (element (TextOf [])) []
-unfolding payloads_on_literals
-an_empty_text = record { offenceless = refl; items_are = refl; strings_are = refl }
-
--- a static string, without a table
-a_plain_document : IsDecoded (usual Plain) []
-    (0x42 ∷ 0x02 ∷ 0x01 ∷ [])
-    (Start [] (codes "Envelope") ∷ Close ∷ []) []
-unfolding payloads_on_literals
-a_plain_document = record { offenceless = refl; items_are = refl; strings_are = refl }
+elements = record { offenceless = refl; items_are = refl; strings_are = refl }
 
 -- numbers, in the fewest bytes and in more
-zero : IsDecoded (usual Plain) []
-    (0x40 ∷ 0x01 ∷ 120 ∷ 0x81 ∷ [])
-    (element (Number (pos 0))) []
+numbers : AreDecoded (
+    (usual Plain, [], element (Number (pos 0)), [], 0x40 ∷ 0x01 ∷ 120 ∷ 0x81 ∷ []) ∷
+    (usual Plain, [], element (Number (pos 1)), [], 0x40 ∷ 0x01 ∷ 120 ∷ 0x83 ∷ []) ∷
+    (usual Plain, [], element (Number (negsuc 127)), [], 0x40 ∷ 0x01 ∷ 120 ∷ 0x89 ∷ 0x80 ∷ []) ∷
+    (usual Plain, [], element (Number (pos 128)), [], 0x40 ∷ 0x01 ∷ 120 ∷ 0x8b ∷ 0x80 ∷ 0x00 ∷ []) ∷ (
+      usual Plain,
+      [],
+      element (Number (pos 9223372036854775808)),
+      [],
+      0x40 ∷ 0x01 ∷ 120 ∷ 0xb3 ∷ 0x00 ∷ 0x00 ∷ 0x00 ∷ 0x00 ∷ 0x00 ∷ 0x00 ∷ 0x00 ∷ 0x80 ∷ [],
+    ) ∷ (
+      usual Plain,
+      [],
+      element (Number (pos 18446744073709551615)),
+      [],
+      0x40 ∷ 0x01 ∷ 120 ∷ 0xb3 ∷ 0xff ∷ 0xff ∷ 0xff ∷ 0xff ∷ 0xff ∷ 0xff ∷ 0xff ∷ 0xff ∷ [],
+    ) ∷
+    (usual Plain, [], element (Number (pos 5)), [], 0x40 ∷ 0x01 ∷ 120 ∷ 0x89 ∷ 0x05 ∷ []) ∷ (
+      usual Plain,
+      [],
+      element (Number (pos 5)),
+      [],
+      0x40 ∷ 0x01 ∷ 120 ∷ 0x8d ∷ 0x05 ∷ 0x00 ∷ 0x00 ∷ 0x00 ∷ [],
+    ) ∷
+    [])
 unfolding payloads_on_literals
-zero = record { offenceless = refl; items_are = refl; strings_are = refl }
-
-one : IsDecoded (usual Plain) []
-    (0x40 ∷ 0x01 ∷ 120 ∷ 0x83 ∷ [])
-    (element (Number (pos 1))) []
-unfolding payloads_on_literals
-one = record { offenceless = refl; items_are = refl; strings_are = refl }
-
-minus_128 : IsDecoded (usual Plain) []
-    (0x40 ∷ 0x01 ∷ 120 ∷ 0x89 ∷ 0x80 ∷ [])
-    (element (Number (negsuc 127))) []
-unfolding payloads_on_literals
-minus_128 = record { offenceless = refl; items_are = refl; strings_are = refl }
-
-number_128 : IsDecoded (usual Plain) []
-    (0x40 ∷ 0x01 ∷ 120 ∷ 0x8b ∷ 0x80 ∷ 0x00 ∷ [])
-    (element (Number (pos 128))) []
-unfolding payloads_on_literals
-number_128 = record { offenceless = refl; items_are = refl; strings_are = refl }
-
-two_to_63 : IsDecoded (usual Plain) []
-    (0x40 ∷ 0x01 ∷ 120 ∷ 0xb3 ∷ 0x00 ∷ 0x00 ∷ 0x00 ∷ 0x00 ∷ 0x00 ∷ 0x00 ∷ 0x00 ∷ 0x80 ∷ [])
-    (element (Number (pos 9223372036854775808))) []
-unfolding payloads_on_literals
-two_to_63 = record { offenceless = refl; items_are = refl; strings_are = refl }
-
-largest : IsDecoded (usual Plain) []
-    (0x40 ∷ 0x01 ∷ 120 ∷ 0xb3 ∷ 0xff ∷ 0xff ∷ 0xff ∷ 0xff ∷ 0xff ∷ 0xff ∷ 0xff ∷ 0xff ∷ [])
-    (element (Number (pos 18446744073709551615))) []
-unfolding payloads_on_literals
-largest = record { offenceless = refl; items_are = refl; strings_are = refl }
-
-five : IsDecoded (usual Plain) []
-    (0x40 ∷ 0x01 ∷ 120 ∷ 0x89 ∷ 0x05 ∷ [])
-    (element (Number (pos 5))) []
-unfolding payloads_on_literals
-five = record { offenceless = refl; items_are = refl; strings_are = refl }
-
-five_of_four_bytes : IsDecoded (usual Plain) []
-    (0x40 ∷ 0x01 ∷ 120 ∷ 0x8d ∷ 0x05 ∷ 0x00 ∷ 0x00 ∷ 0x00 ∷ [])
-    (element (Number (pos 5))) []
-unfolding payloads_on_literals
-five_of_four_bytes = record { offenceless = refl; items_are = refl; strings_are = refl }
+numbers = record { offenceless = refl; items_are = refl; strings_are = refl }
 
 -- an array of 1, 2 and -1, as it is read and as it is written
-an_array : IsDecoded (usual Session) []
-    (0x00 ∷ 0x40 ∷ 0x01 ∷ 120 ∷ 0x03 ∷ 0x40 ∷ 0x01 ∷ 97 ∷ 0x01 ∷ 0x8d ∷ 0x03 ∷ 0x01 ∷ 0x00 ∷
-    0x00 ∷ 0x00 ∷ 0x02 ∷ 0x00 ∷ 0x00 ∷ 0x00 ∷ 0xff ∷ 0xff ∷ 0xff ∷ 0xff ∷ 0x01 ∷ [])
-    numbered []
+arrays : AreDecoded ((
+  usual Session,
+  [],
+  numbered,
+  [],
+  0x00 ∷ 0x40 ∷ 0x01 ∷ 120 ∷ 0x03 ∷ 0x40 ∷ 0x01 ∷ 97 ∷ 0x01 ∷ 0x8d ∷ 0x03 ∷ 0x01 ∷ 0x00 ∷
+      0x00 ∷ 0x00 ∷ 0x02 ∷ 0x00 ∷ 0x00 ∷ 0x00 ∷ 0xff ∷ 0xff ∷ 0xff ∷ 0xff ∷ 0x01 ∷ [],
+) ∷ (
+  usual Session,
+  [],
+  numbered,
+  codes "x" ∷ codes "a" ∷ [],
+  0x04 ∷ 0x01 ∷ 120 ∷ 0x01 ∷ 97 ∷ 0x42 ∷ 0x01 ∷ 0x03 ∷ 0x42 ∷ 0x03 ∷ 0x01 ∷ 0x8d ∷ 0x03 ∷
+      0x01 ∷ 0x00 ∷ 0x00 ∷ 0x00 ∷ 0x02 ∷ 0x00 ∷ 0x00 ∷ 0x00 ∷ 0xff ∷ 0xff ∷ 0xff ∷ 0xff ∷ 0x01 ∷
+      [],
+) ∷
+    [])
 unfolding payloads_on_literals
-an_array = record { offenceless = refl; items_are = refl; strings_are = refl }
+arrays = record { offenceless = refl; items_are = refl; strings_are = refl }
 
-an_array_as_written : IsDecoded (usual Session) []
-    (0x04 ∷ 0x01 ∷ 120 ∷ 0x01 ∷ 97 ∷ 0x42 ∷ 0x01 ∷ 0x03 ∷ 0x42 ∷ 0x03 ∷ 0x01 ∷ 0x8d ∷ 0x03 ∷
-    0x01 ∷ 0x00 ∷ 0x00 ∷ 0x00 ∷ 0x02 ∷ 0x00 ∷ 0x00 ∷ 0x00 ∷ 0xff ∷ 0xff ∷ 0xff ∷ 0xff ∷ 0x01 ∷ [])
-    numbered (codes "x" ∷ codes "a" ∷ [])
+-- four elements in one another, where four are admitted; a string of eight bytes, where so many are
+at_the_quotas : AreDecoded ((
+  narrow Plain,
+  [],
+  Start [] (codes "a") ∷ Start [] (codes "a") ∷ Start [] (codes "a") ∷ Start [] (codes "a") ∷
+      Close ∷ Close ∷ Close ∷ Close ∷ [],
+  [],
+  0x40 ∷ 0x01 ∷ 97 ∷ 0x40 ∷ 0x01 ∷ 97 ∷ 0x40 ∷ 0x01 ∷ 97 ∷ 0x40 ∷ 0x01 ∷ 97 ∷ 0x01 ∷ 0x01 ∷
+      0x01 ∷ 0x01 ∷ [],
+) ∷ (
+  narrow Session,
+  [],
+  Start [] (codes "x") ∷ Close ∷ [],
+  codes "aaaaaaaa" ∷ [],
+  0x09 ∷ 0x08 ∷ 97 ∷ 97 ∷ 97 ∷ 97 ∷ 97 ∷ 97 ∷ 97 ∷ 97 ∷ 0x40 ∷ 0x01 ∷ 120 ∷ 0x01 ∷ [],
+) ∷
+    [])
 unfolding payloads_on_literals
-an_array_as_written = record { offenceless = refl; items_are = refl; strings_are = refl }
-
--- four elements in one another, where four are admitted
-nested_to_the_quota : IsDecoded (narrow Plain) []
-    (0x40 ∷ 0x01 ∷ 97 ∷ 0x40 ∷ 0x01 ∷ 97 ∷ 0x40 ∷ 0x01 ∷ 97 ∷ 0x40 ∷ 0x01 ∷ 97 ∷ 0x01 ∷ 0x01 ∷
-    0x01 ∷ 0x01 ∷ [])
-    (Start [] (codes "a") ∷ Start [] (codes "a") ∷ Start [] (codes "a") ∷ Start [] (codes "a")
-    ∷ Close ∷ Close ∷ Close ∷ Close ∷ []) []
-unfolding payloads_on_literals
-nested_to_the_quota = record { offenceless = refl; items_are = refl; strings_are = refl }
-
--- a string of eight bytes, where so many are admitted
-strings_to_the_quota : IsDecoded (narrow Session) []
-    (0x09 ∷ 0x08 ∷ 97 ∷ 97 ∷ 97 ∷ 97 ∷ 97 ∷ 97 ∷ 97 ∷ 97 ∷ 0x40 ∷ 0x01 ∷ 120 ∷ 0x01 ∷ [])
-    (Start [] (codes "x") ∷ Close ∷ []) (codes "aaaaaaaa" ∷ [])
-unfolding payloads_on_literals
-strings_to_the_quota = record { offenceless = refl; items_are = refl; strings_are = refl }
+at_the_quotas = record { offenceless = refl; items_are = refl; strings_are = refl }

@@ -7,11 +7,11 @@ use Rattle.nbfx_records.specs.declared.nodes.ArrayNode.{ArrayNode}
 use Rattle.nbfx_records.specs.declared.nodes.AttrNode.{AttrNode}
 use Rattle.nbfx_records.specs.declared.nodes.NameRef.{NameRef}
 use Rattle.nbfx_records.specs.declared.nodes.Node.{Node}
-use Rattle.nbfx_records.specs.declared.nodes.NodeFault.{NodeFault}
+use Rattle.nbfx_records.specs.declared.nodes.RecordFault.{RecordFault}
 use Rattle.nbfx_records.specs.declared.nodes.RawScalar.{RawScalar}
 use Rattle.nbfx_records.specs.declared.nodes.RawValue.{RawValue}
-use Rattle.nbfx_records.specs.declared.values.Unfit.{Unfit}
-use Rattle.nbfx_records.specs.declared.values.Unfit.TheVariants.{Fault, Memory}
+use Rattle.nbfx_records.specs.declared.nodes.NodeFault.{NodeFault}
+use Rattle.nbfx_records.specs.declared.nodes.NodeFault.TheVariants.{Record, Memory}
 use Rattle.nbfx_records.specs.Contents.{each}
 use Rattle.nbfx_records.specs.Meaning.{items_of, meant_array, meant_part, meant_scalar, meant_value, name_text}
 
@@ -50,12 +50,12 @@ sum_of (Some n) None = None
 sum_of (Some n) (Some m) = Some (capped (n + m))
 
 -- what is found to be counted by what parts say that are judged so
-abbrev pub Measured : {A : Type 0} → Result A NodeFault → (A → Option ℕ)
-    → Result (Option ℕ) Unfit → Type 0
+abbrev pub Measured : {A : Type 0} → Result A RecordFault → (A → Option ℕ)
+    → Result (Option ℕ) NodeFault → Type 0
 Measured {A} judged weigh (Ok found) = (a : A) × (judged ≡ Ok a) × (found ≡ weigh a)
-Measured judged weigh (Err (Fault fault)) = judged ≡ Err fault
+Measured judged weigh (Err (Record fault)) = judged ≡ Err fault
 Measured judged weigh (Err Memory) = ⊤
 
-pub record Measures {A : Type 0} (judged : Result A NodeFault) (weigh : A → Option ℕ)
-    (result : Result (Option ℕ) Unfit) : Type 0 where
+pub record Measures {A : Type 0} (judged : Result A RecordFault) (weigh : A → Option ℕ)
+    (result : Result (Option ℕ) NodeFault) : Type 0 where
   pub told : Measured judged weigh result

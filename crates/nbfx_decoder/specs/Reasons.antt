@@ -11,8 +11,8 @@ use Rattle.nbfx_values.specs.declared.refusals.Reason.{Reason}
 use Rattle.nbfx_values.specs.declared.refusals.Reason.TheVariants as reasons
 use Rattle.string_tables.specs.StringTable.{StringTable, named_text}
 use Rattle.nbfx_records.specs.declared.nodes.Node.{Node}
-use Rattle.nbfx_records.specs.declared.nodes.NodeFault.{NodeFault}
-use Rattle.nbfx_records.specs.declared.nodes.NodeFault.TheVariants as faults
+use Rattle.nbfx_records.specs.declared.nodes.RecordFault.{RecordFault}
+use Rattle.nbfx_records.specs.declared.nodes.RecordFault.TheVariants as faults
 use Rattle.nbfx_records.specs.declared.nodes.NodePlace.{NodePlace}
 use Rattle.nbfx_records.specs.Causes.{Caused, HasBadText, HasBadValue, InRecord}
 use Rattle.nbfx_records.specs.Meaning.{Means, identifiers}
@@ -78,7 +78,7 @@ ShowsAtString room left bytes reasons.BadUtf8 = IsBadString room left bytes
 ShowsAtString room left bytes _ = ⊥
 
 -- the bytes are no record that may stand there: by a type byte, a number or a length
-abbrev pub IsCaused : NodePlace → List ℕ → NodeFault → Type 0
+abbrev pub IsCaused : NodePlace → List ℕ → RecordFault → Type 0
 IsCaused place bytes fault = (n : ℕ) × Caused (InRecord place) fault bytes n
 
 -- the bytes are a record that may stand there, and one of its identifiers names no string

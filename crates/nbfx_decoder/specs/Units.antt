@@ -1,6 +1,6 @@
 -- What a reader of units answers. The public contracts cite of it, through Standing, where a unit
 -- may come, what it waits for and the strings that it has read.
-use Rattle.std.specs.Prelude.{◌≡◌, ⊤, ℕ, ◌+◌, ◌-◌, ◌<◌, ◌≤◌, ◌^◌, ◌⊎◌, max, List, ◌++◌, length, Option, Some, None, Result, Ok, Err, IfOk, IfSome, IfNone}
+use Rattle.std.specs.Prelude.{◌≡◌, ⊤, ℕ, ◌+◌, ◌-◌, ◌<◌, ◌≤◌, ◌^◌, ◌⊎◌, max, List, ◌++◌, length, Option, Some, None, Result, Ok, Err, IfOk, IfSome, IfNone, IsTrue}
 use Rattle.unit_streams.specs.Front.{Front, begun, whole, wrong}
 use Rattle.nbfx_values.specs.Measures.{content_of}
 use Rattle.nbfx_values.specs.Positions.{position_of}
@@ -13,15 +13,21 @@ use Rattle.nbfx_values.specs.declared.refusals.Reason.TheVariants.{UnknownString
 use Rattle.nbfx_decoder.specs.declared.faults.UnitFault.{UnitFault}
 use Rattle.nbfx_decoder.specs.declared.faults.UnitFault.TheVariants.{Refused, Memory}
 use Rattle.nbfx_records.specs.declared.nodes.Node.{Node}
-use Rattle.nbfx_records.specs.declared.nodes.NodeFault.{NodeFault}
+use Rattle.nbfx_records.specs.declared.nodes.Node.TheVariants as nodes
+use Rattle.nbfx_records.specs.declared.nodes.RecordFault.{RecordFault}
 use Rattle.nbfx_records.specs.declared.nodes.NodePlace.{NodePlace}
-use Rattle.nbfx_records.specs.declared.values.Unfit.{Unfit}
+use Rattle.nbfx_records.specs.declared.nodes.RawValue.{RawValue}
+use Rattle.nbfx_records.specs.declared.nodes.RawValue.TheVariants as values
+use Rattle.nbfx_records.specs.declared.nodes.NodeFault.{NodeFault}
 use Rattle.multibyte_ints.specs.Integer.{IsBytes}
 use Rattle.nbfx_records.specs.Contents.{contents}
 use Rattle.nbfx_records.specs.Cursor.{IsWhole}
 use Rattle.nbfx_records.specs.Judged.{Makes}
 use Rattle.nbfx_records.specs.Meaning.{items_of}
-use Rattle.nbfx_records.specs.Shapes.{Shape, shape_at}
+use Rattle.nbfx_records.specs.Places.{Stands}
+use Rattle.nbfx_records.specs.Valid.{is_valid_node}
+use Rattle.nbfx_records.specs.Shapes.{Shape, ValueShape, adds, attributes, has_text, one, repeats, several, shape_at}
+use Rattle.nbfx_decoder.specs.declared.meaning.Meant.{Meant}
 use Rattle.nbfx_decoder.specs.declared.strings.Head.{Head}
 use Rattle.nbfx_decoder.specs.declared.strings.StringRead.{StringRead}
 use Rattle.nbfx_decoder.specs.declared.strings.StringRead.TheVariants as strings_read
@@ -29,6 +35,7 @@ use Rattle.nbfx_decoder.specs.declared.units.UnitRead.{UnitRead}
 use Rattle.nbfx_decoder.specs.declared.units.UnitRead.TheVariants.{More, Done}
 use Rattle.nbfx_decoder.specs.declared.units.UnitReader.{UnitReader}
 use Rattle.nbfx_decoder.specs.Faults.{reason_of}
+use Rattle.nbfx_decoder.specs.Meant.{items_in}
 use Rattle.nbfx_decoder.specs.Tables.{StringHead, head_at, table_string_at}
 use Rattle.nbfx_decoder.specs.Payload.{Settings, Situation, PayloadUnit, node, place_of, refusal, unit_in, after, refused}
 
@@ -156,6 +163,23 @@ MayAdd r n = (more : List Item) × (items_of (names_in r) n ≡ Some more)
 abbrev pub MayMake : UnitReader → Shape → Type 0
 MayMake r shape = (n : Node) × (contents shape ≡ Ok n) × MayAdd r n
 
+-- what a whole record of this shape says, where it may be made
+pub record IsSaid (r : UnitReader) (shape : Shape) (meant : Meant) : Type 0 where
+  pub made : Node
+  pub is : contents shape ≡ Ok made
+  pub means : items_of (names_in r) made ≡ Some (items_in meant)
+
+-- what a node says that may come next, and no more content than may come behind the items
+pub record MayFollow (r : UnitReader) (meant : Meant) : Type 0 where
+  pub made : Node
+  pub stands : Stands (place_in r) made
+  pub means : items_of (names_in r) made ≡ Some (items_in meant)
+  pub fits : MayAdd r made
+
+-- each node that is made of such a record is one whose values records can hold
+abbrev pub MakesValid : Shape → Type 0
+MakesValid shape = (n : Node) → contents shape ≡ Ok n → IsTrue (is_valid_node n)
+
 -- what it means stands behind the items
 pub record IsAdded (x : Settings) (z : Situation) (from : ℕ) (n : Node) (new : UnitReader)
     : Type 0 where
@@ -173,9 +197,32 @@ pub record StandsAt (r : UnitReader) (shape : Shape) (used : ℕ) : Type 0 where
   pub few : r.from + length bytes < 2 ^ 32
   pub has : HasShape (place_in r) shape used bytes
 
--- this is made of a whole record that stands so
-pub record MakesOfRecord (r : UnitReader) (made : Result Node Unfit) (used : ℕ) : Type 0 where
+-- a node that names two texts at most: it is no array, and holds no list
+abbrev pub HoldsOne : RawValue → Type 0
+HoldsOne (values.One raw) = ⊤
+HoldsOne (values.List raws) = ⊥
+
+abbrev pub IsSingle : Node → Type 0
+IsSingle (nodes.Array array) = ⊥
+IsSingle (nodes.Attribute prefix name value) = HoldsOne value
+IsSingle (nodes.Text value ends) = HoldsOne value
+IsSingle _ = ⊤
+
+-- a record of such a node
+abbrev pub HasOne : ValueShape → Type 0
+HasOne (one scalar) = ⊤
+HasOne (several scalars) = ⊥
+
+abbrev pub IsSingleShape : Shape → Type 0
+IsSingleShape (repeats array) = ⊥
+IsSingleShape (adds (attributes prefix name value)) = HasOne value
+IsSingleShape (has_text value ends) = HasOne value
+IsSingleShape _ = ⊤
+
+-- this is made of a whole record that stands so, and names two texts at most
+pub record MakesOfRecord (r : UnitReader) (made : Result Node NodeFault) (used : ℕ) : Type 0 where
   pub shape : Shape
+  pub single : IsSingleShape shape
   pub stands : StandsAt r shape used
   pub makes : Makes made (contents shape)
 
@@ -187,7 +234,7 @@ SayAnswers x z from bytes used new = (n : Node) × (unit_in x z from bytes ≡ w
 
 -- why a whole record is refused by what it says: a text or a value, an identifier, or its content
 pub data RefusedAs (r : UnitReader) (shape : Shape) (reason : Reason) : Type 0 where
-  unfit : (fault : NodeFault) → contents shape ≡ Err fault → reason ≡ reason_of fault
+  unfit : (fault : RecordFault) → contents shape ≡ Err fault → reason ≡ reason_of fault
       → RefusedAs r shape reason
   unnamed_in : (n : Node) → contents shape ≡ Ok n → items_of (names_in r) n ≡ None
       → reason ≡ UnknownString → RefusedAs r shape reason

@@ -7,9 +7,9 @@ ghost use Rattle.string_tables.specs.SessionStrings.{used_cost};
 ghost use Rattle.nbfx_decoder.specs.declared.faults.DecodeFault.{DecodeFault as Fault};
 ghost use Rattle.nbfx_decoder.specs.Answers.{ShowsFault};
 
-use crate::begun::Begun;
 use crate::faults::{DecodeFault, UnitFault};
 use crate::units::{UnitRead, UnitReader};
+use nbfx_records::BegunBytes;
 use nbfx_values::{Doc, Kept, Kind, Quotas, Reason};
 use session_dictionary::SessionTable;
 use static_dictionary::StaticTable;
@@ -23,7 +23,7 @@ use std::alloc::Global;
 pub struct Decoder<'s> {
     units: UnitReader<'s>,
     /// The bytes of the unit that has begun.
-    begun: Begun,
+    begun: BegunBytes,
     /// How many bytes in all it wants at least.
     wants: usize,
     failure: Option<DecodeFault>,
@@ -46,7 +46,7 @@ impl<'s> Decoder<'s> {
     {
         Decoder {
             units: UnitReader::new(alloc, statics, quotas, kind),
-            begun: Begun::new(alloc),
+            begun: BegunBytes::new(alloc),
             wants: 0,
             failure: None,
         }

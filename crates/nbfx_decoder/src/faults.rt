@@ -3,7 +3,8 @@
 ghost use Rattle.std.specs.Prelude.{◌≡◌, Err};
 ghost use Rattle.nbfx_decoder.specs.Faults as spec;
 
-use nbfx_records::{NodeFault, ReadFault, Unfit};
+use crate::units::UnitRead;
+use nbfx_records::{NodeFault, RecordFault, Stop};
 use nbfx_values::Reason;
 use unit_streams::Memory;
 
@@ -47,44 +48,42 @@ pub(crate) fn refused<T>(reason: Reason, shown_by: usize) -> Result<T, UnitFault
     Err(UnitFault::Refused { reason, shown_by })
 }
 
-// The reason of a node that no record is which may stand there.
-fn reason_of(fault: NodeFault) -> Reason
+/// The reason of a node that no record is which may stand there.
+pub(crate) fn reason_of(fault: RecordFault) -> Reason
     ensures { result ≡ spec.reason_of fault }
 {
     match fault {
-        NodeFault::UnknownNode => Reason::UnknownNode,
-        NodeFault::OutOfPlace => Reason::NodeOutOfPlace,
-        NodeFault::TrailingBytes => Reason::TrailingBytes,
-        NodeFault::TooDeep => Reason::TooDeep,
-        NodeFault::BadInt => Reason::BadInt,
-        NodeFault::BadArray => Reason::BadArray,
-        NodeFault::BadUtf8 => Reason::BadUtf8,
-        NodeFault::BadValue => Reason::BadValue,
-    }
-}
-
-/// Why a node isn't read.
-pub(crate) fn unread(fault: ReadFault) -> UnitFault
-    ensures { result ≡ spec.unread fault }
-{
-    match fault {
-        ReadFault::Fault { fault, shown_by } => UnitFault::Refused {
-            reason: reason_of(fault),
-            shown_by,
-        },
-        ReadFault::Memory => UnitFault::Memory,
+        RecordFault::UnknownNode => Reason::UnknownNode,
+        RecordFault::OutOfPlace => Reason::NodeOutOfPlace,
+        RecordFault::TrailingBytes => Reason::TrailingBytes,
+        RecordFault::TooDeep => Reason::TooDeep,
+        RecordFault::BadInt => Reason::BadInt,
+        RecordFault::BadArray => Reason::BadArray,
+        RecordFault::BadUtf8 => Reason::BadUtf8,
+        RecordFault::BadValue => Reason::BadValue,
     }
 }
 
 /// Why no node is made of a whole record of so many bytes.
-pub(crate) fn unmade(unfit: Unfit, used: usize) -> UnitFault
-    ensures { result ≡ spec.unmade unfit used }
+pub(crate) fn unmade(why: NodeFault, used: usize) -> UnitFault
+    ensures { result ≡ spec.unmade why used }
 {
-    match unfit {
-        Unfit::Fault(fault) => UnitFault::Refused {
+    match why {
+        NodeFault::Record(fault) => UnitFault::Refused {
             reason: reason_of(fault),
             shown_by: used,
         },
-        Unfit::Memory => UnitFault::Memory,
+        NodeFault::Memory => UnitFault::Memory,
+    }
+}
+
+/// Why no whole record is read, or how many bytes are wanted.
+#[inline(always)]
+pub(crate) fn stopped(stop: Stop) -> Result<UnitRead, UnitFault>
+    ensures { result ≡ spec.stopped stop }
+{
+    match stop {
+        Stop::More { wants } => Ok(UnitRead::More { wants }),
+        Stop::Fault { fault, shown_by } => refused(reason_of(fault), shown_by),
     }
 }

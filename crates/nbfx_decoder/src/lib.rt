@@ -9,12 +9,13 @@
 //! bytes of the unfinished unit alone; what it stands for and shows is in `specs/Standing`.
 #![tactic(auto)]
 
-mod begun;
 mod decoder;
 mod faults;
+mod judging;
 pub mod laws;
 mod meaning;
 mod measuring;
+mod quick;
 mod section;
 mod strings;
 mod units;
@@ -22,5 +23,7 @@ mod units;
 pub use decoder::Decoder;
 pub use faults::DecodeFault;
 
+#[cfg(test)]
+mod kept_tests;
 #[cfg(test)]
 mod tests;

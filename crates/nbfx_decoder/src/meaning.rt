@@ -10,9 +10,14 @@ ghost use Rattle.nbfx_records.specs.Contents.{each};
 ghost use Rattle.nbfx_records.specs.Meaning.{name_text, meant_scalar, meant_value, meant_part, meant_array, items_of};
 ghost use Rattle.nbfx_records.specs.Valid.{is_valid_name, is_valid_raw, is_valid_text, is_valid_part, is_valid_node};
 ghost use Rattle.nbfx_records.specs.Valid as raw;
-ghost use Rattle.nbfx_decoder.specs.Meant.{Finds, FindsItems, items_in, table_of};
+ghost use Rattle.nbfx_records.specs.Views.{IsList, listed, name_seen, prefix_seen, scalar_seen};
+ghost use Rattle.nbfx_decoder.specs.Meant.{Finds, FindsItems, MeansAttribute, MeansName, MeansValue, MeansValues, SaysAttribute, SaysText, SaysValue, SaysValues, items_in, table_of};
 
-use nbfx_records::{ArrayNode, AttrNode, AttrNodes, NameRef, Node, RawScalar, RawValue, RawValues};
+use nbfx_records::building::{name, next_value, prefix, scalar};
+use nbfx_records::{
+    ArrayNode, AttrNode, AttrNodes, NamePart, NameRef, Node, NodeFault, PrefixPart, RawScalar,
+    RawValue, RawValues, ScalarPart,
+};
 use nbfx_values::{ArrayItem, AttrItem, Attrs, Item, Scalar, Txt, Value, Values};
 use session_dictionary::SessionTable;
 use static_dictionary::StaticTable;
@@ -125,6 +130,108 @@ impl Lookup<'_> {
             values.push(self.scalar(scalar)?)?;
         }
         Ok(values)
+    }
+
+    // What a value of a list says that is one of its kind, and whose name the tables have.
+    fn value_in(&self, part: &ScalarPart) -> Result<Scalar, Memory>
+        requires { MeansValue (table_of self.now) (scalar_seen part.now) }
+        ensures says { IfOk result (SaysValue (table_of self.now) (scalar_seen part.now)) }
+        ensures valid { IfOk result (λ scalar. IsTrue (is_valid_scalar scalar)) }
+    {
+        match scalar(self.alloc, part) {
+            Ok(raw) => match self.scalar(raw) {
+                Ok(scalar) => Ok(scalar),
+                Err(Unmeant::Memory) => Err(Memory),
+                Err(Unmeant::UnknownString) => unreachable!(),
+            },
+            Err(NodeFault::Memory) => Err(Memory),
+            Err(NodeFault::Record(_)) => unreachable!(),
+        }
+    }
+
+    // The values of such a list, each made of its bytes alone.
+    fn values_in(&self, list: &[u8]) -> Result<Values, Memory>
+        requires list { IsList list.now }
+        requires means { MeansValues (table_of self.now) (listed list.now) }
+        ensures says { IfOk result (SaysValues (table_of self.now) (listed list.now)) }
+        ensures valid { IfOk result (λ values. IsTrue (list_all is_valid_scalar values)) }
+    {
+        let mut values = Values::new(self.alloc);
+        let mut rest = list;
+        while let Some((part, behind)) = next_value(rest) {
+            values.push(self.value_in(&part)?)?;
+            rest = behind;
+        }
+        Ok(values)
+    }
+
+    /// What a text means that is a list, all of whose values are of their kinds and have their
+    /// names in the tables.
+    #[inline(never)]
+    pub(crate) fn list_text(&self, list: &[u8], ends: bool) -> Result<Meant, Memory>
+        requires list { IsList list.now }
+        requires means { MeansValues (table_of self.now) (listed list.now) }
+        ensures says { IfOk result (SaysText (table_of self.now) (listed list.now) ends) }
+        ensures valid { IfOk result (λ meant. IsTrue (list_all is_valid_item (items_in meant))) }
+    {
+        let value = Value::List(self.values_in(list)?);
+        if ends {
+            Ok(Meant::LastText(value))
+        } else {
+            Ok(Meant::Item(Item::Text(value)))
+        }
+    }
+
+    // The text of a prefix that is UTF-8.
+    fn prefix_in(&self, part: &PrefixPart) -> Result<Txt, Memory>
+        requires { IsTrue (is_utf8 (prefix_seen part.now)) }
+        ensures { IfOk result (λ text. text ≡ prefix_seen part.now) }
+    {
+        match prefix(self.alloc, part) {
+            Ok(text) => Ok(text),
+            Err(NodeFault::Memory) => Err(Memory),
+            Err(NodeFault::Record(_)) => unreachable!(),
+        }
+    }
+
+    // A name that is UTF-8, or whose identifier names a string.
+    fn name_in(&self, part: &NamePart) -> Result<Txt, Memory>
+        requires { MeansName (table_of self.now) (name_seen part.now) }
+        ensures says { IfOk result
+            (λ text. name_text (table_of self.now) (name_seen part.now) ≡ Some text) }
+        ensures utf8 { IfOk result (λ text. IsTrue (is_utf8 text)) }
+    {
+        match name(self.alloc, part) {
+            Ok(raw) => match self.name(raw) {
+                Ok(text) => Ok(text),
+                Err(Unmeant::Memory) => Err(Memory),
+                Err(Unmeant::UnknownString) => unreachable!(),
+            },
+            Err(NodeFault::Memory) => Err(Memory),
+            Err(NodeFault::Record(_)) => unreachable!(),
+        }
+    }
+
+    /// What an attribute means whose value is such a list.
+    #[inline(never)]
+    pub(crate) fn list_attribute(
+        &self,
+        prefix: &PrefixPart,
+        name: &NamePart,
+        list: &[u8],
+    ) -> Result<Meant, Memory>
+        requires list { IsList list.now }
+        requires means { MeansAttribute (table_of self.now) (prefix_seen prefix.now)
+            (name_seen name.now) (listed list.now) }
+        ensures says { IfOk result (SaysAttribute (table_of self.now) (prefix_seen prefix.now)
+            (name_seen name.now) (listed list.now)) }
+        ensures valid { IfOk result (λ meant. IsTrue (list_all is_valid_item (items_in meant))) }
+    {
+        Ok(Meant::Item(Item::Attr {
+            prefix: self.prefix_in(prefix)?,
+            local: self.name_in(name)?,
+            value: Value::List(self.values_in(list)?),
+        }))
     }
 
     #[inline(always)]

@@ -19,7 +19,7 @@ use nbfx_records::building::{
 use nbfx_records::values::{known, text};
 use nbfx_records::{
     ArrayPart, AttributePart, CellsPart, NamePart, NameRef, NodeFault, PrefixPart, RawScalar,
-    RecordPart, Unfit, ValuePart, text_kind_in, width,
+    RecordFault, RecordPart, ValuePart, text_kind_in, width,
 };
 
 // What two count together, where each identifier names a string.
@@ -62,7 +62,7 @@ impl Lookup<'_> {
     }
 
     // The values of a list.
-    fn list_size(&self, list: &[u8]) -> Result<Option<u64>, Unfit>
+    fn list_size(&self, list: &[u8]) -> Result<Option<u64>, NodeFault>
         requires { IsList list.now }
         ensures { Measures (scalars_judged (listed list.now)) (weigh_scalars (table_of self.now))
             result }
@@ -78,7 +78,7 @@ impl Lookup<'_> {
         Ok(content)
     }
 
-    fn value_size(&self, part: &ValuePart) -> Result<Option<u64>, Unfit>
+    fn value_size(&self, part: &ValuePart) -> Result<Option<u64>, NodeFault>
         requires { HoldsLists part.now }
         ensures { Measures (value_judged (value_seen part.now)) (weigh_value (table_of self.now))
             result }
@@ -99,7 +99,7 @@ impl Lookup<'_> {
         &self,
         prefix_part: &PrefixPart,
         name_part: &NamePart,
-    ) -> Result<Option<u64>, Unfit>
+    ) -> Result<Option<u64>, NodeFault>
         ensures { Measures (judge (is_utf8 (prefix_seen prefix_part.now)
             && name_is_text (name_seen name_part.now)) (Some (name_seen name_part.now)))
             (λ named. weighed (λ local. length (prefix_seen prefix_part.now) + length local)
@@ -110,7 +110,7 @@ impl Lookup<'_> {
         Ok(together(Some(prefix.len() as u64), self.name_size(&name)))
     }
 
-    fn attribute_size(&self, part: &AttributePart) -> Result<Option<u64>, Unfit>
+    fn attribute_size(&self, part: &AttributePart) -> Result<Option<u64>, NodeFault>
         requires { IsSoundAttribute part.now }
         ensures { Measures (attribute_judged (attribute_seen part.now))
             (weigh_part (table_of self.now)) result }
@@ -130,18 +130,18 @@ impl Lookup<'_> {
 
     // An attribute, where others come behind it: a text of them that isn't UTF-8 goes before a
     // wrong value.
-    fn size_before(&self, part: &AttributePart, rest: &[u8]) -> Result<Option<u64>, Unfit>
+    fn size_before(&self, part: &AttributePart, rest: &[u8]) -> Result<Option<u64>, NodeFault>
         requires sound { IsSoundAttribute part.now }
         requires rest { AreParts rest.now }
         ensures { Measures (behind_texts (list_all attribute_is_text (parts_of rest.now))
             (attribute_judged (attribute_seen part.now))) (weigh_part (table_of self.now)) result }
     {
         match self.attribute_size(part) {
-            Err(Unfit::Fault(NodeFault::BadValue)) => {
+            Err(NodeFault::Record(RecordFault::BadValue)) => {
                 if parts_have_text(rest) {
-                    Err(Unfit::Fault(NodeFault::BadValue))
+                    Err(NodeFault::Record(RecordFault::BadValue))
                 } else {
-                    Err(Unfit::Fault(NodeFault::BadUtf8))
+                    Err(NodeFault::Record(RecordFault::BadUtf8))
                 }
             }
             found => found,
@@ -149,7 +149,7 @@ impl Lookup<'_> {
     }
 
     // The attributes of an array's element.
-    fn parts_size(&self, parts: &[u8]) -> Result<Option<u64>, Unfit>
+    fn parts_size(&self, parts: &[u8]) -> Result<Option<u64>, NodeFault>
         requires { AreParts parts.now }
         ensures { Measures (attributes_judged (parts_of parts.now)) (weigh_parts (table_of self.now))
             result }
@@ -164,7 +164,7 @@ impl Lookup<'_> {
     }
 
     // The values of an array.
-    fn cells_size(&self, part: &CellsPart) -> Result<Option<u64>, Unfit>
+    fn cells_size(&self, part: &CellsPart) -> Result<Option<u64>, NodeFault>
         requires { AreSized part.now }
         ensures { Measures (cells_judged (cells_seen part.now))
             (λ values. Some (capped (sum_by scalar_content values))) result }
@@ -184,7 +184,7 @@ impl Lookup<'_> {
     }
 
     #[inline(never)]
-    fn array_size(&self, part: &ArrayPart) -> Result<Option<u64>, Unfit>
+    fn array_size(&self, part: &ArrayPart) -> Result<Option<u64>, NodeFault>
         requires parts { AreParts part.now.attributes.now }
         requires sized { AreSized part.now.cells }
         ensures { Measures (array_judged (array_seen part.now)) (weigh_array (table_of self.now))
@@ -196,7 +196,7 @@ impl Lookup<'_> {
         Ok(together(together(names, parts), cells))
     }
 
-    fn comment_size(&self, bytes: &[u8]) -> Result<Option<u64>, Unfit>
+    fn comment_size(&self, bytes: &[u8]) -> Result<Option<u64>, NodeFault>
         ensures { Measures (text_judged bytes.now) (λ text. Some (capped (length text))) result }
     {
         let text = text(self.alloc, bytes)?;
@@ -209,7 +209,7 @@ impl Lookup<'_> {
     /// identifiers names no string.
     #[inline(never)]
     #[tactic(auto, unfolding(nbfx_records::specs::Contents::contents))]
-    pub(crate) fn record_size(&self, part: &RecordPart) -> Result<Option<u64>, Unfit>
+    pub(crate) fn record_size(&self, part: &RecordPart) -> Result<Option<u64>, NodeFault>
         requires { IsSoundRecord part.now }
         ensures { Measures (contents (record_seen part.now)) (weigh_node (table_of self.now))
             result }

@@ -10,7 +10,7 @@ use std::process::Abort;
 use std::test::Fail;
 
 // The first texts of the published dictionary that an addressed envelope uses.
-const ENVELOPE: &str = "id,string\n0,mustUnderstand\n2,Envelope\n\
+pub(crate) const ENVELOPE: &str = "id,string\n0,mustUnderstand\n2,Envelope\n\
     4,http://www.w3.org/2003/05/soap-envelope\n6,http://www.w3.org/2005/08/addressing\n\
     8,Header\n10,Action\n12,To\n14,Body\n18,RelatesTo\n\
     20,http://www.w3.org/2005/08/addressing/anonymous\n26,MessageID\n42,Address\n44,ReplyTo\n";
@@ -93,11 +93,11 @@ enum Pieces {
 
 // What a decoder is made of.
 #[derive(Clone, Copy)]
-struct Setting<'s> {
-    alloc: Global,
-    statics: &'s StaticTable,
-    quotas: Quotas,
-    kind: Kind,
+pub(crate) struct Setting<'s> {
+    pub(crate) alloc: Global,
+    pub(crate) statics: &'s StaticTable,
+    pub(crate) quotas: Quotas,
+    pub(crate) kind: Kind,
 }
 
 fn read_in_two(decoder: &mut Decoder<'_>, payload: &[u8], cut: usize) -> Result<Doc, DecodeFault>
@@ -210,14 +210,14 @@ fn assert_next(
 }
 
 // Puts bytes behind others, so many times.
-fn put_times(out: &mut Vec<u8>, times: usize, bytes: &[u8]) -> Result<(), AllocError> {
+pub(crate) fn put_times(out: &mut Vec<u8>, times: usize, bytes: &[u8]) -> Result<(), AllocError> {
     for _ in 0..times {
         out.extend_from_slice(bytes)?;
     }
     Ok(())
 }
 
-fn usual<'s>(alloc: Global, statics: &'s StaticTable, kind: Kind) -> Setting<'s> {
+pub(crate) fn usual<'s>(alloc: Global, statics: &'s StaticTable, kind: Kind) -> Setting<'s> {
     Setting {
         alloc,
         statics,
@@ -273,6 +273,23 @@ fn arrays(rt: HostRuntime) -> Result<(), Fail> {
         };
         assert_one(&rt, session, payload, want);
     }
+    Ok(())
+}
+
+// Of a text and of an attribute, that name a string and have another value.
+#[test]
+fn lists(rt: HostRuntime) -> Result<(), Fail> {
+    let statics = StaticTable::read(rt.alloc(), ENVELOPE.as_bytes())?;
+    let session = usual(rt.alloc(), &statics, Kind::Session);
+    let payload = b"\x02\x01x\x42\x01\x04\x01k\xA4\x82\xAA\x01\xA6\xA4\x82\xAA\x01\xA7";
+    let want = Outcome::Whole {
+        items: 4,
+        depth: 1,
+        content: 20,
+        strings: 1,
+        used: 1,
+    };
+    assert_one(&rt, session, payload, want);
     Ok(())
 }
 
@@ -466,67 +483,6 @@ fn numbers(rt: HostRuntime) -> Result<(), Fail> {
         let mut decoder = Decoder::new(rt.alloc(), &statics, Quotas::usual(), Kind::Plain);
         let doc = read_in_two(&mut decoder, payload, 5)?;
         assert_eq!(rt; number_in(&doc), Some(want));
-    }
-    Ok(())
-}
-
-// What is kept of a payload's first bytes: how many bytes, the content of the items, and how many
-// elements are open.
-fn kept(rt: &impl Abort, setting: Setting<'_>, front: &[u8]) -> Option<(u64, u64, u32)>
-    requires { length front.now ≤ setting.quotas.payload }
-{
-    let mut decoder = Decoder::new(setting.alloc, setting.statics, setting.quotas, setting.kind);
-    decoder.feed(front).ok()?;
-    assert_eq!(rt; decoder.taken() as usize, front.len());
-    let kept = decoder.kept();
-    Some((kept.raw, kept.content, decoder.depth()))
-}
-
-#[test]
-fn kept_at_each_byte(rt: HostRuntime) -> Result<(), Fail> {
-    let statics = StaticTable::read(rt.alloc(), ENVELOPE.as_bytes())?;
-    let session = usual(rt.alloc(), &statics, Kind::Session);
-    let payload = b"\x02\x01x\x42\x01\x40\x01y\x99\x02hi\x01";
-    let rows = [
-        (0, 0, 0),
-        (1, 0, 0),
-        (0, 0, 0),
-        (1, 0, 0),
-        (0, 1, 1),
-        (1, 1, 1),
-        (2, 1, 1),
-        (0, 2, 2),
-        (1, 2, 2),
-        (2, 2, 2),
-        (3, 2, 2),
-        (0, 4, 1),
-        (0, 4, 0),
-    ];
-    for (at, want) in rows.into_iter().enumerate() {
-        let front = payload.get(..at + 1).unwrap_or_default();
-        assert!(rt; front.len() <= 65_536);
-        assert_eq!(rt; kept(&rt, session, front), Some(want), "behind {at}");
-    }
-    Ok(())
-}
-
-// A length says how long a text, a name or an array is, and no room is made for it before it comes.
-#[test]
-fn great_lengths(rt: HostRuntime) -> Result<(), Fail> {
-    let statics = StaticTable::read(rt.alloc(), ENVELOPE.as_bytes())?;
-    let session = usual(rt.alloc(), &statics, Kind::Session);
-    let rows: [(&[u8], u64); 4] = [
-        (b"\x00\x40\x01x\x9C\xFF\xFF\xFF\x7Fa", 6),
-        (b"\x00\x40\x01x\xA2\xFF\xFF\xFF\x7Fa", 6),
-        (b"\x00\x40\x01x\x40\xFF\xFF\xFF\xFF\x07a", 7),
-        (
-            b"\x00\x40\x01x\x03\x40\x01a\x01\x8D\xFF\xFF\xFF\xFF\x07\x01",
-            12,
-        ),
-    ];
-    for (front, raw) in rows {
-        assert!(rt; front.len() <= 65_536);
-        assert_eq!(rt; kept(&rt, session, front), Some((raw, 1, 1)));
     }
     Ok(())
 }

@@ -1,6 +1,6 @@
 //! The units of a payload, each read where all its bytes are there.
 
-ghost use Rattle.std.specs.Prelude.{◌≡◌, ℕ, ◌+◌, ◌<◌, ◌≤◌, ◌^◌, ◌↔◌, true, false, [], ◌∷◌, ◌++◌, List, length, IfSome, IfNone, IfOk, OnErr, OnOk, OnSome, IsSome, IsErrOf, IsTrue, Ok, None, Some};
+ghost use Rattle.std.specs.Prelude.{◌≡◌, ℕ, ◌+◌, ◌<◌, ◌≤◌, ◌^◌, ◌↔◌, true, false, [], ◌++◌, List, length, IfSome, IfNone, IfOk, OnErr, OnOk, OnSome, IsSome, IsErrOf, IsTrue, Ok, None, Some};
 ghost use Rattle.std.specs.List.{list_all};
 ghost use Rattle.nbfx_values.specs.Documents.{IsDocument};
 ghost use Rattle.nbfx_values.specs.Measures.{capped, content_of, opened_by};
@@ -8,29 +8,17 @@ ghost use Rattle.nbfx_values.specs.Positions.{position_of};
 ghost use Rattle.nbfx_values.specs.QuotasOf.{limits_of};
 ghost use Rattle.nbfx_values.specs.Items.{is_valid_item};
 ghost use Rattle.nbfx_decoder.specs.Meant.{items_in, table_of};
-ghost use Rattle.nbfx_records.specs.Beginning.{BeginsKind, MayStand};
-ghost use Rattle.nbfx_records.specs.Contents.{contents};
-ghost use Rattle.nbfx_records.specs.Judged.{Makes};
 ghost use Rattle.nbfx_records.specs.Meaning.{items_of};
-ghost use Rattle.nbfx_records.specs.Places.{Stands};
-ghost use Rattle.nbfx_records.specs.Shapes.{Shape};
-ghost use Rattle.nbfx_records.specs.Resuming.{Fits};
-ghost use Rattle.nbfx_records.specs.Views.{HoldsLists, IsSoundRecord, record_seen};
+ghost use Rattle.nbfx_records.specs.Views.{IsSoundRecord, record_seen};
 ghost use Rattle.nbfx_records.specs.Valid.{is_valid_node};
 ghost use Rattle.nbfx_decoder.specs.Sections.{first_section, left_in};
 
-use crate::begun::Begun;
-use crate::faults::{UnitFault, refused, unmade, unread};
-use crate::meaning::{Lookup, Meant, Unmeant};
+use crate::faults::{UnitFault, refused, stopped};
+use crate::meaning::{Lookup, Meant};
 use crate::section::Section;
 use crate::strings::{StringRead, string_at};
 use multibyte_ints::{IntRead, read_int};
-use nbfx_records::{
-    AttributePart, NameForm, NamePart, Node, NodePlace, PrefixForm, PrefixPart, ReadFault,
-    RecordKind, RecordPart, Resume, ScalarPart, Stop, TextKind, Unfit, ValuePart, attribute_node,
-    attribute_parts, chars_node, declaration_node, declaration_parts, element_node, element_parts,
-    is_chars, kind_at, may_stand, node, scalar_parts, shape_at, text_node,
-};
+use nbfx_records::{BegunBytes, Node, NodePlace, RecordPart, parts_at};
 use nbfx_values::{Doc, DocBuilder, Kind, Position, PushFault, Quotas, Reason};
 use session_dictionary::{AddFault, SessionTable};
 use static_dictionary::StaticTable;
@@ -49,11 +37,11 @@ pub(crate) enum UnitRead {
 /// Where a payload stands behind whole units.
 #[derive(Drop)]
 pub(crate) struct UnitReader<'s> {
-    alloc: Global,
+    pub(crate) alloc: Global,
     statics: &'s StaticTable,
     quotas: Quotas,
     kind: Kind,
-    section: Section,
+    pub(crate) section: Section,
     table: SessionTable,
     document: DocBuilder,
     /// How many bytes the whole units have.
@@ -62,8 +50,9 @@ pub(crate) struct UnitReader<'s> {
 }
 
 impl<'s> UnitReader<'s> {
+    ghost use Rattle.nbfx_records.specs.declared.nodes.Node.{Node as Made};
     ghost use Rattle.nbfx_decoder.specs.Payload.{Settings, Situation, beginning};
-    ghost use Rattle.nbfx_decoder.specs.Units.{IsAt, Keeps, KeepsSettings, Counts, counted, place_in, IsAdded, HasShape, Judges, MakesOfRecord, MayAdd, MayMake, Reads, ReadsQuickly, StandsAt, Stays, UnitAnswers, names_in};
+    ghost use Rattle.nbfx_decoder.specs.Units.{IsAt, Keeps, KeepsSettings, Counts, counted, place_in, IsAdded, IsSingle, HasShape, MayFollow, Reads, StandsAt, Stays, UnitAnswers, names_in};
 
     /// Before a payload's first byte, with no strings.
     pub(crate) fn new(alloc: Global, statics: &'s StaticTable, quotas: Quotas, kind: Kind) -> Self
@@ -77,7 +66,7 @@ impl<'s> UnitReader<'s> {
             quotas,
             kind,
             section: Section::first(kind),
-            table: SessionTable::new(alloc, quotas.dictionary),
+            table: SessionTable::for_reading(alloc, quotas.dictionary),
             document: DocBuilder::new(alloc),
             from: 0,
         }
@@ -95,13 +84,13 @@ impl<'s> UnitReader<'s> {
         match self.section {
             Section::TableSize => self.table_size(bytes),
             Section::Strings { left } => self.table_string(left, bytes),
-            Section::Nodes => self.record(bytes, &mut Resume::new()),
+            Section::Nodes => self.record(bytes),
         }
     }
 
     /// Reads the unit whose bytes have begun, as far as they weren't read before.
     #[inline(never)]
-    pub(crate) fn read_on(&mut self, begun: &mut Begun) -> Result<UnitRead, UnitFault>
+    pub(crate) fn read_on(&mut self, begun: &mut BegunBytes) -> Result<UnitRead, UnitFault>
         requires few { self.old.from + length begun.old < 2 ^ 32 }
         ensures answers { (x : Settings) (z : Situation) (from : ℕ) → IsAt self.old x z from
             → UnitAnswers x z from begun.old self.new result }
@@ -113,18 +102,13 @@ impl<'s> UnitReader<'s> {
         match self.section {
             Section::TableSize => self.table_size(begun.as_slice()),
             Section::Strings { left } => self.table_string(left, begun.as_slice()),
-            Section::Nodes => {
-                let mut resume = begun.resume();
-                let read = self.record(begun.as_slice(), &mut resume);
-                begun.keep_resume(resume);
-                read
-            }
+            Section::Nodes => self.record_on(begun),
         }
     }
 
-    // Goes behind a unit of so many bytes.
+    /// Goes behind a unit of so many bytes.
     #[inline(always)]
-    fn pass(&mut self, used: usize) -> UnitRead
+    pub(crate) fn pass(&mut self, used: usize) -> UnitRead
         requires { self.old.from + used < 2 ^ 32 }
         ensures done { result ≡ UnitRead.Done used }
         ensures from { self.new.from ≡ self.old.from + used }
@@ -182,9 +166,9 @@ impl<'s> UnitReader<'s> {
         }
     }
 
-    // Where the next node stands.
+    /// Where the next node stands.
     #[inline(always)]
-    fn place(&self) -> NodePlace
+    pub(crate) fn place(&self) -> NodePlace
         ensures { result ≡ place_in self.now }
     {
         match self.document.position() {
@@ -197,188 +181,12 @@ impl<'s> UnitReader<'s> {
         }
     }
 
-    // Whether a record of this kind may come next.
+    /// Puts what a node means behind the items that names two texts at most: they are copied before
+    /// they are judged.
     #[inline(always)]
-    fn takes(&self, kind: RecordKind) -> bool
-        ensures { result ≡ true ↔ MayStand (place_in self.now) kind }
-    {
-        may_stand(self.place(), kind)
-    }
-
-    /// Reads the record at the front of the bytes, and puts what it means behind the items, if it is
-    /// whole, in order and of one of the kinds that come most. Each of these has a way of its own, by
-    /// its parts. Else nothing changes.
-    #[inline(always)]
-    pub(crate) fn read_quickly(&mut self, bytes: &[u8]) -> Option<usize>
-        requires few { self.old.from + length bytes.now < 2 ^ 32 }
-        ensures { ReadsQuickly self.old self.new bytes.now result }
-    {
-        if self.section != Section::Nodes {
-            return None;
-        }
-        match kind_at(bytes)? {
-            RecordKind::EndElement => self.end_element(bytes),
-            RecordKind::Element(prefix, name) => self.element(prefix, name, bytes),
-            RecordKind::Attribute(prefix, name) => self.attribute(prefix, name, bytes),
-            RecordKind::Declaration(prefix, uri) => self.declaration(prefix, uri, bytes),
-            RecordKind::Text(kind, ends) => self.text(kind, ends, bytes),
-            RecordKind::Comment | RecordKind::Array => None,
-        }
-    }
-
-    #[inline(always)]
-    fn end_element(&mut self, bytes: &[u8]) -> Option<usize>
-        requires here { self.old.section ≡ Section.Nodes }
-        requires few { self.old.from + length bytes.now < 2 ^ 32 }
-        requires begins { BeginsKind bytes.now RecordKind.EndElement }
-        ensures { ReadsQuickly self.old self.new bytes.now result }
-    {
-        if !self.takes(RecordKind::EndElement) {
-            return None;
-        }
-        self.pass_quickly(Ok(Node::EndElement), 1)
-    }
-
-    #[inline(always)]
-    fn element(&mut self, prefix: PrefixForm, name: NameForm, bytes: &[u8]) -> Option<usize>
-        requires here { self.old.section ≡ Section.Nodes }
-        requires few { self.old.from + length bytes.now < 2 ^ 32 }
-        requires begins { BeginsKind bytes.now (RecordKind.Element prefix name) }
-        ensures { ReadsQuickly self.old self.new bytes.now result }
-    {
-        if !self.takes(RecordKind::Element(prefix, name)) {
-            return None;
-        }
-        match element_parts(prefix, name, bytes) {
-            Ok((part, used)) => self.pass_quickly(element_node(self.alloc, &part), used),
-            Err(_) => None,
-        }
-    }
-
-    #[inline(never)]
-    fn attribute(&mut self, prefix: PrefixForm, name: NameForm, bytes: &[u8]) -> Option<usize>
-        requires here { self.old.section ≡ Section.Nodes }
-        requires few { self.old.from + length bytes.now < 2 ^ 32 }
-        requires begins { BeginsKind bytes.now (RecordKind.Attribute prefix name) }
-        ensures { ReadsQuickly self.old self.new bytes.now result }
-    {
-        if !self.takes(RecordKind::Attribute(prefix, name)) {
-            return None;
-        }
-        match attribute_parts(prefix, name, bytes) {
-            Ok(
-                (
-                    AttributePart::Attribute {
-                        prefix,
-                        name,
-                        value,
-                    },
-                    used,
-                ),
-            ) => self.attribute_of(&prefix, &name, value, used),
-            _ => None,
-        }
-    }
-
-    // An attribute of so many bytes, whose value is no list.
-    #[inline(always)]
-    fn attribute_of(
-        &mut self,
-        prefix: &PrefixPart,
-        name: &NamePart,
-        value: ValuePart,
-        used: usize,
-    ) -> Option<usize>
-        requires here { self.old.section ≡ Section.Nodes }
-        requires sound { HoldsLists value }
-        requires stands { StandsAt self.old (record_seen (RecordPart.Attribute
-            (AttributePart.Attribute prefix.now name.now value))) used }
-        ensures { (bytes : List ℕ) → HasShape (place_in self.old) (record_seen (RecordPart.Attribute
-            (AttributePart.Attribute prefix.now name.now value.entry))) used bytes
-            → ReadsQuickly self.old self.new bytes result }
-    {
-        if let ValuePart::List(_) = value {
-            return None;
-        }
-        self.pass_quickly(attribute_node(self.alloc, prefix, name, &value), used)
-    }
-
-    #[inline(never)]
-    fn declaration(&mut self, prefix: PrefixForm, uri: NameForm, bytes: &[u8]) -> Option<usize>
-        requires here { self.old.section ≡ Section.Nodes }
-        requires few { self.old.from + length bytes.now < 2 ^ 32 }
-        requires begins { BeginsKind bytes.now (RecordKind.Declaration prefix uri) }
-        ensures { ReadsQuickly self.old self.new bytes.now result }
-    {
-        if !self.takes(RecordKind::Declaration(prefix, uri)) {
-            return None;
-        }
-        match declaration_parts(prefix, uri, bytes) {
-            Ok((AttributePart::Declaration { prefix, uri }, used)) => {
-                self.pass_quickly(declaration_node(self.alloc, &prefix, &uri), used)
-            }
-            _ => None,
-        }
-    }
-
-    // A text, which is no list.
-    #[inline(never)]
-    fn text(&mut self, kind: TextKind, ends: bool, bytes: &[u8]) -> Option<usize>
-        requires here { self.old.section ≡ Section.Nodes }
-        requires few { self.old.from + length bytes.now < 2 ^ 32 }
-        requires begins { BeginsKind bytes.now (RecordKind.Text kind ends) }
-        ensures { ReadsQuickly self.old self.new bytes.now result }
-    {
-        if kind == TextKind::StartList || !self.takes(RecordKind::Text(kind, ends)) {
-            return None;
-        }
-        match scalar_parts(kind, ends, bytes) {
-            Ok((ScalarPart::Bytes(kind, chars), used)) if is_chars(kind) => {
-                self.pass_quickly(chars_node(self.alloc, kind, chars, ends), used)
-            }
-            Ok((part, used)) => self.scalar(part, ends, used),
-            Err(_) => None,
-        }
-    }
-
-    // A text of so many bytes, of one value.
-    #[inline(never)]
-    fn scalar(&mut self, part: ScalarPart, ends: bool, used: usize) -> Option<usize>
-        requires here { self.old.section ≡ Section.Nodes }
-        requires stands { StandsAt self.old (record_seen (RecordPart.Text (ValuePart.One part) ends))
-            used }
-        ensures { (bytes : List ℕ) → HasShape (place_in self.old)
-            (record_seen (RecordPart.Text (ValuePart.One part.entry) ends)) used bytes
-            → ReadsQuickly self.old self.new bytes result }
-    {
-        self.pass_quickly(text_node(self.alloc, &ValuePart::One(part), ends), used)
-    }
-
-    // Puts what is made of a whole record of so many bytes behind the items, and goes behind it, if
-    // it is in order, within the content quota, neither a list nor an array, and there is memory.
-    // Else nothing changes.
-    #[inline(always)]
-    fn pass_quickly(&mut self, made: Result<Node, Unfit>, used: usize) -> Option<usize>
-        requires here { self.old.section ≡ Section.Nodes }
-        requires stands { MakesOfRecord self.old made used }
-        ensures { (shape : Shape) (bytes : List ℕ) → HasShape (place_in self.old) shape used bytes
-            → Makes made (contents shape) → ReadsQuickly self.old self.new bytes result }
-    {
-        let Ok(node) = made else {
-            return None;
-        };
-        if !self.add_quickly(node) {
-            return None;
-        }
-        self.pass(used);
-        Some(used)
-    }
-
-    // Puts what a node means behind the items that is neither a list nor an array, and so names two
-    // texts at most: they are copied before they are judged.
-    #[inline(always)]
-    fn add_quickly(&mut self, node: Node) -> bool
-        requires { IsTrue (is_valid_node node) }
+    pub(crate) fn add_quickly(&mut self, node: Node) -> bool
+        requires valid { IsTrue (is_valid_node node) }
+        requires single { IsSingle node }
         ensures answers { result ≡ true → (x : Settings) (z : Situation) (from : ℕ)
             → IsAt self.old x z from → IsAdded x z from node self.new }
         ensures section { self.new.section ≡ self.old.section }
@@ -395,21 +203,33 @@ impl<'s> UnitReader<'s> {
         }
     }
 
-    // Reads the record at the front of the bytes, as far as it wasn't read before, and puts what it
-    // means behind the items.
+    // Reads the record at the front of the bytes, and puts what it means behind the items.
     #[inline(never)]
-    fn record(&mut self, bytes: &[u8], resume: &mut Resume) -> Result<UnitRead, UnitFault>
+    fn record(&mut self, bytes: &[u8]) -> Result<UnitRead, UnitFault>
         requires here { self.old.section ≡ Section.Nodes }
         requires few { self.old.from + length bytes.now < 2 ^ 32 }
-        requires fits { Fits resume.old bytes.now }
-        ensures reads { Reads self.old self.new bytes.now result }
-        ensures fits { Fits resume.new bytes.now }
+        ensures { Reads self.old self.new bytes.now result }
     {
-        match shape_at(self.place(), bytes, resume) {
+        match parts_at(self.place(), bytes) {
             Ok((part, used)) => self.pass_record(&part, used),
-            Err(Stop::More { wants }) => Ok(UnitRead::More { wants }),
-            Err(Stop::Fault { fault, shown_by }) => {
-                Err(unread(ReadFault::Fault { fault, shown_by }))
+            Err(stop) => stopped(stop),
+        }
+    }
+
+    // Reads on the record whose bytes have begun, and puts what it means behind the items.
+    #[inline(never)]
+    fn record_on(&mut self, begun: &mut BegunBytes) -> Result<UnitRead, UnitFault>
+        requires here { self.old.section ≡ Section.Nodes }
+        requires few { self.old.from + length begun.old < 2 ^ 32 }
+        ensures reads { Reads self.old self.new begun.old result }
+        ensures unchanged { begun.new ≡ begun.old }
+    {
+        let place = self.place();
+        match begun.parts(place) {
+            Ok((part, used)) => self.pass_record(&part, used),
+            Err(stop) => {
+                begun.look(place);
+                stopped(stop)
             }
         }
     }
@@ -423,14 +243,14 @@ impl<'s> UnitReader<'s> {
             → Reads self.old self.new bytes result }
     {
         self.judge(part, used)?;
-        let node = self.made(part)?;
-        self.add(node)?;
+        let meant = self.said(part)?;
+        self.add(meant)?;
         Ok(self.pass(used))
     }
 
-    // What identifiers name.
+    /// What identifiers name.
     #[inline(always)]
-    fn names(&self) -> Lookup<'_>
+    pub(crate) fn names(&self) -> Lookup<'_>
         ensures { table_of result ≡ names_in self.now }
     {
         Lookup {
@@ -440,9 +260,9 @@ impl<'s> UnitReader<'s> {
         }
     }
 
-    // Whether items that count so much may come behind the others.
+    /// Whether items that count so much may come behind the others.
     #[inline(always)]
-    fn has_room(&self, size: u64) -> bool
+    pub(crate) fn has_room(&self, size: u64) -> bool
         ensures room { result ≡ true → (n : ℕ) → size ≡ capped n
             → content_of self.now.document + n ≤ self.now.quotas.content }
         ensures no_room { result ≡ false → (n : ℕ) → size ≡ capped n
@@ -451,68 +271,19 @@ impl<'s> UnitReader<'s> {
         self.document.content().saturating_add(size) <= self.quotas.content as u64
     }
 
-    // Judges what a whole record of so many bytes says, of which nothing is kept yet.
-    fn judge(&self, part: &RecordPart, used: usize) -> Result<(), UnitFault>
-        requires { IsSoundRecord part.now }
-        ensures { Judges self.now (record_seen part.now) used result }
-    {
-        let size = match self.names().record_size(part) {
-            Ok(size) => size,
-            Err(unfit) => return Err(unmade(unfit, used)),
-        };
-        let Some(size) = size else {
-            return refused(Reason::UnknownString, used);
-        };
-        if self.has_room(size) {
-            Ok(())
-        } else {
-            refused(Reason::TooMuchContent, used)
-        }
-    }
-
-    // The node of a whole record whose meaning is within the content quota.
-    fn made(&self, part: &RecordPart) -> Result<Node, Memory>
-        requires sound { IsSoundRecord part.now }
-        requires within { MayMake self.now (record_seen part.now) }
-        ensures { IfOk result (λ node. contents (record_seen part.now) ≡ Ok node) }
-    {
-        match node(self.alloc, part) {
-            Ok(node) => Ok(node),
-            Err(Unfit::Memory) => Err(Memory),
-            Err(Unfit::Fault(_)) => unreachable!(),
-        }
-    }
-
-    // What a node means that is within the content quota.
-    #[inline(always)]
-    fn meant(&self, node: Node) -> Result<Meant, Memory>
-        requires within { MayAdd self.now node }
-        ensures found { IfOk result (λ meant. items_of (names_in self.now) node
-            ≡ Some (items_in meant)) }
-        ensures valid { IsTrue (is_valid_node node)
-            → IfOk result (λ meant. IsTrue (list_all is_valid_item (items_in meant))) }
-    {
-        match self.names().meant(node) {
-            Ok(meant) => Ok(meant),
-            Err(Unmeant::Memory) => Err(Memory),
-            Err(Unmeant::UnknownString) => unreachable!(),
-        }
-    }
-
     // Puts what a node means behind the items.
     #[inline(always)]
-    fn add(&mut self, node: Node) -> Result<(), Memory>
-        requires valid { IsTrue (is_valid_node node) }
-        requires stands { Stands (place_in self.old) node }
-        requires within { MayAdd self.old node }
-        ensures answers { (x : Settings) (z : Situation) (from : ℕ) → IsAt self.old x z from
-            → OnOk result (IsAdded x z from node self.new) }
+    fn add(&mut self, meant: Meant) -> Result<(), Memory>
+        requires valid { IsTrue (list_all is_valid_item (items_in meant)) }
+        requires follows { MayFollow self.old meant }
+        ensures answers { (x : Settings) (z : Situation) (from : ℕ) (n : Made)
+            → IsAt self.old x z from → items_of (names_in self.old) n ≡ Some (items_in meant)
+            → OnOk result (IsAdded x z from n self.new) }
         ensures section { self.new.section ≡ self.old.section }
         ensures from { self.new.from ≡ self.old.from }
         ensures kept { Keeps self.old self.new }
         ensures stays { OnErr result (Stays self.old self.new) }
     {
-        let meant = self.meant(node)?;
         match push(&mut self.document, self.quotas.content as u64, meant) {
             Ok(()) => Ok(()),
             Err(PushFault::Memory) => Err(Memory),

@@ -9,7 +9,7 @@ use Rattle.nbfx_records.specs.declared.kinds.TextKind.{TextKind}
 use Rattle.nbfx_records.specs.declared.kinds.TextKind.TheVariants as texts
 use Rattle.nbfx_records.specs.declared.kinds.PrefixForm.{PrefixForm}
 use Rattle.nbfx_records.specs.declared.kinds.NameForm.{NameForm}
-use Rattle.nbfx_records.specs.declared.nodes.NodeFault.{NodeFault}
+use Rattle.nbfx_records.specs.declared.nodes.RecordFault.{RecordFault}
 use Rattle.nbfx_records.specs.declared.nodes.NodePlace.{NodePlace}
 use Rattle.nbfx_records.specs.declared.nodes.NodePlace.TheVariants.{BeforeRoot, Within, AfterRoot}
 use Rattle.nbfx_records.specs.declared.attributes.AttributePart.{AttributePart}
@@ -40,13 +40,13 @@ module _ (place : NodePlace) {bytes : List ℕ} {kind : RecordKind} (b : BeginsK
   pub begun_tells : Tells see (record_at kind) (asked.record_at kind) bytes 1 r → Tells see (shape_at place) (asked.shape_at place) bytes 0 r
   unfolding shape_at
   begun_tells h =
-      let read = subst (λ (f : Reader Shape NodeFault). Tells see f (asked.record_at kind) bytes 1 r) (sym (placed_is place kind may)) h in
+      let read = subst (λ (f : Reader Shape RecordFault). Tells see f (asked.record_at kind) bytes 1 r) (sym (placed_is place kind may)) h in
       let wants = subst (λ (f : List ℕ → ℕ → Type 0). Tells see (placed place (Some kind)) f bytes 1 r) (sym (asked_is place kind may)) read in
       then_tells (λ byte. placed place (record_kind byte)) {see' = λ byte. byte} {x = b.byte} {to = 1} (record { told = b.first })
       (subst (λ (k : Option RecordKind). Tells see (placed place k) (asked.placed place k) bytes 1 r) (sym b.kind_is) wants)
 
 -- a part seen otherwise, whatever is told of it
-seen_told : {A B X : Type 0} (see : A → B) {reader : Reader A NodeFault} {asked : List ℕ → ℕ → Type 0} {bytes : List ℕ} {at : ℕ} {see' : X → A} (r : Result (X × ℕ) Stop) → Tells see' reader asked bytes at r
+seen_told : {A B X : Type 0} (see : A → B) {reader : Reader A RecordFault} {asked : List ℕ → ℕ → Type 0} {bytes : List ℕ} {at : ℕ} {see' : X → A} (r : Result (X × ℕ) Stop) → Tells see' reader asked bytes at r
     → Tells (λ x. see (see' x)) (λ b. seen see (λ fault. fault) (reader b)) asked bytes at r
 seen_told see (Ok read) h = seen_tells see h refl
 seen_told see (Err stop) h = record { told = seen_stops see h.told }
@@ -82,7 +82,7 @@ unfolding record_at
 text_tells kind ends other {bytes} r h =
     let view : ScalarPart → Shape = λ part. record_seen (parts.Text (One part) ends) in
     let one_seen = seen_told (λ (scalar : ScalarShape). has_text (one scalar) ends) r h in
-    let read = subst (λ (f : Reader Shape NodeFault). Tells view f (asked.scalar_at kind) bytes 1 r) (sym (text_of_one kind ends other)) one_seen in
+    let read = subst (λ (f : Reader Shape RecordFault). Tells view f (asked.scalar_at kind) bytes 1 r) (sym (text_of_one kind ends other)) one_seen in
     subst (λ (f : List ℕ → ℕ → Type 0). Tells view (text_at kind ends) f bytes 1 r) (sym (asked_of_one kind ends other)) read
 
 -- the first byte is one byte, so one kind at most begins there

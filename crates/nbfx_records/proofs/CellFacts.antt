@@ -6,10 +6,10 @@ use Rattle.std.specs.Prelude.{◌||◌, not}
 use Rattle.std.specs.Option.{option_map, option_and_then}
 use Rattle.std.specs.Str.{is_utf8}
 use Rattle.nbfx_values.specs.declared.scalars.Scalar.{Scalar}
+use Rattle.nbfx_records.specs.declared.nodes.RecordFault.{RecordFault}
+use Rattle.nbfx_records.specs.declared.nodes.RecordFault.TheVariants as faults
 use Rattle.nbfx_records.specs.declared.nodes.NodeFault.{NodeFault}
-use Rattle.nbfx_records.specs.declared.nodes.NodeFault.TheVariants as faults
-use Rattle.nbfx_records.specs.declared.values.Unfit.{Unfit}
-use Rattle.nbfx_records.specs.declared.values.Unfit.TheVariants.{Fault, Memory}
+use Rattle.nbfx_records.specs.declared.nodes.NodeFault.TheVariants.{Record, Memory}
 use Rattle.nbfx_records.specs.declared.kinds.TextKind.{TextKind}
 use Rattle.nbfx_records.specs.Kinds.{text_kind_in, width_of}
 use Rattle.nbfx_records.specs.Shapes.{CellsShape}
@@ -64,7 +64,7 @@ module _ (shape : CellsShape) (done : ℕ) (rest : List ℕ) (values : List Scal
   made_first (Some x) (Some xs) value e = let same : x ≡ value = cc in ap (λ y. Ok (y ∷ xs)) same
   made_first (Some x) None value e = refl
 
-  unmade_first : (o : Option Scalar) (others : Option (List Scalar)) (fault : NodeFault) → judge true o ≡ Err fault → judge true (option_and_then (λ y. option_map (λ ys. y ∷ ys) others) o) ≡ Err fault
+  unmade_first : (o : Option Scalar) (others : Option (List Scalar)) (fault : RecordFault) → judge true o ≡ Err fault → judge true (option_and_then (λ y. option_map (λ ys. y ∷ ys) others) o) ≡ Err fault
   unmade_first None others fault e = let same : faults.BadValue ≡ fault = cc in ap Err same
   unmade_first (Some x) others fault e = cc
 
@@ -77,8 +77,8 @@ module _ (shape : CellsShape) (done : ℕ) (rest : List ℕ) (values : List Scal
         ∙ led_led values value (judge true (cell_values shape.kind more back));
   }
 
-  wrong_cell : (unfit : Unfit) → Makes {X = Scalar} (Err unfit) (known_judged (text_kind_in shape.kind) front) → Makes {X = List Scalar} (Err unfit) (cells_judged shape)
-  wrong_cell (Fault fault) h = record { made = here ∙ ap (led values) (unmade_first (scalar_of (text_kind_in shape.kind) front) (cell_values shape.kind more back) fault (sym (plain_known front) ∙ h.made)) }
+  wrong_cell : (unfit : NodeFault) → Makes {X = Scalar} (Err unfit) (known_judged (text_kind_in shape.kind) front) → Makes {X = List Scalar} (Err unfit) (cells_judged shape)
+  wrong_cell (Record fault) h = record { made = here ∙ ap (led values) (unmade_first (scalar_of (text_kind_in shape.kind) front) (cell_values shape.kind more back) fault (sym (plain_known front) ∙ h.made)) }
   wrong_cell Memory h = record { made = tt }
 
   -- the same by what the loop has
@@ -91,5 +91,5 @@ module _ (shape : CellsShape) (done : ℕ) (rest : List ℕ) (values : List Scal
         subst (AreLeft shape (done + 1) behind) (sym new_is)
         (subst (λ (b : List ℕ). AreLeft shape (done + 1) b (values ++ value ∷ [])) (sym (behind_is ∙ ap (λ w. drop w rest) width_is)) (next_left value (sym cell_judged ∙ e)))
 
-    pub step_wrong : (unfit : Unfit) → Makes {X = Scalar} (Err unfit) (known_judged kind cell) → Makes {X = List Scalar} (Err unfit) (cells_judged shape)
+    pub step_wrong : (unfit : NodeFault) → Makes {X = Scalar} (Err unfit) (known_judged kind cell) → Makes {X = List Scalar} (Err unfit) (cells_judged shape)
     step_wrong unfit h = wrong_cell unfit (subst (Makes {X = Scalar} (Err unfit)) cell_judged h)

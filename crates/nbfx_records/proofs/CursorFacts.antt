@@ -14,8 +14,8 @@ use Rattle.std.proofs.Math.Nat.{mod-eq_of_lt}
 use Rattle.multibyte_ints.proofs.IntegerBytes.{int_peels}
 use Rattle.nbfx_records.specs.declared.cursor.Stop.{Stop}
 use Rattle.nbfx_records.specs.declared.cursor.Stop.TheVariants.{More, Fault}
-use Rattle.nbfx_records.specs.declared.nodes.NodeFault.{NodeFault}
-use Rattle.nbfx_records.specs.declared.nodes.NodeFault.TheVariants as faults
+use Rattle.nbfx_records.specs.declared.nodes.RecordFault.{RecordFault}
+use Rattle.nbfx_records.specs.declared.nodes.RecordFault.TheVariants as faults
 use Rattle.nbfx_records.specs.Shapes.{an_integer}
 use Rattle.nbfx_records.proofs.ShapeFronts.{reads_integer}
 use Rattle.nbfx_records.specs.Asked.{Either, here, later}
@@ -30,7 +30,7 @@ part_then : (bytes more : List ℕ) (at to : ℕ) → at ≤ to → to ≤ lengt
 part_then bytes more at to after within =
     drop_more bytes more at (omega arith) ∙ ap (λ b. b ++ more) (sym (take-append-drop (to - at) (drop at bytes))) ∙ append_assoc (take (to - at) (drop at bytes)) (drop (to - at) (drop at bytes)) more
 
-module _ {A : Type 0} (reader : Reader A NodeFault) (reads : ReadsFront reader) (bytes : List ℕ) (at to : ℕ) (after : at ≤ to) (within : to ≤ length bytes) where
+module _ {A : Type 0} (reader : Reader A RecordFault) (reads : ReadsFront reader) (bytes : List ℕ) (at to : ℕ) (after : at ≤ to) (within : to ≤ length bytes) where
   -- what stands in the bytes up to an offset stands there whatever follows
   pub whole_by : (a : A) → reader (take (to - at) (drop at bytes)) ≡ whole a (to - at) → IsWhole reader bytes at a to
   whole_by a e = record {
@@ -40,7 +40,7 @@ module _ {A : Type 0} (reader : Reader A NodeFault) (reads : ReadsFront reader) 
         ∙ ap (further at) (reads.whole_stays (take (to - at) (drop at bytes)) (drop (to - at) (drop at bytes) ++ more) a (to - at) e) ∙ ap (whole a) (omega arith);
   }
 
-  pub wrong_by : (fault : NodeFault) → reader (take (to - at) (drop at bytes)) ≡ wrong fault (to - at) → IsWrong reader bytes at fault to
+  pub wrong_by : (fault : RecordFault) → reader (take (to - at) (drop at bytes)) ≡ wrong fault (to - at) → IsWrong reader bytes at fault to
   wrong_by fault e = record {
     stands = λ more. ap (λ b. further at (reader b)) (part_then bytes more at to after within)
         ∙ ap (further at) (reads.wrong_stays (take (to - at) (drop at bytes)) (drop (to - at) (drop at bytes) ++ more) fault (to - at) e) ∙ ap (wrong fault) (omega arith);
@@ -55,28 +55,28 @@ one_more bytes from at after lt =
     ap (λ x. take (at - from) (drop from bytes) ++ x ∷ []) (ap (λ i. get_or bytes i 0) (sym at_is) ∙ sym (get_or-drop from bytes (at - from) 0))
     ∙ sym (take_more (drop from bytes) (at - from) 0 (omega (arith, size))) ∙ ap (λ n. take n (drop from bytes)) count
 
-pub further_whole : {A : Type 0} (n : ℕ) (v : Front A NodeFault) (a : A) (m : ℕ) → further n v ≡ whole a m → (k : ℕ) × (v ≡ whole a k) × (m ≡ n + k)
+pub further_whole : {A : Type 0} (n : ℕ) (v : Front A RecordFault) (a : A) (m : ℕ) → further n v ≡ whole a m → (k : ℕ) × (v ≡ whole a k) × (m ≡ n + k)
 further_whole n begun a m e = cc
 further_whole n (whole b k) a m e = let same : b ≡ a = cc in let size : n + k ≡ m = cc in (k, ap (λ x. whole x k) same, sym size)
 further_whole n (wrong r k) a m e = cc
 
-pub further_begun : {A : Type 0} (n : ℕ) (v : Front A NodeFault) → further n v ≡ begun → v ≡ begun
+pub further_begun : {A : Type 0} (n : ℕ) (v : Front A RecordFault) → further n v ≡ begun → v ≡ begun
 further_begun n begun e = refl
 further_begun n (whole b k) e = cc
 further_begun n (wrong r k) e = cc
 
-pub further_wrong : {A : Type 0} (n : ℕ) (v : Front A NodeFault) (r : NodeFault) (m : ℕ) → further n v ≡ wrong r m → (k : ℕ) × (v ≡ wrong r k) × (m ≡ n + k)
+pub further_wrong : {A : Type 0} (n : ℕ) (v : Front A RecordFault) (r : RecordFault) (m : ℕ) → further n v ≡ wrong r m → (k : ℕ) × (v ≡ wrong r k) × (m ≡ n + k)
 further_wrong n begun r m e = cc
 further_wrong n (whole b k) r m e = cc
 further_wrong n (wrong s k) r m e = let same : s ≡ r = cc in let size : n + k ≡ m = cc in (k, ap (λ x. wrong x k) same, sym size)
 
-pub further_more : {A : Type 0} (n m : ℕ) (v : Front A NodeFault) → further n (further m v) ≡ further (n + m) v
+pub further_more : {A : Type 0} (n m : ℕ) (v : Front A RecordFault) → further n (further m v) ≡ further (n + m) v
 further_more n m begun = refl
 further_more n m (whole b k) = let sum : n + (m + k) ≡ (n + m) + k = omega arith in ap (whole b) sum
 further_more n m (wrong r k) = let sum : n + (m + k) ≡ (n + m) + k = omega arith in ap (wrong r) sum
 
 -- a part and what comes behind it
-module _ {A B : Type 0} (reader : Reader A NodeFault) (next : A → Reader B NodeFault) (bytes : List ℕ) (at : ℕ) where
+module _ {A B : Type 0} (reader : Reader A RecordFault) (next : A → Reader B RecordFault) (bytes : List ℕ) (at : ℕ) where
   from_then : (b : List ℕ) (a : A) (to : ℕ) → read_from at reader b ≡ whole a to → read_from at (reader >>= next) b ≡ read_from to (next a) b
   from_then b a to e =
       let w = further_whole at (reader (drop at b)) a to e in
@@ -122,7 +122,7 @@ module _ {A B : Type 0} (reader : Reader A NodeFault) (next : A → Reader B Nod
   }
   told_behind asked behind see a to (Err stop) first then = record { why = why_behind a to stop first then.why; asks = asks_behind asked behind a to stop first then.asks }
 
-module _ {A B : Type 0} {reader : Reader A NodeFault} (next : A → Reader B NodeFault) {asked : List ℕ → ℕ → Type 0} {behind : A → List ℕ → ℕ → Type 0} {bytes : List ℕ} {at : ℕ} where
+module _ {A B : Type 0} {reader : Reader A RecordFault} (next : A → Reader B RecordFault) {asked : List ℕ → ℕ → Type 0} {behind : A → List ℕ → ℕ → Type 0} {bytes : List ℕ} {at : ℕ} where
   -- where the first part stops
   pub then_stops : {stop : Stop} → Stops reader asked bytes at stop → Stops (reader >>= next) (Either reader asked behind) bytes at stop
   then_stops {stop} first = record { why = why_first reader next bytes at stop first.why; asks = asks_first reader next bytes at asked behind stop first.asks }
@@ -140,8 +140,8 @@ module _ {A B : Type 0} {reader : Reader A NodeFault} (next : A → Reader B Nod
   }
 
 -- a part seen otherwise
-module _ {A B : Type 0} (see : A → B) (reader : Reader A NodeFault) (bytes : List ℕ) (at : ℕ) where
-  seen_further : (n : ℕ) (v : Front A NodeFault) → further n (seen see (λ fault. fault) v) ≡ seen see (λ fault. fault) (further n v)
+module _ {A B : Type 0} (see : A → B) (reader : Reader A RecordFault) (bytes : List ℕ) (at : ℕ) where
+  seen_further : (n : ℕ) (v : Front A RecordFault) → further n (seen see (λ fault. fault) v) ≡ seen see (λ fault. fault) (further n v)
   seen_further n begun = refl
   seen_further n (whole a k) = refl
   seen_further n (wrong r k) = refl
@@ -162,7 +162,7 @@ module _ {A B : Type 0} (see : A → B) (reader : Reader A NodeFault) (bytes : L
     begins = λ more lt. seen_further at (reader (drop at (bytes ++ more))) ∙ ap (seen see (λ fault. fault)) (first.begins more lt);
   }
 
-module _ {A B : Type 0} (see : A → B) {reader : Reader A NodeFault} {asked : List ℕ → ℕ → Type 0} {bytes : List ℕ} {at : ℕ} where
+module _ {A B : Type 0} (see : A → B) {reader : Reader A RecordFault} {asked : List ℕ → ℕ → Type 0} {bytes : List ℕ} {at : ℕ} where
   pub seen_stops : {stop : Stop} → Stops reader asked bytes at stop → Stops (λ b. seen see (λ fault. fault) (reader b)) asked bytes at stop
   seen_stops {stop} first = record { why = seen_why see reader bytes at stop first.why; asks = first.asks }
 
@@ -175,13 +175,13 @@ module _ {A B : Type 0} (see : A → B) {reader : Reader A NodeFault} {asked : L
 given_is : {A : Type 0} (a : A) (bytes : List ℕ) (at : ℕ) → at ≤ length bytes → IsWhole (given a) bytes at a at
 given_is a bytes at within = record { after = omega arith; within = within; stands = λ more. ap (whole a) (omega arith) }
 
-refuse_is : {A : Type 0} (fault : NodeFault) (bytes : List ℕ) (at : ℕ) → IsWrong (refuse {A = A} fault) bytes at fault at
+refuse_is : {A : Type 0} (fault : RecordFault) (bytes : List ℕ) (at : ℕ) → IsWrong (refuse {A = A} fault) bytes at fault at
 refuse_is fault bytes at = record { stands = λ more. ap (wrong fault) (omega arith) }
 
 pub given_tells : {asked : List ℕ → ℕ → Type 0} {X A : Type 0} (see : X → A) (x : X) (bytes : List ℕ) (at : ℕ) → at ≤ length bytes → Tells see (given (see x)) asked bytes at (Ok (x, at))
 given_tells see x bytes at within = record { told = given_is (see x) bytes at within }
 
-pub refuse_stops : {asked : List ℕ → ℕ → Type 0} {A : Type 0} (fault : NodeFault) (bytes : List ℕ) (at : ℕ) → Stops (refuse {A = A} fault) asked bytes at (Fault fault at)
+pub refuse_stops : {asked : List ℕ → ℕ → Type 0} {A : Type 0} (fault : RecordFault) (bytes : List ℕ) (at : ℕ) → Stops (refuse {A = A} fault) asked bytes at (Fault fault at)
 refuse_stops fault bytes at = record { why = refuse_is fault bytes at; asks = tt }
 
 -- the bytes of an integer so far, and one more
@@ -218,7 +218,7 @@ one_byte_whole bytes from lt small =
     integer_whole bytes from from (omega arith) lt b (rw none there)
 
 -- what a `?` hands on
-pub exit : {X A : Type 0} {see : X → A} {reader : Reader A NodeFault} {asked : List ℕ → ℕ → Type 0} {bytes : List ℕ} {at : ℕ} {stop : Stop} {r : Result (X × ℕ) Stop} → IsErrAnd r (λ y. y ≡ stop) → Stops reader asked bytes at stop
+pub exit : {X A : Type 0} {see : X → A} {reader : Reader A RecordFault} {asked : List ℕ → ℕ → Type 0} {bytes : List ℕ} {at : ℕ} {stop : Stop} {r : Result (X × ℕ) Stop} → IsErrAnd r (λ y. y ≡ stop) → Stops reader asked bytes at stop
     → Tells see reader asked bytes at r
 exit {X} {A} {see} {reader} {asked} {bytes} {at} {stop} {r} e h =
     let p = err_from_is_err_and r e in

@@ -8,8 +8,8 @@ use Rattle.nbfx_records.specs.declared.kinds.RecordKind.TheVariants as records
 use Rattle.nbfx_records.specs.declared.kinds.TextKind.TheVariants as texts
 use Rattle.nbfx_values.specs.declared.content.ArrayKind.{ArrayKind}
 use Rattle.nbfx_records.specs.declared.nodes.Node.{Node}
-use Rattle.nbfx_records.specs.declared.nodes.NodeFault.{NodeFault}
-use Rattle.nbfx_records.specs.declared.nodes.NodeFault.TheVariants as faults
+use Rattle.nbfx_records.specs.declared.nodes.RecordFault.{RecordFault}
+use Rattle.nbfx_records.specs.declared.nodes.RecordFault.TheVariants as faults
 use Rattle.nbfx_records.specs.declared.nodes.NodePlace.{NodePlace}
 use Rattle.nbfx_records.specs.declared.nodes.NodePlace.TheVariants.{BeforeRoot, Within, AfterRoot}
 use Rattle.nbfx_records.specs.Causes.{Caused, HasBadText, HasBadValue, InRecord, IsRefused, IsWrongPart, Part, cells_refused, cells_type, count, element_refused, element_type, integer, item_refused, item_type, long_length, part_refused, part_type, record_refused, record_type, type_refused, value_refused, value_type}
@@ -23,15 +23,15 @@ use Rattle.nbfx_records.proofs.ContentCauses.{bad_text, bad_value, good_texts, t
 use Rattle.nbfx_records.proofs.PartCauses.{shape_just}
 
 -- a fault of the structure
-abbrev is_structural : NodeFault → Bool
+abbrev is_structural : RecordFault → Bool
 is_structural faults.BadUtf8 = false
 is_structural faults.BadValue = false
 is_structural _ = true
 
-abbrev Structural : Option NodeFault → Type 0
-Structural refused = (fault : NodeFault) → refused ≡ Some fault → is_structural fault ≡ true
+abbrev Structural : Option RecordFault → Type 0
+Structural refused = (fault : RecordFault) → refused ≡ Some fault → is_structural fault ≡ true
 
-given_structural : (fault : NodeFault) → is_structural fault ≡ true → Structural (Some fault)
+given_structural : (fault : RecordFault) → is_structural fault ≡ true → Structural (Some fault)
 given_structural fault is other e = let same : fault ≡ other = cc e in ap is_structural (sym same) ∙ is
 
 misplaced_structural : (place : NodePlace) (kind : RecordKind) → Structural (misplaced place kind)
@@ -102,14 +102,14 @@ type_structural count byte = none_structural
 type_structural integer byte = none_structural
 type_structural long_length byte = none_structural
 
-refused_structural : (part : Part) (fault : NodeFault) (bytes : List ℕ) (m : ℕ) → IsRefused part fault bytes m → is_structural fault ≡ true
+refused_structural : (part : Part) (fault : RecordFault) (bytes : List ℕ) (m : ℕ) → IsRefused part fault bytes m → is_structural fault ≡ true
 refused_structural part fault [] m h = absurd h
 refused_structural part fault (byte ∷ rest) m h = type_structural part byte fault h.1
 
-named_structural : (fault given : NodeFault) → fault ≡ given → is_structural given ≡ true → is_structural fault ≡ true
+named_structural : (fault given : RecordFault) → fault ≡ given → is_structural given ≡ true → is_structural fault ≡ true
 named_structural fault given e is = ap is_structural e ∙ is
 
-part_wrong_structural : (part : Part) (fault : NodeFault) (bytes : List ℕ) (m : ℕ) → IsWrongPart part fault bytes m → is_structural fault ≡ true
+part_wrong_structural : (part : Part) (fault : RecordFault) (bytes : List ℕ) (m : ℕ) → IsWrongPart part fault bytes m → is_structural fault ≡ true
 part_wrong_structural count fault bytes m (inl h) = named_structural fault faults.BadInt h.0 refl
 part_wrong_structural count fault bytes m (inr h) = named_structural fault faults.BadArray h.0 refl
 part_wrong_structural integer fault bytes m h = named_structural fault faults.BadInt h.0 refl
@@ -121,11 +121,11 @@ part_wrong_structural element_type fault bytes m h = refused_structural element_
 part_wrong_structural part_type fault bytes m h = refused_structural part_type fault bytes m h
 part_wrong_structural cells_type fault bytes m h = refused_structural cells_type fault bytes m h
 
-shape_structural : (place : NodePlace) (bytes : List ℕ) (fault : NodeFault) (n : ℕ) → shape_at place bytes ≡ wrong fault n → is_structural fault ≡ true
+shape_structural : (place : NodePlace) (bytes : List ℕ) (fault : RecordFault) (n : ℕ) → shape_at place bytes ≡ wrong fault n → is_structural fault ≡ true
 shape_structural place bytes fault n e = let it = (shape_just place bytes fault n).0 e in part_wrong_structural it.part fault (drop it.at bytes) it.shown it.wrong
 
 -- what contents are wrong by
-contents_wrong : (shape : Shape) (fault : NodeFault) → contents shape ≡ Err fault → ((fault ≡ faults.BadUtf8) × (is_text shape ≡ false)) ⊎ ((fault ≡ faults.BadValue) × (is_text shape ≡ true) × (node_of shape ≡ None))
+contents_wrong : (shape : Shape) (fault : RecordFault) → contents shape ≡ Err fault → ((fault ≡ faults.BadUtf8) × (is_text shape ≡ false)) ⊎ ((fault ≡ faults.BadValue) × (is_text shape ≡ true) × (node_of shape ≡ None))
 unfolding contents
 contents_wrong shape fault e = by (is_text shape) (node_of shape) refl refl e
   where
@@ -144,31 +144,31 @@ unfolding contents
 no_contents shape t n = rw (t, n) refl
 
 -- a fault of the structure or of the contents
-record IsJudged (place : NodePlace) (bytes : List ℕ) (fault : NodeFault) (n : ℕ) : Type 0 where
+record IsJudged (place : NodePlace) (bytes : List ℕ) (fault : RecordFault) (n : ℕ) : Type 0 where
   shape : Shape
   stands : shape_at place bytes ≡ whole shape n
   says : contents shape ≡ Err fault
 
-node_wrong : (place : NodePlace) (bytes : List ℕ) (fault : NodeFault) (n : ℕ) → node_at place bytes ≡ wrong fault n → (shape_at place bytes ≡ wrong fault n) ⊎ IsJudged place bytes fault n
+node_wrong : (place : NodePlace) (bytes : List ℕ) (fault : RecordFault) (n : ℕ) → node_at place bytes ≡ wrong fault n → (shape_at place bytes ≡ wrong fault n) ⊎ IsJudged place bytes fault n
 unfolding node_at
 node_wrong place bytes fault n e = by (shape_at place bytes) refl e
   where
-    judged_by : (shape : Shape) (k : ℕ) (v : Result Node NodeFault) → contents shape ≡ v → judged_whole v k ≡ wrong fault n → (k ≡ n) × (contents shape ≡ Err fault)
+    judged_by : (shape : Shape) (k : ℕ) (v : Result Node RecordFault) → contents shape ≡ v → judged_whole v k ≡ wrong fault n → (k ≡ n) × (contents shape ≡ Err fault)
     judged_by shape k (Ok node) is e = cc e
     judged_by shape k (Err r) is e = let same : r ≡ fault = cc e in let size : k ≡ n = cc e in (size, is ∙ ap Err same)
 
-    by : (v : Front Shape NodeFault) → shape_at place bytes ≡ v → judged contents v ≡ wrong fault n → (shape_at place bytes ≡ wrong fault n) ⊎ IsJudged place bytes fault n
+    by : (v : Front Shape RecordFault) → shape_at place bytes ≡ v → judged contents v ≡ wrong fault n → (shape_at place bytes ≡ wrong fault n) ⊎ IsJudged place bytes fault n
     by begun is e = cc e
     by (wrong r k) is e = inl (carried (shape_at place bytes) (judged contents (wrong r k)) r fault k n is refl e)
     by (whole shape k) is e =
         let it = judged_by shape k (contents shape) refl e in
         inr (record { shape = shape; stands = is ∙ ap (whole shape) it.0; says = it.1 })
 
-wrong_shape : (place : NodePlace) (bytes : List ℕ) (fault : NodeFault) (n : ℕ) → shape_at place bytes ≡ wrong fault n → node_at place bytes ≡ wrong fault n
+wrong_shape : (place : NodePlace) (bytes : List ℕ) (fault : RecordFault) (n : ℕ) → shape_at place bytes ≡ wrong fault n → node_at place bytes ≡ wrong fault n
 unfolding node_at
 wrong_shape place bytes fault n e = ap (judged contents) e
 
-wrong_contents : (place : NodePlace) (bytes : List ℕ) (fault : NodeFault) (n : ℕ) (shape : Shape) → shape_at place bytes ≡ whole shape n → contents shape ≡ Err fault → node_at place bytes ≡ wrong fault n
+wrong_contents : (place : NodePlace) (bytes : List ℕ) (fault : RecordFault) (n : ℕ) (shape : Shape) → shape_at place bytes ≡ whole shape n → contents shape ≡ Err fault → node_at place bytes ≡ wrong fault n
 unfolding node_at
 wrong_contents place bytes fault n shape is says = ap (judged contents) is ∙ ap (λ v. judged_whole v n) says
 

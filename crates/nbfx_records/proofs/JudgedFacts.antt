@@ -7,10 +7,10 @@ use Rattle.std.specs.Option.{option_map, option_and_then}
 use Rattle.std.proofs.lemmas.Result.{err_from_is_err_and}
 use Rattle.std.proofs.lemmas.Bool.{false_from_ne_true}
 use Rattle.std.proofs.lemmas.Str.{IsUtf8-from_is_utf8, is_utf8-from_IsUtf8}
+use Rattle.nbfx_records.specs.declared.nodes.RecordFault.{RecordFault}
+use Rattle.nbfx_records.specs.declared.nodes.RecordFault.TheVariants as faults
 use Rattle.nbfx_records.specs.declared.nodes.NodeFault.{NodeFault}
-use Rattle.nbfx_records.specs.declared.nodes.NodeFault.TheVariants as faults
-use Rattle.nbfx_records.specs.declared.values.Unfit.{Unfit}
-use Rattle.nbfx_records.specs.declared.values.Unfit.TheVariants.{Fault, Memory}
+use Rattle.nbfx_records.specs.declared.nodes.NodeFault.TheVariants.{Record, Memory}
 use Rattle.nbfx_records.specs.Contents.{judge, each, behind_texts, led}
 use Rattle.nbfx_records.specs.Judged.{Made, Makes}
 
@@ -18,7 +18,7 @@ use Rattle.nbfx_records.specs.Judged.{Made, Makes}
 pub text_made : (bytes text made : List ℕ) → IsUtf8 bytes → text ≡ bytes → made ≡ text → Makes (Ok made) (judge (is_utf8 bytes) (Some bytes))
 text_made bytes text made utf8 same own = record { made = rw (is_utf8-from_IsUtf8 bytes utf8) (ap Ok (sym (own ∙ same))) }
 
-pub text_refused : (bytes : List ℕ) → (IsUtf8 bytes → ⊥) → Makes {X = List ℕ} (Err (Fault faults.BadUtf8)) (judge (is_utf8 bytes) (Some bytes))
+pub text_refused : (bytes : List ℕ) → (IsUtf8 bytes → ⊥) → Makes {X = List ℕ} (Err (Record faults.BadUtf8)) (judge (is_utf8 bytes) (Some bytes))
 text_refused bytes bad = record { made = rw (false_from_ne_true (is_utf8 bytes) (λ h. bad (IsUtf8-from_is_utf8 bytes h))) refl }
 
 pub utf8_told : (bytes : List ℕ) → IsUtf8 bytes → true ≡ is_utf8 bytes
@@ -34,7 +34,7 @@ texts_of_made false found x e = cc
 
 -- some things, judged one by one
 module _ {A B : Type 0} (texts : A → Bool) (value : A → Option B) where
-  abbrev pub all_judged : List A → Result (List B) NodeFault
+  abbrev pub all_judged : List A → Result (List B) RecordFault
   all_judged items = judge (list_all texts items) (each value items)
 
   -- the first is what it is, where the others are judged behind it
@@ -50,7 +50,7 @@ module _ {A B : Type 0} (texts : A → Bool) (value : A → Option B) where
       by true None false vs e = cc
       by false v ts vs e = cc
 
-  pub first_unmade : (a : A) (items : List A) (fault : NodeFault) → behind_texts (list_all texts items) (judge (texts a) (value a)) ≡ Err fault → all_judged (a ∷ items) ≡ Err fault
+  pub first_unmade : (a : A) (items : List A) (fault : RecordFault) → behind_texts (list_all texts items) (judge (texts a) (value a)) ≡ Err fault → all_judged (a ∷ items) ≡ Err fault
   first_unmade a items fault e = by (texts a) (value a) (list_all texts items) (each value items) e
     where
       by : (t : Bool) (v : Option B) (ts : Bool) (vs : Option (List B)) → behind_texts ts (judge t v) ≡ Err fault
@@ -60,7 +60,7 @@ module _ {A B : Type 0} (texts : A → Bool) (value : A → Option B) where
       by true None false vs e = let same : faults.BadUtf8 ≡ fault = cc in ap Err same
       by false v ts vs e = let same : faults.BadUtf8 ≡ fault = cc in ap Err same
 
-pub led_led : {A : Type 0} (front : List A) (a : A) (rest : Result (List A) NodeFault) → led front (led (a ∷ []) rest) ≡ led (front ++ a ∷ []) rest
+pub led_led : {A : Type 0} (front : List A) (a : A) (rest : Result (List A) RecordFault) → led front (led (a ∷ []) rest) ≡ led (front ++ a ∷ []) rest
 led_led front a (Ok items) = ap Ok (sym (append_assoc front (a ∷ []) items))
 led_led front a (Err fault) = refl
 
@@ -70,25 +70,25 @@ module _ {A B : Type 0} (texts : A → Bool) (value : A → Option B) (all here 
   pub judged_more : (b : B) → behind_texts (list_all texts items) (judge (texts a) (value a)) ≡ Ok b → all_judged texts value all ≡ led (made ++ b ∷ []) (all_judged texts value items)
   judged_more b e = so_far ∙ ap (λ c. led made (all_judged texts value c)) first ∙ ap (led made) (first_made texts value a items b e) ∙ led_led made b (all_judged texts value items)
 
-  pub judged_wrong : (fault : NodeFault) → behind_texts (list_all texts items) (judge (texts a) (value a)) ≡ Err fault → all_judged texts value all ≡ Err fault
+  pub judged_wrong : (fault : RecordFault) → behind_texts (list_all texts items) (judge (texts a) (value a)) ≡ Err fault → all_judged texts value all ≡ Err fault
   judged_wrong fault e = so_far ∙ ap (λ c. led made (all_judged texts value c)) first ∙ ap (led made) (first_unmade texts value a items fault e)
 
   -- what a `?` hands on
-  pub unmade : (unfit : Unfit) → Makes {X = B} (Err unfit) (behind_texts (list_all texts items) (judge (texts a) (value a))) → Makes {X = List B} (Err unfit) (all_judged texts value all)
-  unmade (Fault fault) h = record { made = judged_wrong fault h.made }
+  pub unmade : (unfit : NodeFault) → Makes {X = B} (Err unfit) (behind_texts (list_all texts items) (judge (texts a) (value a))) → Makes {X = List B} (Err unfit) (all_judged texts value all)
+  unmade (Record fault) h = record { made = judged_wrong fault h.made }
   unmade Memory h = record { made = tt }
 
-pub exit : {X : Type 0} {judged : Result X NodeFault} {unfit : Unfit} {r : Result X Unfit} → IsErrAnd r (λ y. y ≡ unfit) → Makes (Err unfit) judged → Makes r judged
+pub exit : {X : Type 0} {judged : Result X RecordFault} {unfit : NodeFault} {r : Result X NodeFault} → IsErrAnd r (λ y. y ≡ unfit) → Makes (Err unfit) judged → Makes r judged
 exit {X} {judged} {unfit} {r} e h =
     let p = err_from_is_err_and r e in
-    subst (λ (q : Result X Unfit). Makes q judged) (ap Err (sym p.2) ∙ sym p.1) h
+    subst (λ (q : Result X NodeFault). Makes q judged) (ap Err (sym p.2) ∙ sym p.1) h
 
 -- what isn't made of a part isn't made of what is the part otherwise
-pub unmade_otherwise : {X Y : Type 0} (see : X → Y) (texts : Bool) (found : Option X) {unfit : Unfit} → Makes {X = X} (Err unfit) (judge texts found) → Makes {X = Y} (Err unfit) (judge texts (option_map see found))
+pub unmade_otherwise : {X Y : Type 0} (see : X → Y) (texts : Bool) (found : Option X) {unfit : NodeFault} → Makes {X = X} (Err unfit) (judge texts found) → Makes {X = Y} (Err unfit) (judge texts (option_map see found))
 unmade_otherwise {X} {Y} see texts found {unfit} h = by texts found unfit h.made
   where
-    by : (texts : Bool) (found : Option X) (unfit : Unfit) → Made {X = X} (Err unfit) (judge texts found) → Makes {X = Y} (Err unfit) (judge texts (option_map see found))
+    by : (texts : Bool) (found : Option X) (unfit : NodeFault) → Made {X = X} (Err unfit) (judge texts found) → Makes {X = Y} (Err unfit) (judge texts (option_map see found))
     by texts found Memory e = record { made = tt }
-    by true (Some x) (Fault fault) e = cc
-    by true None (Fault fault) e = record { made = let same : faults.BadValue ≡ fault = cc in ap Err same }
-    by false found (Fault fault) e = record { made = let same : faults.BadUtf8 ≡ fault = cc in ap Err same }
+    by true (Some x) (Record fault) e = cc
+    by true None (Record fault) e = record { made = let same : faults.BadValue ≡ fault = cc in ap Err same }
+    by false found (Record fault) e = record { made = let same : faults.BadUtf8 ≡ fault = cc in ap Err same }

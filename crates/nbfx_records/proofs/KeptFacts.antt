@@ -11,7 +11,7 @@ use Rattle.nbfx_records.specs.declared.kinds.NameForm.{NameForm}
 use Rattle.nbfx_records.specs.declared.kinds.PrefixForm.{PrefixForm}
 use Rattle.nbfx_records.specs.declared.kinds.RecordKind.{RecordKind}
 use Rattle.nbfx_records.specs.declared.nodes.NameRef.{NameRef}
-use Rattle.nbfx_records.specs.declared.nodes.NodeFault.{NodeFault}
+use Rattle.nbfx_records.specs.declared.nodes.RecordFault.{RecordFault}
 use Rattle.nbfx_records.specs.declared.resume.Resume.{Resume}
 use Rattle.nbfx_records.specs.Cursor.{IsWhole, OnMore, Tells, read_from}
 use Rattle.nbfx_records.specs.Kinds.{record_kind}
@@ -47,7 +47,7 @@ module _ (form : PrefixForm) (name_form : NameForm) {bytes : List ℕ} {at mid t
   kept_stop T U (More wants) kept = kept_attribute kept
   kept_stop T U (Fault fault n) kept = tt
 
-  pub kept_value : {T X A : Type 0} {see : X → A} {reader : Reader A NodeFault} {asked : List ℕ → ℕ → Type 0} (r : Result T Stop) (stop : Stop) → IsErrAnd r (λ y. y ≡ stop) → Tells see reader asked bytes to (Err stop)
+  pub kept_value : {T X A : Type 0} {see : X → A} {reader : Reader A RecordFault} {asked : List ℕ → ℕ → Type 0} (r : Result T Stop) (stop : Stop) → IsErrAnd r (λ y. y ≡ stop) → Tells see reader asked bytes to (Err stop)
       → OnMore {T = X × ℕ} (Err stop) (KeepsValue to resume bytes) → OnMore r (KeepsAttribute form name_form at resume bytes)
   kept_value {T} {X} r stop e told kept =
       let p = err_from_is_err_and r e in

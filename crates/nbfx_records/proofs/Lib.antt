@@ -27,6 +27,7 @@ pub mod ManyFacts
 pub mod ListFacts
 pub mod PartsFacts
 pub mod ResumeFacts
+pub mod ReaderFacts
 pub mod KeptFacts
 pub mod UnitFacts
 pub mod JudgedFacts

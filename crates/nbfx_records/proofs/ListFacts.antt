@@ -8,7 +8,7 @@ use Rattle.nbfx_records.specs.declared.cursor.Stop.{Stop}
 use Rattle.nbfx_records.specs.declared.kinds.TextKind.TheVariants as texts
 use Rattle.nbfx_records.specs.declared.kinds.RecordKind.{RecordKind}
 use Rattle.nbfx_records.specs.declared.kinds.RecordKind.TheVariants as records
-use Rattle.nbfx_records.specs.declared.nodes.NodeFault.{NodeFault}
+use Rattle.nbfx_records.specs.declared.nodes.RecordFault.{RecordFault}
 use Rattle.nbfx_records.specs.Kinds.{record_kind}
 use Rattle.nbfx_records.specs.Asked as asked
 use Rattle.nbfx_records.specs.Cursor.{IsWhole, Stops}
@@ -52,7 +52,7 @@ values_alike one other bytes [] from to are = are
 values_alike one other bytes (a ∷ items) from to (mid, lt, first, others) = (mid, lt, value_alike one other bytes from a mid first, values_alike one other bytes items mid to others)
 
 -- how far whole things lead
-pub passes_after : {A B : Type 0} (turn : Reader (Turn A B) NodeFault) (bytes : List ℕ) (items : List A) (from to : ℕ) → AreMore turn bytes from items to → from ≤ to
+pub passes_after : {A B : Type 0} (turn : Reader (Turn A B) RecordFault) (bytes : List ℕ) (items : List A) (from to : ℕ) → AreMore turn bytes from items to → from ≤ to
 passes_after turn bytes [] from to are = omega (arith, are)
 passes_after turn bytes (a ∷ items) from to (mid, lt, first, others) = let rest = passes_after turn bytes items mid to others in omega arith
 

@@ -8,13 +8,13 @@ use Rattle.unit_streams.proofs.Fronts.{whole_some}
 use Rattle.unit_streams.proofs.Repeated.{many_is}
 use Rattle.nbfx_records.specs.declared.cursor.Stop.{Stop}
 use Rattle.nbfx_records.specs.declared.cursor.Stop.TheVariants.{More, Fault}
-use Rattle.nbfx_records.specs.declared.nodes.NodeFault.{NodeFault}
+use Rattle.nbfx_records.specs.declared.nodes.RecordFault.{RecordFault}
 use Rattle.nbfx_records.specs.Causes.{BehindMany, BehindThese}
 use Rattle.nbfx_records.specs.Cursor.{read_from, IsWhole, Why, AsksAt, Stops}
 use Rattle.nbfx_records.specs.Resuming.{AreMore, Passes}
 use Rattle.nbfx_records.proofs.CursorFacts.{further_whole, further_begun, further_wrong, further_more}
 
-module _ {A B : Type 0} (turn : Reader (Turn A B) NodeFault) (reads : ReadsFront turn) (nothing : turn [] ≡ begun) where
+module _ {A B : Type 0} (turn : Reader (Turn A B) RecordFault) (reads : ReadsFront turn) (nothing : turn [] ≡ begun) where
   pub many_stop : (b : List ℕ) (e : B) (k : ℕ) → turn b ≡ whole (stop e) k → many turn b ≡ whole (record { items = []; last = e }) k
   unfolding many repeated
   many_stop b e k h = then_whole turn (turned (repeated (length b) turn)) b (stop e) k h ∙ ap (whole (record { items = []; last = e })) (omega arith)
@@ -30,7 +30,7 @@ module _ {A B : Type 0} (turn : Reader (Turn A B) NodeFault) (reads : ReadsFront
   unfolding many repeated
   many_begun b h = then_begun turn (turned (repeated (length b) turn)) b h
 
-  pub many_wrong : (b : List ℕ) (r : NodeFault) (k : ℕ) → turn b ≡ wrong r k → many turn b ≡ wrong r k
+  pub many_wrong : (b : List ℕ) (r : RecordFault) (k : ℕ) → turn b ≡ wrong r k → many turn b ≡ wrong r k
   unfolding many repeated
   many_wrong b r k h = then_wrong turn (turned (repeated (length b) turn)) b r k h
 
@@ -41,7 +41,7 @@ module _ {A B : Type 0} (turn : Reader (Turn A B) NodeFault) (reads : ReadsFront
       let some = whole_some turn reads nothing (drop at (bytes ++ [])) t w.0 w.1 in
       omega (arith, some.0, w.2)
 
-  further_seen : {C D : Type 0} (see : C → D) (n : ℕ) (v : Front C NodeFault) → further n (seen see (λ r. r) v) ≡ seen see (λ r. r) (further n v)
+  further_seen : {C D : Type 0} (see : C → D) (n : ℕ) (v : Front C RecordFault) → further n (seen see (λ r. r) v) ≡ seen see (λ r. r) (further n v)
   further_seen see n begun = refl
   further_seen see n (whole c k) = refl
   further_seen see n (wrong r k) = refl
@@ -129,7 +129,7 @@ module _ {A B : Type 0} (turn : Reader (Turn A B) NodeFault) (reads : ReadsFront
     pub all_stop : (e : B) (to : ℕ) → IsWhole turn b 0 (stop e) to → m ≡ record { items = []; last = e }
     all_stop e to h = let one = many_stop b e to (here (stop e) to h) in cc
 
-    seen_whole : {C D : Type 0} (see : C → D) (v : Front C NodeFault) (d : D) (n : ℕ) → seen see (λ r. r) v ≡ whole d n → (c : C) × (v ≡ whole c n) × (see c ≡ d)
+    seen_whole : {C D : Type 0} (see : C → D) (v : Front C RecordFault) (d : D) (n : ℕ) → seen see (λ r. r) v ≡ whole d n → (c : C) × (v ≡ whole c n) × (see c ≡ d)
     seen_whole see begun d n e = cc
     seen_whole see (whole c k) d n e = let size : k ≡ n = cc in let same : see c ≡ d = cc in (c, ap (whole c) size, same)
     seen_whole see (wrong r k) d n e = cc
@@ -151,8 +151,8 @@ module _ {A B : Type 0} (turn : Reader (Turn A B) NodeFault) (reads : ReadsFront
         let one = many_begun b (ap turn (sym (append-nil b)) ∙ none) in cc
 
 -- more bytes behind them change nothing
-module _ {A B : Type 0} (turn : Reader (Turn A B) NodeFault) where
-  more_follow : {C : Type 0} (reader : Reader C NodeFault) (bytes c : List ℕ) (from : ℕ) (t : C) (to : ℕ) → IsWhole reader bytes from t to → IsWhole reader (bytes ++ c) from t to
+module _ {A B : Type 0} (turn : Reader (Turn A B) RecordFault) where
+  more_follow : {C : Type 0} (reader : Reader C RecordFault) (bytes c : List ℕ) (from : ℕ) (t : C) (to : ℕ) → IsWhole reader bytes from t to → IsWhole reader (bytes ++ c) from t to
   more_follow reader bytes c from t to h = record {
     after = h.after;
     within = omega (arith, h.within, length-append bytes c);

@@ -1,5 +1,5 @@
 -- What a proof unfolds to compute the definitions on literal bytes.
-use Rattle.std.specs.Prelude.{◌≡◌, ⊤, ℕ, List, length, true}
+use Rattle.std.specs.Prelude.{◌≡◌, ⊤, ℕ, List, length, map, true}
 use Rattle.std.specs.Char.{encode_utf8}
 use Rattle.std.specs.Char.Utf16.{utf16_chars}
 use Rattle.std.specs.Str.{chars, is_utf8}
@@ -19,10 +19,16 @@ unfoldable pub records_on_literals : ⊤
 unfolding encode_utf8 utf16_chars chars is_utf8 ◌>>=◌ many repeated int_at int_ending_at value_of shortest shortest_within string_bytes_of record_kind array_at record_at shape_at scalar_of contents node_at
 records_on_literals = tt
 
--- the bytes are read as the node within the root, and all of them
-abbrev pub Read : Node → List ℕ → Type 0
-Read node bytes = node_at (Within true true) bytes ≡ whole node (length bytes)
+-- a node, and the bytes of its record
+abbrev pub Row : Type 0
+Row = Node × List ℕ
 
--- and it is written so
-abbrev pub Written : Node → List ℕ → Type 0
-Written node bytes = Read node bytes × (chosen_bytes node ≡ bytes)
+-- within the root the bytes are read as the node, and all of them
+abbrev pub AllRead : List Row → Type 0
+AllRead rows = map (λ (r : Row). node_at (Within true true) r.1) rows
+    ≡ map (λ (r : Row). whole r.0 (length r.1)) rows
+
+-- and are written of it
+abbrev pub AllWritten : List Row → Type 0
+AllWritten rows = AllRead rows
+    × (map (λ (r : Row). chosen_bytes r.0) rows ≡ map (λ (r : Row). r.1) rows)

@@ -22,8 +22,8 @@ use Rattle.nbfx_records.specs.declared.kinds.RecordKind.TheVariants as records
 use Rattle.nbfx_records.specs.declared.kinds.TextKind.{TextKind}
 use Rattle.nbfx_records.specs.declared.kinds.TextKind.TheVariants as texts
 use Rattle.nbfx_records.specs.declared.nodes.NameRef.TheVariants.{Inline, Id}
-use Rattle.nbfx_records.specs.declared.nodes.NodeFault.{NodeFault}
-use Rattle.nbfx_records.specs.declared.nodes.NodeFault.TheVariants as faults
+use Rattle.nbfx_records.specs.declared.nodes.RecordFault.{RecordFault}
+use Rattle.nbfx_records.specs.declared.nodes.RecordFault.TheVariants as faults
 use Rattle.nbfx_records.specs.declared.nodes.NodePlace.{NodePlace}
 use Rattle.nbfx_records.specs.declared.nodes.NodePlace.TheVariants.{BeforeRoot, Within, AfterRoot}
 use Rattle.nbfx_records.specs.Kinds.{array_kind, body_of, record_kind, width_of}
@@ -36,25 +36,25 @@ use Rattle.nbfx_records.proofs.PartsFacts.{nothing_parted}
 use Rattle.nbfx_records.proofs.ShapeFronts.{reads_array_turn, reads_list_turn}
 
 -- bytes are never wrong
-given_never : {A : Type 0} (a : A) → WrongJust (given {R = NodeFault} a) Nowhere
+given_never : {A : Type 0} (a : A) → WrongJust (given {R = RecordFault} a) Nowhere
 given_never a = never_wrong (given a) (λ bytes fault n e. cc e)
 
-bytes_never : (n : ℕ) → WrongJust (some_bytes {R = NodeFault} n) Nowhere
+bytes_never : (n : ℕ) → WrongJust (some_bytes {R = RecordFault} n) Nowhere
 bytes_never n = never_wrong (some_bytes n) (λ bytes fault k e. by (nat_lt (length bytes) n) bytes fault k e)
   where
-    by : (few : Bool) (bytes : List ℕ) (fault : NodeFault) (k : ℕ) → (if few then begun else whole (take n bytes) n) ≡ wrong fault k → ⊥
+    by : (few : Bool) (bytes : List ℕ) (fault : RecordFault) (k : ℕ) → (if few then begun else whole (take n bytes) n) ≡ wrong fault k → ⊥
     by true bytes fault k e = cc e
     by false bytes fault k e = cc e
 
-byte_never : WrongJust (a_byte {R = NodeFault}) Nowhere
+byte_never : WrongJust (a_byte {R = RecordFault}) Nowhere
 byte_never = never_wrong a_byte by
   where
-    by : (bytes : List ℕ) (fault : NodeFault) (n : ℕ) → a_byte bytes ≡ wrong fault n → ⊥
+    by : (bytes : List ℕ) (fault : RecordFault) (n : ℕ) → a_byte bytes ≡ wrong fault n → ⊥
     by [] fault n e = cc e
     by (x ∷ bytes) fault n e = cc e
 
 -- an integer
-integer_by : (bytes : List ℕ) (fault : NodeFault) (n : ℕ) → (an_integer bytes ≡ wrong fault n) ↔ IsBadInt fault bytes n
+integer_by : (bytes : List ℕ) (fault : RecordFault) (n : ℕ) → (an_integer bytes ≡ wrong fault n) ↔ IsBadInt fault bytes n
 integer_by bytes fault n = (λ e. to (int_at bytes) refl e, λ h. from h)
   where
     to : (v : Front ℕ ⊤) → int_at bytes ≡ v → seen (λ m. m) (λ _. faults.BadInt) v ≡ wrong fault n → IsBadInt fault bytes n
@@ -96,7 +96,7 @@ declaration_just prefix uri =
     (prefix_just prefix) (λ p. wrong_seen (declares p) (name_at uri) (λ part bytes k. Now integer part k) (name_just uri))
 
 -- a length
-abbrev checked : Bool → ℕ → Reader ℕ NodeFault
+abbrev checked : Bool → ℕ → Reader ℕ RecordFault
 checked negative n = given_or faults.BadInt (if negative then None else Some n)
 
 four_begun : (bytes : List ℕ) → length bytes < 4 → a_length FourBytes bytes ≡ begun
@@ -105,7 +105,7 @@ four_begun bytes lt = then_begun (some_bytes 4) (λ said. given_or faults.BadInt
 four_whole : (bytes : List ℕ) → 4 ≤ length bytes → a_length FourBytes bytes ≡ further 4 (checked (nat_le (2 ^ 31) (from_le_bytes w32 (take 4 bytes))) (from_le_bytes w32 (take 4 bytes)) (drop 4 bytes))
 four_whole bytes le = then_whole (some_bytes 4) (λ said. given_or faults.BadInt (said_length FourBytes said)) bytes (take 4 bytes) 4 (rw (le-ltb (length bytes) 4 le) refl)
 
-long_by : (bytes : List ℕ) (fault : NodeFault) (n : ℕ) → (a_length FourBytes bytes ≡ wrong fault n) ↔ IsNegative fault bytes n
+long_by : (bytes : List ℕ) (fault : RecordFault) (n : ℕ) → (a_length FourBytes bytes ≡ wrong fault n) ↔ IsNegative fault bytes n
 long_by bytes fault n = (λ e. to e, λ h. from h)
   where
     said : ℕ
@@ -213,10 +213,10 @@ parts_just =
     wrong_many array_turn reads_array_turn nothing_parted _
     (wrong_typed part_type (λ fault bytes m h. h) (λ fault bytes m h. h) (λ byte. array_part (record_kind byte)) (λ byte. InPartOf (record_kind byte)) (λ byte. part_branch (record_kind byte)))
 
-count_by : (kind : ArrayKind) (bytes : List ℕ) (fault : NodeFault) (n : ℕ) → (counted_cells kind bytes ≡ wrong fault n) ↔ (IsBadInt fault bytes n ⊎ IsNone fault bytes n)
+count_by : (kind : ArrayKind) (bytes : List ℕ) (fault : RecordFault) (n : ℕ) → (counted_cells kind bytes ≡ wrong fault n) ↔ (IsBadInt fault bytes n ⊎ IsNone fault bytes n)
 count_by kind bytes fault n = (λ e. to (int_at bytes) refl e, λ h. from h)
   where
-    values : ℕ → Reader CellsShape NodeFault
+    values : ℕ → Reader CellsShape RecordFault
     values m behind = seen (cells_shape kind m) (λ fault. fault) (array_values kind m behind)
 
     read : (m j : ℕ) → int_at bytes ≡ whole m j → an_integer bytes ≡ whole m j
@@ -291,7 +291,7 @@ no_end (Within may deeper) kind e = by (is_attribute kind && not may) (ends_list
     by false false deep e = refl
 no_end AfterRoot kind e = cc e
 
-may_branch : (place : NodePlace) (kind : RecordKind) (m : Option NodeFault) → misplaced place kind ≡ m
+may_branch : (place : NodePlace) (kind : RecordKind) (m : Option RecordFault) → misplaced place kind ≡ m
     → BranchOf m (unless_misplaced m kind) (λ part bytes k. (m ≡ None) × InRecordOf kind part bytes k)
 may_branch place kind (Some fault) is = inl (fault, refl, λ bytes. refl, λ part bytes k h. cc h.0)
 may_branch place kind None is = inr (refl, wrong_as (InRecordOf kind) (λ part bytes k. (None ≡ None) × InRecordOf kind part bytes k) (λ part bytes k h. (refl, h)) (λ part bytes k h. h.1) (record_just kind (no_end place kind is)))

@@ -4,8 +4,8 @@ use Rattle.std.specs.Int.{byte_len}
 use Rattle.unit_streams.specs.Parts.{Reader, a_byte, some_bytes, ◌>>=◌, more}
 use Rattle.nbfx_records.specs.declared.cursor.Stop.{Stop}
 use Rattle.nbfx_records.specs.declared.kinds.LengthForm.{LengthForm}
-use Rattle.nbfx_records.specs.declared.nodes.NodeFault.{NodeFault}
-use Rattle.nbfx_records.specs.declared.nodes.NodeFault.TheVariants as faults
+use Rattle.nbfx_records.specs.declared.nodes.RecordFault.{RecordFault}
+use Rattle.nbfx_records.specs.declared.nodes.RecordFault.TheVariants as faults
 use Rattle.std.proofs.Common.{Result, Ok}
 use Rattle.nbfx_records.specs.declared.cursor.Stop.TheVariants.{Fault}
 use denote.Ref.{Bor}
@@ -20,7 +20,7 @@ use Rattle.nbfx_records.proofs.CursorFacts.{then_stops, then_tells, then_stops_b
 
 -- a length, by its bytes
 module _ (form : LengthForm) (bytes : List ℕ) (at width : ℕ) (width_is : width ≡ byte_len (width_in form)) where
-  abbrev behind_said : List ℕ → Reader ℕ NodeFault
+  abbrev behind_said : List ℕ → Reader ℕ RecordFault
   behind_said said = given_or faults.BadInt (said_length form said)
 
   pub length_stops : {stop : Stop} → Stops (some_bytes width) (asked.some_bytes width) bytes at stop → Stops (a_length form) (asked.a_length form) bytes at stop
@@ -48,7 +48,7 @@ plain_stops may_close kind true other plain h = cc
 plain_stops may_close kind false other plain h = seen_stops more h
 
 -- what begins with a type byte
-pub typed_tells : {A X : Type 0} (next : Option RecordKind → Reader A NodeFault) (behind : Option RecordKind → List ℕ → ℕ → Type 0) {see : X → A} {bytes : List ℕ} {at byte to : ℕ} {k : Option RecordKind} {r : Result (X × ℕ) Stop}
+pub typed_tells : {A X : Type 0} (next : Option RecordKind → Reader A RecordFault) (behind : Option RecordKind → List ℕ → ℕ → Type 0) {see : X → A} {bytes : List ℕ} {at byte to : ℕ} {k : Option RecordKind} {r : Result (X × ℕ) Stop}
     → Tells (λ byte. byte) a_byte asked.a_byte bytes at (Ok (byte, to)) → k ≡ record_kind byte → Tells see (next k) (behind k) bytes to r
     → Tells see (a_byte >>= λ byte. next (record_kind byte)) (asked.Either a_byte asked.a_byte (λ byte. behind (record_kind byte))) bytes at r
 typed_tells next behind {see} {bytes} {at} {byte} {to} {k} {r} first is then =

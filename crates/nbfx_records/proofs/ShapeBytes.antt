@@ -16,8 +16,8 @@ use Rattle.nbfx_records.specs.declared.nodes.NameRef.{NameRef}
 use Rattle.nbfx_records.specs.declared.nodes.NameRef.TheVariants.{Inline, Id}
 use Rattle.nbfx_records.specs.declared.nodes.NodePlace.{NodePlace}
 use Rattle.nbfx_records.specs.declared.nodes.NodePlace.TheVariants.{BeforeRoot, Within, AfterRoot}
-use Rattle.nbfx_records.specs.declared.nodes.NodeFault.{NodeFault}
-use Rattle.nbfx_records.specs.declared.nodes.NodeFault.TheVariants as faults
+use Rattle.nbfx_records.specs.declared.nodes.RecordFault.{RecordFault}
+use Rattle.nbfx_records.specs.declared.nodes.RecordFault.TheVariants as faults
 use Rattle.nbfx_records.specs.declared.kinds.PrefixForm.{PrefixForm}
 use Rattle.nbfx_records.specs.declared.kinds.NameForm.{NameForm}
 use Rattle.nbfx_records.specs.declared.kinds.RecordKind.{RecordKind}
@@ -103,7 +103,7 @@ record IsLength (form : LengthForm) (n : ℕ) (said : List ℕ) : Type 0 where
   positive : is_negative form n ≡ false
 
 -- a thing that is there, of no bytes
-just_given_or : {A : Type 0} (fault : NodeFault) (o : Option A) → ReadsJust (given_or fault o) (λ a b. (o ≡ Some a) × (b ≡ []))
+just_given_or : {A : Type 0} (fault : RecordFault) (o : Option A) → ReadsJust (given_or fault o) (λ a b. (o ≡ Some a) × (b ≡ []))
 just_given_or fault None = just_as (refuse fault) (λ a b. ⊥) (λ a b. (None ≡ Some a) × (b ≡ [])) (just_refuse fault) (λ a b h. absurd h) (λ a b h. cc h.0)
 just_given_or fault (Some x) = just_as (given x) (λ a b. (a ≡ x) × (b ≡ [])) (λ a b. (Some x ≡ Some a) × (b ≡ [])) (just_given x) (λ a b h. (ap Some (sym h.0), h.1)) (λ a b h. (cc h.0, h.1))
 
@@ -240,7 +240,7 @@ pub just_scalar : (kind : TextKind) → ReadsJust (scalar_at kind) (ScalarIs kin
 just_scalar kind = just_body kind (body_of kind)
 
 -- what begins with a type byte, by the kind of record that the byte begins
-module _ {A : Type 0} (next : Option RecordKind → Reader A NodeFault) (P : Option RecordKind → A → List ℕ → Type 0) where
+module _ {A : Type 0} (next : Option RecordKind → Reader A RecordFault) (P : Option RecordKind → A → List ℕ → Type 0) where
   pub record Typed (a : A) (bytes : List ℕ) : Type 0 where
     pub byte : ℕ
     pub rest : List ℕ
@@ -550,10 +550,10 @@ just_record (records.Element prefix name) =
     just_seen (λ (it : NamedShape). begins_element it.prefix it.name) (λ fault. fault) (element_at prefix name) (ElementIs prefix name) (just_named named_shape prefix name)
 just_record (records.Text kind ends) = just_text kind ends
 
-abbrev UnlessIs : Option NodeFault → RecordKind → Shape → List ℕ → Type 0
+abbrev UnlessIs : Option RecordFault → RecordKind → Shape → List ℕ → Type 0
 UnlessIs fault kind shape b = (fault ≡ None) × RecordIs kind shape b
 
-just_unless : (fault : Option NodeFault) (kind : RecordKind) → ReadsJust (unless_misplaced fault kind) (UnlessIs fault kind)
+just_unless : (fault : Option RecordFault) (kind : RecordKind) → ReadsJust (unless_misplaced fault kind) (UnlessIs fault kind)
 just_unless None kind = just_as (record_at kind) (RecordIs kind) (UnlessIs None kind) (just_record kind) (λ shape b h. (refl, h)) (λ shape b h. h.1)
 just_unless (Some fault) kind = just_as (refuse fault) (λ shape b. ⊥) (UnlessIs (Some fault) kind) (just_refuse fault) (λ shape b h. absurd h) (λ shape b h. cc h.0)
 

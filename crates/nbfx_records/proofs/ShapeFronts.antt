@@ -12,8 +12,8 @@ use Rattle.nbfx_records.specs.declared.kinds.TextKind.{TextKind}
 use Rattle.nbfx_records.specs.declared.kinds.TextKind.TheVariants as texts
 use Rattle.nbfx_records.specs.declared.nodes.NodePlace.{NodePlace}
 use Rattle.nbfx_records.specs.declared.nodes.NodePlace.TheVariants.{BeforeRoot, Within, AfterRoot}
-use Rattle.nbfx_records.specs.declared.nodes.NodeFault.{NodeFault}
-use Rattle.nbfx_records.specs.declared.nodes.NodeFault.TheVariants as faults
+use Rattle.nbfx_records.specs.declared.nodes.RecordFault.{RecordFault}
+use Rattle.nbfx_records.specs.declared.nodes.RecordFault.TheVariants as faults
 use Rattle.nbfx_records.specs.declared.kinds.PrefixForm.{PrefixForm}
 use Rattle.nbfx_records.specs.declared.kinds.NameForm.{NameForm}
 use Rattle.nbfx_records.specs.declared.kinds.RecordKind.{RecordKind}
@@ -44,7 +44,7 @@ pub reads_name : (form : NameForm) → ReadsFront (name_at form)
 reads_name Inlined = reads_seen _ _ a_string reads_string
 reads_name Identified = reads_seen _ _ an_integer reads_integer
 
-pub reads_given_or : {A : Type 0} (fault : NodeFault) (o : Option A) → ReadsFront (given_or fault o)
+pub reads_given_or : {A : Type 0} (fault : RecordFault) (o : Option A) → ReadsFront (given_or fault o)
 reads_given_or fault None = reads_refuse fault
 reads_given_or fault (Some a) = reads_given a
 
@@ -149,7 +149,7 @@ reads_record (records.Declaration prefix uri) = reads_seen _ _ (declaration_at p
 reads_record (records.Element prefix name) = reads_seen _ _ (element_at prefix name) (reads_element prefix name)
 reads_record (records.Text kind ends) = reads_text kind ends
 
-reads_unless : (fault : Option NodeFault) (kind : RecordKind) → ReadsFront (unless_misplaced fault kind)
+reads_unless : (fault : Option RecordFault) (kind : RecordKind) → ReadsFront (unless_misplaced fault kind)
 reads_unless None kind = reads_record kind
 reads_unless (Some fault) kind = reads_refuse fault
 

@@ -1,7 +1,7 @@
 -- A record of bytes is one of a valid node.
-use Rattle.std.proofs.Common.{take, Result, Ok, Err, ◌≡◌, ℕ, zero, suc, ◌+◌, ◌-◌, ◌*◌, ◌^◌, ◌<◌, ◌≤◌, List, [], ◌∷◌, ◌++◌, length, drop, get_or, Bool, true, false, Some, None, refl, sym, ap, ◌∙◌, subst, inl, inr, arith, append_assoc, ◌%◌}
+use Rattle.std.proofs.Common.{take, ◌≡◌, ℕ, zero, suc, ◌+◌, ◌-◌, ◌*◌, ◌^◌, ◌<◌, ◌≤◌, List, [], ◌∷◌, ◌++◌, length, drop, get_or, Bool, true, false, Some, None, refl, sym, ap, ◌∙◌, subst, inl, inr, arith, append_assoc, ◌%◌}
 use Rattle.std.proofs.Math.Facts.{sfits_to_z, sfits_widen}
-use Rattle.std.specs.Prelude.{ℤ, pos, negsuc, FitsSigned, map, nat_le, nat_lt, ◌==◌, ◌&&◌, ◌||◌, encode_utf8_all, if◌then◌else◌}
+use Rattle.std.specs.Prelude.{IsTrue, ℤ, pos, negsuc, FitsSigned, map, nat_le, nat_lt, ◌==◌, ◌&&◌, ◌||◌, encode_utf8_all, if◌then◌else◌}
 use Rattle.std.specs.Int.{Width, w8, w16, w32, w64, cast_signed, from_le_bytes}
 use Rattle.std.specs.Char.Utf16.{has_unpaired_surrogate, is_high_surrogate, is_low_surrogate, lone_unit_char, surrogate_pair_char, utf16_chars, utf16_lossy_chars}
 use Rattle.std.specs.List.{list_all}
@@ -11,6 +11,7 @@ use lib.Utf8.{scalar, scalars}
 use Rattle.std.proofs.lemmas.Bool.{and_parts, and_from, cond_both, eq-eqb, le-leb, le-ltb, leb-true, leb-false, lt-ltb, ltb-true, ltb-false, and_cases}
 use Rattle.std.proofs.lemmas.List.{take-append-drop}
 use Rattle.std.proofs.lemmas.Str.{IsUtf8-nil, is_utf8-from_IsUtf8}
+use Rattle.unit_streams.specs.Front.{whole}
 use Rattle.multibyte_ints.specs.Integer.{IsBytes}
 use Rattle.nbfx_values.specs.Items.{fits_kind}
 use Rattle.nbfx_values.specs.Scalars.{are_bytes, is_identifier, is_number, is_unsigned}
@@ -25,21 +26,19 @@ use Rattle.nbfx_records.specs.declared.nodes.AttrNode.{AttrNode}
 use Rattle.nbfx_records.specs.declared.nodes.AttrNode.TheVariants as attribute_nodes
 use Rattle.nbfx_records.specs.declared.nodes.NameRef.{NameRef}
 use Rattle.nbfx_records.specs.declared.nodes.NameRef.TheVariants.{Inline, Id}
+use Rattle.nbfx_records.specs.declared.nodes.Node.{Node}
 use Rattle.nbfx_records.specs.declared.nodes.Node.TheVariants.{EndElement, Comment, Array, Attribute, Xmlns, Element, Text}
 use Rattle.nbfx_records.specs.declared.nodes.RawScalar.{RawScalar}
 use Rattle.nbfx_records.specs.declared.nodes.RawScalar.TheVariants.{Known}
 use Rattle.nbfx_records.specs.declared.nodes.RawValue.{RawValue}
 use Rattle.nbfx_records.specs.declared.nodes.RawValue.TheVariants.{One, List as ListOf}
 use Rattle.nbfx_records.specs.declared.nodes.NodePlace.{NodePlace}
-use Rattle.nbfx_records.specs.declared.read.NodeRead.{NodeRead}
-use Rattle.nbfx_records.specs.declared.read.NodeRead.TheVariants.{More, Done}
-use Rattle.nbfx_records.specs.declared.read.ReadFault.{ReadFault}
-use Rattle.nbfx_records.specs.Answers.{Answers, ReadsValid}
 use Rattle.nbfx_records.specs.Contents.{units_of, utf16_text}
 use Rattle.nbfx_records.specs.Kinds.{text_kind_in}
 use Rattle.nbfx_records.specs.Laws.{RecordsAreValid}
+use Rattle.nbfx_records.specs.Reading.{node_at}
 use Rattle.nbfx_records.specs.Records.{AreAttrNodes, AreCells, IsArray, IsAttrNode, IsBinary, IsChars, IsCounted, IsDecimal, IsElement, IsFixed, IsName, IsUnicode, SpellsAs, SpellsLast, SpellsList, SpellScalars, SpellsScalar, SpellsValue, array_byte}
-use Rattle.nbfx_records.specs.Valid.{are_valid_names, is_valid_array, is_valid_known, is_valid_name, is_valid_part, is_valid_raw, is_valid_text}
+use Rattle.nbfx_records.specs.Valid.{are_valid_names, is_valid_array, is_valid_known, is_valid_name, is_valid_node, is_valid_part, is_valid_raw, is_valid_text}
 use Rattle.nbfx_records.proofs.AttributeBytes.{attribute_head_back, declaration_head_back, element_head_back}
 use Rattle.nbfx_records.proofs.NodeBytes.{records_are_read}
 use Rattle.nbfx_records.proofs.NumberFacts.{signed_true}
@@ -305,9 +304,9 @@ records_are_valid (Element prefix name) bytes are h = element_valid prefix name 
 records_are_valid (Text value false) bytes are h = value_valid value bytes (bytes_behind bytes are) h
 records_are_valid (Text value true) bytes are h = last_valid value bytes (bytes_behind bytes are) h
 
-pub reads_valid : (place : NodePlace) (bytes : List ℕ) (r : Result NodeRead ReadFault) → IsBytes bytes → Answers place bytes r → ReadsValid r
-reads_valid place bytes (Ok (Done used node)) are e =
+-- a node that is read of bytes is valid
+pub reads_valid : (place : NodePlace) (bytes : List ℕ) (node : Node) (used : ℕ) → IsBytes bytes
+    → node_at place bytes ≡ whole node used → IsTrue (is_valid_node node)
+reads_valid place bytes node used are e =
     let read = (records_are_read place bytes node used).0 e in
     records_are_valid node (take used bytes) (bytes_front (take used bytes) (drop used bytes) (subst IsBytes (sym (take-append-drop used bytes)) are)) read.1
-reads_valid place bytes (Ok (More wants)) are e = tt
-reads_valid place bytes (Err fault) are e = tt

@@ -1,25 +1,16 @@
 -- What is answered to bytes at whose front a record is read.
-use Rattle.std.specs.Prelude.{◌≡◌, ⊤, ℕ, ◌<◌, List, ◌++◌, length, IsTrue, Result, Ok, Err}
+use Rattle.std.specs.Prelude.{◌≡◌, ⊤, ℕ, ◌+◌, ◌<◌, ◌≤◌, List, [], ◌++◌, length, IsTrue, Result, Ok, Err}
 use Rattle.unit_streams.specs.Front.{begun, whole, wrong}
 use Rattle.nbfx_records.specs.declared.cursor.Stop.{Stop}
 use Rattle.nbfx_records.specs.declared.cursor.Stop.TheVariants as stops
-use Rattle.nbfx_records.specs.declared.nodes.Node.{Node}
-use Rattle.nbfx_records.specs.declared.nodes.NodeFault.{NodeFault}
 use Rattle.nbfx_records.specs.declared.nodes.NodePlace.{NodePlace}
-use Rattle.nbfx_records.specs.declared.read.NodeRead.{NodeRead}
-use Rattle.nbfx_records.specs.declared.read.NodeRead.TheVariants.{More, Done}
-use Rattle.nbfx_records.specs.declared.read.ReadFault.{ReadFault}
-use Rattle.nbfx_records.specs.declared.read.ReadFault.TheVariants.{Fault, Memory}
+use Rattle.nbfx_records.specs.declared.reader.NodeStep.{NodeStep}
+use Rattle.nbfx_records.specs.declared.reader.NodeStep.TheVariants.{More, Done}
+use Rattle.nbfx_records.specs.declared.nodes.NodeFault.{NodeFault}
+use Rattle.nbfx_records.specs.declared.nodes.NodeFault.TheVariants.{Record, Memory}
 use Rattle.nbfx_records.specs.Asked as asked
 use Rattle.nbfx_records.specs.Reading.{node_at}
 use Rattle.nbfx_records.specs.Valid.{is_valid_node}
-
--- the answer is what stands at the front; want of memory comes only where that is decided
-abbrev pub Answers : NodePlace → List ℕ → Result NodeRead ReadFault → Type 0
-Answers place bytes (Ok (Done used node)) = node_at place bytes ≡ whole node used
-Answers place bytes (Ok (More wants)) = node_at place bytes ≡ begun
-Answers place bytes (Err (Fault fault shown_by)) = node_at place bytes ≡ wrong fault shown_by
-Answers place bytes (Err Memory) = ¬ (node_at place bytes ≡ begun)
 
 -- Fewer than so many bytes in all decide nothing, however they go on: so many are asked for where
 -- the bytes end, which is up to the end of a text, of bytes or of an array's values where their
@@ -30,23 +21,29 @@ pub record WaitsFor (place : NodePlace) (bytes : List ℕ) (wants : ℕ) : Type 
       → node_at place (bytes ++ next) ≡ begun
   pub asks : asked.shape_at place bytes wants
 
-abbrev pub Wants : NodePlace → List ℕ → Result NodeRead ReadFault → Type 0
-Wants place bytes (Ok (More wants)) = WaitsFor place bytes wants
-Wants place bytes _ = ⊤
+-- why no record is whole by its structure
+abbrev pub StopsBy : NodePlace → List ℕ → Stop → Type 0
+StopsBy place bytes (stops.More wants) = WaitsFor place bytes wants
+StopsBy place bytes (stops.Fault fault shown_by) = node_at place bytes ≡ wrong fault shown_by
+
+-- What a piece is answered with behind the bytes p of a record that has begun: the record that its
+-- first so many bytes make whole, that it makes none whole, or why none begins so.
+abbrev pub FeedAnswers : NodePlace → List ℕ → List ℕ → Result (ℕ × NodeStep) NodeFault → Type 0
+FeedAnswers place p piece (Ok (used, Done node)) = (0 < used) × (used ≤ length piece)
+    × (node_at place (p ++ piece) ≡ whole node (length p + used))
+FeedAnswers place p piece (Ok (used, More)) =
+    (used ≡ length piece) × (node_at place (p ++ piece) ≡ begun)
+FeedAnswers place p piece (Err (Record fault)) =
+    (shown_by : ℕ) × (node_at place (p ++ piece) ≡ wrong fault shown_by)
+FeedAnswers place p piece (Err Memory) = ⊤
+
+-- which bytes are left then of a record that has begun
+abbrev pub IsLeft : List ℕ → List ℕ → List ℕ → Result (ℕ × NodeStep) NodeFault → Type 0
+IsLeft p piece left (Ok (used, Done node)) = left ≡ []
+IsLeft p piece left (Ok (used, More)) = left ≡ p ++ piece
+IsLeft p piece left (Err why) = ⊤
 
 -- a node that is read is one whose values records can hold
-abbrev pub ReadsValid : Result NodeRead ReadFault → Type 0
-ReadsValid (Ok (Done used node)) = IsTrue (is_valid_node node)
-ReadsValid _ = ⊤
-
--- what a whole record of so many bytes says
-abbrev pub Gives : Result NodeRead ReadFault → Result Node NodeFault → ℕ → Type 0
-Gives (Ok (Done n node)) judged used = (n ≡ used) × (judged ≡ Ok node)
-Gives (Ok (More wants)) judged used = ⊥
-Gives (Err (Fault fault n)) judged used = (n ≡ used) × (judged ≡ Err fault)
-Gives (Err Memory) judged used = ⊤
-
--- what is answered where its structure isn't whole
-abbrev pub stopped_by : Stop → Result NodeRead ReadFault
-stopped_by (stops.More wants) = Ok (More wants)
-stopped_by (stops.Fault fault shown_by) = Err (Fault fault shown_by)
+abbrev pub StepIsValid : NodeStep → Type 0
+StepIsValid (Done node) = IsTrue (is_valid_node node)
+StepIsValid More = ⊤

@@ -18,7 +18,7 @@ use Rattle.nbfx_records.specs.declared.kinds.RecordKind.{RecordKind}
 use Rattle.nbfx_records.specs.declared.kinds.RecordKind.TheVariants as records
 use Rattle.nbfx_records.specs.declared.kinds.TextKind.{TextKind}
 use Rattle.nbfx_records.specs.declared.kinds.TextKind.TheVariants as texts
-use Rattle.nbfx_records.specs.declared.nodes.NodeFault.{NodeFault}
+use Rattle.nbfx_records.specs.declared.nodes.RecordFault.{RecordFault}
 use Rattle.nbfx_records.specs.declared.nodes.NodePlace.{NodePlace}
 use Rattle.nbfx_records.specs.declared.nodes.NodePlace.TheVariants.{AfterRoot}
 use Rattle.nbfx_records.specs.Causes.{Behind, BehindMany}
@@ -39,7 +39,7 @@ abbrev pub an_integer : List ℕ → ℕ → Type 0
 an_integer bytes m = (int_at bytes ≡ begun) × (m ≡ length bytes + 1)
 
 -- a part, or one behind it where it is whole
-pub data Either {A : Type 0} (reader : Reader A NodeFault) (first : List ℕ → ℕ → Type 0)
+pub data Either {A : Type 0} (reader : Reader A RecordFault) (first : List ℕ → ℕ → Type 0)
     (next : A → List ℕ → ℕ → Type 0) (bytes : List ℕ) (m : ℕ) : Type 0 where
   here : first bytes m → Either reader first next bytes m
   later : Behind reader next bytes m → Either reader first next bytes m
@@ -171,7 +171,7 @@ record_at (records.Declaration prefix uri) = declaration_at prefix uri
 record_at (records.Element prefix name) = element_at prefix name
 record_at (records.Text kind ends) = text_at kind ends
 
-abbrev pub unless_misplaced : Option NodeFault → RecordKind → List ℕ → ℕ → Type 0
+abbrev pub unless_misplaced : Option RecordFault → RecordKind → List ℕ → ℕ → Type 0
 unless_misplaced None kind = record_at kind
 unless_misplaced (Some fault) kind = nothing
 

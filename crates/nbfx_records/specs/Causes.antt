@@ -18,8 +18,8 @@ use Rattle.nbfx_records.specs.declared.kinds.RecordKind.{RecordKind}
 use Rattle.nbfx_records.specs.declared.kinds.RecordKind.TheVariants as records
 use Rattle.nbfx_records.specs.declared.kinds.TextKind.{TextKind}
 use Rattle.nbfx_records.specs.declared.kinds.TextKind.TheVariants as texts
-use Rattle.nbfx_records.specs.declared.nodes.NodeFault.{NodeFault}
-use Rattle.nbfx_records.specs.declared.nodes.NodeFault.TheVariants as faults
+use Rattle.nbfx_records.specs.declared.nodes.RecordFault.{RecordFault}
+use Rattle.nbfx_records.specs.declared.nodes.RecordFault.TheVariants as faults
 use Rattle.nbfx_records.specs.declared.nodes.NodePlace.{NodePlace}
 use Rattle.nbfx_records.specs.declared.nodes.NodePlace.TheVariants.{AfterRoot}
 use Rattle.nbfx_records.specs.declared.nodes.NameRef.{NameRef}
@@ -49,20 +49,20 @@ pub data Part : Type 0 where
 
 -- Why a type byte may not come, by the record that it begins: one byte may not begin a record at a
 -- place,
-abbrev pub record_refused : NodePlace → Option RecordKind → Option NodeFault
+abbrev pub record_refused : NodePlace → Option RecordKind → Option RecordFault
 record_refused AfterRoot kind = Some faults.TrailingBytes
 record_refused place None = Some faults.UnknownNode
 record_refused place (Some kind) = misplaced place kind
 
 -- nor an attribute's value, which is a plain text, a list too,
-abbrev pub value_refused : Option RecordKind → Option NodeFault
+abbrev pub value_refused : Option RecordKind → Option RecordFault
 value_refused None = Some faults.UnknownNode
 value_refused (Some (records.Text texts.EndList ends)) = Some faults.OutOfPlace
 value_refused (Some (records.Text kind ends)) = if ends then Some faults.OutOfPlace else None
 value_refused (Some _) = Some faults.OutOfPlace
 
 -- nor one thing of a list, which is a plain text that is no list, or the end,
-abbrev pub item_refused : Bool → Option RecordKind → Option NodeFault
+abbrev pub item_refused : Bool → Option RecordKind → Option RecordFault
 item_refused may_close None = Some faults.UnknownNode
 item_refused may_close (Some (records.Text texts.EndList ends)) =
     if ends && not may_close then Some faults.OutOfPlace else None
@@ -72,23 +72,23 @@ item_refused may_close (Some (records.Text kind ends)) =
 item_refused may_close (Some _) = Some faults.OutOfPlace
 
 -- nor an array's element, an attribute of it or their end, its values
-abbrev pub element_refused : Option RecordKind → Option NodeFault
+abbrev pub element_refused : Option RecordKind → Option RecordFault
 element_refused None = Some faults.UnknownNode
 element_refused (Some (records.Element _ _)) = None
 element_refused (Some _) = Some faults.BadArray
 
-abbrev pub part_refused : Option RecordKind → Option NodeFault
+abbrev pub part_refused : Option RecordKind → Option RecordFault
 part_refused None = Some faults.UnknownNode
 part_refused (Some (records.Attribute _ _)) = None
 part_refused (Some (records.Declaration _ _)) = None
 part_refused (Some records.EndElement) = None
 part_refused (Some _) = Some faults.BadArray
 
-abbrev pub cells_refused : Option ArrayKind → Option NodeFault
+abbrev pub cells_refused : Option ArrayKind → Option RecordFault
 cells_refused None = Some faults.BadArray
 cells_refused (Some kind) = None
 
-abbrev pub type_refused : Part → ℕ → Option NodeFault
+abbrev pub type_refused : Part → ℕ → Option RecordFault
 type_refused (record_type place) byte = record_refused place (record_kind byte)
 type_refused value_type byte = value_refused (record_kind byte)
 type_refused (item_type may_close) byte = item_refused may_close (record_kind byte)
@@ -98,26 +98,26 @@ type_refused cells_type byte = cells_refused (array_kind byte)
 type_refused _ byte = None
 
 -- a type byte is refused
-abbrev pub IsRefused : Part → NodeFault → List ℕ → ℕ → Type 0
+abbrev pub IsRefused : Part → RecordFault → List ℕ → ℕ → Type 0
 IsRefused part fault [] m = ⊥
 IsRefused part fault (byte ∷ rest) m = (m ≡ 1) × (type_refused part byte ≡ Some fault)
 
 -- an integer's fifth byte is above 7
-abbrev pub IsBadInt : NodeFault → List ℕ → ℕ → Type 0
+abbrev pub IsBadInt : RecordFault → List ℕ → ℕ → Type 0
 IsBadInt fault bytes m = (fault ≡ faults.BadInt) × (m ≡ 5) × FifthIsAbove bytes
 
 -- a number of values is none, where it is whole
-abbrev pub IsNone : NodeFault → List ℕ → ℕ → Type 0
+abbrev pub IsNone : RecordFault → List ℕ → ℕ → Type 0
 IsNone fault bytes m = (fault ≡ faults.BadArray) × (int_at bytes ≡ whole 0 m)
 
 -- a length of four bytes is negative
-abbrev pub IsNegative : NodeFault → List ℕ → ℕ → Type 0
+abbrev pub IsNegative : RecordFault → List ℕ → ℕ → Type 0
 IsNegative fault bytes m =
     (fault ≡ faults.BadInt) × (m ≡ 4) × (4 ≤ length bytes)
     × (2 ^ 31 ≤ from_le_bytes w32 (take 4 bytes))
 
 -- a part is wrong, as its first m bytes show
-abbrev pub IsWrongPart : Part → NodeFault → List ℕ → ℕ → Type 0
+abbrev pub IsWrongPart : Part → RecordFault → List ℕ → ℕ → Type 0
 IsWrongPart count fault bytes m = IsBadInt fault bytes m ⊎ IsNone fault bytes m
 IsWrongPart integer fault bytes m = IsBadInt fault bytes m
 IsWrongPart long_length fault bytes m = IsNegative fault bytes m
@@ -128,20 +128,20 @@ abbrev pub Now : Part → Part → ℕ → Type 0
 Now due part k = (part ≡ due) × (k ≡ 0)
 
 -- or behind a whole thing, as next says by what that is,
-abbrev pub Behind : {A : Type 0} → Reader A NodeFault → (A → List ℕ → ℕ → Type 0) → List ℕ → ℕ
+abbrev pub Behind : {A : Type 0} → Reader A RecordFault → (A → List ℕ → ℕ → Type 0) → List ℕ → ℕ
     → Type 0
 Behind {A} reader next bytes k =
     (a : A) × (j : ℕ) × (i : ℕ) × (reader bytes ≡ whole a j) × (k ≡ j + i) × next a (drop j bytes) i
 
 -- or behind whole things one behind the other
-abbrev pub BehindThese : {A B : Type 0} → Reader (Turn A B) NodeFault → (List ℕ → ℕ → Type 0)
+abbrev pub BehindThese : {A B : Type 0} → Reader (Turn A B) RecordFault → (List ℕ → ℕ → Type 0)
     → List A → List ℕ → ℕ → Type 0
 BehindThese turn next [] bytes k = next bytes k
 BehindThese turn next (a ∷ items) bytes k =
     (j : ℕ) × (i : ℕ) × (turn bytes ≡ whole (more a) j) × (k ≡ j + i)
     × BehindThese turn next items (drop j bytes) i
 
-abbrev pub BehindMany : {A B : Type 0} → Reader (Turn A B) NodeFault → (List ℕ → ℕ → Type 0)
+abbrev pub BehindMany : {A B : Type 0} → Reader (Turn A B) RecordFault → (List ℕ → ℕ → Type 0)
     → List ℕ → ℕ → Type 0
 BehindMany {A} turn next bytes k = (items : List A) × BehindThese turn next items bytes k
 
@@ -159,7 +159,7 @@ abbrev pub InBody : Body → Part → List ℕ → ℕ → Type 0
 InBody (Counted FourBytes) part bytes k = Now long_length part k
 InBody Named part bytes k = Now integer part k
 InBody Qualified part bytes k =
-    Behind (a_byte {R = NodeFault}) (λ _ rest i. Now integer part i) bytes k
+    Behind (a_byte {R = RecordFault}) (λ _ rest i. Now integer part i) bytes k
 InBody _ part bytes k = ⊥
 
 -- in a list
@@ -170,7 +170,7 @@ InItem _ part bytes k = ⊥
 abbrev pub InTurn : Bool → Part → List ℕ → ℕ → Type 0
 InTurn may_close part bytes k =
     Now (item_type may_close) part k
-    ⊎ Behind (a_byte {R = NodeFault}) (λ byte rest i. InItem (record_kind byte) part rest i) bytes k
+    ⊎ Behind (a_byte {R = RecordFault}) (λ byte rest i. InItem (record_kind byte) part rest i) bytes k
 
 abbrev pub InList : Bool → Part → List ℕ → ℕ → Type 0
 InList may_close part bytes k = BehindMany (list_turn may_close) (InTurn may_close part) bytes k
@@ -188,7 +188,7 @@ InValueOf _ part bytes k = ⊥
 abbrev pub InValue : Part → List ℕ → ℕ → Type 0
 InValue part bytes k =
     Now value_type part k
-    ⊎ Behind (a_byte {R = NodeFault}) (λ byte rest i. InValueOf (record_kind byte) part rest i)
+    ⊎ Behind (a_byte {R = RecordFault}) (λ byte rest i. InValueOf (record_kind byte) part rest i)
     bytes k
 
 abbrev pub InAttribute : PrefixForm → NameForm → Part → List ℕ → ℕ → Type 0
@@ -206,7 +206,7 @@ InElementOf _ part bytes k = ⊥
 abbrev pub InElement : Part → List ℕ → ℕ → Type 0
 InElement part bytes k =
     Now element_type part k
-    ⊎ Behind (a_byte {R = NodeFault}) (λ byte rest i. InElementOf (record_kind byte) part rest i)
+    ⊎ Behind (a_byte {R = RecordFault}) (λ byte rest i. InElementOf (record_kind byte) part rest i)
     bytes k
 
 abbrev pub InPartOf : Option RecordKind → Part → List ℕ → ℕ → Type 0
@@ -218,7 +218,7 @@ abbrev pub InParts : Part → List ℕ → ℕ → Type 0
 InParts part bytes k =
     BehindMany array_turn
     (λ rest i. Now part_type part i
-    ⊎ Behind (a_byte {R = NodeFault})
+    ⊎ Behind (a_byte {R = RecordFault})
     (λ byte behind h. InPartOf (record_kind byte) part behind h) rest i) bytes k
 
 abbrev pub InCellsOf : Option ArrayKind → Part → ℕ → Type 0
@@ -228,7 +228,7 @@ InCellsOf None part k = ⊥
 abbrev pub InCells : Part → List ℕ → ℕ → Type 0
 InCells part bytes k =
     Now cells_type part k
-    ⊎ Behind (a_byte {R = NodeFault}) (λ byte rest i. InCellsOf (array_kind byte) part i) bytes k
+    ⊎ Behind (a_byte {R = RecordFault}) (λ byte rest i. InCellsOf (array_kind byte) part i) bytes k
 
 abbrev pub InArray : Part → List ℕ → ℕ → Type 0
 InArray part bytes k =
@@ -255,11 +255,11 @@ InPlaced place None part bytes k = ⊥
 abbrev pub InRecord : NodePlace → Part → List ℕ → ℕ → Type 0
 InRecord place part bytes k =
     Now (record_type place) part k
-    ⊎ Behind (a_byte {R = NodeFault}) (λ byte rest i. InPlaced place (record_kind byte) part rest i)
+    ⊎ Behind (a_byte {R = RecordFault}) (λ byte rest i. InPlaced place (record_kind byte) part rest i)
     bytes k
 
 -- some part is wrong of those that come so, as the first n bytes show
-pub record Caused (comes : Part → List ℕ → ℕ → Type 0) (fault : NodeFault) (bytes : List ℕ)
+pub record Caused (comes : Part → List ℕ → ℕ → Type 0) (fault : RecordFault) (bytes : List ℕ)
     (n : ℕ) : Type 0 where
   pub part : Part
   pub at : ℕ

@@ -22,8 +22,8 @@ use Rattle.nbfx_records.specs.declared.nodes.AttrNode.TheVariants as attribute_n
 use Rattle.nbfx_records.specs.declared.nodes.ArrayNode.{ArrayNode}
 use Rattle.nbfx_records.specs.declared.nodes.Node.{Node}
 use Rattle.nbfx_records.specs.declared.nodes.Node.TheVariants as nodes
-use Rattle.nbfx_records.specs.declared.nodes.NodeFault.{NodeFault}
-use Rattle.nbfx_records.specs.declared.nodes.NodeFault.TheVariants as faults
+use Rattle.nbfx_records.specs.declared.nodes.RecordFault.{RecordFault}
+use Rattle.nbfx_records.specs.declared.nodes.RecordFault.TheVariants as faults
 use Rattle.nbfx_records.specs.Kinds.{text_kind_in, width_of}
 use Rattle.nbfx_records.specs.Shapes.{ScalarShape, bytes_of, named_by, qualified_by, ValueShape, one, several, AttributeShape, attributes, declares, NamedShape, CellsShape, ArrayShape, Shape, ends_element, comments, begins_element, adds, has_text, repeats}
 
@@ -124,11 +124,11 @@ is_sized texts.UnicodeChars32 = false
 is_sized _ = true
 
 -- texts are judged before values
-abbrev pub judge : {A : Type 0} → Bool → Option A → Result A NodeFault
+abbrev pub judge : {A : Type 0} → Bool → Option A → Result A RecordFault
 judge texts found = if texts then ok_or found faults.BadValue else Err faults.BadUtf8
 
 -- the value of a kind's bytes
-abbrev pub known_judged : TextKind → List ℕ → Result Scalar NodeFault
+abbrev pub known_judged : TextKind → List ℕ → Result Scalar RecordFault
 known_judged kind bytes = judge (not (is_chars kind) || is_utf8 bytes) (scalar_of kind bytes)
 
 -- whether each text of a shape is UTF-8
@@ -210,48 +210,48 @@ node_of (has_text value ends) = option_map (λ v. nodes.Text v ends) (value_of v
 node_of (repeats array) = option_map nodes.Array (array_of array)
 
 -- the parts of a record, judged
-abbrev pub text_judged : List ℕ → Result (List ℕ) NodeFault
+abbrev pub text_judged : List ℕ → Result (List ℕ) RecordFault
 text_judged bytes = judge (is_utf8 bytes) (Some bytes)
 
-abbrev pub name_judged : NameRef → Result NameRef NodeFault
+abbrev pub name_judged : NameRef → Result NameRef RecordFault
 name_judged name = judge (name_is_text name) (Some name)
 
-abbrev pub element_judged : NamedShape → Result Node NodeFault
+abbrev pub element_judged : NamedShape → Result Node RecordFault
 element_judged it =
     judge (is_utf8 it.prefix && name_is_text it.name) (Some (nodes.Element it.prefix it.name))
 
-abbrev pub scalar_judged : ScalarShape → Result RawScalar NodeFault
+abbrev pub scalar_judged : ScalarShape → Result RawScalar RecordFault
 scalar_judged scalar = judge (scalar_is_text scalar) (scalar_value scalar)
 
-abbrev pub scalars_judged : List ScalarShape → Result (List RawScalar) NodeFault
+abbrev pub scalars_judged : List ScalarShape → Result (List RawScalar) RecordFault
 scalars_judged scalars = judge (list_all scalar_is_text scalars) (each scalar_value scalars)
 
-abbrev pub value_judged : ValueShape → Result RawValue NodeFault
+abbrev pub value_judged : ValueShape → Result RawValue RecordFault
 value_judged value = judge (value_is_text value) (value_of value)
 
-abbrev pub attribute_judged : AttributeShape → Result AttrNode NodeFault
+abbrev pub attribute_judged : AttributeShape → Result AttrNode RecordFault
 attribute_judged attribute = judge (attribute_is_text attribute) (attribute_value attribute)
 
-abbrev pub attributes_judged : List AttributeShape → Result (List AttrNode) NodeFault
+abbrev pub attributes_judged : List AttributeShape → Result (List AttrNode) RecordFault
 attributes_judged parts = judge (list_all attribute_is_text parts) (each attribute_value parts)
 
-abbrev pub cells_judged : CellsShape → Result (List Scalar) NodeFault
+abbrev pub cells_judged : CellsShape → Result (List Scalar) RecordFault
 cells_judged shape = judge true (cell_values shape.kind shape.count shape.bytes)
 
-abbrev pub array_judged : ArrayShape → Result ArrayNode NodeFault
+abbrev pub array_judged : ArrayShape → Result ArrayNode RecordFault
 array_judged array = judge (is_text (repeats array)) (array_of array)
 
 -- what is wrong with a value, where texts come behind it: with these first
-abbrev pub behind_texts : {A : Type 0} → Bool → Result A NodeFault → Result A NodeFault
+abbrev pub behind_texts : {A : Type 0} → Bool → Result A RecordFault → Result A RecordFault
 behind_texts texts (Ok a) = Ok a
 behind_texts texts (Err faults.BadValue) = judge texts None
 behind_texts texts (Err fault) = Err fault
 
 -- the same with others in front
-abbrev pub led : {A : Type 0} → List A → Result (List A) NodeFault → Result (List A) NodeFault
+abbrev pub led : {A : Type 0} → List A → Result (List A) RecordFault → Result (List A) RecordFault
 led front (Ok rest) = Ok (front ++ rest)
 led front (Err fault) = Err fault
 
 -- what a whole shape says
-unfoldable pub contents : Shape → Result Node NodeFault
+unfoldable pub contents : Shape → Result Node RecordFault
 contents shape = judge (is_text shape) (node_of shape)

@@ -8,9 +8,8 @@ use Rattle.multibyte_ints.specs.Integer.{IsBytes}
 use Rattle.unit_streams.specs.Front.{begun, whole, wrong}
 use Rattle.nbfx_records.specs.declared.nodes.Node.{Node}
 use Rattle.nbfx_records.specs.declared.nodes.NodePlace.{NodePlace}
-use Rattle.nbfx_records.specs.declared.resume.Resume.{Resume}
-use Rattle.nbfx_records.specs.declared.nodes.NodeFault.{NodeFault}
-use Rattle.nbfx_records.specs.declared.nodes.NodeFault.TheVariants as faults
+use Rattle.nbfx_records.specs.declared.nodes.RecordFault.{RecordFault}
+use Rattle.nbfx_records.specs.declared.nodes.RecordFault.TheVariants as faults
 use Rattle.nbfx_records.specs.Causes.{Caused, HasBadText, HasBadValue, InRecord, scalars_in}
 use Rattle.nbfx_records.specs.Chosen.{chosen_bytes, is_utf16}
 use Rattle.nbfx_records.specs.Contents.{contents}
@@ -18,7 +17,6 @@ use Rattle.nbfx_records.specs.Meaning.{Means, identifiers, items_of}
 use Rattle.nbfx_records.specs.Places.{Stands}
 use Rattle.nbfx_records.specs.Reading.{node_at}
 use Rattle.nbfx_records.specs.Records.{IsNode}
-use Rattle.nbfx_records.specs.Resuming.{Fits}
 use Rattle.nbfx_records.specs.Shapes.{Shape, shape_at}
 use Rattle.nbfx_records.specs.Valid.{fits_node, is_valid_node}
 
@@ -39,7 +37,7 @@ NoRecordGoesOn = (one other : Node) (bytes more : List ℕ)
 
 -- A fault of the structure comes by the first part that is wrong,
 abbrev pub WrongByPart : Type 0
-WrongByPart = (place : NodePlace) (bytes : List ℕ) (fault : NodeFault) (n : ℕ)
+WrongByPart = (place : NodePlace) (bytes : List ℕ) (fault : RecordFault) (n : ℕ)
     → fault ≢ faults.BadUtf8 → fault ≢ faults.BadValue
     → (node_at place bytes ≡ wrong fault n) ↔ Caused (InRecord place) fault bytes n
 
@@ -74,11 +72,6 @@ ChosenIsShortest = (place : NodePlace) (bytes : List ℕ) (shape : Shape) (node 
     → IsBytes bytes → shape_at place bytes ≡ whole shape n → contents shape ≡ Ok node
     → IsTrue (list_all (λ scalar. not (is_utf16 scalar)) (scalars_in shape))
     → length (chosen_bytes node) ≤ n
-
--- where bytes were looked at, they needn't be looked at again when more of them came
-abbrev pub StillFits : Type 0
-StillFits = (resume : Resume) (bytes next : List ℕ)
-    → Fits resume bytes → Fits resume (bytes ++ next)
 
 -- the items that are found for a node are those that it says
 abbrev pub MeaningsAreFound : Type 0

@@ -20,6 +20,7 @@ pub mod Asked
 pub mod Payloads
 -- what calls answer, and laws.
 pub mod Answers
+pub mod Standing
 pub mod Resuming
 pub mod Laws
 pub mod WritingLaws

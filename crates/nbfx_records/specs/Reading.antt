@@ -2,10 +2,10 @@
 use Rattle.unit_streams.specs.Parts.{Reader, judged}
 use Rattle.nbfx_records.specs.declared.nodes.Node.{Node}
 use Rattle.nbfx_records.specs.declared.nodes.NodePlace.{NodePlace}
-use Rattle.nbfx_records.specs.declared.nodes.NodeFault.{NodeFault}
+use Rattle.nbfx_records.specs.declared.nodes.RecordFault.{RecordFault}
 use Rattle.nbfx_records.specs.Shapes.{shape_at}
 use Rattle.nbfx_records.specs.Contents.{contents}
 
 -- where it may come at this place: what it says is judged where it is whole
-unfoldable pub node_at : NodePlace → Reader Node NodeFault
+unfoldable pub node_at : NodePlace → Reader Node RecordFault
 node_at place bytes = judged contents (shape_at place bytes)

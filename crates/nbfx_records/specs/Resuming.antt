@@ -1,8 +1,8 @@
 -- How far a record that isn't whole was seen to be whole: positions alone.
-use Rattle.std.specs.Prelude.{◌≡◌, ⊤, ℕ, ◌<◌, ◌≤◌, List, [], ◌∷◌, length, Bool, true, false, Option, Some, None, Result, Ok}
+use Rattle.std.specs.Prelude.{◌≡◌, ⊤, ℕ, ◌<◌, ◌≤◌, List, [], ◌∷◌, length, Bool, true, false, Option, Some, None}
 use Rattle.unit_streams.specs.Front.{begun, whole}
 use Rattle.unit_streams.specs.Parts.{Reader, Turn, more, a_byte}
-use Rattle.nbfx_records.specs.declared.nodes.NodeFault.{NodeFault}
+use Rattle.nbfx_records.specs.declared.nodes.RecordFault.{RecordFault}
 use Rattle.nbfx_records.specs.declared.kinds.NameForm.{NameForm}
 use Rattle.nbfx_records.specs.declared.kinds.PrefixForm.{PrefixForm}
 use Rattle.nbfx_records.specs.declared.kinds.TextKind.{TextKind}
@@ -10,23 +10,20 @@ use Rattle.nbfx_records.specs.declared.nodes.NameRef.{NameRef}
 use Rattle.nbfx_records.specs.declared.kinds.RecordKind.{RecordKind}
 use Rattle.nbfx_records.specs.declared.kinds.RecordKind.TheVariants as records
 use Rattle.nbfx_records.specs.declared.kinds.TextKind.TheVariants as texts
-use Rattle.nbfx_records.specs.declared.read.NodeRead.{NodeRead}
-use Rattle.nbfx_records.specs.declared.read.NodeRead.TheVariants.{More}
-use Rattle.nbfx_records.specs.declared.read.ReadFault.{ReadFault}
 use Rattle.nbfx_records.specs.declared.resume.Resume.{Resume}
 use Rattle.nbfx_records.specs.Cursor.{IsWhole, read_from}
 use Rattle.nbfx_records.specs.Kinds.{record_kind}
 use Rattle.nbfx_records.specs.Shapes.{NamedShape, list_turn, array_element, array_parts, array_turn, name_at, prefix_at}
 
 -- whole things one behind the other, from an offset to another
-abbrev pub AreMore : {A B : Type 0} → Reader (Turn A B) NodeFault → List ℕ → ℕ → List A → ℕ → Type 0
+abbrev pub AreMore : {A B : Type 0} → Reader (Turn A B) RecordFault → List ℕ → ℕ → List A → ℕ → Type 0
 AreMore turn bytes from [] to = from ≡ to
 AreMore turn bytes from (a ∷ items) to =
     (mid : ℕ) × (from < mid) × IsWhole turn bytes from (more a) mid
     × AreMore turn bytes mid items to
 
 -- some
-pub record Passes {A B : Type 0} (turn : Reader (Turn A B) NodeFault) (bytes : List ℕ)
+pub record Passes {A B : Type 0} (turn : Reader (Turn A B) RecordFault) (bytes : List ℕ)
     (from to : ℕ) : Type 0 where
   pub items : List A
   pub are : AreMore turn bytes from items to
@@ -93,7 +90,3 @@ abbrev pub KeepsWhole : Resume → List ℕ → Type 0
 KeepsWhole resume bytes =
     (byte at : ℕ) → read_from 0 a_byte bytes ≡ whole byte at
     → KeepsAny (record_kind byte) at resume bytes
-
-abbrev pub Keeps : Resume → List ℕ → Result NodeRead ReadFault → Type 0
-Keeps resume bytes (Ok (More wants)) = KeepsWhole resume bytes
-Keeps resume bytes _ = ⊤

@@ -11,7 +11,7 @@ ghost use Rattle.nbfx_records.specs.Views.{AreParts, AreSized, IsSoundTurn, arra
 use crate::attributes::{AttributePart, attribute_at, declaration_at};
 use crate::cursor::{Stop, byte_at, bytes_at, fault, integer_at};
 use crate::kinds::RecordKind;
-use crate::nodes::NodeFault;
+use crate::nodes::RecordFault;
 use crate::parts::{NamedPart, element_at};
 use crate::resume::Resume;
 use crate::type_bytes::{array_kind, record_kind, width};
@@ -56,7 +56,7 @@ fn array_part<'a>(
     ensures fits { Fits resume.new bytes.now }
 {
     match kind {
-        None => fault(NodeFault::UnknownNode, at),
+        None => fault(RecordFault::UnknownNode, at),
         Some(RecordKind::Attribute(prefix, name)) => {
             let (part, at) = attribute_at(prefix, name, bytes, at, resume)?;
             Ok((ArrayTurn::Part(part), at))
@@ -66,7 +66,7 @@ fn array_part<'a>(
             Ok((ArrayTurn::Part(part), at))
         }
         Some(RecordKind::EndElement) => Ok((ArrayTurn::End, at)),
-        Some(_) => fault(NodeFault::BadArray, at),
+        Some(_) => fault(RecordFault::BadArray, at),
     }
 }
 
@@ -125,9 +125,9 @@ fn element_of(
     ensures { Tells named_seen (spec.element_of kind) (asked.element_of kind) bytes.now at result }
 {
     match kind {
-        None => fault(NodeFault::UnknownNode, at),
+        None => fault(RecordFault::UnknownNode, at),
         Some(RecordKind::Element(prefix, name)) => element_at(prefix, name, bytes, at),
-        Some(_) => fault(NodeFault::BadArray, at),
+        Some(_) => fault(RecordFault::BadArray, at),
     }
 }
 
@@ -149,7 +149,7 @@ fn values_at(kind: ArrayKind, count: usize, bytes: &[u8], at: usize) -> Result<(
     ensures size { IfOk result (λ read. length read.0.now ≡ count * width_of kind) }
 {
     if count == 0 {
-        return fault(NodeFault::BadArray, at);
+        return fault(RecordFault::BadArray, at);
     }
     bytes_at(bytes, at, count * width(kind))
 }
@@ -184,7 +184,7 @@ fn cells_of(
     ensures sized { IfOk result (λ read. AreSized read.0) }
 {
     match kind {
-        None => fault(NodeFault::BadArray, at),
+        None => fault(RecordFault::BadArray, at),
         Some(kind) => counted_cells(kind, bytes, at),
     }
 }

@@ -10,7 +10,7 @@ ghost use Rattle.nbfx_records.specs.Views.{HoldsLists, IsSoundAttribute, attribu
 use crate::cursor::{Stop, byte_at, fault};
 use crate::kinds::{NameForm, PrefixForm, RecordKind, TextKind};
 use crate::lists::{ListHolder, list_at};
-use crate::nodes::NodeFault;
+use crate::nodes::RecordFault;
 use crate::parts::{NamePart, PrefixPart, ScalarPart, name_at, prefix_at, scalar_at};
 use crate::resume::Resume;
 use crate::type_bytes::record_kind;
@@ -55,7 +55,7 @@ fn text_value<'a>(
     ensures fits { Fits resume.new bytes.now }
 {
     if ends {
-        return fault(NodeFault::OutOfPlace, at);
+        return fault(RecordFault::OutOfPlace, at);
     }
     match kind {
         TextKind::StartList => {
@@ -86,9 +86,9 @@ fn value_of_kind<'a>(
     ensures fits { Fits resume.new bytes.now }
 {
     match kind {
-        None => fault(NodeFault::UnknownNode, at),
+        None => fault(RecordFault::UnknownNode, at),
         Some(RecordKind::Text(kind, ends)) => text_value(kind, ends, bytes, at, resume),
-        Some(_) => fault(NodeFault::OutOfPlace, at),
+        Some(_) => fault(RecordFault::OutOfPlace, at),
     }
 }
 

@@ -13,18 +13,19 @@ use crate::kinds::TextKind;
 use crate::lists::{ListHolder, ListTurn, list_turn_at};
 use crate::nodes::{
     ArrayNode, AttrNode, AttrNodes, NameRef, Node, NodeFault, RawScalar, RawValue, RawValues,
+    RecordFault,
 };
 use crate::parts::{NamePart, NamedPart, PrefixPart, ScalarPart};
 use crate::records::RecordPart;
 use crate::resume::Resume;
 use crate::type_bytes::{is_chars, text_kind_in, width};
-use crate::values::{Unfit, is_text, known, text};
+use crate::values::{is_text, known, text};
 use nbfx_values::{Scalar, Txt, Values};
 use std::alloc::Global;
 
 /// The text of a prefix.
 #[inline(always)]
-pub fn prefix(alloc: Global, part: &PrefixPart) -> Result<Txt, Unfit>
+pub fn prefix(alloc: Global, part: &PrefixPart) -> Result<Txt, NodeFault>
     ensures { Makes result (spec.text_judged (prefix_seen part.now)) }
 {
     match part {
@@ -48,7 +49,7 @@ fn has_text(part: &ScalarPart) -> bool
 
 /// A name.
 #[inline(always)]
-pub fn name(alloc: Global, part: &NamePart) -> Result<NameRef, Unfit>
+pub fn name(alloc: Global, part: &NamePart) -> Result<NameRef, NodeFault>
     ensures { Makes result (spec.name_judged (name_seen part.now)) }
 {
     match part {
@@ -59,7 +60,7 @@ pub fn name(alloc: Global, part: &NamePart) -> Result<NameRef, Unfit>
 
 /// One value.
 #[inline(always)]
-pub fn scalar(alloc: Global, part: &ScalarPart) -> Result<RawScalar, Unfit>
+pub fn scalar(alloc: Global, part: &ScalarPart) -> Result<RawScalar, NodeFault>
     ensures { Makes result (spec.scalar_judged (scalar_seen part.now)) }
 {
     match part {
@@ -67,7 +68,7 @@ pub fn scalar(alloc: Global, part: &ScalarPart) -> Result<RawScalar, Unfit>
         ScalarPart::Named(id) => Ok(RawScalar::Dictionary(*id)),
         ScalarPart::Qualified(letter, id) => {
             if *letter > 25 {
-                return Err(Unfit::Fault(NodeFault::BadValue));
+                return Err(NodeFault::Record(RecordFault::BadValue));
             }
             Ok(RawScalar::QName(*letter, *id))
         }
@@ -107,17 +108,17 @@ fn are_texts(list: &[u8]) -> bool
 
 /// One value, where others come behind it: a text of them that isn't UTF-8 goes before a wrong
 /// value.
-pub fn scalar_before(alloc: Global, part: &ScalarPart, rest: &[u8]) -> Result<RawScalar, Unfit>
+pub fn scalar_before(alloc: Global, part: &ScalarPart, rest: &[u8]) -> Result<RawScalar, NodeFault>
     requires { IsList rest.now }
     ensures { Makes result (spec.behind_texts (list_all spec.scalar_is_text (listed rest.now))
         (spec.scalar_judged (scalar_seen part.now))) }
 {
     match scalar(alloc, part) {
-        Err(Unfit::Fault(NodeFault::BadValue)) => {
+        Err(NodeFault::Record(RecordFault::BadValue)) => {
             if are_texts(rest) {
-                Err(Unfit::Fault(NodeFault::BadValue))
+                Err(NodeFault::Record(RecordFault::BadValue))
             } else {
-                Err(Unfit::Fault(NodeFault::BadUtf8))
+                Err(NodeFault::Record(RecordFault::BadUtf8))
             }
         }
         made => made,
@@ -126,7 +127,7 @@ pub fn scalar_before(alloc: Global, part: &ScalarPart, rest: &[u8]) -> Result<Ra
 
 // The values of a list.
 #[inline(never)]
-fn scalars(alloc: Global, list: &[u8]) -> Result<RawValues, Unfit>
+fn scalars(alloc: Global, list: &[u8]) -> Result<RawValues, NodeFault>
     requires { IsList list.now }
     ensures { Makes result (spec.scalars_judged (listed list.now)) }
 {
@@ -141,7 +142,7 @@ fn scalars(alloc: Global, list: &[u8]) -> Result<RawValues, Unfit>
 
 // The value of a text or an attribute.
 #[inline(always)]
-fn value(alloc: Global, part: &ValuePart) -> Result<RawValue, Unfit>
+fn value(alloc: Global, part: &ValuePart) -> Result<RawValue, NodeFault>
     requires { HoldsLists part.now }
     ensures { Makes result (spec.value_judged (value_seen part.now)) }
 {
@@ -153,7 +154,7 @@ fn value(alloc: Global, part: &ValuePart) -> Result<RawValue, Unfit>
 
 // An attribute or a declaration.
 #[inline(always)]
-fn attribute(alloc: Global, part: &AttributePart) -> Result<AttrNode, Unfit>
+fn attribute(alloc: Global, part: &AttributePart) -> Result<AttrNode, NodeFault>
     requires { IsSoundAttribute part.now }
     ensures { Makes result (spec.attribute_judged (attribute_seen part.now)) }
 {
@@ -257,18 +258,18 @@ pub fn parts_have_text(parts: &[u8]) -> bool
 
 // An attribute, where others come behind it: a text of them that isn't UTF-8 goes before a wrong
 // value.
-fn attribute_before(alloc: Global, part: &AttributePart, rest: &[u8]) -> Result<AttrNode, Unfit>
+fn attribute_before(alloc: Global, part: &AttributePart, rest: &[u8]) -> Result<AttrNode, NodeFault>
     requires sound { IsSoundAttribute part.now }
     requires rest { AreParts rest.now }
     ensures { Makes result (spec.behind_texts (list_all spec.attribute_is_text (parts_of rest.now))
         (spec.attribute_judged (attribute_seen part.now))) }
 {
     match attribute(alloc, part) {
-        Err(Unfit::Fault(NodeFault::BadValue)) => {
+        Err(NodeFault::Record(RecordFault::BadValue)) => {
             if parts_have_text(rest) {
-                Err(Unfit::Fault(NodeFault::BadValue))
+                Err(NodeFault::Record(RecordFault::BadValue))
             } else {
-                Err(Unfit::Fault(NodeFault::BadUtf8))
+                Err(NodeFault::Record(RecordFault::BadUtf8))
             }
         }
         made => made,
@@ -277,7 +278,7 @@ fn attribute_before(alloc: Global, part: &AttributePart, rest: &[u8]) -> Result<
 
 // The attributes of an array's element.
 #[inline(never)]
-fn attributes(alloc: Global, parts: &[u8]) -> Result<AttrNodes, Unfit>
+fn attributes(alloc: Global, parts: &[u8]) -> Result<AttrNodes, NodeFault>
     requires { AreParts parts.now }
     ensures { Makes result (spec.attributes_judged (parts_of parts.now)) }
 {
@@ -291,7 +292,7 @@ fn attributes(alloc: Global, parts: &[u8]) -> Result<AttrNodes, Unfit>
 }
 
 // The values of an array, in so many bytes.
-fn cells(alloc: Global, part: &CellsPart) -> Result<Values, Unfit>
+fn cells(alloc: Global, part: &CellsPart) -> Result<Values, NodeFault>
     requires { AreSized part.now }
     ensures { Makes result (spec.cells_judged (cells_seen part.now)) }
 {
@@ -309,7 +310,7 @@ fn cells(alloc: Global, part: &CellsPart) -> Result<Values, Unfit>
 
 // An array.
 #[inline(never)]
-fn array(alloc: Global, part: &ArrayPart) -> Result<ArrayNode, Unfit>
+fn array(alloc: Global, part: &ArrayPart) -> Result<ArrayNode, NodeFault>
     requires parts { AreParts part.now.attributes.now }
     requires sized { AreSized part.now.cells }
     ensures { Makes result (spec.array_judged (array_seen part.now)) }
@@ -326,7 +327,7 @@ fn array(alloc: Global, part: &ArrayPart) -> Result<ArrayNode, Unfit>
 /// The node of an element.
 #[inline(always)]
 #[tactic(auto, unfolding(crate::specs::Contents::contents))]
-pub fn element_node(alloc: Global, part: &NamedPart) -> Result<Node, Unfit>
+pub fn element_node(alloc: Global, part: &NamedPart) -> Result<Node, NodeFault>
     ensures { Makes result (spec.contents (record_seen (RecordPart.Element part.now))) }
 {
     Ok(Node::Element {
@@ -343,7 +344,7 @@ pub fn attribute_node(
     prefix_part: &PrefixPart,
     name_part: &NamePart,
     value_part: &ValuePart,
-) -> Result<Node, Unfit>
+) -> Result<Node, NodeFault>
     requires { HoldsLists value_part.now }
     ensures { Makes result (spec.contents (record_seen (RecordPart.Attribute
         (AttributePart.Attribute prefix_part.now name_part.now value_part.now)))) }
@@ -362,7 +363,7 @@ pub fn declaration_node(
     alloc: Global,
     prefix_part: &PrefixPart,
     uri_part: &NamePart,
-) -> Result<Node, Unfit>
+) -> Result<Node, NodeFault>
     ensures { Makes result (spec.contents (record_seen (RecordPart.Attribute
         (AttributePart.Declaration prefix_part.now uri_part.now)))) }
 {
@@ -375,7 +376,12 @@ pub fn declaration_node(
 /// The node of a text whose bytes are to be UTF-8.
 #[inline(always)]
 #[tactic(auto, unfolding(crate::specs::Contents::contents))]
-pub fn chars_node(alloc: Global, kind: TextKind, bytes: &[u8], ends: bool) -> Result<Node, Unfit>
+pub fn chars_node(
+    alloc: Global,
+    kind: TextKind,
+    bytes: &[u8],
+    ends: bool,
+) -> Result<Node, NodeFault>
     requires { IsTrue (spec.is_chars kind) }
     ensures { Makes result (spec.contents (record_seen (RecordPart.Text
         (ValuePart.One (ScalarPart.Bytes kind bytes.entry)) ends))) }
@@ -389,7 +395,7 @@ pub fn chars_node(alloc: Global, kind: TextKind, bytes: &[u8], ends: bool) -> Re
 /// The node of a text.
 #[inline(always)]
 #[tactic(auto, unfolding(crate::specs::Contents::contents))]
-pub fn text_node(alloc: Global, part: &ValuePart, ends: bool) -> Result<Node, Unfit>
+pub fn text_node(alloc: Global, part: &ValuePart, ends: bool) -> Result<Node, NodeFault>
     requires { HoldsLists part.now }
     ensures { Makes result (spec.contents (record_seen (RecordPart.Text part.now ends))) }
 {
@@ -401,7 +407,7 @@ pub fn text_node(alloc: Global, part: &ValuePart, ends: bool) -> Result<Node, Un
 
 /// The node of a whole record.
 #[tactic(auto, unfolding(crate::specs::Contents::contents))]
-pub fn node(alloc: Global, part: &RecordPart) -> Result<Node, Unfit>
+pub fn node(alloc: Global, part: &RecordPart) -> Result<Node, NodeFault>
     requires { IsSoundRecord part.now }
     ensures { Makes result (spec.contents (record_seen part.now)) }
 {

@@ -7,7 +7,7 @@ ghost use Rattle.nbfx_records.specs.Asked as asked;
 ghost use Rattle.nbfx_records.specs.Cursor.{Tells};
 ghost use Rattle.nbfx_records.specs.Shapes.{a_string, an_integer};
 
-use crate::nodes::NodeFault;
+use crate::nodes::RecordFault;
 use multibyte_ints::{IntReader, IntStep};
 
 /// Why a part isn't whole.
@@ -16,12 +16,12 @@ pub enum Stop {
     /// The bytes end within it: so many in all are wanted at least.
     More { wants: usize },
     /// So many bytes show what is wrong with it.
-    Fault { fault: NodeFault, shown_by: usize },
+    Fault { fault: RecordFault, shown_by: usize },
 }
 
 /// So many bytes show this fault.
 #[inline(always)]
-pub fn fault<T>(fault: NodeFault, shown_by: usize) -> Result<T, Stop>
+pub fn fault<T>(fault: RecordFault, shown_by: usize) -> Result<T, Stop>
     ensures { result ≡ Err (Stop.Fault fault shown_by) }
 {
     Err(Stop::Fault { fault, shown_by })
@@ -84,7 +84,7 @@ fn any_integer_at(bytes: &[u8], from: usize) -> Result<(u32, usize), Stop>
             IntStep::Done(n) => return Ok((n, at + 1)),
             IntStep::Bad => {
                 return Err(Stop::Fault {
-                    fault: NodeFault::BadInt,
+                    fault: RecordFault::BadInt,
                     shown_by: at + 1,
                 });
             }

@@ -5,7 +5,7 @@ ghost use Rattle.unit_streams.specs.Front.{ReadsFront};
 ghost use Rattle.nbfx_records.specs.declared.nodes.NodePlace.{NodePlace};
 ghost use Rattle.nbfx_records.specs.Reading.{node_at};
 ghost use Rattle.nbfx_records.specs.WritingLaws.{MeaningsStay, RecordsJoin, RecordsStay, SaidMayBeWritten, StringsAreOnce, WrittenAreRecords, WrittenAreStrings, WrittenIsTable};
-ghost use Rattle.nbfx_records.specs.Laws.{NothingIsBegun, RecordsAreRead, NoRecordGoesOn, RecordsAreValid, WrongByPart, WrongByText, WrongByValue, ChosenIsRecord, ChosenIsRead, ChosenIsShortest, StillFits, MeaningsAreFound, NothingWithoutNames, MeansOnce, MeaningsAreValid};
+ghost use Rattle.nbfx_records.specs.Laws.{NothingIsBegun, RecordsAreRead, NoRecordGoesOn, RecordsAreValid, WrongByPart, WrongByText, WrongByValue, ChosenIsRecord, ChosenIsRead, ChosenIsShortest, MeaningsAreFound, NothingWithoutNames, MeansOnce, MeaningsAreValid};
 
 /// A record is known by its own bytes: it is wrong or whole at the byte that shows it, whatever
 /// follows, and has only begun before that.
@@ -37,11 +37,6 @@ pub fn written()
     ensures is_record { ChosenIsRecord }
     ensures read_back { ChosenIsRead }
     ensures shortest { ChosenIsShortest }
-{}
-
-/// What was seen of a record that isn't whole holds when more of its bytes came.
-pub fn resumed()
-    ensures { StillFits }
 {}
 
 /// What a node says where a string table is given is at most one list of items. There is none

@@ -11,6 +11,7 @@
 mod arrays;
 mod attributes;
 mod begun;
+mod begun_bytes;
 pub mod building;
 mod cursor;
 mod kinds;
@@ -22,7 +23,7 @@ mod put_nodes;
 mod put_parts;
 mod put_records;
 mod put_values;
-mod read;
+mod reader;
 mod records;
 mod resume;
 mod type_bytes;
@@ -33,12 +34,13 @@ pub use attributes::{AttributePart, ValuePart};
 pub use begun::{
     attribute_parts, declaration_parts, element_parts, kind_at, may_stand, scalar_parts,
 };
+pub use begun_bytes::BegunBytes;
 pub use building::{attribute_node, chars_node, declaration_node, element_node, node, text_node};
 pub use cursor::Stop;
 pub use kinds::{NameForm, PrefixForm, RecordKind, TextKind};
 pub use nodes::{
     ArrayNode, AttrNode, AttrNodes, NameRef, Node, NodeFault, NodePlace, RawScalar, RawValue,
-    RawValues,
+    RawValues, RecordFault,
 };
 pub use parts::{NamePart, NamedPart, PrefixPart, ScalarPart};
 pub use put_nodes::put_node;
@@ -47,11 +49,9 @@ pub use put_records::{
     put_element, put_end_element,
 };
 pub use put_values::{ScalarChoice, put_list_end, put_list_start, put_scalar};
-pub use read::{NodeRead, ReadFault, read_node, read_node_on};
-pub use records::{RecordPart, shape_at};
-pub use resume::Resume;
+pub use reader::{NodeReader, NodeStep};
+pub use records::{RecordPart, parts_at};
 pub use type_bytes::{is_chars, text_kind_in, width};
-pub use values::Unfit;
 
 #[cfg(test)]
 mod put_tests;

@@ -9,7 +9,7 @@ ghost use Rattle.nbfx_records.specs.Resuming.{Fits, KeepsList};
 
 use crate::cursor::{Stop, byte_at, fault};
 use crate::kinds::{RecordKind, TextKind};
-use crate::nodes::NodeFault;
+use crate::nodes::RecordFault;
 use crate::parts::{ScalarPart, scalar_at};
 use crate::resume::Resume;
 use crate::type_bytes::record_kind;
@@ -42,7 +42,7 @@ fn end_of_list(
         (asked.end_turn (may_close holder) ends) bytes.now at result }
 {
     if ends && holder == ListHolder::Attribute {
-        return fault(NodeFault::OutOfPlace, at);
+        return fault(RecordFault::OutOfPlace, at);
     }
     Ok((ListTurn::End(ends), at))
 }
@@ -63,7 +63,7 @@ fn text_in_list(
         TextKind::EndList => end_of_list(holder, ends, bytes, at),
         _ => {
             if ends {
-                return fault(NodeFault::OutOfPlace, at);
+                return fault(RecordFault::OutOfPlace, at);
             }
             let (value, at) = scalar_at(kind, bytes, at)?;
             Ok((ListTurn::Value(value), at))
@@ -83,9 +83,9 @@ fn turn_of(
         (asked.turn_of (may_close holder) kind) bytes.now at result }
 {
     match kind {
-        None => fault(NodeFault::UnknownNode, at),
+        None => fault(RecordFault::UnknownNode, at),
         Some(RecordKind::Text(kind, ends)) => text_in_list(holder, kind, ends, bytes, at),
-        Some(_) => fault(NodeFault::OutOfPlace, at),
+        Some(_) => fault(RecordFault::OutOfPlace, at),
     }
 }
 

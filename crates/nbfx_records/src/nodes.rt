@@ -1,6 +1,9 @@
 //! What records say, with each identifier as its number.
 
+ghost use Rattle.std.specs.Prelude.{◌≡◌};
+
 use nbfx_values::{ArrayKind, Copied, Scalar, Sequence, Txt, Values};
+use std::alloc::AllocError;
 use unit_streams::Memory;
 
 /// A name or a URI, as a record has it.
@@ -117,9 +120,9 @@ pub enum NodePlace {
     AfterRoot,
 }
 
-/// What is wrong with a record.
+/// What is wrong with a record, as its bytes show.
 #[derive(Clone, Copy, Debug, PartialEq, Eq)]
-pub enum NodeFault {
+pub enum RecordFault {
     /// No record begins with its type byte.
     UnknownNode,
     /// Its record may not stand here.
@@ -136,6 +139,35 @@ pub enum NodeFault {
     BadUtf8,
     /// A value's bytes are none of its kind.
     BadValue,
+}
+
+/// Why no node is read.
+#[derive(Clone, Copy, Debug, PartialEq, Eq)]
+pub enum NodeFault {
+    /// This is wrong with its record.
+    Record(RecordFault),
+    /// There was no memory.
+    Memory,
+}
+
+impl From<Memory> for NodeFault {
+    ghost use Rattle.nbfx_records.specs.declared.nodes.NodeFault.TheVariants.{Memory as NoMemory};
+
+    ghost from_gives = { λ _ e. e ≡ NoMemory };
+
+    fn from(_error: Memory) -> NodeFault {
+        NodeFault::Memory
+    }
+}
+
+impl From<AllocError> for NodeFault {
+    ghost use Rattle.nbfx_records.specs.declared.nodes.NodeFault.TheVariants.{Memory as NoMemory};
+
+    ghost from_gives = { λ _ e. e ≡ NoMemory };
+
+    fn from(_error: AllocError) -> NodeFault {
+        NodeFault::Memory
+    }
 }
 
 impl Copied for NameRef {

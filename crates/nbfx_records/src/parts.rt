@@ -9,7 +9,7 @@ ghost use Rattle.nbfx_records.specs.Views.{name_seen, named_seen, prefix_seen, s
 
 use crate::cursor::{Stop, byte_at, bytes_at, integer_at, string_at};
 use crate::kinds::{Body, LengthForm, NameForm, PrefixForm, TextKind};
-use crate::nodes::NodeFault;
+use crate::nodes::RecordFault;
 use crate::type_bytes::body;
 
 /// A prefix.
@@ -138,7 +138,7 @@ pub fn length_at(form: LengthForm, bytes: &[u8], at: usize) -> Result<(usize, us
     match length_said(form, said) {
         Some(count) => Ok((count, to)),
         None => Err(Stop::Fault {
-            fault: NodeFault::BadInt,
+            fault: RecordFault::BadInt,
             shown_by: to,
         }),
     }
@@ -186,7 +186,7 @@ pub fn scalar_at(kind: TextKind, bytes: &[u8], at: usize) -> Result<(ScalarPart<
         }
         Body::Qualified => qualified_at(bytes, at),
         Body::Listed | Body::Ending => Err(Stop::Fault {
-            fault: NodeFault::OutOfPlace,
+            fault: RecordFault::OutOfPlace,
             shown_by: at,
         }),
     }

@@ -12,7 +12,7 @@ use crate::attributes::{AttributePart, ValuePart, attribute_at, declaration_at};
 use crate::cursor::{Stop, byte_at, fault, string_at};
 use crate::kinds::{NameForm, PrefixForm, RecordKind, TextKind};
 use crate::lists::{ListHolder, list_at};
-use crate::nodes::{NodeFault, NodePlace};
+use crate::nodes::{NodePlace, RecordFault};
 use crate::parts::{NamedPart, element_at, scalar_at};
 use crate::resume::Resume;
 use crate::type_bytes::record_kind;
@@ -201,31 +201,31 @@ fn record_at<'a>(
 
 // Whether a record may come that opens an element, ends a list, or stands only behind an element's
 // start.
-fn misplaced_within(attributes: bool, deeper: bool, kind: RecordKind) -> Option<NodeFault>
+fn misplaced_within(attributes: bool, deeper: bool, kind: RecordKind) -> Option<RecordFault>
     ensures { result ≡ spec.misplaced (NodePlace.Within attributes deeper) kind }
 {
     match kind {
         RecordKind::Attribute(_, _) | RecordKind::Declaration(_, _) if !attributes => {
-            Some(NodeFault::OutOfPlace)
+            Some(RecordFault::OutOfPlace)
         }
-        RecordKind::Text(TextKind::EndList, _) => Some(NodeFault::OutOfPlace),
-        RecordKind::Element(_, _) | RecordKind::Array if !deeper => Some(NodeFault::TooDeep),
+        RecordKind::Text(TextKind::EndList, _) => Some(RecordFault::OutOfPlace),
+        RecordKind::Element(_, _) | RecordKind::Array if !deeper => Some(RecordFault::TooDeep),
         _ => None,
     }
 }
 
 // Why a record may not come at a place, by its kind.
 #[inline(always)]
-pub(crate) fn misplaced(place: NodePlace, kind: RecordKind) -> Option<NodeFault>
+pub(crate) fn misplaced(place: NodePlace, kind: RecordKind) -> Option<RecordFault>
     ensures { result ≡ spec.misplaced place kind }
 {
     match place {
         NodePlace::BeforeRoot => match kind {
             RecordKind::Element(_, _) => None,
-            _ => Some(NodeFault::OutOfPlace),
+            _ => Some(RecordFault::OutOfPlace),
         },
         NodePlace::Within { attributes, deeper } => misplaced_within(attributes, deeper, kind),
-        NodePlace::AfterRoot => Some(NodeFault::TrailingBytes),
+        NodePlace::AfterRoot => Some(RecordFault::TrailingBytes),
     }
 }
 
@@ -247,10 +247,10 @@ fn placed<'a>(
     ensures fits { Fits resume.new bytes.now }
 {
     if place == NodePlace::AfterRoot {
-        return fault(NodeFault::TrailingBytes, at);
+        return fault(RecordFault::TrailingBytes, at);
     }
     let Some(kind) = kind else {
-        return fault(NodeFault::UnknownNode, at);
+        return fault(RecordFault::UnknownNode, at);
     };
     match misplaced(place, kind) {
         Some(wrong) => fault(wrong, at),
@@ -258,10 +258,10 @@ fn placed<'a>(
     }
 }
 
-/// The record at the front of the bytes, where it may come at this place. What was seen of one that
-/// isn't whole is kept in `resume`.
+// The record at the front of the bytes, where it may come at this place. What was seen of one that
+// isn't whole is kept in `resume`.
 #[inline(always)]
-pub fn shape_at<'a>(
+pub(crate) fn shape_at<'a>(
     place: NodePlace,
     bytes: &'a [u8],
     resume: &mut Resume,
@@ -275,4 +275,14 @@ pub fn shape_at<'a>(
 {
     let (byte, at) = byte_at(bytes, 0)?;
     placed(place, record_kind(byte), bytes, at, resume)
+}
+
+/// The parts of the record at the front of the bytes, where it may come at this place.
+#[inline(always)]
+pub fn parts_at(place: NodePlace, bytes: &[u8]) -> Result<(RecordPart<'_>, usize), Stop>
+    ensures tells { Tells record_seen (spec.shape_at place)
+        (asked.shape_at place) bytes.now 0 result }
+    ensures sound { IfOk result (λ read. IsSoundRecord read.0) }
+{
+    shape_at(place, bytes, &mut Resume::new())
 }

@@ -1,5 +1,6 @@
 ghost use Rattle.std.specs.Prelude.{◌≤◌, length};
 
+use super::laws::record_fronts;
 use super::*;
 use nbfx_values::{Copied, Scalar, Txt};
 use std::alloc::Global;
@@ -13,8 +14,10 @@ const WITHIN: NodePlace = NodePlace::Within {
 
 // The node whose record all of the bytes are, as it is printed.
 fn shown(alloc: Global, bytes: &[u8]) -> Option<String> {
-    match read_node(alloc, bytes, WITHIN) {
-        Ok(NodeRead::Done { used, node }) if used == bytes.len() => {
+    let mut reader = NodeReader::new(alloc);
+    record_fronts();
+    match reader.feed(bytes, WITHIN) {
+        Ok((used, NodeStep::Done(node))) if used == bytes.len() => {
             format!(in alloc; "{node:?}").ok()
         }
         _ => None,
@@ -25,12 +28,13 @@ fn shown(alloc: Global, bytes: &[u8]) -> Option<String> {
 fn shown_in_two(alloc: Global, bytes: &[u8], cut: usize) -> Option<String>
     requires { cut ≤ length bytes.now }
 {
-    let mut resume = Resume::new();
-    let Ok(NodeRead::More { .. }) = read_node_on(alloc, &bytes[..cut], WITHIN, &mut resume) else {
+    let mut reader = NodeReader::new(alloc);
+    record_fronts();
+    let Ok((_, NodeStep::More)) = reader.feed(&bytes[..cut], WITHIN) else {
         return None;
     };
-    match read_node_on(alloc, bytes, WITHIN, &mut resume) {
-        Ok(NodeRead::Done { used, node }) if used == bytes.len() => {
+    match reader.feed(&bytes[cut..], WITHIN) {
+        Ok((used, NodeStep::Done(node))) if used == bytes.len() - cut => {
             format!(in alloc; "{node:?}").ok()
         }
         _ => None,
@@ -38,9 +42,9 @@ fn shown_in_two(alloc: Global, bytes: &[u8], cut: usize) -> Option<String>
 }
 
 // How many bytes a record that has begun so wants.
-fn wanted(alloc: Global, bytes: &[u8]) -> Option<usize> {
-    match read_node(alloc, bytes, WITHIN) {
-        Ok(NodeRead::More { wants }) => Some(wants),
+fn wanted(bytes: &[u8]) -> Option<usize> {
+    match parts_at(WITHIN, bytes) {
+        Err(Stop::More { wants }) => Some(wants),
         _ => None,
     }
 }
@@ -177,7 +181,7 @@ fn a_record_tells_how_many_bytes_it_wants(rt: HostRuntime) -> Result<(), Fail> {
         (b"\x04\x01k\xA4\x98\x09", 15),
     ];
     for (bytes, wants) in begun {
-        assert_eq!(rt; wanted(rt.alloc(), bytes), Some(wants), "{bytes:?}");
+        assert_eq!(rt; wanted(bytes), Some(wants), "{bytes:?}");
     }
     Ok(())
 }
@@ -206,21 +210,25 @@ fn each_fault_comes(rt: HostRuntime) -> Result<(), Fail> {
         attributes: false,
         deeper: false,
     };
-    let refused: [(&[u8], NodePlace, NodeFault, usize); 9] = [
-        (b"\xA5\x00", WITHIN, NodeFault::UnknownNode, 1),
-        (b"\x06\x00\x82", after_text, NodeFault::OutOfPlace, 1),
-        (b"\x01", NodePlace::BeforeRoot, NodeFault::OutOfPlace, 1),
-        (b"\x01", NodePlace::AfterRoot, NodeFault::TrailingBytes, 1),
-        (b"\x40\x01x", deepest, NodeFault::TooDeep, 1),
-        (b"\x42\x80\x80\x80\x80\x08", WITHIN, NodeFault::BadInt, 6),
-        (b"\x03\x40\x01a\x01\x8D\x00", WITHIN, NodeFault::BadArray, 7),
-        (b"\x99\x01\xFF", WITHIN, NodeFault::BadUtf8, 3),
-        (b"\xBD\x1A\x02", WITHIN, NodeFault::BadValue, 3),
+    let refused: [(&[u8], NodePlace, RecordFault); 9] = [
+        (b"\xA5\x00", WITHIN, RecordFault::UnknownNode),
+        (b"\x06\x00\x82", after_text, RecordFault::OutOfPlace),
+        (b"\x01", NodePlace::BeforeRoot, RecordFault::OutOfPlace),
+        (b"\x01", NodePlace::AfterRoot, RecordFault::TrailingBytes),
+        (b"\x40\x01x", deepest, RecordFault::TooDeep),
+        (b"\x42\x80\x80\x80\x80\x08", WITHIN, RecordFault::BadInt),
+        (b"\x03\x40\x01a\x01\x8D\x00", WITHIN, RecordFault::BadArray),
+        (b"\x99\x01\xFF", WITHIN, RecordFault::BadUtf8),
+        (b"\xBD\x1A\x02", WITHIN, RecordFault::BadValue),
     ];
-    for (bytes, place, fault, shown_by) in refused {
-        let read = read_node(rt.alloc(), bytes, place);
-        let want = ReadFault::Fault { fault, shown_by };
-        assert_eq!(rt; read.err(), Some(want), "{bytes:?}");
+    for (bytes, place, fault) in refused {
+        let mut reader = NodeReader::new(rt.alloc());
+        record_fronts();
+        assert_eq!(rt;
+            reader.feed(bytes, place).err(),
+            Some(NodeFault::Record(fault)),
+            "{bytes:?}"
+        );
     }
     Ok(())
 }

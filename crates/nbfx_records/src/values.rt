@@ -7,39 +7,9 @@ ghost use Rattle.nbfx_records.specs.Contents.{decimal_of, is_sized, judge, known
 ghost use Rattle.nbfx_records.specs.Judged.{Makes};
 
 use crate::kinds::TextKind;
-use crate::nodes::NodeFault;
+use crate::nodes::{NodeFault, RecordFault};
 use nbfx_values::{Blob, Dec, Scalar, Txt};
 use std::alloc::{AllocError, Global};
-use unit_streams::Memory;
-
-/// Why nothing is made of a whole part.
-#[derive(Clone, Copy, Debug, PartialEq, Eq)]
-pub enum Unfit {
-    /// This is wrong with it.
-    Fault(NodeFault),
-    /// There was no memory.
-    Memory,
-}
-
-impl From<Memory> for Unfit {
-    ghost use Rattle.nbfx_records.specs.declared.values.Unfit.TheVariants.{Memory as NoMemory};
-
-    ghost from_gives = { λ _ e. e ≡ NoMemory };
-
-    fn from(_error: Memory) -> Unfit {
-        Unfit::Memory
-    }
-}
-
-impl From<AllocError> for Unfit {
-    ghost use Rattle.nbfx_records.specs.declared.values.Unfit.TheVariants.{Memory as NoMemory};
-
-    ghost from_gives = { λ _ e. e ≡ NoMemory };
-
-    fn from(_error: AllocError) -> Unfit {
-        Unfit::Memory
-    }
-}
 
 /// Whether the bytes are UTF-8.
 pub fn is_text(bytes: &[u8]) -> bool
@@ -53,12 +23,12 @@ pub fn is_text(bytes: &[u8]) -> bool
 
 /// The text of bytes that are UTF-8.
 #[inline]
-pub fn text(alloc: Global, bytes: &[u8]) -> Result<Txt, Unfit>
+pub fn text(alloc: Global, bytes: &[u8]) -> Result<Txt, NodeFault>
     ensures { Makes result (text_judged bytes.now) }
 {
     match str::from_utf8(bytes) {
         Ok(text) => Ok(Txt::of(alloc, text)?),
-        Err(_) => Err(Unfit::Fault(NodeFault::BadUtf8)),
+        Err(_) => Err(NodeFault::Record(RecordFault::BadUtf8)),
     }
 }
 
@@ -81,16 +51,16 @@ fn units(alloc: Global, bytes: &[u8]) -> Result<Vec<u16>, AllocError>
 }
 
 // The text that UTF-16 spells.
-fn utf16(alloc: Global, bytes: &[u8]) -> Result<Txt, Unfit>
+fn utf16(alloc: Global, bytes: &[u8]) -> Result<Txt, NodeFault>
     ensures { Makes result (judge true (utf16_text bytes.now)) }
 {
     if bytes.len() % 2 == 1 {
-        return Err(Unfit::Fault(NodeFault::BadValue));
+        return Err(NodeFault::Record(RecordFault::BadValue));
     }
     let units = units(alloc, bytes)?;
     match String::from_utf16(alloc, units.as_slice())? {
         Ok(text) => Ok(Txt::from(text)),
-        Err(_) => Err(Unfit::Fault(NodeFault::BadValue)),
+        Err(_) => Err(NodeFault::Record(RecordFault::BadValue)),
     }
 }
 
@@ -183,7 +153,7 @@ fn fixed(kind: TextKind, bytes: &[u8]) -> Option<Scalar>
 
 /// The value of a kind's bytes.
 #[tactic(auto, unfolding(crate::specs::Contents::scalar_of))]
-pub fn known(alloc: Global, kind: TextKind, bytes: &[u8]) -> Result<Scalar, Unfit>
+pub fn known(alloc: Global, kind: TextKind, bytes: &[u8]) -> Result<Scalar, NodeFault>
     ensures { Makes result (known_judged kind bytes.now) }
 {
     match kind {
@@ -199,7 +169,7 @@ pub fn known(alloc: Global, kind: TextKind, bytes: &[u8]) -> Result<Scalar, Unfi
         TextKind::Empty => Ok(Scalar::Text(Txt::of(alloc, "")?)),
         _ => match fixed(kind, bytes) {
             Some(value) => Ok(value),
-            None => Err(Unfit::Fault(NodeFault::BadValue)),
+            None => Err(NodeFault::Record(RecordFault::BadValue)),
         },
     }
 }

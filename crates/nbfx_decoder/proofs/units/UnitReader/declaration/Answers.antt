@@ -10,6 +10,7 @@ pass_quickly-requires-clause-stands c =
     let told = rw c.in-Ok-Declaration-default.field-0-0-is at c.in-Ok-Declaration-default.ensures.tells (place_in c.args.self.now) may in
     record {
       shape = record_seen (records.Attribute (Declaration c.in-Ok-Declaration-default.prefix c.in-Ok-Declaration-default.uri));
+      single = tt;
       stands = record { bytes = c.args.bytes.now; are = λ i. (c.type_inv.bytes i).fits; few = c.requires.few; has = record { whole = told.told } };
       makes = c.declaration_node.ensures;
     }

@@ -9,6 +9,7 @@ pass_quickly-requires-clause-stands c =
     let told = c.in-Ok.ensures (place_in c.args.self.now) may in
     record {
       shape = record_seen (records.Element c.in-Ok.part);
+      single = tt;
       stands = record { bytes = c.args.bytes.now; are = λ i. (c.type_inv.bytes i).fits; few = c.requires.few; has = record { whole = told.told } };
       makes = c.element_node.ensures;
     }

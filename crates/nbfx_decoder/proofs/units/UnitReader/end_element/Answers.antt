@@ -9,6 +9,7 @@ pass_quickly-requires-clause-stands c =
     let may = let no = c.if-not-takes.false in c.takes.ensures.0 cc in
     record {
       shape = ends_element;
+      single = tt;
       stands = record { bytes = c.args.bytes.now; are = λ i. (c.type_inv.bytes i).fits; few = c.requires.few; has = record { whole = end_begun (place_in c.args.self.now) c.requires.begins may } };
       makes = end_made;
     }

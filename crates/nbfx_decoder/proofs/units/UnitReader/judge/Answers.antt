@@ -5,7 +5,7 @@ use Rattle.nbfx_decoder.proofs.Saying.{judged_room, judged_too_much, judged_unfi
 use Rattle.nbfx_decoder.proofs.units.UnitReader.judge.Goals as goal
 
 pub returns-in-Err : goal.returns-in-Err
-returns-in-Err c = rw c.unmade.ensures (judged_unfit c.args.self.now (table_of c.names.result) c.names.ensures (record_seen c.args.part.now) c.args.used c.in-Err.unfit c.in-Err.ensures.told)
+returns-in-Err c = rw c.unmade.ensures (judged_unfit c.args.self.now (table_of c.names.result) c.names.ensures (record_seen c.args.part.now) c.args.used c.in-Err.why c.in-Err.ensures.told)
 
 pub returns-in_default : goal.returns-in_default
 returns-in_default c = rw c.refused.ensures (judged_unnamed c.args.self.now (table_of c.names.result) c.names.ensures (record_seen c.args.part.now) c.args.used c.in-Ok.size c.in_default.is c.in-Ok.ensures.told)

@@ -1,18 +1,25 @@
 use Rattle.std.proofs.Common.{◌≡◌, true, Result, Ok, subst, arith}
 use Rattle.nbfx_records.specs.declared.nodes.Node.{Node}
-use Rattle.nbfx_records.specs.declared.values.Unfit.{Unfit}
+use Rattle.nbfx_records.specs.declared.nodes.NodeFault.{NodeFault}
 use Rattle.nbfx_records.specs.Contents.{contents}
 use Rattle.nbfx_records.specs.Judged.{Made}
 use Rattle.nbfx_decoder.specs.Units.{place_in}
 use Rattle.nbfx_decoder.proofs.Keeping.{keeps_settings}
 use Rattle.nbfx_decoder.proofs.Saying.{added_said, record_few, reads_done, shape_size, shape_valid}
+use Rattle.nbfx_decoder.proofs.Singles.{single_made}
 use Rattle.nbfx_decoder.proofs.units.UnitReader.pass_quickly.Goals as goal
 
-pub add_quickly-requires : goal.add_quickly-requires
-add_quickly-requires c =
+pub add_quickly-requires-clause-valid : goal.add_quickly-requires-clause-valid
+add_quickly-requires-clause-valid c =
     let it = c.requires.stands in
-    let e : contents it.shape ≡ Ok c.in-Ok.node = subst (λ (m : Result Node Unfit). Made m (contents it.shape)) c.in-Ok.is it.makes.made in
+    let e : contents it.shape ≡ Ok c.in-Ok.node = subst (λ (m : Result Node NodeFault). Made m (contents it.shape)) c.in-Ok.is it.makes.made in
     shape_valid (place_in c.args.self.now) it.stands.bytes it.shape c.args.used it.stands.has c.in-Ok.node e it.stands.are
+
+pub add_quickly-requires-clause-single : goal.add_quickly-requires-clause-single
+add_quickly-requires-clause-single c =
+    let it = c.requires.stands in
+    let e : contents it.shape ≡ Ok c.in-Ok.node = subst (λ (m : Result Node NodeFault). Made m (contents it.shape)) c.in-Ok.is it.makes.made in
+    single_made it.shape it.single c.in-Ok.node e
 
 pub pass-requires : goal.pass-requires
 pass-requires c =
@@ -22,7 +29,7 @@ pass-requires c =
 
 pub returns : goal.returns
 returns c shape bytes has makes =
-    let e : contents shape ≡ Ok c.in-Ok.node = subst (λ (m : Result Node Unfit). Made m (contents shape)) c.in-Ok.is makes.made in
+    let e : contents shape ≡ Ok c.in-Ok.node = subst (λ (m : Result Node NodeFault). Made m (contents shape)) c.in-Ok.is makes.made in
     let is : c.add_quickly.result ≡ true = (let no = c.if-not-add_quickly.false in cc) in
     record {
       read = reads_done c.args.self.now c.add_quickly.new.self c.pass.new.self bytes c.args.used

@@ -12,27 +12,27 @@ returns-in_err-judge c bytes has =
     (λ x z from at. judged_said c.args.self.now x z from at c.requires.here bytes (record_seen c.args.part.now) c.args.used has _ c.in_err-judge.ensures.judged)
     (record { statics = refl; quotas = refl; kind = refl })
 
-pub made-requires-clause-within : goal.made-requires-clause-within
-made-requires-clause-within c = c.in_ok-judge.ensures.judged
+pub said-requires-clause-valid : goal.said-requires-clause-valid
+said-requires-clause-valid c = λ n e.
+    let it = c.requires.stands in
+    shape_valid (place_in c.args.self.now) it.bytes (record_seen c.args.part.now) c.args.used it.has n e it.are
 
-pub returns-in_err-node : goal.returns-in_err-node
-returns-in_err-node c bytes has =
-    reads_fault c.args.self.now c.args.self.now bytes Memory _ c.from_residual-in_err-node.ensures.1
+pub returns-in_err-meant : goal.returns-in_err-meant
+returns-in_err-meant c bytes has =
+    reads_fault c.args.self.now c.args.self.now bytes Memory _ c.from_residual-in_err-meant.ensures.1
     (λ x z from at. at.set)
     (record { statics = refl; quotas = refl; kind = refl })
 
-pub add-requires-clause-valid : goal.add-requires-clause-valid
-add-requires-clause-valid c =
+pub add-requires-clause-follows : goal.add-requires-clause-follows
+add-requires-clause-follows c =
     let it = c.requires.stands in
-    shape_valid (place_in c.args.self.now) it.bytes (record_seen c.args.part.now) c.args.used it.has _ c.in_ok-node.ensures it.are
-
-pub add-requires-clause-stands : goal.add-requires-clause-stands
-add-requires-clause-stands c =
-    let it = c.requires.stands in
-    shape_stands (place_in c.args.self.now) it.bytes (record_seen c.args.part.now) c.args.used it.has _ c.in_ok-node.ensures
-
-pub add-requires-clause-within : goal.add-requires-clause-within
-add-requires-clause-within c = made_fits c.args.self.now (record_seen c.args.part.now) _ c.in_ok-node.ensures c.in_ok-judge.ensures.judged
+    let said = c.in_ok-meant.ensures.said in
+    record {
+      made = said.made;
+      stands = shape_stands (place_in c.args.self.now) it.bytes (record_seen c.args.part.now) c.args.used it.has said.made said.is;
+      means = said.means;
+      fits = made_fits c.args.self.now (record_seen c.args.part.now) said.made said.is c.in_ok-judge.ensures.judged;
+    }
 
 pub returns-in_err-add : goal.returns-in_err-add
 returns-in_err-add c bytes has =
@@ -48,7 +48,8 @@ pass-requires c =
 
 pub returns : goal.returns
 returns c bytes has =
+    let said = c.in_ok-meant.ensures.said in
     let read = reads_done c.args.self.now c.add.new.self c.pass.new.self bytes c.args.used
-    (λ x z from at. added_said c.args.self.now x z from at c.requires.here bytes (record_seen c.args.part.now) c.args.used has _ c.in_ok-node.ensures c.add.new.self (c.in_ok-add.ensures.answers x z from at))
+    (λ x z from at. added_said c.args.self.now x z from at c.requires.here bytes (record_seen c.args.part.now) c.args.used has said.made said.is c.add.new.self (c.in_ok-add.ensures.answers x z from said.made at said.means))
     (shape_size (place_in c.args.self.now) bytes (record_seen c.args.part.now) c.args.used has.whole) (keeps_settings c.add.ensures.kept) c.add.ensures.from c.pass.ensures.kept c.pass.ensures.from c.pass.ensures.section c.pass.ensures.items in
     rw c.pass.ensures.done read

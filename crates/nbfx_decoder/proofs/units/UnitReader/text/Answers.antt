@@ -11,6 +11,7 @@ pass_quickly-requires-clause-stands c =
     let told = rw c.in-Ok-Bytes-default.field-0-0-is at c.in-Ok-Bytes-default.ensures (place_in c.args.self.now) may in
     record {
       shape = record_seen (records.Text (One (Bytes c.in-Ok-Bytes-default.kind c.in-Ok-Bytes-default.chars)) c.args.ends);
+      single = tt;
       stands = record { bytes = c.args.bytes.now; are = λ i. (c.type_inv.bytes i).fits; few = c.requires.few; has = record { whole = told.told } };
       makes = c.chars_node.ensures;
     }

@@ -1,0 +1,102 @@
+//! The bytes of a record that has begun.
+
+ghost use Rattle.std.specs.Prelude.{◌≡◌, [], ◌++◌, length, IfOk, OnErr, OnOk};
+ghost use Rattle.multibyte_ints.specs.Integer.{IsBytes};
+ghost use Rattle.nbfx_records.specs.Asked as asked;
+ghost use Rattle.nbfx_records.specs.Cursor.{Tells};
+ghost use Rattle.nbfx_records.specs.Shapes as spec;
+ghost use Rattle.nbfx_records.specs.Views.{IsSoundRecord, record_seen};
+
+use crate::cursor::Stop;
+use crate::nodes::NodePlace;
+use crate::records::{RecordPart, shape_at};
+use crate::resume::Resume;
+use std::alloc::Global;
+use std::marker::Model;
+use unit_streams::Memory;
+
+/// The bytes of a record that has begun, and what was seen of them, so that what is whole of a list
+/// isn't read again. Contracts see the bytes.
+#[derive(Drop)]
+pub struct BegunBytes {
+    bytes: Vec<u8>,
+    resume: Resume,
+}
+
+impl Model for BegunBytes {
+    ghost use Rattle.std.specs.Prelude.{ℕ, List, ◌++◌};
+    ghost use Rattle.multibyte_ints.specs.Integer.{IsBytes};
+    ghost use Rattle.nbfx_records.specs.Resuming.{Fits};
+
+    ghost Value = { List ℕ };
+
+    ghost view = { λ b. b.bytes.items };
+
+    ghost invariant = { λ b. IsBytes b.bytes.items
+        × ((more : List ℕ) → Fits b.resume (b.bytes.items ++ more)) };
+}
+
+impl BegunBytes {
+    /// No bytes.
+    pub fn new(alloc: Global) -> BegunBytes
+        ensures { result ≡ [] }
+    {
+        BegunBytes {
+            bytes: Vec::new(alloc),
+            resume: Resume::new(),
+        }
+    }
+
+    /// The bytes.
+    pub fn as_slice(&self) -> &[u8]
+        ensures { result.now ≡ self.now }
+    {
+        self.bytes.as_slice()
+    }
+
+    /// How many bytes there are.
+    pub fn len(&self) -> usize
+        ensures { result ≡ length self.now }
+    {
+        self.bytes.len()
+    }
+
+    /// Puts more bytes behind the others.
+    pub fn keep(&mut self, more: &[u8]) -> Result<(), Memory>
+        ensures kept { OnOk result (self.new ≡ self.old ++ more.now) }
+        ensures unchanged { OnErr result (self.new ≡ self.old) }
+    {
+        self.bytes.extend_from_slice(more)?;
+        Ok(())
+    }
+
+    /// Takes the bytes out. The room stays.
+    pub fn clear(&mut self)
+        ensures { self.new ≡ [] }
+    {
+        self.bytes.clear();
+        self.resume = Resume::new();
+    }
+
+    /// The parts of the record that they begin, where it may come at this place: a list and an
+    /// array's attributes are read on from where [`look`](Self::look) left them.
+    pub fn parts(&self, place: NodePlace) -> Result<(RecordPart<'_>, usize), Stop>
+        ensures tells { Tells record_seen (spec.shape_at place)
+            (asked.shape_at place) self.now 0 result }
+        ensures sound { IfOk result (λ read. IsSoundRecord read.0) }
+        ensures bytes { IsBytes self.now }
+    {
+        let mut resume = self.resume;
+        shape_at(place, self.bytes.as_slice(), &mut resume)
+    }
+
+    /// Sees how far the record is whole that they begin, so that no long list is gone through again
+    /// for each piece of it.
+    pub fn look(&mut self, place: NodePlace)
+        ensures { self.new ≡ self.old }
+    {
+        let mut resume = self.resume;
+        let _seen = shape_at(place, self.bytes.as_slice(), &mut resume);
+        self.resume = resume;
+    }
+}
