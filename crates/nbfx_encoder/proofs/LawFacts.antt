@@ -1,6 +1,7 @@
 -- When a document is written, and what one more adds.
 use Rattle.std.proofs.Common.{◌≡◌, ℕ, ◌+◌, ◌≤◌, List, [], ◌∷◌, ◌++◌, length, Bool, true, false, Result, Ok, Err, refl, sym, ap, ◌∙◌, arith, append_assoc}
 use Rattle.std.specs.Prelude.{nat_lt, if◌then◌else◌}
+use Rattle.std.proofs.Math.Nat.{add-zero}
 use Rattle.std.proofs.lemmas.Bool.{ltb-false, le-ltb}
 use Rattle.nbfx_values.specs.Limits.{Limits}
 use Rattle.nbfx_values.specs.Measures.{capped, content_of, depth_of}
@@ -28,12 +29,12 @@ not_above most n e otherwise t is = by (nat_lt most n) refl is
     by false below is = record { within = ltb-false most n below; rest = is }
 
 -- a payload within the quota
-record IsShort (most : ℕ) (answer : Result (Placed (List ℕ)) ℕ) (payload : Placed (List ℕ)) : Type 0
+pub record IsShort (most : ℕ) (answer : Result (Placed (List ℕ)) ℕ) (payload : Placed (List ℕ)) : Type 0
   where
-    is : answer ≡ Ok payload
-    within : length payload.0 ≤ most
+    pub is : answer ≡ Ok payload
+    pub within : length payload.0 ≤ most
 
-short_one : (most : ℕ) (answer : Result (Placed (List ℕ)) ℕ) (payload : Placed (List ℕ))
+pub short_one : (most : ℕ) (answer : Result (Placed (List ℕ)) ℕ) (payload : Placed (List ℕ))
     → within_payload most answer ≡ Ok payload → IsShort most answer payload
 short_one most (Err item) payload is = absurd (cc is)
 short_one most (Ok other) payload is =
@@ -138,7 +139,7 @@ sends_one_more limits kind mode table behind number [] document bytes is =
     let none : [] ≡ bytes = ap (λ (p : Placed (List ℕ)). p.0) pair in
     let same : table ≡ behind = ap (λ (p : Placed (List ℕ)). p.1) pair in
     let last = last_one limits kind mode document in
-    let counted : number ≡ number + 0 = omega arith in
+    let counted : number ≡ number + 0 = sym (add-zero number) in
     sym (behind_none (last table number)) ∙ ap (λ b. behind_bytes b (last table number)) none
     ∙ ap (λ t. behind_bytes bytes (last t number)) same
     ∙ ap (λ n. behind_bytes bytes (last behind n)) counted

@@ -11,4 +11,8 @@ pub mod InItems
 pub mod Openings
 pub mod Sizes
 pub mod LawFacts
+pub mod ReadBack
+mod OnLiterals
 mod Worked
+mod WorkedValues
+mod WorkedUnfit

@@ -1,6 +1,6 @@
 -- What is spelled of declarations, attributes and arrays, and of each item, says it under the table
 -- behind it.
-use Rattle.std.proofs.Common.{◌≡◌, ℕ, List, [], ◌∷◌, ◌++◌, Bool, true, false, Option, Some, None, refl, sym, ap, ◌∙◌, subst}
+use Rattle.std.proofs.Common.{◌≡◌, ℕ, List, [], ◌∷◌, ◌++◌, Bool, true, false, Option, Some, None, refl, ap, ◌∙◌, subst}
 use Rattle.std.specs.Prelude.{◌&&◌, flat_map, nat_lt, length}
 use Rattle.std.specs.List.{list_all}
 use Rattle.std.specs.Option.{option_map}
@@ -36,7 +36,7 @@ use Rattle.nbfx_values.specs.declared.scalars.Scalar.{Scalar}
 use Rattle.nbfx_values.specs.Scalars.{is_valid_scalar}
 use Rattle.nbfx_encoder.specs.Sound.{IsSound}
 use Rattle.nbfx_encoder.proofs.Growing.{Grows, grows_not, grows_on, sound_behind}
-use Rattle.nbfx_encoder.proofs.Saying.{SaysName, SaysScalar, SaysValue, Small, Spells, each_says, name_says_behind, placed_says, scalar_says, scalar_says_behind}
+use Rattle.nbfx_encoder.proofs.Saying.{Says, SaysName, SaysScalar, SaysValue, Small, Spells, each_says, name_says_behind, placed_says, says_behind, scalar_says, scalar_says_behind}
 
 -- identifiers of both, and of each of many
 both_small : (ids others : List ℕ) → Small ids → Small others → Small (ids ++ others)
@@ -44,25 +44,25 @@ both_small ids others one two =
     list_all-append (is_unsigned 31) ids others
     ∙ and_from (list_all (is_unsigned 31) ids) (list_all (is_unsigned 31) others) one two
 
--- of scalars that say others
-record AllScalars (table : StringTable) (raws : List RawScalar) (scalars : List Scalar) : Type 0
-  where
-    mean : EachMeans (ScalarMeans table) raws scalars
-    small : Small (flat_map ids_of_scalar raws)
-    qnamed : list_all names_qnames_raw raws ≡ true
+-- of things that say others, each one
+record AllSay {X Y : Type 0} (Mean : StringTable → Y → X → Type 0) (ids : Y → List ℕ)
+    (good : Y → Bool) (table : StringTable) (things : List Y) (said : List X) : Type 0 where
+  mean : EachMeans (Mean table) things said
+  small : Small (flat_map ids things)
+  qnamed : list_all good things ≡ true
 
-all_scalars : (table : StringTable) (raws : List RawScalar) (scalars : List Scalar)
-    → EachMeans (λ raw scalar. SaysScalar scalar table raw) raws scalars
-    → AllScalars table raws scalars
-all_scalars table [] scalars none = record { mean = none; small = refl; qnamed = refl }
-all_scalars table (raw ∷ raws) scalars (scalar, rest, says, more, is) =
-    let others = all_scalars table raws rest more in
+all_say : {X Y : Type 0} (Mean : StringTable → Y → X → Type 0) (ids : Y → List ℕ)
+    (good : Y → Bool) (table : StringTable) (things : List Y) (said : List X)
+    → EachMeans (λ thing one. Says Mean ids good one table thing) things said
+    → AllSay Mean ids good table things said
+all_say Mean ids good table [] said none = record { mean = none; small = refl; qnamed = refl }
+all_say Mean ids good table (thing ∷ things) said (one, rest, says, more, is) =
+    let others = all_say Mean ids good table things rest more in
     record {
-      mean = (scalar, rest, says.means, others.mean, is);
-      small = ap (list_all (is_unsigned 31)) (flat_map-cons ids_of_scalar raw raws)
-          ∙ both_small (ids_of_scalar raw) (flat_map ids_of_scalar raws) says.small others.small;
-      qnamed = and_from (names_qnames_raw raw) (list_all names_qnames_raw raws) says.qnamed
-          others.qnamed;
+      mean = (one, rest, says.means, others.mean, is);
+      small = ap (list_all (is_unsigned 31)) (flat_map-cons ids thing things)
+          ∙ both_small (ids thing) (flat_map ids things) says.small others.small;
+      qnamed = and_from (good thing) (list_all good things) says.qnamed others.qnamed;
     }
 
 -- a value: one, or a list
@@ -96,7 +96,7 @@ list_says w table scalars None placed said is = absurd (cc is)
 list_says w table scalars (Some p) placed said is =
     let same : (ListOf p.0, p.1) ≡ placed = cc is in
     let s = said p refl in
-    let all = all_scalars p.1 p.0 scalars s.says in
+    let all = all_say ScalarMeans ids_of_scalar names_qnames_raw p.1 p.0 scalars s.says in
     subst (Spells w table (SaysValue (values.List scalars))) same
     (record {
       grows = s.grows;
@@ -117,19 +117,12 @@ value_says w table (values.List scalars) sound valid placed is =
     (λ x t b y g s. scalar_says_behind w x t b y g s) scalars table sound valid p e) is
 
 -- a declaration or an attribute of an array's element
-pub record SaysPart (item : AttrItem) (table : StringTable) (part : AttrNode) : Type 0 where
-  pub means : PartMeans table part item
-  pub small : Small (ids_of_part part)
-  pub qnamed : names_qnames_part part ≡ true
+abbrev pub SaysPart : AttrItem → StringTable → AttrNode → Type 0
+SaysPart = Says PartMeans ids_of_part names_qnames_part
 
 part_says_behind : (w : Writing) (item : AttrItem) (table behind : StringTable) (part : AttrNode)
     → Grows w table behind → SaysPart item table part → SaysPart item behind part
-part_says_behind w item table behind part grows says = record {
-  means = subst (λ (t : StringTable). PartMeans t part item) (sym grows.is)
-      (part_stays table grows.more part item says.means);
-  small = says.small;
-  qnamed = says.qnamed;
-}
+part_says_behind = says_behind PartMeans ids_of_part names_qnames_part part_stays
 
 attributed : (w : Writing) (table : StringTable) (prefix local : List ℕ) (value : Value)
     (name : Placed NameRef) (found : Option (Placed RawValue)) (placed : Placed AttrNode)
@@ -177,39 +170,13 @@ part_says w table (attributes.Xmlns prefix uri) sound valid placed is =
           record { means = (uri, named.says.means, refl); small = named.says.small; qnamed = refl };
     })
 
--- those of an array's element
-record AllParts (table : StringTable) (parts : List AttrNode) (items : List AttrItem) : Type 0 where
-  mean : EachMeans (PartMeans table) parts items
-  small : Small (flat_map ids_of_part parts)
-  qnamed : list_all names_qnames_part parts ≡ true
-
-all_parts : (table : StringTable) (parts : List AttrNode) (items : List AttrItem)
-    → EachMeans (λ part item. SaysPart item table part) parts items → AllParts table parts items
-all_parts table [] items none = record { mean = none; small = refl; qnamed = refl }
-all_parts table (part ∷ parts) items (item, rest, says, more, is) =
-    let others = all_parts table parts rest more in
-    record {
-      mean = (item, rest, says.means, others.mean, is);
-      small = ap (list_all (is_unsigned 31)) (flat_map-cons ids_of_part part parts)
-          ∙ both_small (ids_of_part part) (flat_map ids_of_part parts) says.small others.small;
-      qnamed = and_from (names_qnames_part part) (list_all names_qnames_part parts) says.qnamed
-          others.qnamed;
-    }
-
 -- a node says items
-pub record SaysItems (said : List Item) (table : StringTable) (node : Node) : Type 0 where
-  pub means : Means table node said
-  pub small : Small (identifiers node)
-  pub qnamed : names_qnames node ≡ true
+abbrev pub SaysItems : List Item → StringTable → Node → Type 0
+SaysItems = Says Means identifiers names_qnames
 
 pub items_say_behind : (w : Writing) (said : List Item) (table behind : StringTable) (node : Node)
     → Grows w table behind → SaysItems said table node → SaysItems said behind node
-items_say_behind w said table behind node grows says = record {
-  means = subst (λ (t : StringTable). Means t node said) (sym grows.is)
-      (node_stays table grows.more node said says.means);
-  small = says.small;
-  qnamed = says.qnamed;
-}
+items_say_behind = says_behind Means identifiers names_qnames node_stays
 
 array_node : (w : Writing) (table : StringTable) (a : ArrayItem) (name : Placed NameRef)
     (found : Option (Placed (List AttrNode))) (spelled : Option (Placed ArrayNode))
@@ -236,7 +203,7 @@ array_node w table a name (Some p) spelled placed named said made is =
     let same : (nodes.Array node, p.1) ≡ placed = cc (made, is) in
     let s = said p refl in
     let n = name_says_behind w a.local name.1 p.1 name.0 s.grows named.says in
-    let all = all_parts p.1 p.0 a.attrs s.says in
+    let all = all_say PartMeans ids_of_part names_qnames_part p.1 p.0 a.attrs s.says in
     let array : ArrayMeans p.1 node a =
     record {
       local = a.local;

@@ -21,7 +21,7 @@ use Rattle.nbfx_records.specs.declared.nodes.RawScalar.TheVariants.{Known, QName
 use Rattle.nbfx_records.specs.declared.nodes.RawValue.{RawValue}
 use Rattle.nbfx_records.specs.Meaning.{EachMeans, NameMeans, ScalarMeans, ValueMeans, ids_of_name, ids_of_scalar, ids_of_value}
 use Rattle.nbfx_records.specs.Valid.{names_qnames_raw, names_qnames_text}
-use Rattle.nbfx_records.proofs.StayFacts.{name_stays, scalar_stays, value_stays}
+use Rattle.nbfx_records.proofs.StayFacts.{name_stays, scalar_stays}
 use Rattle.nbfx_encoder.specs.Placing.{Placed, Writing, brings_strings, has_room, place, place_found, place_new, qualified, spell_each, spell_scalar, spell_text, text_found}
 use Rattle.nbfx_encoder.specs.Sound.{IsSound}
 use Rattle.nbfx_encoder.proofs.Growing.{Grows, grows_not, grows_on, sound_behind}
@@ -36,46 +36,47 @@ pub record Spells {X : Type 0} (w : Writing) (table : StringTable) (Says : Strin
 abbrev pub Small : List ℕ → Type 0
 Small ids = list_all (is_unsigned 31) ids ≡ true
 
-pub record SaysName (text : List ℕ) (table : StringTable) (name : NameRef) : Type 0 where
-  pub means : NameMeans table name text
-  pub small : Small (ids_of_name name)
+-- A thing says another under a table: it means it there, its identifiers have 31 bits, and what it
+-- knows is no QName.
+pub record Says {X Y : Type 0} (Mean : StringTable → Y → X → Type 0) (ids : Y → List ℕ)
+    (good : Y → Bool) (said : X) (table : StringTable) (thing : Y) : Type 0 where
+  pub means : Mean table thing said
+  pub small : Small (ids thing)
+  pub qnamed : good thing ≡ true
 
-pub record SaysScalar (scalar : Scalar) (table : StringTable) (raw : RawScalar) : Type 0 where
-  pub means : ScalarMeans table raw scalar
-  pub small : Small (ids_of_scalar raw)
-  pub qnamed : names_qnames_raw raw ≡ true
+-- and it does where more strings come
+pub says_behind : {X Y : Type 0} (Mean : StringTable → Y → X → Type 0) (ids : Y → List ℕ)
+    (good : Y → Bool) (stays : (table : StringTable) (more : List (List ℕ)) (thing : Y) (said : X)
+    → Mean table thing said → Mean (with_strings table more) thing said) (w : Writing) (said : X)
+    (table behind : StringTable) (thing : Y) → Grows w table behind
+    → Says Mean ids good said table thing → Says Mean ids good said behind thing
+says_behind Mean ids good stays w said table behind thing grows says = record {
+  means = subst (λ (t : StringTable). Mean t thing said) (sym grows.is)
+      (stays table grows.more thing said says.means);
+  small = says.small;
+  qnamed = says.qnamed;
+}
 
-pub record SaysValue (value : Value) (table : StringTable) (raw : RawValue) : Type 0 where
-  pub means : ValueMeans table raw value
-  pub small : Small (ids_of_value raw)
-  pub qnamed : names_qnames_text raw ≡ true
+abbrev any_name : NameRef → Bool
+any_name name = true
+
+abbrev pub SaysName : List ℕ → StringTable → NameRef → Type 0
+SaysName = Says NameMeans ids_of_name any_name
+
+abbrev pub SaysScalar : Scalar → StringTable → RawScalar → Type 0
+SaysScalar = Says ScalarMeans ids_of_scalar names_qnames_raw
+
+abbrev pub SaysValue : Value → StringTable → RawValue → Type 0
+SaysValue = Says ValueMeans ids_of_value names_qnames_text
 
 pub name_says_behind : (w : Writing) (text : List ℕ) (table behind : StringTable) (name : NameRef)
     → Grows w table behind → SaysName text table name → SaysName text behind name
-name_says_behind w text table behind name grows says = record {
-  means = subst (λ (t : StringTable). NameMeans t name text) (sym grows.is)
-      (name_stays table grows.more name text says.means);
-  small = says.small;
-}
+name_says_behind = says_behind NameMeans ids_of_name any_name name_stays
 
 pub scalar_says_behind : (w : Writing) (scalar : Scalar) (table behind : StringTable)
     (raw : RawScalar) → Grows w table behind → SaysScalar scalar table raw
     → SaysScalar scalar behind raw
-scalar_says_behind w scalar table behind raw grows says = record {
-  means = subst (λ (t : StringTable). ScalarMeans t raw scalar) (sym grows.is)
-      (scalar_stays table grows.more raw scalar says.means);
-  small = says.small;
-  qnamed = says.qnamed;
-}
-
-pub value_says_behind : (w : Writing) (value : Value) (table behind : StringTable) (raw : RawValue)
-    → Grows w table behind → SaysValue value table raw → SaysValue value behind raw
-value_says_behind w value table behind raw grows says = record {
-  means = subst (λ (t : StringTable). ValueMeans t raw value) (sym grows.is)
-      (value_stays table grows.more raw value says.means);
-  small = says.small;
-  qnamed = says.qnamed;
-}
+scalar_says_behind = says_behind ScalarMeans ids_of_scalar names_qnames_raw scalar_stays
 
 -- an identifier that names a text has 31 bits
 small_name : (w : Writing) (table : StringTable) (id : ℕ) (text : List ℕ) → IsSound w table
@@ -111,6 +112,7 @@ added w table text sound utf8 brings fits =
         small =
             small_name w (with_strings table (text ∷ [])) (2 * length table.strings + 1) text
             (sound_behind w table (with_strings table (text ∷ [])) sound grows) named;
+        qnamed = refl;
       };
     }
 
@@ -126,7 +128,7 @@ placed_new w table text false room sound utf8 =
     rw room (record {
       grows = grows_not w table sound;
       says =
-          record { means = refl; small = refl };
+          record { means = refl; small = refl; qnamed = refl };
     })
 
 placed_found : (w : Writing) (table : StringTable) (text : List ℕ) (found : Option ℕ)
@@ -137,7 +139,7 @@ placed_found w table text (Some id) is sound utf8 =
     record {
       grows = grows_not w table sound;
       says =
-          record { means = names; small = small_name w table id text sound names };
+          record { means = names; small = small_name w table id text sound names; qnamed = refl };
     }
 placed_found w table text None is sound utf8 =
     placed_new w table text (has_room w table text) refl sound utf8
@@ -205,26 +207,7 @@ scalar_says w table (scalars.QName letter name) sound valid placed is =
     let said = placed_says w table name sound utf8 in
     qualified_says w table (place w table name).1 letter name (place w table name).0 placed
     said.grows said.says is
-scalar_says w table (scalars.Number n) sound valid placed is =
-    known_says w table (scalars.Number n) placed sound refl is
-scalar_says w table (scalars.Truth t) sound valid placed is =
-    known_says w table (scalars.Truth t) placed sound refl is
-scalar_says w table (scalars.Float n) sound valid placed is =
-    known_says w table (scalars.Float n) placed sound refl is
-scalar_says w table (scalars.Double n) sound valid placed is =
-    known_says w table (scalars.Double n) placed sound refl is
-scalar_says w table (scalars.Decimal d) sound valid placed is =
-    known_says w table (scalars.Decimal d) placed sound refl is
-scalar_says w table (scalars.DateTime n) sound valid placed is =
-    known_says w table (scalars.DateTime n) placed sound refl is
-scalar_says w table (scalars.TimeSpan n) sound valid placed is =
-    known_says w table (scalars.TimeSpan n) placed sound refl is
-scalar_says w table (scalars.Bytes b) sound valid placed is =
-    known_says w table (scalars.Bytes b) placed sound refl is
-scalar_says w table (scalars.UniqueId b) sound valid placed is =
-    known_says w table (scalars.UniqueId b) placed sound refl is
-scalar_says w table (scalars.Uuid b) sound valid placed is =
-    known_says w table (scalars.Uuid b) placed sound refl is
+scalar_says w table scalar sound valid placed is = known_says w table scalar placed sound refl is
 
 -- each of a list, where one says what it should, and goes on to where tables grow
 module _ {A B : Type 0} (w : Writing) (spell : StringTable → A → Option (Placed B))

@@ -93,9 +93,9 @@ HasSpelled spelled (Err faults.Memory) old new = ⊤
 HasSpelled spelled (Err fault) old new =
     (item : ℕ) × (spelled ≡ Err item) × (fault ≡ faults.NoIdForQName item)
 
--- a payload of so many bytes is spelled
-pub record SpelledPayload (answer : Result (Placed (List ℕ)) ℕ) (size : ℕ) (bytes : List ℕ)
-    (behind : StringTable) : Type 0 where
+-- a payload of so many bytes is spelled, where another answer tells why not
+pub record SpelledPayload {E : Type 0} (answer : Result (Placed (List ℕ)) E) (size : ℕ)
+    (bytes : List ℕ) (behind : StringTable) : Type 0 where
   pub payload : Placed (List ℕ)
   pub answer_is : answer ≡ Ok payload
   pub table : behind ≡ payload.1
@@ -110,17 +110,9 @@ SpellsPayload answer (Err fault) bytes behind =
     (item : ℕ) × (answer ≡ Err item) × (fault ≡ faults.NoIdForQName item)
 
 -- the same, and within the payload quota
-pub record SpelledWithin (answer : Result (Placed (List ℕ)) Unfit) (size : ℕ) (bytes : List ℕ)
-    (behind : StringTable) : Type 0 where
-  pub payload : Placed (List ℕ)
-  pub answer_is : answer ≡ Ok payload
-  pub table : behind ≡ payload.1
-  pub bytes_are : bytes ≡ payload.0
-  pub counted : size ≡ length bytes
-
 abbrev pub SpellsWithin : Result (Placed (List ℕ)) Unfit → Result ℕ EncodeFault → (bytes : List ℕ)
     → (behind : StringTable) → Type 0
-SpellsWithin answer (Ok size) bytes behind = SpelledWithin answer size bytes behind
+SpellsWithin answer (Ok size) bytes behind = SpelledPayload answer size bytes behind
 SpellsWithin answer (Err faults.Memory) bytes behind = ⊤
 SpellsWithin answer (Err fault) bytes behind =
     (unfit : Unfit) × (answer ≡ Err unfit) × (fault ≡ told unfit)

@@ -6,27 +6,12 @@ use Rattle.nbfx_values.specs.declared.content.Item.{Item}
 use Rattle.nbfx_values.specs.declared.session.Kind.{Kind}
 use Rattle.string_tables.specs.SessionStrings.{used_cost}
 use Rattle.string_tables.specs.StaticStrings.{IsStaticMap}
-use Rattle.string_tables.specs.StringTable.{StringTable, with_strings}
-use Rattle.nbfx_records.specs.Payloads.{IsPayload, IsWithin}
+use Rattle.string_tables.specs.StringTable.{StringTable}
 use Rattle.nbfx_values.specs.declared.session.Mode.{Mode}
 use Rattle.nbfx_encoder.specs.Envelopes.{behind_bytes, envelope_then, envelopes_from}
 use Rattle.nbfx_encoder.specs.Placing.{Placed}
+use Rattle.nbfx_encoder.specs.Reading.{AdmitsAsMuch, IsRead}
 use Rattle.nbfx_encoder.specs.Spelling.{Fits, encoded}
-
--- limits that admit as much as others
-pub record AdmitsAsMuch (reader writer : Limits) : Type 0 where
-  pub payload : writer.payload ≤ reader.payload
-  pub depth : writer.depth ≤ reader.depth
-  pub dictionary : writer.dictionary ≤ reader.dictionary
-  pub content : writer.content ≤ reader.content
-
--- what a payload brings, and that it is one within limits
-pub record IsRead (limits : Limits) (kind : Kind) (table : StringTable) (items : List Item)
-    (bytes : List ℕ) (behind : StringTable) : Type 0 where
-  pub own : List (List ℕ)
-  pub is_payload : IsPayload kind table own items bytes
-  pub behind_is : behind ≡ with_strings table own
-  pub within : IsWithin limits items bytes behind.strings
 
 -- What is written of a document that fits is a payload of it, within the limits of any reader that
 -- admits as much, and leaves the table that was chosen.

@@ -4,6 +4,7 @@ pub mod Spelling
 pub mod Refusals
 pub mod Standing
 pub mod Envelopes
+pub mod Reading
 pub mod Laws
 pub mod Sending
 -- for the proof: the parts of a writer

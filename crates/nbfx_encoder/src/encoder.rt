@@ -4,6 +4,7 @@
 ghost use Rattle.std.specs.Prelude.{◌≡◌, ◌+◌, ◌<◌, ◌≤◌, ◌^◌, ◌++◌, [], OnOk, OnErr, IfErr, IfOk, IsTrue, drop, length, take};
 ghost use Rattle.std.specs.List.{list_all};
 ghost use Rattle.nbfx_values.specs.Items.{is_valid_item};
+ghost use Rattle.nbfx_values.specs.Limits.{Limits};
 ghost use Rattle.nbfx_values.specs.Measures.{content_of, depth_of};
 ghost use Rattle.nbfx_records.specs.Putting.{Puts};
 ghost use Rattle.session_dictionary.specs.Marks.{IsMarkOf};
@@ -11,6 +12,7 @@ ghost use Rattle.string_tables.specs.SessionStrings.{used_cost};
 ghost use Rattle.string_tables.specs.StringTable.{StringTable};
 ghost use Rattle.nbfx_values.specs.QuotasOf.{limits_of};
 ghost use Rattle.nbfx_encoder.specs.Inside.{Keeps, SpellsPayload, SpellsWithin, names_of, writing_of};
+ghost use Rattle.nbfx_encoder.specs.Reading.{AdmitsAsMuch, AppendsPayload, IsRead};
 ghost use Rattle.nbfx_encoder.specs.Sound.{IsSound};
 ghost use Rattle.nbfx_encoder.specs.Spelling.{chosen, encoded, opening_bytes, within_payload};
 
@@ -66,9 +68,10 @@ impl<'s> Encoder<'s> {
         }
     }
 
-    /// The strings of the direction so far.
+    /// The strings of the direction so far, which cost no more than the dictionary quota.
     pub fn table(&self) -> &SessionTable
-        ensures { result.now.strings ≡ (names_in self.now).strings }
+        ensures strings { result.now.strings ≡ (names_in self.now).strings }
+        ensures within { used_cost result.now.strings ≤ (limits_in self.now).dictionary }
     {
         &self.speller.table
     }
@@ -179,6 +182,9 @@ impl<'s> Encoder<'s> {
             (encoded (limits_in self.old) (kind_in self.old) (names_in self.old) doc.now)
             prepared self.old self.new) }
         ensures small { IfOk result (λ prepared. prepared.size < 2 ^ 31) }
+        ensures read { (reader : Limits) → AdmitsAsMuch reader (limits_in self.old)
+            → OnOk result (IsRead reader (kind_in self.old) (names_in self.old) doc.now
+            (payload_in self.new) (names_in self.new)) }
         ensures refused { IfErr result (Refuses
             (encoded (limits_in self.old) (kind_in self.old) (names_in self.old) doc.now)) }
         ensures unchanged { OnErr result (names_in self.new ≡ names_in self.old) }
@@ -199,12 +205,17 @@ impl<'s> Encoder<'s> {
     }
 
     /// Appends the payload of a document in its chosen spelling, which brings the strings that it
-    /// needs, and carries the session's strings on. A document is refused by the first of these:
+    /// needs, and carries the session's strings on. Any reader whose quotas admit as much reads the
+    /// document from it, and has the same strings afterwards. A document is refused by the first of
+    /// these:
     /// its nesting, its content, a QName's name that gets no identifier, the size of its payload.
     /// Then, and where there is no memory, the strings and the output are as before.
     pub fn encode(&mut self, doc: &Doc, out: &mut Vec<u8>) -> Result<(), EncodeFault>
         ensures written { OnOk result (Writes
             (encoded (limits_in self.old) (kind_in self.old) (names_in self.old) doc.now)
+            out.old.items out.new.items (names_in self.new)) }
+        ensures payload { (reader : Limits) → AdmitsAsMuch reader (limits_in self.old)
+            → OnOk result (AppendsPayload reader (kind_in self.old) (names_in self.old) doc.now
             out.old.items out.new.items (names_in self.new)) }
         ensures refused { IfErr result (Refuses
             (encoded (limits_in self.old) (kind_in self.old) (names_in self.old) doc.now)) }

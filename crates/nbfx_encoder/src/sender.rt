@@ -1,11 +1,14 @@
 //! One half of a session that sends: documents in envelopes, and then End.
 #![tactic(auto, unfolding(crate::specs::Sending::kind_in, crate::specs::Sending::limits_in, crate::specs::Sending::mode_in, crate::specs::Sending::names_in, crate::specs::Sending::side_in, crate::specs::Sending::state_in,))]
 
-ghost use Rattle.std.specs.Prelude.{◌≡◌, ◌++◌, ◌<◌, ◌^◌, [], false, OnOk, OnErr, IfErr, IfOk};
+ghost use Rattle.std.specs.Prelude.{◌≡◌, ◌++◌, ◌<◌, ◌≤◌, ◌^◌, [], false, OnOk, OnErr, IfErr, IfOk};
+ghost use Rattle.nbfx_values.specs.Limits.{Limits};
 ghost use Rattle.nbfx_values.specs.QuotasOf.{limits_of};
 ghost use Rattle.nbfx_records.specs.Putting.{Puts};
+ghost use Rattle.string_tables.specs.SessionStrings.{used_cost};
 ghost use Rattle.nmf_records.specs.Writing.{frame_bytes_of, has_text, size_told};
 ghost use Rattle.nbfx_encoder.specs.Envelopes.{envelope_end, envelope_head};
+ghost use Rattle.nbfx_encoder.specs.Reading.{AdmitsAsMuch, AppendsEnvelope};
 ghost use Rattle.nbfx_encoder.specs.Standing.{payload_in};
 ghost use Rattle.nbfx_encoder.specs.Spelling.{encoded};
 
@@ -85,9 +88,10 @@ impl<'s> Sender<'s> {
         }
     }
 
-    /// The strings of the direction so far.
+    /// The strings of the direction so far, which cost no more than the dictionary quota.
     pub fn table(&self) -> &SessionTable
-        ensures { result.now.strings ≡ (names_in self.now).strings }
+        ensures strings { result.now.strings ≡ (names_in self.now).strings }
+        ensures within { used_cost result.now.strings ≤ (limits_in self.now).dictionary }
     {
         self.encoder.table()
     }
@@ -121,8 +125,9 @@ impl<'s> Sender<'s> {
         }
     }
 
-    /// Sends a document in an envelope: appends it, and carries the session's strings on. In
-    /// singleton mode the envelope is of one chunk, and no other message may follow. A message at
+    /// Sends a document in an envelope: appends it, and carries the session's strings on. Any
+    /// reader whose quotas admit as much reads the document from its payload, and has the same
+    /// strings afterwards. In singleton mode the envelope is of one chunk, and no other message may follow. A message at
     /// the wrong moment is refused before the document is judged. Where it isn't sent the half and
     /// its output are as before.
     pub fn message(&mut self, doc: &Doc, out: &mut Vec<u8>) -> Result<(), SendFault>
@@ -130,6 +135,9 @@ impl<'s> Sender<'s> {
         ensures written { OnOk result (Sends
             (encoded (limits_in self.old) (kind_in self.old) (names_in self.old) doc.now)
             (mode_in self.old) out.old.items out.new.items (names_in self.new)) }
+        ensures payload { (reader : Limits) → AdmitsAsMuch reader (limits_in self.old)
+            → OnOk result (AppendsEnvelope reader (kind_in self.old) (mode_in self.old)
+            (names_in self.old) doc.now out.old.items out.new.items (names_in self.new)) }
         ensures state { OnOk result (state_in self.new ≡ behind_message (mode_in self.old)) }
         ensures refused { IfErr result (RefusesMessage
             (encoded (limits_in self.old) (kind_in self.old) (names_in self.old) doc.now)

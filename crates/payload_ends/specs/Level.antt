@@ -1,0 +1,28 @@
+-- Both ends of one direction.
+use Rattle.std.specs.Prelude.{◌≡◌, ⊤, List, []}
+use Rattle.nbfx_values.specs.Limits.{IsGood}
+use Rattle.nbfx_values.specs.declared.content.Item.{Item}
+use Rattle.nbfx_encoder.specs.declared.encoder.Encoder.{Encoder}
+use Rattle.nbfx_encoder.specs.Reading.{AdmitsAsMuch}
+use Rattle.nbfx_encoder.specs.Spelling.{encoded}
+use Rattle.nbfx_encoder.specs.Standing.{Refuses, kind_in, limits_in, names_in}
+use Rattle.nbfx_decoder.specs.declared.decoder.Decoder.{Decoder}
+use Rattle.nbfx_decoder.specs.Standing.{StandsFor, settings_of}
+use Rattle.payload_ends.specs.declared.carrying.CarryFault.{CarryFault}
+use Rattle.payload_ends.specs.declared.carrying.CarryFault.TheVariants.{Unsent, Memory}
+
+-- Between payloads the reader has the writer's strings, under the same static ones, and admits as
+-- much as the writer.
+pub record AreLevel (e : Encoder) (d : Decoder) : Type 0 where
+  pub statics : (settings_of d).statics ≡ (names_in e).statics
+  pub kind : (settings_of d).kind ≡ kind_in e
+  pub good : IsGood (settings_of d).limits
+  pub admits : AdmitsAsMuch (settings_of d).limits (limits_in e)
+  pub stands : StandsFor d (names_in e).strings []
+
+-- why a document wasn't carried, by both ends before and after
+abbrev pub IsUnsent : Encoder → Encoder → Decoder → Decoder → List Item → CarryFault → Type 0
+IsUnsent old new d e items (Unsent fault) =
+    Refuses (encoded (limits_in old) (kind_in old) (names_in old) items) fault
+    × (names_in new ≡ names_in old) × (e ≡ d)
+IsUnsent old new d e items Memory = ⊤
