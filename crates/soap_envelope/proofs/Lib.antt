@@ -1,10 +1,21 @@
 pub mod Lists
 pub mod NameFacts
-mod OnLiterals
-mod Documents
+pub mod OnLiterals
+pub mod Documents
 pub mod PutFacts
 pub mod Places
 pub mod FaultPlaces
+pub mod Nesting
+pub mod MadeNames
+pub mod MadeParts
+pub mod MadeView
+pub mod LawFacts
+pub mod RenamedItems
+pub mod Renamed
+pub mod Declarations
+pub mod Contents
+pub mod Suffixes
 mod Worked
 mod WorkedRefusals
-mod WorkedPlaces
+pub mod WorkedPlaces
+mod WorkedStructure

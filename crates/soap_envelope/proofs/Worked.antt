@@ -21,6 +21,7 @@ an_echo : view echo ≡ Ok (record {
   action = Some (codes "urn:echo");
   reply_address = None;
   message_id = Text (One (UniqueId identifier)) ∷ [];
+  body_at = 12;
   body = Start [] (codes "x") ∷ words (codes "hi") ∷ Close ∷ [];
 })
 unfolding envelopes_on_literals

@@ -13,11 +13,11 @@ use Rattle.soap_envelope.proofs.Documents.{a, array, attribute, echo, with_body,
 use Rattle.soap_envelope.proofs.OnLiterals.{envelopes_on_literals}
 
 -- the declarations of the elements that are open behind items, where these are before them
-abbrev declares_more : Declaration → Scope → Scope
+abbrev pub declares_more : Declaration → Scope → Scope
 declares_more d [] = (d ∷ []) ∷ []
 declares_more d (layer ∷ outer) = (layer ++ d ∷ []) ∷ outer
 
-abbrev behind : Scope → List Item → Scope
+abbrev pub behind : Scope → List Item → Scope
 behind scope [] = scope
 behind scope (Start prefix local ∷ more) = behind ([] ∷ scope) more
 behind scope (Xmlns prefix uri ∷ more) = behind (declares_more (declaration prefix uri) scope) more
@@ -25,12 +25,12 @@ behind scope (Close ∷ more) = behind (around scope) more
 behind scope (item ∷ more) = behind scope more
 
 -- the declarations and attributes at the head of items
-abbrev head : List Item → List Item
+abbrev pub head : List Item → List Item
 head (Xmlns prefix uri ∷ more) = Xmlns prefix uri ∷ head more
 head (Attr prefix local value ∷ more) = Attr prefix local value ∷ head more
 head _ = []
 
-abbrev scope_at : List Item → ℕ → Scope
+abbrev pub scope_at : List Item → ℕ → Scope
 scope_at items at = behind [] (take (at + 1) items ++ head (drop (at + 1) items))
 
 abbrev innermost : Scope → List Declaration

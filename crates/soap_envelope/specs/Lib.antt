@@ -14,3 +14,6 @@ pub mod View
 pub mod Seen
 pub mod Making
 pub mod Faults
+pub mod Made
+pub mod Renaming
+pub mod Laws

@@ -21,6 +21,13 @@ role_next = codes "http://www.w3.org/2003/05/soap-envelope/role/next"
 unfoldable pub role_ultimate_receiver : List ℕ
 role_ultimate_receiver = codes "http://www.w3.org/2003/05/soap-envelope/role/ultimateReceiver"
 
+-- the addresses of nobody, and of whoever sent the request
+unfoldable pub no_address : List ℕ
+no_address = codes "http://www.w3.org/2005/08/addressing/none"
+
+unfoldable pub anonymous_address : List ℕ
+anonymous_address = codes "http://www.w3.org/2005/08/addressing/anonymous"
+
 -- the actions of faults: those of addressing, and those of SOAP
 unfoldable pub addressing_fault : List ℕ
 addressing_fault = codes "http://www.w3.org/2005/08/addressing/fault"

@@ -1,17 +1,31 @@
--- The view that an envelope's fields hold.
-use Rattle.std.specs.Prelude.{ℕ, List, Option}
+-- The view that an envelope's fields hold, and what they keep.
+use Rattle.std.specs.Prelude.{◌≡◌, ℕ, List, Option, IsTrue, slice_get}
 use Rattle.nbfx_values.specs.declared.content.Item.{Item}
+use Rattle.nbfx_values.specs.Documents.{IsDocument}
 use Rattle.soap_envelope.specs.declared.blocks.Block.{Block}
 use Rattle.soap_envelope.specs.Body.{body_items}
+use Rattle.soap_envelope.specs.Children.{is_start}
 use Rattle.soap_envelope.specs.Parts.{root_scope}
 use Rattle.soap_envelope.specs.View.{View, texts_at}
 
 -- the MessageID, if there is one, and Body stand at their places
-abbrev pub seen : List Item → List Block → (action reply_address : Option (List ℕ)) → Option ℕ → ℕ → View
+abbrev pub seen : List Item → List Block → (action reply_address : Option (List ℕ)) → Option ℕ
+    → ℕ → View
 seen items blocks action reply_address message body = record {
   blocks = blocks;
   action = action;
   reply_address = reply_address;
   message_id = texts_at items message;
+  body_at = body;
   body = body_items items (root_scope items) body;
 }
+
+-- the items are a document, and an element begins at Body's place
+pub record HasBody (items : List Item) (body : ℕ) : Type 0 where
+  pub document : IsDocument items
+  pub starts : IsTrue (is_start (slice_get items body))
+
+-- an element begins at the place of a view's Body, and its content is that of the view
+pub record BodyStands (items : List Item) (v : View) : Type 0 where
+  pub starts : IsTrue (is_start (slice_get items v.body_at))
+  pub content : v.body ≡ body_items items (root_scope items) v.body_at

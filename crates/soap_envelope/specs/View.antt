@@ -26,7 +26,8 @@ pub record View : Type 0 where
   pub reply_address : Option (List ℕ)
   -- the texts of the MessageID that counts
   pub message_id : List Item
-  -- the content of Body, so that it stands by itself
+  -- the place of Body, and its content, so that it stands by itself
+  pub body_at : ℕ
   pub body : List Item
 
 -- the declarations within Header, and its children that aren't passed over
@@ -77,6 +78,7 @@ viewed items parts =
           option_map (text_of items)
           (reply_address_at items (header_scope items parts.header) blocks);
       message_id = texts_at items (counted_at (codes "MessageID") blocks);
+      body_at = parts.body;
       body = body_items items (root_scope items) parts.body;
     }
 

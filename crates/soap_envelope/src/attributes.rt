@@ -8,7 +8,7 @@ ghost use Rattle.soap_envelope.specs.Layers.{kept};
 ghost use Rattle.soap_envelope.specs.Scopes as scope;
 
 use crate::children::behind;
-use crate::namespaces::{role_next, role_ultimate_receiver, soap};
+use crate::namespaces::{ROLE_NEXT, ROLE_ULTIMATE_RECEIVER, SOAP};
 use crate::parts::element_uri;
 use crate::scopes::{Declared, Scopes, declared_in};
 use nbfx_values::{Item, Txt};
@@ -33,6 +33,7 @@ fn attribute_uri<'a>(outer: &'a Scopes<'_>, own: &'a [Declared<'_>], prefix: &Tx
 }
 
 // Whether an attribute is SOAP's of a local name.
+#[tactic(auto, unfolding(crate::specs::Names::soap))]
 fn is_soap_attribute(
     outer: &Scopes<'_>,
     own: &[Declared<'_>],
@@ -43,7 +44,7 @@ fn is_soap_attribute(
     ensures { result ≡ spec.is_soap_attribute (map kept own.now ∷ outer.now) name.now
         prefix.now local.now }
 {
-    local.as_str() == name && attribute_uri(outer, own, prefix) == soap()
+    local.as_str() == name && attribute_uri(outer, own, prefix) == SOAP
 }
 
 // The first attribute that is, at the head of items of which the first is at this place.
@@ -156,14 +157,15 @@ pub(crate) fn must_be_understood(found: &Option<Found>) -> bool
 }
 
 // Whether characters are a role of the ultimate receiver's.
+#[tactic(auto, unfolding(crate::specs::Names::role_next, crate::specs::Names::role_ultimate_receiver))]
 fn is_own_role(characters: &Option<Txt>) -> bool
     ensures { result ≡ spec.is_own_role characters.now }
 {
     match characters {
         Some(text) => {
             text.as_str() == ""
-                || text.as_str() == role_next()
-                || text.as_str() == role_ultimate_receiver()
+                || text.as_str() == ROLE_NEXT
+                || text.as_str() == ROLE_ULTIMATE_RECEIVER
         }
         None => false,
     }

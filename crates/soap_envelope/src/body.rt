@@ -6,7 +6,7 @@ ghost use Rattle.soap_envelope.specs.Layers.{kept, layer_of};
 ghost use Rattle.soap_envelope.specs.Parts.{root_scope};
 
 use crate::children::{behind, open_behind};
-use crate::namespaces::{addressing, soap};
+use crate::namespaces::{ADDRESSING, SOAP};
 use crate::scopes::{Declared, declared_in, declared_on, uri_in};
 use nbfx_values::{ArrayItem, AttrItem, Attrs, Copied, Item, Items};
 use std::alloc::Global;
@@ -46,15 +46,16 @@ fn put_all<'d>(sorted: &mut Vec<Declared<'d>>, layer: &[Declared<'d>]) -> Result
 }
 
 // Whether every reply declares it.
+#[tactic(auto, unfolding(crate::specs::Names::soap, crate::specs::Names::addressing))]
 fn is_usual(one: &Declared<'_>) -> bool
     ensures { result ≡ spec.is_usual (kept one.now) }
 {
-    (one.prefix.as_str() == "s" && one.uri.as_str() == soap())
-        || (one.prefix.as_str() == "a" && one.uri.as_str() == addressing())
+    (one.prefix.as_str() == "s" && one.uri.as_str() == SOAP)
+        || (one.prefix.as_str() == "a" && one.uri.as_str() == ADDRESSING)
 }
 
 // The declarations that an element in Body may rest on, where these are the root's and Body's.
-fn needed<'d>(
+pub(crate) fn needed<'d>(
     alloc: Global,
     root: &[Declared<'d>],
     body: &[Declared<'d>],
@@ -209,7 +210,7 @@ fn self_standing(alloc: Global, needs: &[Declared<'_>], items: &[Item]) -> Resul
 }
 
 // What stands behind the declarations and attributes at the head of items.
-fn behind_head(items: &[Item]) -> &[Item]
+pub(crate) fn behind_head(items: &[Item]) -> &[Item]
     ensures { result.now ≡ spec.behind_head items.now }
 {
     for (i, item) in items.iter().enumerate() {

@@ -3,9 +3,12 @@
 ghost use Rattle.std.specs.Prelude.{◌≡◌, ◌≢◌, ◌++◌, Err, IfOk, IsTrue, MatchResult, Ok, OnOk, slice_get};
 ghost use Rattle.std.specs.List.{list_all};
 ghost use Rattle.std.specs.Option.{option_copied, option_map};
+ghost use Rattle.nbfx_values.specs.Documents.{IsDocument};
 ghost use Rattle.nbfx_values.specs.Items.{is_valid_item};
 ghost use Rattle.soap_envelope.specs.Characters as characters;
+ghost use Rattle.soap_envelope.specs.Making.{AreTexts, IsContent};
 ghost use Rattle.soap_envelope.specs.Parts.{root_scope};
+ghost use Rattle.soap_envelope.specs.Seen.{BodyStands, HasBody};
 ghost use Rattle.soap_envelope.specs.Understanding as understanding;
 ghost use Rattle.soap_envelope.specs.View as spec;
 ghost use Rattle.soap_envelope.specs.View.{blocks_of, header_children, header_scope, view};
@@ -38,11 +41,13 @@ pub struct Envelope<'d> {
 
 impl<'d> Model for Envelope<'d> {
     ghost use Rattle.soap_envelope.specs.View.{View};
-    ghost use Rattle.soap_envelope.specs.Seen.{seen};
+    ghost use Rattle.soap_envelope.specs.Seen.{HasBody, seen};
 
     ghost Value = { View };
 
     ghost view = { λ e. seen e.items.now e.blocks e.action e.reply_address e.message e.body };
+
+    ghost invariant = { λ e. HasBody e.items.now e.body };
 }
 
 // Into the root.
@@ -149,7 +154,7 @@ fn envelope_with<'d>(
     blocks: Blocks,
     parts: Parts,
 ) -> Result<Envelope<'d>, Memory>
-    requires valid { IsTrue (list_all is_valid_item items.now) }
+    requires body { HasBody items.now parts.body }
     requires scope { scopes.old ≡ header_scope items.now parts.header }
     requires blocks { blocks ≡ blocks_of items.now parts.header }
     ensures { IfOk result (λ e. e ≡ spec.viewed items.now parts) }
@@ -175,7 +180,7 @@ fn viewed<'d>(
     mut scopes: Scopes<'d>,
     parts: Parts,
 ) -> Result<Result<Envelope<'d>, SoapFault>, Memory>
-    requires valid { IsTrue (list_all is_valid_item items.now) }
+    requires body { HasBody items.now parts.body }
     requires scope { scopes ≡ root_scope items.now }
     ensures { IfOk result (λ seen. seen ≡ spec.viewed_by items.now (Ok parts)) }
 {
@@ -198,7 +203,7 @@ fn viewed<'d>(
 
 // The view, or the first refusal.
 fn view_of<'d>(alloc: Global, items: &'d [Item]) -> Result<Result<Envelope<'d>, SoapFault>, Memory>
-    requires { IsTrue (list_all is_valid_item items.now) }
+    requires { IsDocument items.now }
     ensures { IfOk result (λ seen. seen ≡ view items.now) }
 {
     if let Some(item) = bad_name(alloc, items)? {
@@ -268,8 +273,9 @@ fn texts_at(alloc: Global, items: &[Item], at: Option<usize>) -> Result<Items, M
 impl<'d> Envelope<'d> {
     /// The view of a document. Any refusal but for want of memory is the first that applies.
     pub fn of(alloc: Global, doc: &'d Doc) -> Result<Envelope<'d>, SoapFault>
-        ensures { MatchResult result (λ e. view doc.now ≡ Ok e)
+        ensures viewed { MatchResult result (λ e. view doc.now ≡ Ok e)
             (λ fault. fault ≢ SoapFault.Memory → view doc.now ≡ Err fault) }
+        ensures body { IfOk result (λ e. BodyStands doc.now e) }
     {
         match view_of(alloc, doc.items().as_slice()) {
             Ok(seen) => seen,
@@ -306,7 +312,8 @@ impl<'d> Envelope<'d> {
 
     /// The texts of the MessageID, in order, if there is one that is targeted.
     pub fn message_id(&self, alloc: Global) -> Result<Items, Memory>
-        ensures { IfOk result (λ texts. texts ≡ self.now.message_id) }
+        ensures same { IfOk result (λ texts. texts ≡ self.now.message_id) }
+        ensures texts { IfOk result AreTexts }
     {
         texts_at(alloc, self.items, self.message)
     }
@@ -314,9 +321,17 @@ impl<'d> Envelope<'d> {
     /// The content of Body, so that it means the same in a reply: each child element declares what
     /// was in scope at Body and it doesn't declare itself.
     pub fn body(&self, alloc: Global) -> Result<Items, Memory>
-        ensures { IfOk result (λ items. items ≡ self.now.body) }
+        ensures same { IfOk result (λ items. items ≡ self.now.body) }
+        ensures content { IfOk result IsContent }
     {
         body_items(alloc, self.items, self.body)
+    }
+
+    /// The place of Body's Start in the document's items, counted from 0.
+    pub fn body_at(&self) -> usize
+        ensures { result ≡ self.now.body_at }
+    {
+        self.body
     }
 
     /// The names, in order, of the blocks that are targeted and must be understood, and whose names

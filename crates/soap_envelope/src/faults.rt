@@ -31,12 +31,13 @@ impl Code {
 }
 
 // A fault of addressing has a subcode, and its action.
+#[tactic(auto, unfolding(crate::specs::Names::addressing_fault, crate::specs::Names::soap_fault))]
 fn fault_action(sub: Sub) -> &'static str
     ensures { result.now ≡ spec.fault_action sub }
 {
     match sub {
-        Sub::None => namespaces::soap_fault(),
-        _ => namespaces::addressing_fault(),
+        Sub::None => namespaces::SOAP_FAULT,
+        _ => namespaces::ADDRESSING_FAULT,
     }
 }
 

@@ -12,7 +12,7 @@ use crate::attributes::{
 };
 use crate::blocks::{Block, Blocks, Names, QualifiedName};
 use crate::children::{behind, children_of, close_of, is_start};
-use crate::namespaces::addressing;
+use crate::namespaces::ADDRESSING;
 use crate::parts::{element_uri, is_element};
 use crate::scopes::{Scopes, declared_in};
 use crate::texts::has_plain_content;
@@ -90,10 +90,11 @@ pub(crate) fn is_same_name(name: &QualifiedName, other: &QualifiedName) -> bool
 }
 
 // Whether a block counts as addressing's of a local name.
+#[tactic(auto, unfolding(crate::specs::Names::addressing))]
 pub(crate) fn counts_as(block: &Block, local: &str) -> bool
     ensures { result ≡ spec.counts_as local.now block.now }
 {
-    block.targeted && block.name.uri.as_str() == addressing() && block.name.local.as_str() == local
+    block.targeted && block.name.uri.as_str() == ADDRESSING && block.name.local.as_str() == local
 }
 
 // Whether a block counts as one with content of characters alone.
@@ -144,11 +145,12 @@ pub(crate) fn repeated(blocks: &[Block]) -> Option<usize>
 }
 
 // Whether an Address of characters alone begins at a place.
+#[tactic(auto, unfolding(crate::specs::Names::addressing))]
 fn is_address(alloc: Global, items: &[Item], outer: &Scopes<'_>, at: usize) -> Result<bool, Memory>
     requires { IsTrue (list_all is_valid_item items.now) }
     ensures { IfOk result (λ found. found ≡ spec.is_address items.now outer.now at) }
 {
-    if !is_element(alloc, items, outer, addressing(), "Address", at)? {
+    if !is_element(alloc, items, outer, ADDRESSING, "Address", at)? {
         return Ok(false);
     }
     has_plain_content(alloc, items, at)

@@ -2,13 +2,15 @@
 //! replies and faults.
 //!
 //! The one idea: an envelope is a document seen by the names that its prefixes stand for. `view` of
-//! `specs/View.antt` is a function of the document's items, in the order in which it is judged: names
-//! (`Scopes`, `BadNames`), the root and its children (`Parts`), header blocks (`Blocks`, `Headers`),
-//! and the content of Body, so that it stands by itself (`Body`). `Envelope::of` is proved to answer
-//! that view, or the first refusal.
+//! `specs/View.antt` is a function of the document's items, in the order in which it is judged:
+//! names (`Scopes`, `BadNames`), the root and its children (`Parts`), header blocks (`Blocks`,
+//! `Headers`), and the content of Body, so that it stands by itself (`Body`). `Envelope::of` is
+//! proved to answer that view, or the first refusal. `take_body` takes the content of Body out of a
+//! document that isn't needed any more, and moves its items where they need no declarations.
 //!
-//! `reply_doc` and `fault_doc` make documents whose items `specs/Making.antt` and `specs/Faults.antt`
-//! list one by one. The names of the standards are in `src/namespaces.rt` and `specs/Names.antt`.
+//! `reply_doc` and `fault_doc` make documents whose items `specs/Making.antt` and
+//! `specs/Faults.antt` list one by one. The names of the standards are in `src/namespaces.rt` and
+//! `specs/Names.antt`.
 #![tactic(auto)]
 
 mod attributes;
@@ -18,19 +20,26 @@ mod children;
 mod envelope;
 mod faults;
 mod headers;
+pub mod laws;
 mod making;
+mod moving;
 mod names;
-mod namespaces;
+pub mod namespaces;
 mod parts;
 mod puts;
 mod refusals;
 mod report;
 mod scopes;
+mod taking;
 mod texts;
 
 pub use blocks::{Block, Blocks, Names, QualifiedName};
 pub use envelope::Envelope;
 pub use faults::fault_doc;
-pub use making::reply_doc;
+pub use making::{reply_doc, reply_doc_with};
 pub use refusals::SoapFault;
 pub use report::{Code, FaultReport, Sub};
+pub use taking::take_body;
+
+#[cfg(test)]
+mod tests;

@@ -6,19 +6,21 @@ ghost use Rattle.nbfx_values.specs.Documents.{IsDocument};
 ghost use Rattle.soap_envelope.specs.Making as spec;
 ghost use Rattle.soap_envelope.specs.Making.{AreTexts, IsContent, action_block, ending, envelope_items, middle, opening, relates_block, reply_items};
 
-use crate::namespaces::{addressing, soap};
+use crate::moving::put_moved;
+use crate::namespaces::{ADDRESSING, SOAP};
 use crate::puts::{put_attribute, put_close, put_copies, put_start, put_text, put_xmlns};
-use nbfx_values::{Doc, Item, Items, Scalar, Txt, Value};
+use nbfx_values::{Copied, Doc, Item, Items, Scalar, Txt, Value};
 use std::alloc::Global;
 use unit_streams::Memory;
 
 // From the root to the first block.
+#[tactic(auto, unfolding(crate::specs::Names::soap, crate::specs::Names::addressing))]
 pub(crate) fn put_opening(alloc: Global, items: &mut Items) -> Result<(), Memory>
     ensures { OnOk result (items.new ≡ items.old ++ opening) }
 {
     put_start(alloc, items, "s", "Envelope")?;
-    put_xmlns(alloc, items, "s", soap())?;
-    put_xmlns(alloc, items, "a", addressing())?;
+    put_xmlns(alloc, items, "s", SOAP)?;
+    put_xmlns(alloc, items, "a", ADDRESSING)?;
     put_start(alloc, items, "s", "Header")?;
     Ok(())
 }
@@ -97,16 +99,16 @@ fn put_reply(
     items: &mut Items,
     action: Txt,
     relates: &[Item],
-    body: &[Item],
+    body: Items,
 ) -> Result<(), Memory>
     ensures { OnOk result
-        (items.new ≡ items.old ++ envelope_items action relates.now [] body.now) }
+        (items.new ≡ items.old ++ envelope_items action relates.now [] body) }
 {
     put_opening(alloc, items)?;
     put_action(alloc, items, action)?;
     put_relates(alloc, items, relates)?;
     put_middle(alloc, items)?;
-    put_copies(items, body)?;
+    put_moved(items, body)?;
     put_ending(items)?;
     Ok(())
 }
@@ -119,14 +121,22 @@ pub fn reply_doc(alloc: Global, action: &str, relates: &Items, body: &Items) -> 
     requires content { IsContent body.now }
     ensures { IfOk result (λ doc. doc ≡ reply_items action.now relates.now body.now) }
 {
+    reply_doc_with(alloc, action, relates, body.copy()?)
+}
+
+/// The same reply. The content isn't copied.
+pub fn reply_doc_with(
+    alloc: Global,
+    action: &str,
+    relates: &Items,
+    body: Items,
+) -> Result<Doc, Memory>
+    requires texts { AreTexts relates.now }
+    requires content { IsContent body }
+    ensures { IfOk result (λ doc. doc ≡ reply_items action.now relates.now body) }
+{
     let action = response_action(alloc, action)?;
     let mut items = Items::new(alloc);
-    put_reply(
-        alloc,
-        &mut items,
-        action,
-        relates.as_slice(),
-        body.as_slice(),
-    )?;
+    put_reply(alloc, &mut items, action, relates.as_slice(), body)?;
     Ok(document(items))
 }

@@ -7,7 +7,7 @@ ghost use Rattle.soap_envelope.specs.Parts as spec;
 ghost use Rattle.soap_envelope.specs.Scopes as scope;
 
 use crate::children::{behind, children_of};
-use crate::namespaces::soap;
+use crate::namespaces::SOAP;
 use crate::refusals::SoapFault;
 use crate::scopes::{Declared, Scopes, declared_in, uri_in};
 use crate::texts::is_passed;
@@ -81,6 +81,7 @@ pub(crate) struct Parts {
 }
 
 // What is wrong with the root.
+#[tactic(auto, unfolding(crate::specs::Names::soap))]
 pub(crate) fn wrong_root(alloc: Global, items: &[Item]) -> Result<Option<SoapFault>, Memory>
     ensures { IfOk result (λ wrong. wrong ≡ spec.wrong_root items.now) }
 {
@@ -92,7 +93,7 @@ pub(crate) fn wrong_root(alloc: Global, items: &[Item]) -> Result<Option<SoapFau
     }
     let outer = Scopes::new(alloc);
     let own = declared_in(alloc, behind(items, 0))?;
-    if element_uri(&outer, own.as_slice(), prefix) == soap() {
+    if element_uri(&outer, own.as_slice(), prefix) == SOAP {
         Ok(None)
     } else {
         Ok(Some(SoapFault::VersionMismatch))
@@ -101,6 +102,7 @@ pub(crate) fn wrong_root(alloc: Global, items: &[Item]) -> Result<Option<SoapFau
 
 // The parts, of which the Header stands before these children of the root: one child, the Body, or
 // the first that is none.
+#[tactic(auto, unfolding(crate::specs::Names::soap))]
 fn parts_behind(
     alloc: Global,
     items: &[Item],
@@ -114,7 +116,7 @@ fn parts_behind(
     match kept {
         [] => Ok(Err(SoapFault::NoBody)),
         [body] => {
-            let found = is_element(alloc, items, root, soap(), "Body", *body)?;
+            let found = is_element(alloc, items, root, SOAP, "Body", *body)?;
             Ok(if found {
                 Ok(Parts {
                     header,
@@ -125,7 +127,7 @@ fn parts_behind(
             })
         }
         [body, next, ..] => {
-            let found = is_element(alloc, items, root, soap(), "Body", *body)?;
+            let found = is_element(alloc, items, root, SOAP, "Body", *body)?;
             let item = if found { *next } else { *body };
             Ok(Err(SoapFault::Misplaced { item }))
         }
@@ -133,6 +135,7 @@ fn parts_behind(
 }
 
 // The parts, of which these are the children of the root.
+#[tactic(auto, unfolding(crate::specs::Names::soap))]
 fn parts_among(
     alloc: Global,
     items: &[Item],
@@ -144,7 +147,7 @@ fn parts_among(
     let [first, more @ ..] = kept else {
         return Ok(Err(SoapFault::NoBody));
     };
-    if is_element(alloc, items, root, soap(), "Header", *first)? {
+    if is_element(alloc, items, root, SOAP, "Header", *first)? {
         parts_behind(alloc, items, root, Some(*first), more)
     } else {
         parts_behind(alloc, items, root, None, kept)

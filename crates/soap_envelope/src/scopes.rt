@@ -5,7 +5,7 @@ ghost use Rattle.soap_envelope.specs.Layers.{kept, layer_of, scope_of};
 ghost use Rattle.soap_envelope.specs.Scopes as spec;
 ghost use Rattle.soap_envelope.specs.Scopes.{declared};
 
-use crate::namespaces::xml;
+use crate::namespaces::XML;
 use nbfx_values::{AttrItem, Item, Txt};
 use std::alloc::Global;
 use std::marker::Model;
@@ -80,12 +80,13 @@ pub(crate) fn uri_in<'d>(layer: &[Declared<'d>], prefix: &str) -> Option<&'d str
 }
 
 // What a prefix stands for where nothing declares it.
+#[tactic(auto, unfolding(crate::specs::Names::xml_namespace))]
 fn undeclared_uri(prefix: &str) -> Option<&'static str>
     ensures { option_copied result ≡ spec.undeclared_uri prefix.now }
 {
     match prefix {
         "" => Some(""),
-        "xml" => Some(xml()),
+        "xml" => Some(XML),
         _ => None,
     }
 }

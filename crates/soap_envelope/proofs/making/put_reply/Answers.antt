@@ -5,7 +5,7 @@ pub returns : goal.returns
 returns c =
     rw (
       c.in_ok-put_ending.ensures,
-      c.in_ok-put_copies.ensures,
+      c.in_ok-put_moved.ensures,
       c.in_ok-put_middle.ensures,
       c.in_ok-put_relates.ensures,
       c.in_ok-put_action.ensures,

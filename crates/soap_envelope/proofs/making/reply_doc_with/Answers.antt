@@ -1,14 +1,14 @@
 use Rattle.std.proofs.Common.{[], refl, subst, sym}
 use Rattle.nbfx_values.specs.Documents.{IsDocument}
 use Rattle.soap_envelope.proofs.Places.{envelope-document}
-use Rattle.soap_envelope.proofs.making.reply_doc.Goals as goal
+use Rattle.soap_envelope.proofs.making.reply_doc_with.Goals as goal
 
 pub document-requires : goal.document-requires
 document-requires c =
     let action = c.in_ok-action.action in
     let relates = c.args.relates.now in
-    let body = c.args.body.now in
+    let body = c.args.body in
     let put = c.in_ok-put_reply.ensures in
-    let made = rw (c.as_slice.ensures, c.as_slice-2.ensures, c.new-items.ensures) at put in
+    let made = rw (c.as_slice.ensures, c.new-items.ensures) at put in
     subst IsDocument (sym made)
     (envelope-document action relates [] body c.in_ok-action.ensures.utf8 c.requires.texts refl c.requires.content)

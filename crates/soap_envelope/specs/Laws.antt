@@ -1,0 +1,41 @@
+-- What holds of views by the definitions alone.
+use Rattle.std.specs.Prelude.{◌≡◌, ℕ, List, [], IsTrue, Ok}
+use Rattle.std.specs.Str.{is_utf8}
+use Rattle.std.specs.Prelude.{codes}
+use Rattle.nbfx_values.specs.declared.content.Item.{Item}
+use Rattle.soap_envelope.specs.declared.report.FaultReport.{FaultReport}
+use Rattle.soap_envelope.specs.Faults.{fault_action, fault_body, fault_items}
+use Rattle.soap_envelope.specs.Headers.{counted_at}
+use Rattle.soap_envelope.specs.Made.{StandsInReplies, made_view}
+use Rattle.soap_envelope.specs.Making.{AreTexts, IsContent, reply_items, response_action}
+use Rattle.soap_envelope.specs.Renaming.{IsRenaming, headed_by, renamed}
+use Rattle.soap_envelope.specs.View.{View, texts_at, view}
+
+abbrev pub reply_view : List ℕ → (relates body : List Item) → View
+reply_view action relates body = made_view (response_action action) relates [] body
+
+-- A reply is an envelope whose Action is the request's followed by `Response`, and whose Body has
+-- the content that was put there.
+abbrev pub RepliesAreViewed : Type 0
+RepliesAreViewed = (action : List ℕ) (relates body : List Item) → AreTexts relates → IsContent body
+    → StandsInReplies body
+    → view (reply_items action relates body) ≡ Ok (reply_view action relates body)
+
+-- Its RelatesTo has just the texts that were put there.
+abbrev pub RelatesAreKept : Type 0
+RelatesAreKept = (action : List ℕ) (relates body : List Item) → AreTexts relates
+    → texts_at (reply_items action relates body)
+    (counted_at (codes "RelatesTo") (reply_view action relates body).blocks) ≡ relates
+
+-- A fault is an envelope whose Body has one Fault alone.
+abbrev pub FaultsAreViewed : Type 0
+FaultsAreViewed = (report : FaultReport) (relates : List Item) → AreTexts relates
+    → IsTrue (is_utf8 report.reason)
+    → view (fault_items report relates)
+    ≡ Ok (made_view (fault_action report.sub) relates report.names (fault_body report))
+
+-- Other prefixes for the same namespaces change nothing of what is seen outside Body, nor why a
+-- document has no view.
+abbrev pub PrefixesAreFree : Type 0
+PrefixesAreFree = (f : List ℕ → List ℕ) (items : List Item) → IsRenaming f
+    → headed_by (view (renamed f items)) ≡ headed_by (view items)

@@ -1,0 +1,77 @@
+-- What is seen of the replies and faults that are made.
+use Rattle.std.specs.Prelude.{◌≡◌, ℕ, ◌+◌, List, [], ◌∷◌, ◌++◌, codes, length, None, Some, true, false}
+use Rattle.nbfx_values.specs.declared.content.Item.{Item}
+use Rattle.soap_envelope.specs.declared.blocks.Block.{Block}
+use Rattle.soap_envelope.specs.declared.blocks.QualifiedName.{QualifiedName}
+use Rattle.soap_envelope.specs.BadNames.{first_bad_name}
+use Rattle.soap_envelope.specs.Names.{addressing, qualified_name, soap}
+use Rattle.soap_envelope.specs.Scopes.{Scope, declaration}
+use Rattle.soap_envelope.specs.View.{View}
+
+-- the declarations within the root of a reply, and within its Header and its Body
+abbrev pub reply_root : Scope
+reply_root = (declaration (codes "s") soap ∷ declaration (codes "a") addressing ∷ []) ∷ []
+
+abbrev pub reply_scope : Scope
+reply_scope = [] ∷ reply_root
+
+-- the names of a content of Body are good there, wherever it begins
+abbrev pub StandsInReplies : List Item → Type 0
+StandsInReplies body = (at : ℕ) → first_bad_name reply_scope at body ≡ None
+
+-- the blocks in their order: Action
+abbrev pub action_seen : Block
+action_seen = record {
+  name = qualified_name addressing (codes "Action");
+  must_understand = true;
+  targeted = true;
+  from = 4;
+  to = 7;
+}
+
+-- RelatesTo, where there are texts
+abbrev pub relates_seen : List Item → List Block
+relates_seen [] = []
+relates_seen texts = record {
+  name = qualified_name addressing (codes "RelatesTo");
+  must_understand = false;
+  targeted = true;
+  from = 8;
+  to = 9 + length texts;
+} ∷ []
+
+-- the place after both
+abbrev pub behind_relates : List Item → ℕ
+behind_relates [] = 8
+behind_relates texts = 10 + length texts
+
+-- and one for each name that wasn't understood
+abbrev pub name_seen : ℕ → Block
+name_seen at = record {
+  name = qualified_name soap (codes "NotUnderstood");
+  must_understand = false;
+  targeted = true;
+  from = at;
+  to = at + 3;
+}
+
+abbrev pub names_seen : ℕ → List QualifiedName → List Block
+names_seen at [] = []
+names_seen at (name ∷ more) = name_seen at ∷ names_seen (at + 4) more
+
+-- the place after those
+abbrev pub behind_names : ℕ → List QualifiedName → ℕ
+behind_names at [] = at
+behind_names at (name ∷ more) = behind_names (at + 4) more
+
+-- the view of what has this action, these texts of RelatesTo, these names, and this content of Body
+abbrev pub made_view : List ℕ → (relates : List Item) → List QualifiedName → (body : List Item)
+    → View
+made_view action relates names body = record {
+  blocks = action_seen ∷ (relates_seen relates ++ names_seen (behind_relates relates) names);
+  action = Some action;
+  reply_address = None;
+  message_id = [];
+  body_at = behind_names (behind_relates relates) names + 1;
+  body = body;
+}

@@ -1,0 +1,24 @@
+//! What holds of views by the definitions alone. Each function does nothing: its contract is a law,
+//! which a caller has where it calls the function.
+
+ghost use Rattle.soap_envelope.specs.Laws.{FaultsAreViewed, PrefixesAreFree, RelatesAreKept, RepliesAreViewed};
+
+/// A reply is an envelope whose Action is the request's followed by `Response`, whose RelatesTo has
+/// the texts and whose Body the content that were put there. The content's names have to be good
+/// where nothing but the reply's own two prefixes is declared.
+pub fn replies()
+    ensures viewed { RepliesAreViewed }
+    ensures relates { RelatesAreKept }
+{}
+
+/// A fault is an envelope whose Body has one Fault alone, and whose Action is that of its subcode.
+pub fn faults()
+    ensures { FaultsAreViewed }
+{}
+
+/// What is seen of a document doesn't depend on its prefixes: with others, of which no two become
+/// one, it has the same blocks, action, reply address and MessageID, or is refused at the same
+/// place. The content of Body keeps the document's prefixes.
+pub fn prefixes()
+    ensures { PrefixesAreFree }
+{}

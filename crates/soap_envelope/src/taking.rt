@@ -1,0 +1,77 @@
+//! The content of Body, taken out of its document.
+
+ghost use Rattle.std.specs.Prelude.{◌≡◌, ◌+◌, ◌≤◌, [], IfOk, IsTrue, Some, drop, length, slice_get, take, true};
+ghost use Rattle.soap_envelope.specs.Body as spec;
+ghost use Rattle.soap_envelope.specs.Body.{behind_head, needed, self_standing};
+ghost use Rattle.soap_envelope.specs.Children.{is_start};
+ghost use Rattle.soap_envelope.specs.Making.{IsContent};
+ghost use Rattle.soap_envelope.specs.Parts.{root_scope};
+ghost use Rattle.soap_envelope.specs.Scopes.{within};
+
+use crate::body::{behind_head, body_items, needed};
+use crate::children::{behind, open_behind};
+use crate::moving::moved;
+use crate::scopes::declared_in;
+use nbfx_values::{Doc, Item, Items};
+use std::alloc::Global;
+use unit_streams::Memory;
+
+// Whether children of the Body that begins at a place need no declaration.
+fn needs_nothing(alloc: Global, items: &[Item], at: usize) -> Result<bool, Memory>
+    ensures { IfOk result (λ nothing. nothing ≡ true
+        → needed (within items.now at (root_scope items.now)) ≡ []) }
+{
+    let root = declared_in(alloc, behind(items, 0))?;
+    let body = declared_in(alloc, behind(items, at))?;
+    let needs = needed(alloc, root.as_slice(), body.as_slice())?;
+    Ok(needs.is_empty())
+}
+
+// How many items stand before the end of the element that holds them.
+fn content_len(items: &[Item]) -> usize
+    ensures within { result ≤ length items.now }
+    ensures content { take result items.now ≡ self_standing [] (Some 0) items.now }
+{
+    let mut inner = 0;
+    for (i, item) in items.iter().enumerate() {
+        let Some(open) = open_behind(inner, item) else {
+            return i;
+        };
+        inner = open;
+    }
+    items.len()
+}
+
+// The place of the first item of the content of the Body that begins at a place, and that of the
+// first item behind it.
+fn content_places(items: &[Item], at: usize) -> (usize, usize)
+    ensures { drop result.0 (take result.1 items.now)
+        ≡ self_standing [] (Some 0) (behind_head (drop (at + 1) items.now)) }
+{
+    let content = behind_head(behind(items, at));
+    let first = items.len() - content.len();
+    (first, first + content_len(content))
+}
+
+// The content of the Body that begins at a place, where its children need no declaration.
+fn moved_body(alloc: Global, doc: Doc, at: usize) -> Result<Items, Memory>
+    requires { needed (within doc at (root_scope doc)) ≡ [] }
+    ensures { IfOk result (λ body. body ≡ spec.body_items doc (root_scope doc) at) }
+{
+    let (first, end) = content_places(doc.items().as_slice(), at);
+    moved(alloc, doc.into_items(), first, end)
+}
+
+/// The content of the Body that begins at a place of a document, as `Envelope::body` gives it,
+/// taken out of the document. The items are moved. They are copied only where the root or Body
+/// declares other prefixes than those that every reply declares.
+pub fn take_body(alloc: Global, doc: Doc, at: usize) -> Result<Items, Memory>
+    requires { IsTrue (is_start (slice_get doc at)) }
+    ensures same { IfOk result (λ body. body ≡ spec.body_items doc (root_scope doc) at) }
+    ensures content { IfOk result IsContent }
+{
+    if needs_nothing(alloc, doc.items().as_slice(), at)? {
+        return moved_body(alloc, doc, at);
+    }
+    body_items(alloc, doc.items().as_slice(), at)
+}
