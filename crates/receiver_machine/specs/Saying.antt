@@ -1,40 +1,7 @@
--- How a receiver says what a stream's grammar answers.
-use Rattle.std.specs.Prelude.{◌≡◌, ⊤, ℕ, Option, Some, None, Result, Ok, Err}
-use Rattle.unit_streams.specs.Judging.{Answer, goes_on, completes, offends}
+-- What a receiver answers the end of the input with.
+use Rattle.std.specs.Prelude.{⊤, Option, Some, None, Result, Ok, Err}
 use Rattle.nbfx_values.specs.declared.refusals.Offence.{Offence}
-use Rattle.stream_reader.specs.declared.reader.ReadRefusal.{ReadRefusal}
-use Rattle.stream_reader.specs.declared.reader.ReadRefusal.TheVariants.{Offence as Refused, Memory}
-use Rattle.stream_reader.specs.declared.reader.StreamStep.{StreamStep}
-use Rattle.stream_reader.specs.declared.reader.StreamStep.TheVariants as readers
-use Rattle.stream_reader.specs.Stream.{StreamEvent, opened, message, ended}
-use Rattle.receiver_machine.specs.declared.receiver.Step.{Step}
-use Rattle.receiver_machine.specs.declared.receiver.Step.TheVariants as steps
 
--- an event
-abbrev pub step_for : StreamEvent → Step
-step_for (opened mode kind via) = steps.Opened mode kind
-step_for (message envelope) = steps.Message envelope.size envelope.items
-step_for (ended n) = steps.Ended
-
--- an answer to a piece of so many bytes
-abbrev pub said : ℕ → Answer StreamEvent Offence → Result (ℕ × Step) ReadRefusal
-said n goes_on = Ok (n, steps.More)
-said n (completes k event) = Ok (k, step_for event)
-said n (offends k o) = Err (Refused o)
-
--- it is said so, or there was no memory to say it
-abbrev pub Says : ℕ → Answer StreamEvent Offence → Result (ℕ × Step) ReadRefusal → Type 0
-Says n answer (Err Memory) = ⊤
-Says n answer result = result ≡ said n answer
-
--- what the end of the input is answered with
 abbrev pub said_at_end : Option Offence → Result ⊤ Offence
 said_at_end None = Ok tt
 said_at_end (Some o) = Err o
-
--- the step of a reader of streams, said by a receiver
-abbrev pub said_step : StreamStep → Step
-said_step readers.More = steps.More
-said_step (readers.Opened mode kind) = steps.Opened mode kind
-said_step (readers.Message size doc) = steps.Message size doc
-said_step readers.Ended = steps.Ended

@@ -1,9 +1,9 @@
 -- What a receiver stands for, and what it shows: what its reader of streams does.
 use Rattle.std.specs.Prelude.{◌≡◌, ℕ, List, length, Option}
 use Rattle.unit_streams.specs.Judging.{Answer}
+use Rattle.nbfx_values.specs.Limits.{IsGood}
 use Rattle.nbfx_values.specs.declared.refusals.Offence.{Offence}
 use Rattle.stream_reader.specs.declared.reader.ReadRefusal.{ReadRefusal}
-use Rattle.stream_reader.specs.Laws.{IsInitiators}
 use Rattle.stream_reader.specs.Standing as reader
 use Rattle.stream_reader.specs.Stream.{Settings, StreamEvent}
 use Rattle.receiver_machine.specs.declared.receiver.Receiver.{Receiver}
@@ -12,10 +12,10 @@ use Rattle.receiver_machine.specs.declared.receiver.Receiver.{Receiver}
 unfoldable pub settings_of : Receiver → Settings
 settings_of r = reader.settings_of r.reader
 
--- it reads an initiator's stream
-pub reads_initiators : (r : Receiver) → IsInitiators (settings_of r)
+-- its quotas may be
+pub has_good_quotas : (r : Receiver) → IsGood (settings_of r).limits
 unfolding settings_of
-reads_initiators r = reader.reads_initiators r.reader
+has_good_quotas r = reader.has_good_quotas r.reader
 
 -- how many bytes it has used, or that show its offence
 unfoldable pub taken_of : Receiver → ℕ
@@ -37,9 +37,9 @@ held_of r = reader.held_of r.reader
 unfoldable pub content_held_of : Receiver → ℕ
 content_held_of r = reader.content_held_of r.reader
 
--- the Via that it shows
-unfoldable pub ShowsVia : Receiver → List ℕ → Type 0
-ShowsVia r via = reader.ShowsVia r.reader via
+-- the text that it shows: the Via
+unfoldable pub ShowsText : Receiver → List ℕ → Type 0
+ShowsText r text = reader.ShowsText r.reader text
 
 -- the strings that it shows
 unfoldable pub ShowsStrings : Receiver → List (List ℕ) → Type 0

@@ -2,34 +2,21 @@
 
 ghost use Rattle.std.specs.Prelude.{◌≡◌, ℕ, ◌+◌, ◌≤◌, List, [], ◌++◌, length, take, IfOk, IfErr, OnOk, IsErrOf, Ok, Err, Some, false, true};
 ghost use Rattle.unit_streams.specs.Grammar.{standing};
-ghost use Rattle.unit_streams.specs.Judging.{answer, is_over_at, ending_at};
+ghost use Rattle.unit_streams.specs.Judging.{answer, event_at, is_over_at, ending_at};
 ghost use Rattle.nbfx_values.specs.Measures.{content_of};
 ghost use Rattle.nbfx_values.specs.QuotasOf.{limits_of};
 ghost use Rattle.string_tables.specs.SessionStrings.{used_cost};
-ghost use Rattle.receiver_machine.specs.Saying.{said_step};
+ghost use Rattle.stream_reader.specs.Sides.{endpoint_of};
 ghost use Rattle.stream_reader.specs.Stream.{initiators, stream, strings_in};
 
-use nbfx_values::{Doc, Kept, Kind, Mode, Offence, Quotas};
+use nbfx_values::{Doc, Kept, Offence, Quotas};
 use session_dictionary::SessionTable;
 use static_dictionary::StaticTable;
 use std::alloc::Global;
-use stream_reader::{ReadRefusal, StreamReader, StreamStep};
+use stream_reader::{Endpoint, ReadRefusal, Side, StreamReader, StreamStep};
 use unit_streams::Memory;
 
-/// What the bytes that were fed have completed.
-#[derive(Debug, Drop)]
-pub enum Step {
-    /// Nothing yet.
-    More,
-    /// The preamble.
-    Opened { mode: Mode, kind: Kind },
-    /// An envelope with a payload of this many bytes, which is this document's.
-    Message { size: u32, doc: Doc },
-    /// The session.
-    Ended,
-}
-
-/// Reads an initiator's stream (MC-NMF, duplex mode), in whatever pieces its bytes come.
+/// Reads an initiator's stream (MC-NMF), in whatever pieces its bytes come.
 #[derive(Drop)]
 pub struct Receiver<'s> {
     reader: StreamReader<'s>,
@@ -39,28 +26,33 @@ impl<'s> Receiver<'s> {
     ghost use Rattle.nbfx_values.specs.declared.refusals.Offence.{Offence as Refused};
     ghost use Rattle.stream_reader.specs.declared.reader.ReadRefusal.{ReadRefusal as Failure};
     ghost use Rattle.stream_reader.specs.Standing.{HasPayloads, begun_in, items_in};
-    ghost use Rattle.receiver_machine.specs.Saying.{Says, said_at_end};
-    ghost use Rattle.receiver_machine.specs.Standing.{settings_of, taken_of, held_of, content_held_of, messages_of, failure_of, StandsFor, FailedBehind, ShowsVia, ShowsStrings, WhereItStands, WhereItFailed, FailsBy};
+    ghost use Rattle.stream_reader.specs.Saying.{Says, Repeats};
+    ghost use Rattle.receiver_machine.specs.Saying.{said_at_end};
+    ghost use Rattle.receiver_machine.specs.Standing.{settings_of, taken_of, held_of, content_held_of, messages_of, failure_of, StandsFor, FailedBehind, ShowsText, ShowsStrings, WhereItStands, WhereItFailed, FailsBy};
 
-    /// A receiver before the first byte. It makes all the room that it needs up to the preamble's
-    /// end.
+    /// A receiver before the first byte, which serves this endpoint. It makes all the room that it
+    /// needs up to the preamble's end.
     pub fn new(
         alloc: Global,
         statics: &'s StaticTable,
         quotas: Quotas,
+        endpoint: Endpoint,
     ) -> Result<Receiver<'s>, Memory>
         ensures stands { IfOk result (λ receiver. StandsFor receiver []) }
-        ensures settings { IfOk result
-            (λ receiver. settings_of receiver ≡ initiators statics.now (limits_of quotas)) }
+        ensures settings { IfOk result (λ receiver. settings_of receiver ≡ record {
+          side = initiators (endpoint_of endpoint);
+          statics = statics.now;
+          limits = limits_of quotas;
+        }) }
     {
-        let reader = StreamReader::new(alloc, statics, quotas)?;
+        let reader = StreamReader::new(alloc, statics, quotas, Side::Initiator(endpoint))?;
         Ok(Receiver { reader })
     }
 
     /// Uses the bytes of the piece up to and including the one that completes the next event, and
-    /// says how many they are. After a refusal it is refused the same way; after the end it uses
-    /// nothing.
-    pub fn feed(&mut self, piece: &[u8]) -> Result<(usize, Step), ReadRefusal>
+    /// says how many they are. After a refusal it is refused the same way; after the session's end
+    /// it uses nothing, and says so again.
+    pub fn feed(&mut self, piece: &[u8]) -> Result<(usize, StreamStep), ReadRefusal>
         ensures within { IfOk result (λ answer. answer.0 ≤ length piece.now) }
         // The answer is decided at the first byte that completes an event or shows a refusal.
         ensures answers { WhereItStands self.old (λ p.
@@ -72,7 +64,7 @@ impl<'s> Receiver<'s> {
             → HasPayloads (standing (stream (settings_of self.old)) p).situation.stage) }
         ensures ended { WhereItStands self.old (λ p.
             is_over_at (stream (settings_of self.old)) p ≡ true
-            → result ≡ Ok (0, Step.Ended)) }
+            → Repeats (event_at (stream (settings_of self.old)) p) result) }
         ensures repeated { (refusal : Failure) → failure_of self.old ≡ Some refusal
             → result ≡ Err refusal }
         ensures unchanged { (refusal : Failure) → failure_of self.old ≡ Some refusal
@@ -88,8 +80,7 @@ impl<'s> Receiver<'s> {
         ensures refused { IfErr result (λ refusal. failure_of self.new ≡ Some refusal) }
         ensures settings { settings_of self.new ≡ settings_of self.old }
     {
-        let (used, step) = self.reader.feed(piece)?;
-        Ok((used, said(step)))
+        self.reader.feed(piece)
     }
 
     /// Says that the input is over, which is no offence exactly after the session's end.
@@ -123,15 +114,15 @@ impl<'s> Receiver<'s> {
         self.reader.reuse(doc);
     }
 
-    /// The Via, once its record is whole, and else the empty text.
+    /// The Via, once its record was read, and before that the empty text.
     pub fn via(&self) -> &str
-        ensures shown { (via : List ℕ) → ShowsVia self.now via → result.now ≡ via }
+        ensures shown { (text : List ℕ) → ShowsText self.now text → result.now ≡ text }
         ensures stands { WhereItStands self.now (λ p.
-            result.now ≡ (standing (stream (settings_of self.now)) p).situation.via) }
+            result.now ≡ (standing (stream (settings_of self.now)) p).situation.text) }
         ensures failed { WhereItFailed self.now (λ refusal taken p.
-            result.now ≡ (standing (stream (settings_of self.now)) p).situation.via) }
+            result.now ≡ (standing (stream (settings_of self.now)) p).situation.text) }
     {
-        self.reader.via()
+        self.reader.text()
     }
 
     /// How many bytes were used; after an offence of `feed`, how many show it; after want of
@@ -146,7 +137,7 @@ impl<'s> Receiver<'s> {
         self.reader.taken()
     }
 
-    /// How many documents are whole.
+    /// How many documents were read.
     pub fn messages(&self) -> u64
         ensures counted { result ≡ messages_of self.now }
         ensures stands { WhereItStands self.now (λ p.
@@ -157,8 +148,7 @@ impl<'s> Receiver<'s> {
         self.reader.messages()
     }
 
-    /// The strings of the direction so far; after a refusal in a payload, those that were whole
-    /// before.
+    /// The strings of the direction so far; after a refusal in a payload, those read before it.
     pub fn table(&self) -> &SessionTable
         ensures shown { (strings : List (List ℕ)) → ShowsStrings self.now strings
             → result.now.strings ≡ strings }
@@ -174,8 +164,8 @@ impl<'s> Receiver<'s> {
         self.reader.table()
     }
 
-    /// What it holds of the input: in bytes, the framing's text and the unit of the payload that
-    /// isn't whole, and the content of the document so far.
+    /// What it holds of the input: in bytes, the framing's text and the unfinished unit of the
+    /// payload, and the content of the document so far.
     #[tactic(auto, unfolding(crate::specs::Standing::held_of, crate::specs::Standing::content_held_of))]
     pub fn kept(&self) -> Kept
         ensures held { result.raw ≡ held_of self.now }
@@ -193,17 +183,5 @@ impl<'s> Receiver<'s> {
             × (result.content ≤ (settings_of self.now).limits.content)) }
     {
         self.reader.kept()
-    }
-}
-
-// How a receiver says what a reader does.
-fn said(step: StreamStep) -> Step
-    ensures { result ≡ said_step step }
-{
-    match step {
-        StreamStep::More => Step::More,
-        StreamStep::Opened { mode, kind } => Step::Opened { mode, kind },
-        StreamStep::Message { size, doc } => Step::Message { size, doc },
-        StreamStep::Ended => Step::Ended,
     }
 }

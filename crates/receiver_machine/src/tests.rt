@@ -42,12 +42,13 @@ fn last_told(
         rest = rest.get(used..).unwrap_or_default();
         match step {
             Step::More => {}
-            Step::Opened { mode: _, kind } => last = Some(Event::Opened(kind)),
-            Step::Message { size, doc } => {
+            Step::Opened { kind, .. } => last = Some(Event::Opened(kind)),
+            Step::Message { size, doc, .. } => {
                 last = Some(Event::Message(size, doc.items().len(), receiver.table().len()));
                 receiver.reuse(doc);
             }
-            Step::Ended => last = Some(Event::Ended),
+            Step::Ended { .. } => last = Some(Event::Ended),
+            Step::Accepted | Step::PeerFault { .. } => {}
         }
     }
     Ok(last)
@@ -71,7 +72,7 @@ fn a_session_ends_within_its_quota(rt: HostRuntime) -> Result<(), Fail> {
     for (session, want) in [(23, Err(TOO_LONG)), (24, Ok(Some(Event::Ended)))] {
         for size in [24, 1] {
             let quotas = of_session(session).ok_or("good quotas")?;
-            let mut receiver = Receiver::new(rt.alloc(), &statics, quotas).map_err(
+            let mut receiver = Receiver::new(rt.alloc(), &statics, quotas, Endpoint::Any).map_err(
                 |_| "no memory",
             )?;
             assert_eq!(rt; last_told(&mut receiver, PREAMBLE, size), Ok(Some(OPENED)));
@@ -90,7 +91,9 @@ fn a_session_ends_within_its_quota(rt: HostRuntime) -> Result<(), Fail> {
 fn an_event_comes_before_the_session_quota(rt: HostRuntime) -> Result<(), Fail> {
     let statics = no_statics(rt.alloc())?;
     let quotas = of_session(23).ok_or("good quotas")?;
-    let mut receiver = Receiver::new(rt.alloc(), &statics, quotas).map_err(|_| "no memory")?;
+    let mut receiver = Receiver::new(rt.alloc(), &statics, quotas, Endpoint::Any).map_err(
+        |_| "no memory",
+    )?;
     assert_eq!(rt; last_told(&mut receiver, PREAMBLE, 23), Ok(Some(OPENED)));
     assert_eq!(rt; last_told(&mut receiver, b"\x07", 1), Err(TOO_LONG));
     assert_eq!(rt; receiver.taken(), 23);
@@ -106,9 +109,12 @@ fn strings_are_carried_from_payload_to_payload(rt: HostRuntime) -> Result<(), Fa
         (25, Event::Message(7, 5, 2)),
     ];
     for size in [64, 5, 1] {
-        let mut receiver = Receiver::new(rt.alloc(), &statics, Quotas::usual()).map_err(
-            |_| "no memory",
-        )?;
+        let mut receiver = Receiver::new(
+            rt.alloc(),
+            &statics,
+            Quotas::usual(),
+            Endpoint::Any,
+        ).map_err(|_| "no memory")?;
         assert_eq!(rt; last_told(&mut receiver, PREAMBLE, size), Ok(Some(OPENED)));
         let mut from = 0;
         for (to, told) in table {
@@ -155,9 +161,12 @@ fn a_refusal_is_kept_with_what_it_shows(rt: HostRuntime) -> Result<(), Fail> {
     ];
     for (bytes, at, reason, taken, strings) in table {
         for size in [64, 1] {
-            let mut receiver = Receiver::new(rt.alloc(), &statics, Quotas::usual()).map_err(
-                |_| "no memory",
-            )?;
+            let mut receiver = Receiver::new(
+                rt.alloc(),
+                &statics,
+                Quotas::usual(),
+                Endpoint::Any,
+            ).map_err(|_| "no memory")?;
             last_told(&mut receiver, PREAMBLE, size).map_err(|_| "refused")?;
             last_told(&mut receiver, ENVELOPES, size).map_err(|_| "refused")?;
             let place = Place::Payload { message: 3, at };

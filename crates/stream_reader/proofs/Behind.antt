@@ -1,165 +1,468 @@
--- A reader goes on behind a whole record.
-use Rattle.std.proofs.Common.{◌≡◌, ℕ, ◌<◌, ◌≤◌, List, [], Bool, true, false, Option, Some, None, Result, Ok, Err, refl, sym, ap, ◌∙◌, subst, arith}
-use Rattle.std.specs.Prelude.{nat_lt, if◌then◌else◌}
+-- A reader goes on behind a whole record, or the size of a chunk.
+use Rattle.std.proofs.Common.{◌≡◌, ℕ, ◌+◌, ◌<◌, ◌≤◌, ◌^◌, List, [], Bool, true, false, Option, Some, None, Result, Ok, Err, refl, sym, ap, ◌∙◌, subst, arith}
+use Rattle.std.specs.Prelude.{◌==◌, if◌then◌else◌}
 use Rattle.std.specs.Option.{option_map, option_or}
-use Rattle.std.proofs.lemmas.Bool.{ltb-true, ltb-false}
-use Rattle.nbfx_values.specs.declared.refusals.Offence.{Offence}
+use Rattle.nbfx_values.specs.QuotasOf.{limits_of}
 use Rattle.nbfx_values.specs.declared.refusals.Reason.{Reason}
-use Rattle.nbfx_values.specs.declared.refusals.Reason.TheVariants as reasons
 use Rattle.nbfx_values.specs.declared.session.Kind.{Kind}
 use Rattle.nmf_records.specs.declared.frame.Frame.{Frame}
 use Rattle.nmf_records.specs.declared.frame.Frame.TheVariants as frames
+use Rattle.nmf_records.specs.declared.script.Direction.{Direction}
 use Rattle.nmf_records.specs.declared.script.Due.{Due}
-use Rattle.nmf_records.specs.Script.{leads}
+use Rattle.nmf_records.specs.declared.script.Due.TheVariants as dues
+use Rattle.nmf_records.specs.Reading.{MayCome}
+use Rattle.nmf_records.specs.Script.{leads, may_come}
+use Rattle.nbfx_decoder.specs.Payload.{payload}
 use Rattle.nbfx_decoder.specs.declared.decoder.Decoder.{Decoder}
 use Rattle.nbfx_decoder.specs.Standing.{settings_of as decoder_settings, StandsFor as DecoderStandsFor}
 use Rattle.stream_reader.specs.declared.awaited.Awaited.{Awaited}
 use Rattle.stream_reader.specs.declared.awaited.Awaited.TheVariants as awaits
+use Rattle.stream_reader.specs.declared.awaited.Closing.{Closing}
+use Rattle.stream_reader.specs.declared.awaited.Form.TheVariants as forms
 use Rattle.stream_reader.specs.declared.awaited.PayloadLeft.{PayloadLeft}
 use Rattle.stream_reader.specs.declared.reader.ReadRefusal.{ReadRefusal}
 use Rattle.stream_reader.specs.declared.reader.ReadRefusal.TheVariants.{Offence as Refused}
 use Rattle.stream_reader.specs.declared.reader.StreamReader.{StreamReader}
 use Rattle.stream_reader.specs.declared.reader.StreamStep.{StreamStep}
 use Rattle.stream_reader.specs.declared.reader.StreamStep.TheVariants as steps
-use Rattle.stream_reader.specs.Stream.{Settings, Situation, StreamEvent, record_due, after_record, behind_payload, built, completed_payload, completed_record, kind_of, led, offence_at, payload_begun, payloads, reason_in, refused_head, refused_payload, refused_record, strings_at, strings_in}
-use Rattle.stream_reader.specs.Standing.{Awaits, IsIn, ReadsPayload, ShowsTable}
-use Rattle.stream_reader.specs.Stepping.{BehindAnswers, HasDecoded, IsDue, RefusedAs, step_of}
+use Rattle.stream_reader.specs.Sides.{side_of}
+use Rattle.stream_reader.specs.Stream.{Form, sized, chunked, last_chunk, OpenPayload, Settings, Side, Situation, Stage, record_due, chunk_due, payload_open, direction_of, due_in, is_over_in, after_bare, after_record, behind_payload, completed_bare, completed_payload, completed_record, kind_of, offence_at, on_payload, payload_begun, payload_by, payloads, reason_in, refused_payload, refused_record, strings_at, strings_in, with_chunk}
+use Rattle.stream_reader.specs.Standing.{Awaits, HasPart, IsIn, IsOpenSo, ReadsPayload, Recalls, ShowsTable, form_of}
+use Rattle.stream_reader.specs.Stepping.{BehindAnswers, DecodesAfter, HasDecoded, IsDue, IsMoved, MakesPayload, awaited_after, bare_step, begun_by, begun_with, closing_after, due_of, joined_with, mode_after, step_of, with_size}
+use Rattle.stream_reader.proofs.Ending.{begun_on, bare_goes_on}
 use Rattle.stream_reader.proofs.Outcomes.{more_behind}
 use Rattle.stream_reader.proofs.Situations.{begun_behind}
 use Rattle.stream_reader.proofs.ReaderFacts.{shows_in}
+use Rattle.stream_reader.proofs.Texts.{ReadsDue, reads_record, reads_size, chunk_made, due_on}
+use Rattle.stream_reader.proofs.MadePayloads.{only_size, reads_at, size_fits, size_large}
 
--- what is told of a reason tells whether there is one
-pub told_none : (v told : Option Reason) → RefusedAs v told → ((reason : Reason) → told ≡ Some reason → ⊥) → v ≡ None
-told_none None told is never = refl
-told_none (Some why) told is never = absurd (never (built why) is)
+-- a reader that is as another one, but for where its unit begins
+pub record IsAs (mid r : StreamReader) : Type 0 where
+  pub side : mid.side ≡ r.side
+  pub awaited : mid.awaited ≡ r.awaited
+  pub mode : mid.mode ≡ r.mode
+  pub kind : mid.kind ≡ r.kind
+  pub messages : mid.messages ≡ r.messages
+  pub taken : mid.taken ≡ r.taken
+  pub decoder : mid.decoder ≡ r.decoder
 
-pub told_some : (v told : Option Reason) (reason : Reason) → RefusedAs v told → told ≡ Some reason → (why : Reason) × (v ≡ Some why) × (reason ≡ built why)
-told_some None told reason is e = let bad = sym is ∙ e in cc
-told_some (Some why) told reason is e = let same = sym e ∙ is in (why, refl, cc)
+module _ (r : StreamReader) (x : Settings) (z : Situation) (f : Frame) (text : List ℕ) (h : IsDue r x z f text) (from to : ℕ) where
+  abbrev d : Direction
+  d = direction_of x.side
 
--- an envelope's head that isn't refused, and one that is
-large : (x : Settings) (size : ℕ) (v : Option Reason) → reason_in x (frames.SizedEnvelope size) ≡ v → (b : Bool) → nat_lt x.limits.payload size ≡ b → v ≡ (if b then Some reasons.MessageTooLarge else None)
-large x size v e b lt = sym e ∙ ap (λ c. if c then Some reasons.MessageTooLarge else None) lt
+  at_due : ReadsDue z.stage h.due
+  at_due = reads_at r.awaited z.stage h.due h.at.awaits h.due_is
 
-pub head_fits : (x : Settings) (size : ℕ) → reason_in x (frames.SizedEnvelope size) ≡ None → size ≤ x.limits.payload
-head_fits x size e = by_test (nat_lt x.limits.payload size) refl where
-  by_test : (b : Bool) → nat_lt x.limits.payload size ≡ b → size ≤ x.limits.payload
-  by_test true lt = let bad = large x size None e true lt in cc
-  by_test false lt = ltb-false x.limits.payload size lt
+  shows_now : ShowsTable r.decoder (strings_in z)
+  shows_now = shows_in r x z h.at
 
-pub head_large : (x : Settings) (size : ℕ) (why : Reason) → reason_in x (frames.SizedEnvelope size) ≡ Some why → 0 < size
-head_large x size why e = by_test (nat_lt x.limits.payload size) refl where
-  by_test : (b : Bool) → nat_lt x.limits.payload size ≡ b → 0 < size
-  by_test true lt = let less = ltb-true x.limits.payload size lt in omega (arith, less)
-  by_test false lt = let bad = large x size (Some why) e false lt in cc
+  -- at a record no payload is open
+  decoder_now : z.stage ≡ record_due h.due → DecoderStandsFor r.decoder z.strings []
+  decoder_now is = subst (ReadsPayload r.decoder x z) is h.at.payload
 
--- the refusal of a record, by what it says
-pub refused_by_reason : (x : Settings) (z : Situation) (from : ℕ) (f : Frame) (why : Reason) → reason_in x f ≡ Some why → refused_record x z from f ≡ Some (offence_at from (built why))
-refused_by_reason x z from f why e = ap (λ v. option_or (option_map (λ reason. offence_at from (built reason)) v) (refused_head x z from f)) e
+  -- the record, as a size where one is due
+  size_there : h.due ≡ dues.Chunk → (size : ℕ) × (f ≡ frames.Chunk size)
+  size_there same = only_size d f (subst (λ (n : Due). MayCome (may_come d n) f) same h.may)
 
-pub refused_by_head : (x : Settings) (z : Situation) (from : ℕ) (f : Frame) → reason_in x f ≡ None → refused_record x z from f ≡ refused_head x z from f
-refused_by_head x z from f e = ap (λ v. option_or (option_map (λ reason. offence_at from (built reason)) v) (refused_head x z from f)) e
+  -- a record that is no size comes where a record is due
+  no_size : ((size : ℕ) → f ≡ frames.Chunk size → ⊥) → z.stage ≡ record_due h.due
+  no_size never =
+      elim at_due [
+        | reads_record is ↦ is
+        | reads_size o is same ↦ let size = size_there same in absurd (never size.0 size.1)
+      ]
 
-module _ (r : StreamReader) (x : Settings) (z : Situation) (due : Due) (f : Frame) (h : IsDue r x z due f) (from : ℕ) (text : List ℕ) where
-  strings_are : strings_in z ≡ z.strings
-  strings_are = ap (strings_at z) h.stage
+  -- a record of no payload too
+  pub no_payload : payload_by x z from f ≡ None → z.stage ≡ record_due h.due
+  no_payload none =
+      elim at_due [
+        | reads_record is ↦ is
+        | reads_size o is same ↦
+            absurd (chunk_made x z from o f is
+            (subst (λ (n : Due). MayCome (may_come d n) f) same h.may) none)
+      ]
 
-  shows_now : ShowsTable r.decoder z.strings
-  shows_now = subst (ShowsTable r.decoder) strings_are (shows_in r x z h.at)
+  -- what is refused by what it says keeps the documents and the strings
+  abbrev KeepsAll : Situation → Type 0
+  KeepsAll new = (z.messages ≡ new.messages) × (strings_in z ≡ strings_in new)
 
-  decoder_now : DecoderStandsFor r.decoder z.strings []
-  decoder_now = subst (ReadsPayload r.decoder x z) h.stage h.at.payload
+  keeps_open : (o : OpenPayload) → strings_in z ≡ o.standing.situation.strings → 0 < o.left
+      → KeepsAll (behind_payload x z o)
+  keeps_open o strings some = rw (more_behind x z o some) (refl, strings)
 
-  -- a record that says what is refused
-  refused_in : (g : Frame) → f ≡ g → (why : Reason) → reason_in x g ≡ Some why → (z.messages ≡ (after_record x z from g text).messages) × (z.strings ≡ strings_in (after_record x z from g text))
-  refused_in (frames.KnownEncoding encoding) is why e = (refl, h.no_strings encoding is)
-  refused_in (frames.SizedEnvelope size) is why e = rw (more_behind x z (payload_begun x z from size) (head_large x size why e)) (refl, refl)
-  refused_in (frames.Version major minor) is why e = (refl, refl)
-  refused_in (frames.Mode mode) is why e = (refl, refl)
+  refused_in : (g : Frame) → f ≡ g → (why : Reason) → reason_in x z.stage g text ≡ Some why
+      → KeepsAll (after_record x z from g text)
+  refused_in (frames.KnownEncoding encoding) is why e =
+      let at = no_size (λ size same. let two = sym is ∙ same in cc) in
+      (refl, ap (strings_at z) at ∙ h.no_strings encoding is)
+  refused_in (frames.SizedEnvelope size) is why e =
+      let at = no_size (λ size same. let two = sym is ∙ same in cc) in
+      keeps_open (payload_begun x z from size sized) (ap (strings_at z) at)
+      (let large = size_large x size why e in omega (arith, large))
+  refused_in (frames.Chunk size) is why e =
+      elim at_due [
+        | reads_record at ↦
+            let none : payload_by x z from (frames.Chunk size) ≡ None = rw at refl in
+            subst (λ (v : Option OpenPayload).
+            KeepsAll (on_payload v (behind_payload x z) (after_bare x z (frames.Chunk size) text)))
+            (sym none) (refl, ap (strings_at z) at)
+        | reads_size o at same ↦
+            let made : payload_by x z from (frames.Chunk size) ≡ Some (with_chunk o size) = rw at refl in
+            let part = (subst (ReadsPayload r.decoder x z) at h.at.payload).1 in
+            let large = size_large x (o.size + size) why (rw at at e) in
+            subst (λ (v : Option OpenPayload).
+            KeepsAll (on_payload v (behind_payload x z) (after_bare x z (frames.Chunk size) text)))
+            (sym made)
+            (keeps_open (with_chunk o size) (ap (strings_at z) at)
+            (let low = part.within in omega (arith, large, low)))
+      ]
+  refused_in (frames.Version major minor) is why e =
+      (refl, ap (strings_at z) (no_size (λ size same. let two = sym is ∙ same in cc)))
+  refused_in (frames.Mode mode) is why e =
+      (refl, ap (strings_at z) (no_size (λ size same. let two = sym is ∙ same in cc)))
+  refused_in frames.Via is why e =
+      (refl, ap (strings_at z) (no_size (λ size same. let two = sym is ∙ same in cc)))
   refused_in g is why e = cc
 
-  pub behind_refusal : (new : StreamReader) (told : ReadRefusal) (why : Reason) → reason_in x f ≡ Some why → told ≡ Refused (offence_at from (built why)) → new.messages ≡ r.messages → new.decoder ≡ r.decoder
-      → BehindAnswers x (after_record x z from f text) (completed_record x z from f) (refused_record x z from f) new (Err told)
+  -- what comes of a record, by why it is refused and the payload that it makes
+  abbrev By : Option Reason → Option OpenPayload → StreamReader → Result StreamStep ReadRefusal
+      → Type 0
+  By why made new result =
+      BehindAnswers x (on_payload made (behind_payload x z) (after_bare x z f text))
+      (on_payload made (completed_payload x z) (completed_bare z to f text))
+      (option_or (option_map (offence_at from) why) (on_payload made (refused_payload x z) None))
+      new result
+
+  by_both : (why : Option Reason) (made : Option OpenPayload) (new : StreamReader)
+      (result : Result StreamStep ReadRefusal) → reason_in x z.stage f text ≡ why
+      → payload_by x z from f ≡ made → By why made new result
+      → BehindAnswers x (after_record x z from f text) (completed_record x z from to f text)
+      (refused_record x z from f text) new result
+  by_both why made new result reason payload a =
+      subst (λ (w : Option Reason). By w (payload_by x z from f) new result) (sym reason)
+      (subst (λ (v : Option OpenPayload). By why v new result) (sym payload) a)
+
+  -- a record that says what is refused
+  pub behind_refusal : (new : StreamReader) (told : ReadRefusal) (why : Reason)
+      → reason_in x z.stage f text ≡ Some why → told ≡ Refused (offence_at from why)
+      → new.messages ≡ r.messages → new.decoder ≡ r.decoder
+      → BehindAnswers x (after_record x z from f text) (completed_record x z from to f text)
+      (refused_record x z from f text) new (Err told)
   behind_refusal new told why e is messages decoder =
       let same = refused_in f refl why e in
-      subst (λ (v : Option Offence). BehindAnswers x (after_record x z from f text) (completed_record x z from f) v new (Err told)) (sym (refused_by_reason x z from f why e))
-      (subst (λ (t : ReadRefusal). BehindAnswers x (after_record x z from f text) (completed_record x z from f) (Some (offence_at from (built why))) new (Err t)) (sym is) (
+      subst (λ (t : ReadRefusal). BehindAnswers x (after_record x z from f text)
+      (completed_record x z from to f text) (refused_record x z from f text) new (Err t)) (sym is)
+      (by_both (Some why) (payload_by x z from f) new (Err (Refused (offence_at from why))) e refl (
         refl,
         record {
           messages = messages ∙ h.at.messages ∙ same.0;
-          strings = subst (λ (d : Decoder). ShowsTable d (strings_in (after_record x z from f text))) (sym decoder) (subst (ShowsTable r.decoder) same.1 shows_now);
+          strings =
+              subst (λ (s : Decoder). ShowsTable s (strings_in (after_record x z from f text)))
+              (sym decoder) (subst (ShowsTable r.decoder) same.1 shows_now);
         },
       ))
 
-  -- an envelope's head
-  pub head_decoded : (new : StreamReader) (here : PayloadLeft) (size : ℕ) → reason_in x (frames.SizedEnvelope size) ≡ None → here ≡ record { from = from; size = size; left = size } → new.kind ≡ r.kind → new.messages ≡ r.messages → new.decoder ≡ r.decoder
-      → HasDecoded new x z here (payload_begun x z from size)
-  head_decoded new here size e is kind messages decoder =
-      let b = begun_behind x z from size in
-      record {
-        awaits = rw is (refl, refl, refl);
-        kind = kind ∙ h.at.kind;
-        messages = messages ∙ h.at.messages;
-        few = h.few;
-        decodes = ap decoder_settings decoder ∙ h.at.decodes;
+  -- the payload that a record makes or resumes
+  pub record IsMade (q : PayloadLeft) : Type 0 where
+    pub payload : OpenPayload
+    pub made : payload_by x z from f ≡ Some payload
+    pub open_so : IsOpenSo q payload
+    pub part : HasPart r.decoder x z payload
+
+  part_begun : (size : ℕ) (form : Form) → z.stage ≡ record_due h.due → size ≤ x.limits.payload
+      → HasPart r.decoder x z (payload_begun x z from size form)
+  part_begun size form at low =
+      let b = begun_behind x z from size form in record {
         bytes = [];
-        stands_for = subst (λ (d : Decoder). DecoderStandsFor d z.strings []) (sym decoder) decoder_now;
+        stands_for = decoder_now at;
         standing_is = b.standing_is;
         counted = b.counted;
-        within = head_fits x size e;
+        within = low;
       }
 
-  pub head_answers : (new : StreamReader) (size : ℕ) (result : Result StreamStep ReadRefusal) → f ≡ frames.SizedEnvelope size → reason_in x f ≡ None
-      → BehindAnswers x (behind_payload x z (payload_begun x z from size)) (completed_payload x z (payload_begun x z from size)) (refused_payload x z (payload_begun x z from size)) new result
-      → BehindAnswers x (after_record x z from f text) (completed_record x z from f) (refused_record x z from f) new result
-  head_answers new size result is e a =
-      subst (λ (v : Option Offence). BehindAnswers x (after_record x z from f text) (completed_record x z from f) v new result) (sym (refused_by_head x z from f e))
-      (subst (λ (g : Frame). BehindAnswers x (after_record x z from g text) (completed_record x z from g) (refused_head x z from g) new result) (sym is) a)
+  formed : (b : Bool) → form_of (if b then forms.LastChunk else forms.Chunked)
+      ≡ (if b then last_chunk else chunked)
+  formed true = refl
+  formed false = refl
 
-  -- a record that is no head
-  module _ (new : StreamReader) (good : reason_in x f ≡ None) (never : (size : ℕ) → f ≡ frames.SizedEnvelope size → ⊥) (awaited : new.awaited ≡ awaits.Record (leads x.direction x.mode due f)) (messages : new.messages ≡ r.messages) where
-    -- is behind it where a record is due
-    in_due : (g : Frame) → f ≡ g → (via : List ℕ) (kind : Kind) (strings : List (List ℕ)) → new.kind ≡ kind → decoder_settings new.decoder ≡ payloads x kind → DecoderStandsFor new.decoder strings []
-        → IsIn new x (record z { stage = led x z.stage g; kind = kind; via = via; strings = strings })
-    in_due g is via kind strings kind_is decodes stands =
-        let to : new.awaited ≡ awaits.Record (leads x.direction x.mode due g) = awaited ∙ ap (λ h. awaits.Record (leads x.direction x.mode due h)) is in
-        rw h.stage (record {
-          awaits = subst (λ (a : Awaited). Awaits a (record_due (leads x.direction x.mode due g))) (sym to) refl;
-          kind = kind_is;
-          messages = messages ∙ h.at.messages;
-          decodes = decodes;
-          payload = stands;
-        })
+  made_chunk : (p : PayloadLeft) (o : OpenPayload) (size : ℕ) (q : PayloadLeft) → IsOpenSo p o
+      → z.stage ≡ chunk_due o → f ≡ frames.Chunk size → joined_with p size q
+      → reason_in x (chunk_due o) (frames.Chunk size) text ≡ None → x.limits.payload < 2 ^ 32
+      → IsMade q
+  made_chunk p o size q is at same joins good low =
+      let fits = size_fits x (o.size + size) good in
+      let reads = subst (ReadsPayload r.decoder x z) at h.at.payload in
+      let part = reads.1 in
+      let q_is : q ≡ with_size p size = joins (let s = is.size in omega (arith, fits, low, s)) in
+      record {
+        payload = with_chunk o size;
+        made = ap (payload_by x z from) same ∙ rw at refl;
+        open_so = rw q_is (record {
+          from = is.from;
+          size = ap (λ n. n + size) is.size;
+          left = refl;
+          form = formed (size == 0);
+        });
+        part = record {
+          bytes = part.bytes;
+          stands_for = part.stands_for;
+          standing_is = part.standing_is;
+          counted = (let n = part.counted in let none = reads.0 in omega (arith, n, none));
+          within = fits;
+        };
+      }
 
-    unrefused : (g : Frame) → f ≡ g → refused_head x z from g ≡ None
-    unrefused (frames.SizedEnvelope size) is = absurd (never size is)
-    unrefused g is = refl
+  made_head : (g : Frame) (q : PayloadLeft) → f ≡ g → z.stage ≡ record_due h.due
+      → Some q ≡ begun_by from g → reason_in x z.stage g text ≡ None → IsMade q
+  made_head (frames.SizedEnvelope size) q is at makes good =
+      let q_is : q ≡ begun_with from size forms.Sized = cc in
+      record {
+        payload = payload_begun x z from size sized;
+        made = ap (payload_by x z from) is;
+        open_so = rw q_is (record { from = refl; size = refl; left = refl; form = refl });
+        part = part_begun size sized at (size_fits x size good);
+      }
+  made_head frames.UnsizedEnvelope q is at makes good =
+      let q_is : q ≡ begun_with from 0 forms.Chunked = cc in
+      record {
+        payload = payload_begun x z from 0 chunked;
+        made = ap (payload_by x z from) is;
+        open_so = rw q_is (record { from = refl; size = refl; left = refl; form = refl });
+        part = part_begun 0 chunked at (omega arith);
+      }
+  made_head g q is at makes good = cc
 
-    answered : (step : StreamStep) (s : Situation) (event : Option StreamEvent) → IsIn new x s → step ≡ step_of event → (v : Option Offence) → v ≡ None → BehindAnswers x s event v new (Ok step)
-    answered step s event there is v e = subst (λ (w : Option Offence). BehindAnswers x s event w new (Ok step)) (sym e) (there, is)
+  made_size : (p : PayloadLeft) (g : Frame) (q : PayloadLeft)
+      → MakesPayload (awaits.Chunk p) from g (Some q)
+      → (size : ℕ) × (g ≡ frames.Chunk size) × joined_with p size q
+  made_size p (frames.Chunk size) q makes =
+      let same : makes.0 ≡ q = (let two = makes.1 in cc) in
+      (size, refl, subst (joined_with p size) same makes.2)
+  made_size p g q makes = cc
 
-    none_refused : refused_record x z from f ≡ None
-    none_refused = refused_by_head x z from f good ∙ unrefused f refl
+  made_by : (a : Awaited) (stage : Stage) (q : PayloadLeft) → Awaits a stage → z.stage ≡ stage
+      → MakesPayload a from f (Some q) → reason_in x stage f text ≡ None
+      → x.limits.payload < 2 ^ 32 → IsMade q
+  made_by (awaits.Record due) (record_due other) q is at makes good low =
+      let here : record_due other ≡ record_due h.due = by_due at_due in
+      made_head f q refl (at ∙ here) makes (ap (λ s. reason_in x s f text) at ∙ good)
+    where
+      by_due : ReadsDue z.stage h.due → record_due other ≡ record_due h.due
+      by_due (reads_record e) = sym at ∙ e
+      by_due (reads_size o e same) = let two = sym at ∙ e in cc
+  made_by (awaits.Chunk p) (chunk_due o) q is at makes good low =
+      let m = made_size p f q makes in
+      made_chunk p o m.0 q is at m.1 m.2
+      (ap (λ g. reason_in x (chunk_due o) g text) (sym m.1) ∙ good) low
+  made_by (awaits.Record due) (chunk_due o) q is at makes good low = absurd is
+  made_by (awaits.Record due) (payload_open o) q is at makes good low = absurd is
+  made_by (awaits.Chunk p) (record_due due) q is at makes good low = absurd is
+  made_by (awaits.Chunk p) (payload_open o) q is at makes good low = absurd is
+  made_by (awaits.Payload p) stage q is at makes good low = cc
 
-    -- that of the encoding
-    pub encoding_answers : (encoding : ℕ) → f ≡ frames.KnownEncoding encoding → new.kind ≡ kind_of encoding → decoder_settings new.decoder ≡ payloads x (kind_of encoding) → DecoderStandsFor new.decoder [] []
-        → BehindAnswers x (after_record x z from f text) (completed_record x z from f) (refused_record x z from f) new (Ok steps.More)
-    encoding_answers encoding is kind decodes stands =
-        let told : BehindAnswers x (after_record x z from (frames.KnownEncoding encoding) text) (completed_record x z from (frames.KnownEncoding encoding)) None new (Ok steps.More)
-        = (in_due (frames.KnownEncoding encoding) is z.via (kind_of encoding) [] kind decodes stands, refl) in
-        subst (λ (v : Option Offence). BehindAnswers x (after_record x z from f text) (completed_record x z from f) v new (Ok steps.More)) (sym none_refused)
-        (subst (λ (g : Frame). BehindAnswers x (after_record x z from g text) (completed_record x z from g) None new (Ok steps.More)) (sym is) told)
+  pub made_some : (q : PayloadLeft) → MakesPayload r.awaited from f (Some q)
+      → reason_in x z.stage f text ≡ None → x.limits.payload < 2 ^ 32 → IsMade q
+  made_some q makes good low = made_by r.awaited z.stage q h.at.awaits refl makes good low
 
-    -- another
-    module _ (other : (encoding : ℕ) → f ≡ frames.KnownEncoding encoding → ⊥) (kind : new.kind ≡ r.kind) (decoder : new.decoder ≡ r.decoder) where
-      in_other : (g : Frame) → f ≡ g → (via : List ℕ) → IsIn new x (record z { stage = led x z.stage g; via = via })
-      in_other g is via = in_due g is via z.kind z.strings (kind ∙ h.at.kind) (ap decoder_settings decoder ∙ h.at.decodes) (subst (λ (d : Decoder). DecoderStandsFor d z.strings []) (sym decoder) decoder_now)
+  none_head : (g : Frame) (stage : Stage) (due : Due) → stage ≡ record_due due → None ≡ begun_by from g
+      → payload_by x (record z { stage = stage }) from g ≡ None
+  none_head (frames.SizedEnvelope size) stage due at makes = cc
+  none_head frames.UnsizedEnvelope stage due at makes = cc
+  none_head (frames.Chunk size) stage due at makes = rw at refl
+  none_head g stage due at makes = refl
 
-      there_is : (g : Frame) → f ≡ g → IsIn new x (after_record x z from g text)
-      there_is frames.Via is = in_other frames.Via is text
-      there_is (frames.KnownEncoding encoding) is = absurd (other encoding is)
-      there_is (frames.SizedEnvelope size) is = absurd (never size is)
-      there_is g is = in_other g is z.via
+  none_by : (a : Awaited) (stage : Stage) → Awaits a stage → z.stage ≡ stage
+      → MakesPayload a from f None → payload_by x z from f ≡ None
+  none_by (awaits.Record due) (record_due other) is at makes = none_head f z.stage other at makes
+  none_by (awaits.Chunk p) (chunk_due o) is at makes =
+      elim at_due [
+        | reads_record e ↦ let two = sym at ∙ e in cc
+        | reads_size other e same ↦
+            let size = size_there same in
+            let bad = subst (λ (g : Frame). MakesPayload (awaits.Chunk p) from g None) size.1 makes in
+            absurd (let never = bad.1 in cc)
+      ]
+  none_by (awaits.Record due) (chunk_due o) is at makes = absurd is
+  none_by (awaits.Record due) (payload_open o) is at makes = absurd is
+  none_by (awaits.Chunk p) (record_due due) is at makes = absurd is
+  none_by (awaits.Chunk p) (payload_open o) is at makes = absurd is
+  none_by (awaits.Payload p) (record_due due) is at makes = absurd is
+  none_by (awaits.Payload p) (chunk_due o) is at makes = absurd is
+  none_by (awaits.Payload p) (payload_open o) is at makes =
+      elim at_due [
+        | reads_record e ↦ let two = sym at ∙ e in cc
+        | reads_size other e same ↦ let two = sym at ∙ e in cc
+      ]
 
-      pub other_answers : (step : StreamStep) → step ≡ step_of (completed_record x z from f) → BehindAnswers x (after_record x z from f text) (completed_record x z from f) (refused_record x z from f) new (Ok step)
-      other_answers step is = answered step (after_record x z from f text) (completed_record x z from f) (there_is f refl) is (refused_record x z from f) none_refused
+  pub made_none : MakesPayload r.awaited from f None → payload_by x z from f ≡ None
+  made_none makes = none_by r.awaited z.stage h.at.awaits refl makes
+
+  -- what the reader has then of it
+  pub made_decoded : (new : StreamReader) (q : PayloadLeft) (m : IsMade q) → new.mode ≡ r.mode
+      → new.kind ≡ r.kind → new.messages ≡ r.messages → new.decoder ≡ r.decoder
+      → HasDecoded new x z q m.payload
+  made_decoded new q m mode kind messages decoder = record {
+    open_so = m.open_so;
+    mode = mode ∙ h.at.mode;
+    kind = kind ∙ h.at.kind;
+    messages = messages ∙ h.at.messages;
+    few = h.few;
+    decodes = ap decoder_settings decoder ∙ h.at.decodes;
+    part = subst (λ (s : Decoder). HasPart s x z m.payload) (sym decoder) m.part;
+  }
+
+  pub made_answers : (new : StreamReader) (q : PayloadLeft) (m : IsMade q)
+      (result : Result StreamStep ReadRefusal) → reason_in x z.stage f text ≡ None
+      → BehindAnswers x (behind_payload x z m.payload) (completed_payload x z m.payload)
+      (refused_payload x z m.payload) new result
+      → BehindAnswers x (after_record x z from f text) (completed_record x z from to f text)
+      (refused_record x z from f text) new result
+  made_answers new q m result good a = by_both None (Some m.payload) new result good m.made a
+
+  -- a record of no payload leads to where another is due
+  bare_stage : (g : Frame)
+      → (after_bare x z g text).stage ≡ record_due (leads (direction_of x.side) z.mode (due_in z.stage) g)
+  bare_stage frames.Via = refl
+  bare_stage frames.Fault = refl
+  bare_stage (frames.Mode byte) = refl
+  bare_stage (frames.KnownEncoding encoding) = refl
+  bare_stage g = refl
+
+  bare_mode : (g : Frame) → mode_after z.mode g ≡ (after_bare x z g text).mode
+  bare_mode frames.Via = refl
+  bare_mode frames.Fault = refl
+  bare_mode (frames.Mode byte) = refl
+  bare_mode (frames.KnownEncoding encoding) = refl
+  bare_mode g = refl
+
+  bare_messages : (g : Frame) → z.messages ≡ (after_bare x z g text).messages
+  bare_messages frames.Via = refl
+  bare_messages frames.Fault = refl
+  bare_messages (frames.Mode byte) = refl
+  bare_messages (frames.KnownEncoding encoding) = refl
+  bare_messages g = refl
+
+  module _ (mid : StreamReader) (same_as : IsAs mid r) (side : side_of r.side ≡ x.side) (to_is : to ≡ r.taken) (sets : (kind : Kind) → record { statics = mid.statics.now; kind = kind; limits = limits_of mid.quotas } ≡ payloads x kind) (at : z.stage ≡ record_due h.due) where
+    decoder_there : DecoderStandsFor mid.decoder z.strings []
+    decoder_there = subst (λ (s : Decoder). DecoderStandsFor s z.strings []) (sym same_as.decoder) (decoder_now at)
+
+    -- the decoder is that of the situation
+    record ReadsBare (new : StreamReader) (s : Situation) : Type 0 where
+      kind : new.kind ≡ s.kind
+      decodes : decoder_settings new.decoder ≡ payloads x s.kind
+      stands : DecoderStandsFor new.decoder s.strings []
+
+    same_bare : (new : StreamReader) (s : Situation) → s.kind ≡ z.kind → s.strings ≡ z.strings
+        → (new.kind ≡ mid.kind) × (new.decoder ≡ mid.decoder) → ReadsBare new s
+    same_bare new s kind strings same = record {
+      kind = same.0 ∙ same_as.kind ∙ h.at.kind ∙ sym kind;
+      decodes =
+          ap decoder_settings (same.1 ∙ same_as.decoder) ∙ h.at.decodes ∙ ap (payloads x) (sym kind);
+      stands =
+          subst (λ (e : Decoder). DecoderStandsFor e s.strings []) (sym same.1)
+          (subst (λ (t : List (List ℕ)). DecoderStandsFor mid.decoder t []) (sym strings)
+          decoder_there);
+    }
+
+    reads_bare : (g : Frame) (new : StreamReader) → DecodesAfter mid g new
+        → ReadsBare new (after_bare x z g text)
+    reads_bare (frames.KnownEncoding encoding) new (kind, stands, decodes) =
+        record { kind = kind; decodes = decodes ∙ sets (kind_of encoding); stands = stands }
+    reads_bare frames.Via new same = same_bare new _ refl refl same
+    reads_bare frames.Fault new same = same_bare new _ refl refl same
+    reads_bare (frames.Mode byte) new same = same_bare new _ refl refl same
+    reads_bare (frames.Version major minor) new same = same_bare new _ refl refl same
+    reads_bare frames.UnsizedEnvelope new same = same_bare new _ refl refl same
+    reads_bare (frames.Chunk size) new same = same_bare new _ refl refl same
+    reads_bare (frames.SizedEnvelope size) new same = same_bare new _ refl refl same
+    reads_bare frames.End new same = same_bare new _ refl refl same
+    reads_bare frames.PreambleAck new same = same_bare new _ refl refl same
+    reads_bare frames.PreambleEnd new same = same_bare new _ refl refl same
+
+    says_bare : (g : Frame) (new : StreamReader) → new.mode ≡ mode_after mid.mode g
+        → DecodesAfter mid g new → new.taken ≡ mid.taken
+        → bare_step new g ≡ step_of (completed_bare z to g text)
+    says_bare frames.PreambleEnd new mode same taken =
+        ap (λ m. steps.Opened m new.kind) (mode ∙ same_as.mode ∙ h.at.mode)
+        ∙ ap (steps.Opened z.mode) (same.0 ∙ same_as.kind ∙ h.at.kind)
+    says_bare frames.PreambleAck new mode same taken = refl
+    says_bare frames.End new mode same taken = ap steps.Ended (taken ∙ same_as.taken ∙ sym to_is)
+    says_bare frames.Fault new mode same taken =
+        ap steps.PeerFault (taken ∙ same_as.taken ∙ sym to_is)
+    says_bare (frames.Version major minor) new mode same taken = refl
+    says_bare (frames.Mode byte) new mode same taken = refl
+    says_bare frames.Via new mode same taken = refl
+    says_bare (frames.KnownEncoding encoding) new mode same taken = refl
+    says_bare frames.UnsizedEnvelope new mode same taken = refl
+    says_bare (frames.Chunk size) new mode same taken = refl
+    says_bare (frames.SizedEnvelope size) new mode same taken = refl
+
+    on : is_over_in z.stage ≡ false
+    on = ap is_over_in at ∙ due_on (direction_of x.side) h.due f h.may
+
+    recalls_bare : (g : Frame) → f ≡ g → payload_by x z from g ≡ None
+        → is_over_in (after_bare x z g text).stage ≡ true
+        → Recalls (closing_after mid.closing g) (completed_bare z to g text)
+    recalls_bare frames.End is none over = tt
+    recalls_bare frames.Fault is none over = tt
+    recalls_bare frames.PreambleEnd is none over =
+        let still = begun_on (direction_of x.side) z.mode in let bad = sym still ∙ over in cc
+    recalls_bare frames.PreambleAck is none over =
+        let still = begun_on (direction_of x.side) z.mode in let bad = sym still ∙ over in cc
+    recalls_bare (frames.Version major minor) is none over = cc
+    recalls_bare (frames.Mode byte) is none over = cc
+    recalls_bare frames.Via is none over = cc
+    recalls_bare (frames.KnownEncoding encoding) is none over = cc
+    recalls_bare frames.UnsizedEnvelope is none over = cc
+    recalls_bare (frames.SizedEnvelope size) is none over = cc
+    recalls_bare (frames.Chunk size) is none over =
+        let still = bare_goes_on x z from to (frames.Chunk size) text none on refl in
+        let bad = sym still ∙ over in cc
+
+    bare_in : (new : StreamReader) (step : StreamStep) → IsMoved mid f new step
+        → IsIn new x (after_bare x z f text)
+    bare_in new step m =
+        let reads = reads_bare f new m.decodes in
+        let awaited : new.awaited ≡ awaits.Record (leads (direction_of x.side) z.mode (due_in z.stage) f)
+        = m.awaited
+        ∙ ap (λ (s : Side). awaited_after (direction_of s) mid.mode mid.awaited f)
+        (ap side_of same_as.side ∙ side)
+        ∙ ap (λ a. awaited_after (direction_of x.side) mid.mode a f) (same_as.awaited ∙ awaited_here)
+        ∙ ap (λ n. awaits.Record (leads (direction_of x.side) n h.due f)) (same_as.mode ∙ h.at.mode)
+        ∙ ap (λ n. awaits.Record (leads (direction_of x.side) z.mode n f)) (sym (ap due_in at)) in
+        record {
+          awaits =
+              subst (λ (a : Awaited). Awaits a (after_bare x z f text).stage) (sym awaited)
+              (subst (Awaits (awaits.Record (leads (direction_of x.side) z.mode (due_in z.stage) f)))
+              (sym (bare_stage f)) refl);
+          mode = m.mode ∙ ap (λ n. mode_after n f) (same_as.mode ∙ h.at.mode) ∙ bare_mode f;
+          kind = reads.kind;
+          messages = m.parts.messages ∙ same_as.messages ∙ h.at.messages ∙ bare_messages f;
+          decodes = reads.decodes;
+          payload =
+              subst (ReadsPayload new.decoder x (after_bare x z f text)) (sym (bare_stage f))
+              reads.stands;
+        }
+      where
+        awaited_here : r.awaited ≡ awaits.Record h.due
+        awaited_here = go r.awaited z.stage h.at.awaits at h.due_is where
+          go : (a : Awaited) (stage : Stage) → Awaits a stage → stage ≡ record_due h.due
+              → due_of a ≡ Some h.due → a ≡ awaits.Record h.due
+          go (awaits.Record due) stage is here e = cc
+          go (awaits.Chunk p) (record_due due) is here e = absurd is
+          go (awaits.Chunk p) (chunk_due o) is here e = cc
+          go (awaits.Chunk p) (payload_open o) is here e = cc
+          go (awaits.Payload p) stage is here e = cc
+
+    pub bare_answers : (new : StreamReader) (step : StreamStep) → IsMoved mid f new step
+        → reason_in x z.stage f text ≡ None → payload_by x z from f ≡ None
+        → BehindAnswers x (after_record x z from f text) (completed_record x z from to f text)
+        (refused_record x z from f text) new (Ok step)
+    bare_answers new step m good none =
+        by_both None None new (Ok step) good none (
+          bare_in new step m,
+          m.step_is ∙ says_bare f new m.mode m.decodes m.parts.keeps.taken,
+          λ over.
+              subst (λ (c : Closing). Recalls c (completed_bare z to f text)) (sym m.closing)
+              (recalls_bare f refl none over),
+        )

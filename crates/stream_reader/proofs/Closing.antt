@@ -1,12 +1,11 @@
 -- The events that end a stream close it.
-use Rattle.std.proofs.Common.{◌≡◌, ℕ, true, Option, Some, None, refl, subst}
-use Rattle.std.specs.Option.{option_map}
+use Rattle.std.proofs.Common.{◌≡◌, ℕ, List, true, Option, Some, None, refl, subst}
+use Rattle.std.specs.Option.{option_map, option_or}
 use Rattle.unit_streams.specs.Tellers.{Closes}
 use Rattle.nbfx_values.specs.declared.refusals.Offence.{Offence}
 use Rattle.nmf_records.specs.declared.frame.Frame.{Frame}
 use Rattle.nmf_records.specs.declared.frame.Frame.TheVariants as frames
-use Rattle.stream_reader.specs.Laws.{IsInitiators}
-use Rattle.stream_reader.specs.Stream.{Settings, Situation, Stage, record_due, payload_open, StreamUnit, frame, payload_byte, Envelope, StreamEvent, message, ends, envelope_in, payload_begun, with_byte, completed_record, completed_byte, completed, refused_record, refused_byte, refused, stream}
+use Rattle.stream_reader.specs.Stream.{Settings, Situation, Stage, OpenPayload, record_due, chunk_due, payload_open, StreamUnit, frame, payload_byte, Envelope, StreamEvent, message, ends, envelope_in, with_byte, on_open, on_payload, offence_at, payload_by, reason_in, refused_payload, completed_payload, completed_bare, completed, refused, stream}
 use Rattle.stream_reader.proofs.Ending.{tells}
 use Rattle.stream_reader.proofs.Grammar.{readable, quiet_over}
 
@@ -16,38 +15,48 @@ Unrefused None refusal = Unit {0}
 Unrefused (Some event) refusal = ends event ≡ true → refusal ≡ None
 
 -- an envelope doesn't end it
-envelope_unrefused : (envelope : Option Envelope) (refusal : Option Offence) → Unrefused (option_map message envelope) refusal
+envelope_unrefused : (envelope : Option Envelope) (refusal : Option Offence)
+    → Unrefused (option_map message envelope) refusal
 envelope_unrefused None refusal = tt
 envelope_unrefused (Some e) refusal = λ h. cc
 
-module _ (x : Settings) where
-  record_unrefused : (z : Situation) (from : ℕ) (read : Frame) → Unrefused (completed_record x z from read) (refused_record x z from read)
-  record_unrefused z from (frames.Version major minor) = tt
-  record_unrefused z from (frames.Mode mode) = tt
-  record_unrefused z from frames.Via = tt
-  record_unrefused z from (frames.KnownEncoding encoding) = tt
-  record_unrefused z from frames.UnsizedEnvelope = tt
-  record_unrefused z from (frames.Chunk size) = tt
-  record_unrefused z from (frames.SizedEnvelope size) = envelope_unrefused (envelope_in x z (payload_begun x z from size)) (refused_record x z from (frames.SizedEnvelope size))
-  record_unrefused z from frames.End = λ e. refl
-  record_unrefused z from frames.Fault = tt
-  record_unrefused z from frames.PreambleAck = tt
-  record_unrefused z from frames.PreambleEnd = λ e. refl
+module _ (x : Settings) (z : Situation) where
+  bare_unrefused : (from to : ℕ) (read : Frame) (text : List ℕ)
+      → Unrefused (completed_bare z to read text)
+      (option_or (option_map (offence_at from) (reason_in x z.stage read text)) None)
+  bare_unrefused from to frames.End text = λ e. refl
+  bare_unrefused from to frames.Fault text = λ e. refl
+  bare_unrefused from to frames.PreambleEnd text = λ e. refl
+  bare_unrefused from to frames.PreambleAck text = λ e. refl
+  bare_unrefused from to read text = tt
 
-  byte_unrefused : (z : Situation) (stage : Stage) (byte : ℕ) → Unrefused (completed_byte x z stage byte) (refused_byte x z stage byte)
-  byte_unrefused z (record_due due) byte = tt
-  byte_unrefused z (payload_open p) byte = envelope_unrefused (envelope_in x z (with_byte x z p byte)) (refused_byte x z (payload_open p) byte)
+  record_unrefused : (from to : ℕ) (read : Frame) (text : List ℕ) (v : Option OpenPayload)
+      → Unrefused (on_payload v (completed_payload x z) (completed_bare z to read text))
+      (option_or (option_map (offence_at from) (reason_in x z.stage read text))
+      (on_payload v (refused_payload x z) None))
+  record_unrefused from to read text (Some p) = envelope_unrefused (envelope_in x z p) _
+  record_unrefused from to read text None = bare_unrefused from to read text
 
-  unit_unrefused : (z : Situation) (from : ℕ) (u : StreamUnit) → Unrefused (completed x z from u) (refused x z from u)
+  byte_unrefused : (stage : Stage) (byte : ℕ)
+      → Unrefused (on_open stage (λ p. completed_payload x z (with_byte x z p byte)) None)
+      (on_open stage (λ p. refused_payload x z (with_byte x z p byte)) None)
+  byte_unrefused (record_due due) byte = tt
+  byte_unrefused (chunk_due p) byte = tt
+  byte_unrefused (payload_open p) byte = envelope_unrefused (envelope_in x z (with_byte x z p byte)) _
+
+  unit_unrefused : (from to : ℕ) (u : StreamUnit)
+      → Unrefused (completed x z from to u) (refused x z from u)
   unfolding completed refused
-  unit_unrefused z from (frame read) = record_unrefused z from read.frame
-  unit_unrefused z from (payload_byte byte) = byte_unrefused z z.stage byte
+  unit_unrefused from to (frame read) =
+      record_unrefused from to read.frame read.text (payload_by x z from read.frame)
+  unit_unrefused from to (payload_byte byte) = byte_unrefused z.stage byte
 
--- of an initiator's stream
-pub closes : (x : Settings) → IsInitiators x → Closes (stream x) ends
-closes x set = record {
+pub closes : (x : Settings) → Closes (stream x) ends
+closes x = record {
   readable = readable x;
   quiet = quiet_over x;
-  tells = tells x set;
-  unrefused = λ z from to u event some is_end. subst (λ (v : Option StreamEvent). Unrefused v (refused x z from u)) some (unit_unrefused x z from u) is_end;
+  tells = tells x;
+  unrefused = λ z from to u event some is_end.
+      subst (λ (v : Option StreamEvent). Unrefused v (refused x z from u)) some
+      (unit_unrefused x z from to u) is_end;
 }

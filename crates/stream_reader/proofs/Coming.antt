@@ -2,9 +2,7 @@
 use Rattle.std.proofs.Common.{◌≡◌, ℕ, ◌≤◌, List, [], ◌∷◌, length, take, refl, sym, ap}
 use Rattle.unit_streams.specs.Front.{Front, begun, whole, wrong}
 use Rattle.unit_streams.specs.Parts.{seen}
-use Rattle.nmf_records.specs.declared.frame.Frame.TheVariants as frames
 use Rattle.nmf_records.specs.declared.frame.FrameFault.{FrameFault}
-use Rattle.nmf_records.specs.declared.script.Direction.TheVariants.{FromInitiator}
 use Rattle.nmf_records.specs.declared.script.Due.{Due}
 use Rattle.nmf_records.specs.declared.script.Due.TheVariants as dues
 use Rattle.nmf_records.specs.Records.{Read, IsRecord}
@@ -12,34 +10,34 @@ use Rattle.nmf_records.specs.Reading.{MayCome, frame_at}
 use Rattle.nmf_records.specs.Script.{may_come}
 use Rattle.nmf_records.proofs.Frames.{frames_front}
 use Rattle.nmf_records.proofs.Records.{read_record}
-use Rattle.stream_reader.specs.Stream.{OpenPayload, Settings, record_due, payload_open, StreamUnit, frame, payload_byte, reason_of, built, offence_at, record_at, payload_at, unit_in}
+use Rattle.stream_reader.specs.Stream.{OpenPayload, Settings, direction_of, record_due, chunk_due, payload_open, StreamUnit, frame, payload_byte, reason_of, offence_at, record_at, payload_at, unit_in}
 
 -- the record that a unit is
 pub record Comes (x : Settings) (due : Due) (bytes : List ℕ) (read : Read) (n : ℕ) : Type 0 where
-  pub front : frame_at x.limits.via (may_come x.direction due) bytes ≡ whole read n
+  pub front : frame_at x.limits.via (may_come (direction_of x.side) due) bytes ≡ whole read n
   pub bytes_are : IsRecord read (take n bytes)
-  pub may : MayCome (may_come x.direction due) read.frame
+  pub may : MayCome (may_come (direction_of x.side) due) read.frame
   pub within : n ≤ length bytes
   pub low : length read.text ≤ x.limits.via
 
 module _ (x : Settings) (from : ℕ) (bytes : List ℕ) (u : StreamUnit) (n : ℕ) where
-  seen_whole : (due : Due) (v : Front Read FrameFault) → seen frame (λ fault. offence_at from (built (reason_of due fault))) v ≡ whole u n → (read : Read) × (v ≡ whole read n) × (u ≡ frame read)
+  seen_whole : (due : Due) (v : Front Read FrameFault) → seen frame (λ fault. offence_at from (reason_of due fault)) v ≡ whole u n → (read : Read) × (v ≡ whole read n) × (u ≡ frame read)
   seen_whole due begun e = cc
   seen_whole due (whole read k) e = let size : k ≡ n = cc in let same : frame read ≡ u = cc in (read, ap (whole read) size, sym same)
   seen_whole due (wrong fault k) e = cc
 
-  due_comes : (due : Due) → seen frame (λ fault. offence_at from (built (reason_of due fault))) (frame_at x.limits.via (may_come x.direction due) bytes) ≡ whole u n
+  due_comes : (due : Due) → seen frame (λ fault. offence_at from (reason_of due fault)) (frame_at x.limits.via (may_come (direction_of x.side) due) bytes) ≡ whole u n
       → (read : Read) × (u ≡ frame read) × Comes x due bytes read n
   due_comes due e =
-      let w = seen_whole due (frame_at x.limits.via (may_come x.direction due) bytes) e in
-      let r = read_record x.limits.via (may_come x.direction due) bytes w.0 n w.1 in (
+      let w = seen_whole due (frame_at x.limits.via (may_come (direction_of x.side) due) bytes) e in
+      let r = read_record x.limits.via (may_come (direction_of x.side) due) bytes w.0 n w.1 in (
         w.0,
         w.2,
         record {
           front = w.1;
           bytes_are = r.0;
           may = r.1;
-          within = (frames_front x.limits.via (may_come x.direction due)).whole_within bytes w.0 n w.1;
+          within = (frames_front x.limits.via (may_come (direction_of x.side) due)).whole_within bytes w.0 n w.1;
           low = r.2;
         },
       )
@@ -53,6 +51,11 @@ module _ (x : Settings) (from : ℕ) (bytes : List ℕ) (u : StreamUnit) (n : �
   unfolding unit_in
   unit_of_record due e = record_comes due e
 
+  -- where a chunk's size is, such a size comes
+  pub unit_of_chunk : (p : OpenPayload) → unit_in x (chunk_due p) from bytes ≡ whole u n → (read : Read) × (u ≡ frame read) × Comes x dues.Chunk bytes read n
+  unfolding unit_in
+  unit_of_chunk p e = record_comes dues.Chunk e
+
 -- at a payload a byte comes
 pub byte_comes : (bytes : List ℕ) (u : StreamUnit) (n : ℕ) → payload_at bytes ≡ whole u n → (byte : ℕ) × (rest : List ℕ) × (bytes ≡ byte ∷ rest) × (u ≡ payload_byte byte) × (n ≡ 1)
 byte_comes [] u n e = cc
@@ -62,8 +65,3 @@ pub unit_of_payload : (x : Settings) (from : ℕ) (bytes : List ℕ) (u : Stream
     → (byte : ℕ) × (rest : List ℕ) × (bytes ≡ byte ∷ rest) × (u ≡ payload_byte byte) × (n ≡ 1)
 unfolding unit_in
 unit_of_payload x from bytes u n p e = byte_comes bytes u n e
-
--- an initiator sends no Fault
-pub no_fault : (due : Due) → MayCome (may_come FromInitiator due) frames.Fault → ⊥
-no_fault dues.Over e = cc
-no_fault _ e = cc

@@ -13,7 +13,7 @@ use Rattle.nmf_records.specs.Records.{Read, IsRecord}
 use Rattle.nmf_records.specs.Reading.{MayCome, frame_at}
 use Rattle.nmf_records.specs.Script.{may_come}
 use Rattle.nmf_records.proofs.Records.{record_read}
-use Rattle.stream_reader.specs.Stream.{Settings, record_due, frame, reason_of, built, offence_at, record_at, unit_in, is_over_in}
+use Rattle.stream_reader.specs.Stream.{Settings, direction_of, record_due, frame, reason_of, offence_at, record_at, unit_in, is_over_in}
 
 -- which record is due where one of these types may come
 pub version_due : (direction : Direction) (due : Due) (major minor : ℕ) → MayCome (may_come direction due) (frames.Version major minor) → due ≡ dues.Version
@@ -25,6 +25,11 @@ pub mode_due : (direction : Direction) (due : Due) (mode : ℕ) → MayCome (may
 mode_due direction dues.Mode mode e = refl
 mode_due FromInitiator _ mode e = cc
 mode_due FromReceiver _ mode e = cc
+
+pub via_due : (direction : Direction) (due : Due) → MayCome (may_come direction due) frames.Via → due ≡ dues.Via
+via_due direction dues.Via e = refl
+via_due FromInitiator _ e = cc
+via_due FromReceiver _ e = cc
 
 pub encoding_due : (direction : Direction) (due : Due) (encoding : ℕ) → MayCome (may_come direction due) (frames.KnownEncoding encoding) → due ≡ dues.Encoding
 encoding_due direction dues.Encoding encoding e = refl
@@ -50,6 +55,13 @@ pub mode_comes : (direction : Direction) (mode : ℕ) → MayCome (may_come dire
 mode_comes FromInitiator mode = refl
 mode_comes FromReceiver mode = refl
 
+pub via_comes : (direction : Direction) → MayCome (may_come direction dues.Via) frames.Via
+via_comes FromInitiator = refl
+via_comes FromReceiver = refl
+
+pub chunk_comes : (direction : Direction) (size : ℕ) → MayCome (may_come direction dues.Chunk) (frames.Chunk size)
+chunk_comes direction size = refl
+
 pub encoding_comes : (direction : Direction) (encoding : ℕ) → MayCome (may_come direction dues.Encoding) (frames.KnownEncoding encoding)
 encoding_comes FromInitiator encoding = refl
 encoding_comes FromReceiver encoding = refl
@@ -60,20 +72,20 @@ envelope_comes FromReceiver size = refl
 
 -- a fault's offence
 abbrev pub refusing : ℕ → Due → FrameFault → Offence
-refusing from due fault = offence_at from (built (reason_of due fault))
+refusing from due fault = offence_at from (reason_of due fault)
 
 -- where the session isn't over, what is read at a record is the framing's
 pub read_due : (x : Settings) (due : Due) (from : ℕ) (bytes : List ℕ) → is_over_in (record_due due) ≡ false
-    → record_at x due from bytes ≡ seen frame (refusing from due) (frame_at x.limits.via (may_come x.direction due) bytes)
+    → record_at x due from bytes ≡ seen frame (refusing from due) (frame_at x.limits.via (may_come (direction_of x.side) due) bytes)
 read_due x dues.Over from bytes on = cc
 read_due x _ from bytes on = refl
 
 module _ (x : Settings) (due : Due) (bytes : List ℕ) (from : ℕ) where
-  pub reads_due : is_over_in (record_due due) ≡ false → unit_in x (record_due due) from bytes ≡ seen frame (refusing from due) (frame_at x.limits.via (may_come x.direction due) bytes)
+  pub reads_due : is_over_in (record_due due) ≡ false → unit_in x (record_due due) from bytes ≡ seen frame (refusing from due) (frame_at x.limits.via (may_come (direction_of x.side) due) bytes)
   unfolding unit_in
   reads_due on = read_due x due from bytes on
 
   -- a record that may come there is a unit
-  pub record_unit : (read : Read) → is_over_in (record_due due) ≡ false → IsRecord read bytes → MayCome (may_come x.direction due) read.frame → length read.text ≤ x.limits.via
+  pub record_unit : (read : Read) → is_over_in (record_due due) ≡ false → IsRecord read bytes → MayCome (may_come (direction_of x.side) due) read.frame → length read.text ≤ x.limits.via
       → unit_in x (record_due due) from bytes ≡ whole (frame read) (length bytes)
-  record_unit read on bytes_are may low = reads_due on ∙ ap (seen frame (refusing from due)) (record_read x.limits.via (may_come x.direction due) read bytes bytes_are may low)
+  record_unit read on bytes_are may low = reads_due on ∙ ap (seen frame (refusing from due)) (record_read x.limits.via (may_come (direction_of x.side) due) read bytes bytes_are may low)

@@ -1,110 +1,155 @@
--- An initiator's stream ends with its End record alone.
-use Rattle.std.proofs.Common.{◌≡◌, ℕ, ◌+◌, List, Bool, true, false, Some, None, refl, sym, ap, ◌∙◌}
+-- A stream ends with the End record or a Fault, and with nothing else.
+use Rattle.std.proofs.Common.{◌≡◌, ℕ, ◌+◌, List, Bool, true, false, Option, Some, None, refl, sym, ap, ◌∙◌}
 use Rattle.std.specs.Prelude.{◌==◌, if◌then◌else◌}
-use Rattle.unit_streams.specs.Front.{whole}
 use Rattle.unit_streams.specs.Grammar.{TellsItsEnd}
+use Rattle.nbfx_values.specs.declared.session.Mode.{Mode}
+use Rattle.nbfx_values.specs.declared.session.Mode.TheVariants.{Singleton, Duplex, Simplex}
 use Rattle.nmf_records.specs.declared.frame.Frame.{Frame}
 use Rattle.nmf_records.specs.declared.frame.Frame.TheVariants as frames
-use Rattle.nmf_records.specs.declared.script.Direction.TheVariants.{FromInitiator}
+use Rattle.nmf_records.specs.declared.script.Direction.{Direction}
+use Rattle.nmf_records.specs.declared.script.Direction.TheVariants.{FromInitiator, FromReceiver}
 use Rattle.nmf_records.specs.declared.script.Due.TheVariants as dues
-use Rattle.nbfx_values.specs.declared.session.Mode.TheVariants.{Duplex}
-use Rattle.nmf_records.specs.Records.{Read}
-use Rattle.nmf_records.specs.Reading.{comes}
-use Rattle.nmf_records.specs.Script.{may_come}
-use Rattle.stream_reader.specs.Stream.{OpenPayload, Settings, initiators, Situation, Stage, record_due, payload_open, StreamUnit, frame, payload_byte, StreamEvent, opened, message, ended, ends, unit_in, due_in, led, behind_payload, payload_begun, with_byte, completed_payload, after_record, after_byte, after, completed_record, completed_byte, completed, is_over_in, stream}
-use Rattle.stream_reader.specs.Laws.{IsInitiators}
-use Rattle.nbfx_values.specs.Limits.{Limits}
-use Rattle.string_tables.specs.StaticStrings.{Entry}
-use Rattle.stream_reader.proofs.Outcomes.{goes_on, is_whole, is_refused, envelope_of, outcome}
-use Rattle.stream_reader.proofs.Initiators.{by_set}
-use Rattle.stream_reader.proofs.Coming.{unit_of_record, unit_of_payload, no_fault}
+use Rattle.nmf_records.specs.Script.{behind_preamble, first}
+use Rattle.stream_reader.specs.Stream.{OpenPayload, Form, sized, chunked, last_chunk, Settings, Side, initiators, receivers, direction_of, Situation, Stage, record_due, chunk_due, payload_open, StreamUnit, frame, payload_byte, StreamEvent, opened, accepted, message, ended, peer_fault, ends, due_in, due_behind, led, on_open, on_payload, payload_by, behind_payload, with_byte, completed_payload, completed_bare, after_bare, after, completed, is_over_in, stream}
+use Rattle.stream_reader.proofs.Outcomes.{goes_on, wants_chunk, is_whole, is_refused, envelope_of, outcome}
 
--- a situation behind something is over as its stage is
+-- a situation is over as its stage is
 abbrev Over : Situation → Bool → Type 0
 Over z b = is_over_in z.stage ≡ b
 
--- bytes of a payload end nothing
-payload_goes_on : (x : Settings) (z : Situation) (p : OpenPayload) → Over (behind_payload x z p) false
-payload_goes_on x z p =
-    elim (outcome x z p) [
-      | goes_on more b c ↦ rw b refl
-      | is_whole all none b c ↦ rw b refl
-      | is_refused all r is b c ↦ rw b refl
-    ]
+-- what comes behind the preamble, or behind a payload, isn't the end
+pub begun_on : (direction : Direction) (mode : Mode)
+    → is_over_in (record_due (behind_preamble direction mode)) ≡ false
+begun_on FromInitiator Singleton = refl
+begun_on FromInitiator Duplex = refl
+begun_on FromInitiator Simplex = refl
+begun_on FromReceiver Singleton = refl
+begun_on FromReceiver Duplex = refl
+begun_on FromReceiver Simplex = refl
 
-byte_goes_on : (x : Settings) (z : Situation) (stage : Stage) (byte : ℕ) → is_over_in z.stage ≡ false → Over (after_byte x z stage byte) false
-byte_goes_on x z (record_due due) byte e = e
-byte_goes_on x z (payload_open p) byte e = payload_goes_on x z (with_byte x z p byte)
+pub form_on : (form : Form) → is_over_in (record_due (due_behind form)) ≡ false
+form_on sized = refl
+form_on chunked = refl
+form_on last_chunk = refl
 
--- and an event that they complete is none of an end
-payload_message : (x : Settings) (z : Situation) (p : OpenPayload) (v : StreamEvent) → completed_payload x z p ≡ Some v → ends v ≡ false
-payload_message x z p v e =
-    elim (outcome x z p) [
-      | goes_on more b c ↦ cc
-      | is_whole all none b c ↦ let same : message (envelope_of z p) ≡ v = cc in ap ends (sym same)
-      | is_refused all r is b c ↦ cc
-    ]
+pub first_on : (side : Side) → is_over_in (record_due (first (direction_of side))) ≡ false
+first_on (initiators endpoint) = refl
+first_on (receivers mode kind) = refl
 
--- a chunk's size leads to no end of the session
-chunk_goes_on : (x : Settings) (stage : Stage) (size : ℕ) → is_over_in stage ≡ false → is_over_in (led x stage (frames.Chunk size)) ≡ false
-chunk_goes_on x stage size e = go (size == 0) (due_going stage e) where
-  due_going : (stage : Stage) → is_over_in stage ≡ false → is_over_in (record_due (due_in stage)) ≡ false
-  due_going (record_due due) e = e
-  due_going (payload_open p) e = refl
+module _ (x : Settings) (z : Situation) where
+  -- bytes of a payload end nothing
+  pub payload_goes_on : (p : OpenPayload) → Over (behind_payload x z p) false
+  payload_goes_on p =
+      elim (outcome x z p) [
+        | goes_on more b c ↦ rw b refl
+        | wants_chunk none h b c ↦ rw b refl
+        | is_whole all none b c ↦ rw b (form_on p.form)
+        | is_refused all r is b c ↦ rw b (form_on p.form)
+      ]
 
-  go : (b : Bool) → is_over_in (record_due (due_in stage)) ≡ false → is_over_in (record_due (if b then dues.End else due_in stage)) ≡ false
-  go true e = refl
-  go false e = e
+  -- and an event that they complete is none of an end
+  payload_message : (p : OpenPayload) (v : StreamEvent) → completed_payload x z p ≡ Some v
+      → ends v ≡ false
+  payload_message p v e =
+      elim (outcome x z p) [
+        | goes_on more b c ↦ let bad = sym c ∙ e in cc
+        | wants_chunk none h b c ↦ let bad = sym c ∙ e in cc
+        | is_whole all none b c ↦
+            let same : message (envelope_of z p) ≡ v = let two = sym c ∙ e in cc in ap ends (sym same)
+        | is_refused all r is b c ↦ let bad = sym c ∙ e in cc
+      ]
 
-module _ (statics : List Entry) (l : Limits) where
-  abbrev x : Settings
-  x = initiators statics l
+  payload_ends : (p : OpenPayload) (v : StreamEvent) → completed_payload x z p ≡ Some v
+      → Over (behind_payload x z p) (ends v)
+  payload_ends p v e = payload_goes_on p ∙ sym (payload_message p v e)
 
-  -- a record that completes nothing ends nothing
-  record_goes_on : (z : Situation) (from : ℕ) (read : Frame) (text : List ℕ) → is_over_in z.stage ≡ false → (read ≡ frames.Fault → ⊥) → completed_record x z from read ≡ None → Over (after_record x z from read text) false
-  record_goes_on z from (frames.Chunk size) text o never e = chunk_goes_on x z.stage size o
-  record_goes_on z from (frames.SizedEnvelope size) text o never e = payload_goes_on x z (payload_begun x z from size)
-  record_goes_on z from frames.End text o never e = cc
-  record_goes_on z from frames.Fault text o never e = absurd (never refl)
-  record_goes_on z from frames.Via text o never e = refl
-  record_goes_on z from (frames.KnownEncoding encoding) text o never e = refl
-  record_goes_on z from read text o never e = refl
+  -- a chunk's size leads to no end of the session
+  chunk_goes_on : (stage : Stage) (size : ℕ) → is_over_in stage ≡ false
+      → is_over_in (record_due (led x z.mode stage (frames.Chunk size))) ≡ false
+  chunk_goes_on stage size e = go (size == 0) (due_going stage e) where
+    due_going : (stage : Stage) → is_over_in stage ≡ false
+        → is_over_in (record_due (due_in stage)) ≡ false
+    due_going (record_due due) e = e
+    due_going (chunk_due p) e = refl
+    due_going (payload_open p) e = form_on p.form
+
+    go : (b : Bool) → is_over_in (record_due (due_in stage)) ≡ false
+        → is_over_in (record_due (if b then dues.End else due_in stage)) ≡ false
+    go true e = refl
+    go false e = e
+
+  -- a record of no payload that completes nothing ends nothing
+  pub bare_goes_on : (from to : ℕ) (read : Frame) (text : List ℕ) → payload_by x z from read ≡ None
+      → is_over_in z.stage ≡ false → completed_bare z to read text ≡ None
+      → Over (after_bare x z read text) false
+  bare_goes_on from to (frames.Version major minor) text none on e = refl
+  bare_goes_on from to (frames.Mode byte) text none on e = refl
+  bare_goes_on from to frames.Via text none on e = refl
+  bare_goes_on from to (frames.KnownEncoding encoding) text none on e = refl
+  bare_goes_on from to frames.UnsizedEnvelope text none on e = cc
+  bare_goes_on from to (frames.Chunk size) text none on e = chunk_goes_on z.stage size on
+  bare_goes_on from to (frames.SizedEnvelope size) text none on e = cc
+  bare_goes_on from to frames.End text none on e = cc
+  bare_goes_on from to frames.Fault text none on e = cc
+  bare_goes_on from to frames.PreambleAck text none on e = cc
+  bare_goes_on from to frames.PreambleEnd text none on e = cc
 
   -- one that completes an event ends as the event says
-  record_ends : (z : Situation) (from : ℕ) (read : Frame) (text : List ℕ) (v : StreamEvent) → completed_record x z from read ≡ Some v → Over (after_record x z from read text) (ends v)
-  record_ends z from (frames.SizedEnvelope size) text v e = payload_goes_on x z (payload_begun x z from size) ∙ sym (payload_message x z (payload_begun x z from size) v e)
-  record_ends z from frames.End text v e = let same : ended (from + 1) ≡ v = cc in ap ends same
-  record_ends z from frames.PreambleEnd text v e = let same : opened Duplex z.kind z.via ≡ v = cc in ap ends same
-  record_ends z from read text v e = cc
+  bare_ends : (to : ℕ) (read : Frame) (text : List ℕ) (v : StreamEvent)
+      → completed_bare z to read text ≡ Some v → Over (after_bare x z read text) (ends v)
+  bare_ends to frames.End text v e = let same : ended to ≡ v = cc in ap ends same
+  bare_ends to frames.Fault text v e = let same : peer_fault to text ≡ v = cc in ap ends same
+  bare_ends to frames.PreambleAck text v e =
+      let same : accepted ≡ v = cc in begun_on (direction_of x.side) z.mode ∙ ap ends same
+  bare_ends to frames.PreambleEnd text v e =
+      let same : opened z.mode z.kind z.text ≡ v = cc in
+      begun_on (direction_of x.side) z.mode ∙ ap ends same
+  bare_ends to read text v e = cc
 
-  byte_ends : (z : Situation) (stage : Stage) (byte : ℕ) (v : StreamEvent) → completed_byte x z stage byte ≡ Some v → is_over_in z.stage ≡ false → Over (after_byte x z stage byte) (ends v)
-  byte_ends z (record_due due) byte v e o = cc
-  byte_ends z (payload_open p) byte v e o = payload_goes_on x z (with_byte x z p byte) ∙ sym (payload_message x z (with_byte x z p byte) v e)
+  -- whether it is a record of a payload or of none
+  record_goes_on : (from to : ℕ) (read : Frame) (text : List ℕ) (v : Option OpenPayload)
+      → payload_by x z from read ≡ v → is_over_in z.stage ≡ false
+      → on_payload v (completed_payload x z) (completed_bare z to read text) ≡ None
+      → Over (on_payload v (behind_payload x z) (after_bare x z read text)) false
+  record_goes_on from to read text (Some p) is on e = payload_goes_on p
+  record_goes_on from to read text None is on e = bare_goes_on from to read text is on e
 
-  -- a unit that is read is no Fault
-  never_fault : (stage : Stage) (from : ℕ) (b : List ℕ) (u : StreamUnit) (k : ℕ) → unit_in x stage from b ≡ whole u k → (read : Read) → u ≡ frame read → read.frame ≡ frames.Fault → ⊥
-  never_fault (record_due due) from b u k e read is fault =
-      let c = unit_of_record x from b u k due e in
-      let same : read ≡ c.0 = cc in
-      no_fault due (ap (λ f. comes (may_come FromInitiator due) f) (sym (sym (ap (λ (r : Read). r.frame) same) ∙ fault)) ∙ c.2.may)
-  never_fault (payload_open p) from b u k e read is fault = let c = unit_of_payload x from b u k p e in cc
+  record_ends : (to : ℕ) (read : Frame) (text : List ℕ) (w : Option OpenPayload) (v : StreamEvent)
+      → on_payload w (completed_payload x z) (completed_bare z to read text) ≡ Some v
+      → Over (on_payload w (behind_payload x z) (after_bare x z read text)) (ends v)
+  record_ends to read text (Some p) v e = payload_ends p v e
+  record_ends to read text None v e = bare_ends to read text v e
 
-  untold : (z : Situation) (from : ℕ) (b : List ℕ) (u : StreamUnit) (k : ℕ) → unit_in x z.stage from b ≡ whole u k → is_over_in z.stage ≡ false → completed x z from u ≡ None → is_over_in (after x z from u).stage ≡ false
+  byte_goes_on : (stage : Stage) (byte : ℕ) → is_over_in z.stage ≡ false
+      → Over (on_open stage (λ p. behind_payload x z (with_byte x z p byte)) z) false
+  byte_goes_on (record_due due) byte on = on
+  byte_goes_on (chunk_due p) byte on = on
+  byte_goes_on (payload_open p) byte on = payload_goes_on (with_byte x z p byte)
+
+  byte_ends : (stage : Stage) (byte : ℕ) (v : StreamEvent)
+      → on_open stage (λ p. completed_payload x z (with_byte x z p byte)) None ≡ Some v
+      → Over (on_open stage (λ p. behind_payload x z (with_byte x z p byte)) z) (ends v)
+  byte_ends (record_due due) byte v e = cc
+  byte_ends (chunk_due p) byte v e = cc
+  byte_ends (payload_open p) byte v e = payload_ends (with_byte x z p byte) v e
+
+  unit_goes_on : (from to : ℕ) (u : StreamUnit) → is_over_in z.stage ≡ false
+      → completed x z from to u ≡ None → Over (after x z from u) false
   unfolding completed after
-  untold z from b (frame read) k e o none = record_goes_on z from read.frame read.text o (never_fault z.stage from b (frame read) k e read refl) none
-  untold z from b (payload_byte byte) k e o none = byte_goes_on x z z.stage byte o
+  unit_goes_on from to (frame read) on none =
+      record_goes_on from to read.frame read.text (payload_by x z from read.frame) refl on none
+  unit_goes_on from to (payload_byte byte) on none = byte_goes_on z.stage byte on
 
-  told : (z : Situation) (from : ℕ) (u : StreamUnit) (v : StreamEvent) → is_over_in z.stage ≡ false → completed x z from u ≡ Some v → is_over_in (after x z from u).stage ≡ ends v
+  unit_ends : (from to : ℕ) (u : StreamUnit) (v : StreamEvent) → completed x z from to u ≡ Some v
+      → Over (after x z from u) (ends v)
   unfolding completed after
-  told z from (frame read) v o some = record_ends z from read.frame read.text v some
-  told z from (payload_byte byte) v o some = byte_ends z z.stage byte v some o
+  unit_ends from to (frame read) v some =
+      record_ends to read.frame read.text (payload_by x z from read.frame) v some
+  unit_ends from to (payload_byte byte) v some = byte_ends z.stage byte v some
 
-  tells_so : TellsItsEnd (stream x) ends
-  tells_so = record {
-    start = refl;
-    told = λ z from b u k v e o some. told z from u v o some;
-    untold = λ z from b u k e o none. untold z from b u k e o none;
-  }
-
-pub tells : (x : Settings) → IsInitiators x → TellsItsEnd (stream x) ends
-tells x set = by_set (λ (s : Settings). TellsItsEnd (stream s) ends) tells_so x set
+pub tells : (x : Settings) → TellsItsEnd (stream x) ends
+tells x = record {
+  start = first_on x.side;
+  told = λ z from b u k v reads on some. unit_ends x z from (from + k) u v some;
+  untold = λ z from b u k reads on none. unit_goes_on x z from (from + k) u on none;
+}

@@ -13,17 +13,16 @@ use Rattle.unit_streams.proofs.Quiet.{quiet_joined, quiet_before_joined, quiet_b
 use Rattle.nbfx_values.specs.declared.refusals.Offence.{Offence}
 use Rattle.nbfx_values.specs.declared.refusals.Reason.TheVariants.{SessionTooLong}
 use Rattle.nmf_records.specs.declared.reader.FrameReader.{FrameReader}
-use Rattle.nmf_records.specs.Reader.{ShowsText}
+use Rattle.nmf_records.specs.Reader.{ShowsText as FramesShowText}
 use Rattle.nbfx_decoder.specs.declared.decoder.Decoder.{Decoder}
 use Rattle.stream_reader.specs.declared.reader.StreamReader.{StreamReader}
 use Rattle.stream_reader.specs.declared.reader.ReadRefusal.{ReadRefusal}
 use Rattle.stream_reader.specs.declared.reader.ReadRefusal.TheVariants.{Offence as Refused, Memory}
 use Rattle.stream_reader.specs.declared.reader.StreamStep.{StreamStep}
 use Rattle.stream_reader.specs.declared.reader.StreamStep.TheVariants as steps
-use Rattle.stream_reader.specs.Laws.{IsInitiators}
 use Rattle.stream_reader.specs.Stream.{Settings, Stage, StreamEvent, ends, open_from, offence_at, is_over_in, too_long, stream, strings_in}
 use Rattle.stream_reader.specs.Saying.{Says, step_for, said}
-use Rattle.stream_reader.specs.Standing.{DecideNothing, Failed, FailsBy, HasPayloads, Reached, ShowsTable, ShowsStrings, ShowsVia, StandsFor, failure_of, messages_of, settings_of, taken_of}
+use Rattle.stream_reader.specs.Standing.{DecideNothing, Failed, FailsBy, HasPayloads, Reached, ShowsTable, ShowsStrings, ShowsText, StandsFor, failure_of, messages_of, settings_of, taken_of}
 use Rattle.stream_reader.specs.Stepping.{KeepsShown, UnitAnswers, taken_since}
 use Rattle.stream_reader.proofs.Grammar.{readable, short_enough}
 use Rattle.stream_reader.proofs.Ending.{tells}
@@ -51,7 +50,7 @@ FedRefused new x p y (Refused o) = (said (length y) (answer (stream x) p y) ≡ 
     × Failed new x (Refused o) (length p + used (length y) (answer (stream x) p y)) (p ++ take (used (length y) (answer (stream x) p y)) y)
 FedRefused new x p y Memory = HasPayloads (standing (stream x) p).situation.stage × (k : ℕ) × DecideNothing x p y k × Failed new x Memory new.taken (p ++ take k y)
 
-module _ (x : Settings) (set : IsInitiators x) (p y : List ℕ) where
+module _ (x : Settings) (p y : List ℕ) where
   pub along_none : (r : StreamReader) → Reached r x p → is_over_at (stream x) p ≡ false → Along r x p y 0
   along_none r h on = record {
     reached = subst (Reached r x) (sym (append-nil p)) h;
@@ -111,7 +110,7 @@ module _ (x : Settings) (set : IsInitiators x) (p y : List ℕ) where
         on_still n q =
             let len = length-take-le n c q.within in
             ap (λ d. is_over_at (stream x) ((p ++ take k y) ++ d)) (sym (take-length (take n c)))
-            ∙ not_over_along (stream x) (readable x) ends (tells x set) (take n c) (p ++ take k y) a.on
+            ∙ not_over_along (stream x) (readable x) ends (tells x) (take n c) (p ++ take k y) a.on
             (λ i some le. ap (λ d. event_at (stream x) ((p ++ take k y) ++ d)) (take-take i n c (omega (arith, len, le))) ∙ q.eventless i some (omega (arith, len, le))) (length (take n c)) (omega arith)
 
       pub along_refused : (told : ReadRefusal) → UnitAnswers x (p ++ take k y) c new (Err told) → FedRefused new x p y told
@@ -137,15 +136,20 @@ module _ (x : Settings) (set : IsInitiators x) (p y : List ℕ) where
       pub along_event : (n : ℕ) (step : StreamStep) → (step ≡ steps.More → ⊥) → UnitAnswers x (p ++ take k y) c new (Ok (n, step)) → Fed new x p y (k + n) step
       along_event n steps.More other u = absurd (other refl)
       along_event n (steps.Opened mode kind) other u = fed_event n (steps.Opened mode kind) u.0 u.1 u.2 u.3 u.4 u.5
-      along_event n (steps.Message size doc) other u = fed_event n (steps.Message size doc) u.0 u.1 u.2 u.3 u.4 u.5
-      along_event n steps.Ended other u = fed_event n steps.Ended u.0 u.1 u.2 u.3 u.4 u.5
+      along_event n (steps.Message number size doc strings used) other u =
+          fed_event n (steps.Message number size doc strings used) u.0 u.1 u.2 u.3 u.4 u.5
+      along_event n steps.Accepted other u = fed_event n steps.Accepted u.0 u.1 u.2 u.3 u.4 u.5
+      along_event n (steps.Ended bytes) other u = fed_event n (steps.Ended bytes) u.0 u.1 u.2 u.3 u.4 u.5
+      along_event n (steps.PeerFault bytes) other u = fed_event n (steps.PeerFault bytes) u.0 u.1 u.2 u.3 u.4 u.5
 
       -- a unit takes some byte
       pub some_taken : (n : ℕ) (step : StreamStep) → UnitAnswers x (p ++ take k y) c new (Ok (n, step)) → 0 < n
       some_taken n steps.More u = u.0
       some_taken n (steps.Opened mode kind) u = u.1
-      some_taken n (steps.Message size doc) u = u.1
-      some_taken n steps.Ended u = u.1
+      some_taken n steps.Accepted u = u.1
+      some_taken n (steps.Message number size doc strings used) u = u.1
+      some_taken n (steps.Ended bytes) u = u.1
+      some_taken n (steps.PeerFault bytes) u = u.1
 
 -- what is said of a refusal
 pub says_refused : (new : StreamReader) (x : Settings) (p y : List ℕ) (told : ReadRefusal) → FedRefused new x p y told → Says (length y) (answer (stream x) p y) (Err told)
@@ -158,11 +162,11 @@ wanted_payloads new x p y told fed is = let f : FedRefused new x p y Memory = su
 
 -- a refusal stays when the bytes are counted that were used before it
 still_failed : (mid new : StreamReader) (x : Settings) (refusal : ReadRefusal) (taken now : ℕ) (p : List ℕ) → KeepsShown mid new → new.failure ≡ mid.failure → new.taken ≡ now → Failed mid x refusal taken p → Failed new x refusal now p
-unfolding failure_of taken_of messages_of ShowsVia ShowsStrings
+unfolding failure_of taken_of messages_of ShowsText ShowsStrings
 still_failed mid new x refusal taken now p kept failure taken_is h = record {
   failure = failure ∙ h.failure;
   taken_is = taken_is;
-  via = subst (λ (f : FrameReader). ShowsText f (standing (stream x) p).situation.via) (sym kept.frames) h.via;
+  text = subst (λ (f : FrameReader). FramesShowText f (standing (stream x) p).situation.text) (sym kept.frames) h.text;
   messages = kept.messages ∙ h.messages;
   strings = subst (λ (d : Decoder). ShowsTable d (strings_in (standing (stream x) p).situation)) (sym kept.decoder) h.strings;
 }

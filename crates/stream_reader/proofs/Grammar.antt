@@ -1,4 +1,4 @@
--- The grammar of an initiator's stream is one: its units are known by their own bytes, and it ends with the events that end it.
+-- The grammar of a stream: each unit is known by its own bytes, and behind the end nothing is judged.
 use Rattle.std.proofs.Common.{◌≡◌, ℕ, ◌<◌, inl, List, [], Bool, true, false, Some, None, refl, ap}
 use Rattle.std.specs.Prelude.{nat_le, ◌&&◌, not, if◌then◌else◌}
 use Rattle.std.proofs.lemmas.Bool.{lt-leb, leb-false}
@@ -9,12 +9,13 @@ use Rattle.unit_streams.proofs.Fronts.{reads_by}
 use Rattle.unit_streams.proofs.Parts.{reads_byte, reads_seen}
 use Rattle.nbfx_values.specs.declared.refusals.Offence.{Offence}
 use Rattle.nbfx_values.specs.declared.refusals.Reason.TheVariants.{SessionTooLong}
+use Rattle.nbfx_values.specs.declared.session.Mode.{Mode}
 use Rattle.nmf_records.specs.declared.script.Due.{Due}
 use Rattle.nmf_records.specs.declared.script.Due.TheVariants as dues
 use Rattle.nmf_records.specs.Reading.{frame_at}
 use Rattle.nmf_records.specs.Script.{may_come}
 use Rattle.nmf_records.proofs.Frames.{frame_peels, frames_front}
-use Rattle.stream_reader.specs.Stream.{Settings, Stage, record_due, payload_open, StreamUnit, frame, payload_byte, reason_of, built, offence_at, record_at, payload_at, unit_in, is_over_in, open_from, too_long, cut_off, stream}
+use Rattle.stream_reader.specs.Stream.{Settings, Stage, direction_of, record_due, chunk_due, payload_open, StreamUnit, frame, payload_byte, reason_of, offence_at, record_at, payload_at, unit_in, is_over_in, open_from, too_long, cut_off, stream}
 
 -- where nothing is read
 reads_nothing : ReadsFront {A = StreamUnit} {R = Offence} (λ bytes. begun)
@@ -26,11 +27,11 @@ reads_payload = reads_seen payload_byte (λ o. o) a_byte reads_byte
 
 module _ (x : Settings) where
   -- a record that is due
-  reads_due : (due : Due) (from : ℕ) → ReadsFront (λ bytes. seen frame (λ fault. offence_at from (built (reason_of due fault))) (frame_at x.limits.via (may_come x.direction due) bytes))
-  reads_due due from = reads_seen frame (λ fault. offence_at from (built (reason_of due fault))) (frame_at x.limits.via (may_come x.direction due)) (frames_front x.limits.via (may_come x.direction due))
+  reads_due : (due : Due) (from : ℕ) → ReadsFront (λ bytes. seen frame (λ fault. offence_at from (reason_of due fault)) (frame_at x.limits.via (may_come (direction_of x.side) due) bytes))
+  reads_due due from = reads_seen frame (λ fault. offence_at from (reason_of due fault)) (frame_at x.limits.via (may_come (direction_of x.side) due)) (frames_front x.limits.via (may_come (direction_of x.side) due))
 
-  nothing_due : (due : Due) (from : ℕ) → seen frame (λ fault. offence_at from (built (reason_of due fault))) (frame_at x.limits.via (may_come x.direction due) []) ≡ begun
-  nothing_due due from = ap (seen frame (λ fault. offence_at from (built (reason_of due fault)))) (frame_peels x.limits.via (may_come x.direction due)).nothing
+  nothing_due : (due : Due) (from : ℕ) → seen frame (λ fault. offence_at from (reason_of due fault)) (frame_at x.limits.via (may_come (direction_of x.side) due) []) ≡ begun
+  nothing_due due from = ap (seen frame (λ fault. offence_at from (reason_of due fault))) (frame_peels x.limits.via (may_come (direction_of x.side) due)).nothing
 
   reads_record : (due : Due) (from : ℕ) → ReadsFront (record_at x due from)
   reads_record dues.Over from = reads_nothing
@@ -43,11 +44,13 @@ module _ (x : Settings) where
   reads_unit : (stage : Stage) (from : ℕ) → ReadsFront (unit_in x stage from)
   unfolding unit_in
   reads_unit (record_due due) from = reads_record due from
+  reads_unit (chunk_due payload) from = reads_record dues.Chunk from
   reads_unit (payload_open payload) from = reads_payload
 
   nothing_read : (stage : Stage) (from : ℕ) → unit_in x stage from [] ≡ begun
   unfolding unit_in
   nothing_read (record_due due) from = nothing_recorded due from
+  nothing_read (chunk_due payload) from = nothing_recorded dues.Chunk from
   nothing_read (payload_open payload) from = refl
 
   pub readable : IsReadable (stream x)
@@ -58,6 +61,7 @@ module _ (x : Settings) where
   unfolding unit_in
   unread_over (record_due dues.Over) from bytes e = refl
   unread_over (record_due _) from bytes e = cc
+  unread_over (chunk_due p) from bytes e = cc
   unread_over (payload_open p) from bytes e = cc
 
   any_length_over : (stage : Stage) (from n : ℕ) → is_over_in stage ≡ true → too_long x stage from n ≡ None
@@ -67,17 +71,18 @@ module _ (x : Settings) where
     no true = refl
     no false = refl
 
-  any_end_over : (stage : Stage) (from n : ℕ) → is_over_in stage ≡ true → cut_off x stage from n ≡ None
+  any_end_over : (mode : Mode) (stage : Stage) (from n : ℕ) → is_over_in stage ≡ true → cut_off x mode stage from n ≡ None
   unfolding cut_off
-  any_end_over (record_due dues.Over) from n e = refl
-  any_end_over (record_due _) from n e = cc
-  any_end_over (payload_open p) from n e = cc
+  any_end_over mode (record_due dues.Over) from n e = refl
+  any_end_over mode (record_due _) from n e = cc
+  any_end_over mode (chunk_due p) from n e = cc
+  any_end_over mode (payload_open p) from n e = cc
 
   pub quiet_over : IsQuietWhenOver (stream x)
   quiet_over = record {
     unread = λ z from bytes e. unread_over z.stage from bytes e;
     any_length = λ z from n e. any_length_over z.stage from n e;
-    any_end = λ z from n e. any_end_over z.stage from n e;
+    any_end = λ z from n e. any_end_over z.mode z.stage from n e;
   }
 
   -- within the session quota no length is too great

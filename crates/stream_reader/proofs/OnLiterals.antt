@@ -7,7 +7,7 @@ use Rattle.multibyte_ints.specs.Text.{string_at, text_behind, text_at, text_endi
 use Rattle.unit_streams.specs.Grammar.{resumed}
 use Rattle.nbfx_values.specs.Limits.{limits, usual_limits}
 use Rattle.nbfx_decoder.proofs.OnLiterals.{payloads_on_literals, envelope_strings}
-use Rattle.stream_reader.specs.Stream.{Settings, initiators, unit_in, after, completed, refused, too_long, cut_off}
+use Rattle.stream_reader.specs.Stream.{Settings, any_initiators, unit_in, after, completed, refused, too_long, cut_off}
 
 -- what a proof unfolds to compute streams
 unfoldable pub streams_on_literals : ⊤
@@ -16,11 +16,11 @@ streams_on_literals = tt
 
 -- under the usual quotas
 abbrev pub usual : Settings
-usual = initiators envelope_strings usual_limits
+usual = any_initiators envelope_strings usual_limits
 
 -- with these quotas
 abbrev pub set_to : (payload via session : ℕ) → Settings
-set_to payload via session = initiators envelope_strings (limits payload 32 2048 262144 via session)
+set_to payload via session = any_initiators envelope_strings (limits payload 32 2048 262144 via session)
 
 -- with this session quota
 abbrev pub of_session : ℕ → Settings
@@ -30,7 +30,7 @@ of_session session = set_to 65536 2048 session
 -- with this session quota
 abbrev pub narrow : ℕ → Settings
 narrow session =
-    initiators ((2, codes "Envelope") ∷ []) (limits 4096 4 8 20 2048 session)
+    any_initiators ((2, codes "Envelope") ∷ []) (limits 4096 4 8 20 2048 session)
 
 -- a preamble's records, each behind those before it
 abbrev pub version : List ℕ

@@ -1,17 +1,18 @@
 -- A reader takes bytes of a payload.
-use Rattle.std.proofs.Common.{◌≡◌, ℕ, zero, suc, ◌+◌, ◌-◌, ◌<◌, ◌≤◌, ◌^◌, inl, inr, List, [], ◌++◌, length, take, Option, Some, None, Ok, Err, refl, sym, ap, ◌∙◌, subst, arith, length-append}
+use Rattle.std.proofs.Common.{◌≡◌, ℕ, zero, suc, ◌+◌, ◌-◌, ◌<◌, ◌≤◌, ◌^◌, inl, inr, List, [], ◌++◌, length, take, Bool, true, false, Option, Some, None, Ok, Err, refl, sym, ap, ◌∙◌, subst, arith, length-append}
 use Rattle.std.specs.Option.{option_map, option_or}
 use Rattle.std.proofs.lemmas.List.{append-nil, length-take-le, take-take}
 use Rattle.std.proofs.Math.Nat.{eq-or-lt_of_le}
 use Rattle.unit_streams.specs.Grammar.{standing}
-use Rattle.unit_streams.specs.Judging.{refusal_at, ending_at, event_at, goes_on, offends}
+use Rattle.unit_streams.specs.Judging.{refusal_at, ending_at, event_at, is_over_at, goes_on, offends}
 use Rattle.unit_streams.specs.Going.{IsQuiet, IsQuietBefore}
 use Rattle.unit_streams.proofs.Answers.{answers_are_first}
 use Rattle.unit_streams.proofs.Pending.{pending_unrefused}
 use Rattle.string_tables.specs.SessionStrings.{used_cost}
 use Rattle.nmf_records.specs.declared.frame.Expect.{Expect}
 use Rattle.nmf_records.specs.declared.reader.FrameReader.{FrameReader}
-use Rattle.nmf_records.specs.Reader.{StandsFor as FrameStandsFor, ShowsText}
+use Rattle.nmf_records.specs.Reader.{StandsFor as FrameStandsFor, ShowsText as FramesShowText}
+use Rattle.nmf_records.specs.declared.script.Direction.{Direction}
 use Rattle.nbfx_decoder.specs.Payload.{Refusal, refusal, payload, Settings as PayloadSettings}
 use Rattle.nbfx_decoder.specs.declared.decoder.Decoder.{Decoder}
 use Rattle.nbfx_decoder.specs.declared.faults.DecodeFault.{DecodeFault}
@@ -25,23 +26,26 @@ use Rattle.stream_reader.specs.declared.reader.ReadRefusal.{ReadRefusal}
 use Rattle.stream_reader.specs.declared.reader.ReadRefusal.TheVariants.{Offence as Refused, Memory}
 use Rattle.stream_reader.specs.declared.reader.StreamReader.{StreamReader}
 use Rattle.stream_reader.specs.declared.reader.StreamStep.{StreamStep}
-use Rattle.stream_reader.specs.Stream.{OpenPayload, Settings, Situation, Stage, StreamEvent, opened, message, ended, record_due, payload_open, behind_payload, completed_payload, offence_in, payload_in, payloads, refusal_in, refused_payload, stream, strings_at, strings_in, PayloadStanding}
-use Rattle.stream_reader.specs.Standing.{Awaits, DecideNothing, Failed, HasBegun, HasPayloads, IsIn, IsWithinPayload, Reached, ReadsPayload, ShowsTable, ShowsStrings, ShowsVia, failure_of, messages_of, taken_of}
+use Rattle.stream_reader.specs.Stream.{OpenPayload, Settings, Situation, Stage, StreamEvent, opened, accepted, message, ended, peer_fault, record_due, chunk_due, payload_open, direction_of, is_chunked, is_over_in, behind_payload, completed_payload, offence_in, payload_in, payloads, refusal_in, refused_payload, stream, strings_at, strings_in, PayloadStanding}
+use Rattle.stream_reader.specs.Standing.{Awaits, DecideNothing, Failed, HasBegun, HasPart, HasPayloads, IsIn, Reached, ReadsPayload, ShowsTable, ShowsStrings, ShowsText, failure_of, form_of, messages_of, taken_of}
 use Rattle.stream_reader.specs.Stepping.{BehindAnswers, HasDecoded, UnitAnswers, more_shown, step_of, refusal_told}
-use Rattle.stream_reader.proofs.Outcomes.{more_behind, refused_eventless, refused_messages, strings_behind, via_behind}
-use Rattle.stream_reader.proofs.PayloadBytes.{IsWithin, bytes_event, bytes_going, bytes_refused, bytes_stand, more_refusal, last_refusal, payload_behind, payload_quiet, payload_quiet_before, stands_so, within_open}
+use Rattle.stream_reader.proofs.Ending.{payload_goes_on}
+use Rattle.stream_reader.proofs.Outcomes.{more_behind, refused_eventless, refused_messages, strings_behind, text_behind}
+use Rattle.stream_reader.proofs.PayloadBytes.{IsWithin, bytes_event, bytes_going, bytes_refused, bytes_stand, more_refusal, between_refusal, last_refusal, payload_behind, payload_quiet, payload_quiet_before, stands_so, within_open}
 use Rattle.stream_reader.proofs.ReaderFacts.{cost_within}
 
 -- q shows what p does, but for the strings of these bytes of its payload
 pub record StaysWith (r : StreamReader) (x : Settings) (p q bytes : List ℕ) : Type 0 where
-  pub via : (standing (stream x) q).situation.via ≡ (standing (stream x) p).situation.via
+  pub text : (standing (stream x) q).situation.text ≡ (standing (stream x) p).situation.text
   pub messages : (standing (stream x) q).situation.messages ≡ (standing (stream x) p).situation.messages
   pub strings : strings_in (standing (stream x) q).situation ≡ (situation_of (payloads x (standing (stream x) p).situation.kind) (standing (stream x) p).situation.strings bytes).strings
 
 -- a reader of records that has begun none
-pub none_begun : (a : Awaited) (frames : FrameReader) → ((next : Expect) → FrameStandsFor frames next []) → HasBegun a frames []
-none_begun (awaits.Record due) frames fresh = fresh _
-none_begun (awaits.Payload p) frames fresh = fresh
+pub none_begun : (direction : Direction) (a : Awaited) (frames : FrameReader)
+    → ((next : Expect) → FrameStandsFor frames next []) → HasBegun direction a frames []
+none_begun direction (awaits.Record due) frames fresh = fresh _
+none_begun direction (awaits.Chunk p) frames fresh = fresh _
+none_begun direction (awaits.Payload p) frames fresh = fresh
 
 module _ (r : StreamReader) (x : Settings) (p : List ℕ) (h : Reached r x p) (left : PayloadLeft) (is : r.awaited ≡ awaits.Payload left) where
   abbrev z : Situation
@@ -49,6 +53,7 @@ module _ (r : StreamReader) (x : Settings) (p : List ℕ) (h : Reached r x p) (l
 
   find_open : (stage : Stage) → Awaits (awaits.Payload left) stage → (o : OpenPayload) × (stage ≡ payload_open o) × Awaits (awaits.Payload left) (payload_open o)
   find_open (record_due due) a = absurd a
+  find_open (chunk_due o) a = absurd a
   find_open (payload_open o) a = (o, refl, a)
 
   pub found : (o : OpenPayload) × ((standing (stream x) p).situation.stage ≡ payload_open o) × Awaits (awaits.Payload left) (payload_open o)
@@ -57,26 +62,34 @@ module _ (r : StreamReader) (x : Settings) (p : List ℕ) (h : Reached r x p) (l
   abbrev o : OpenPayload
   o = found.0
 
-  pub own : IsWithinPayload r.decoder x z o
-  own = subst (ReadsPayload r.decoder x z) found.1 h.at.payload
+  read_so : (0 < o.left) × HasPart r.decoder x z o
+  read_so = subst (ReadsPayload r.decoder x z) found.1 h.at.payload
+
+  pub own : HasPart r.decoder x (standing (stream x) p).situation found.0
+  own = read_so.1
+
+  pub more_left : 0 < found.0.left
+  more_left = read_so.0
 
   abbrev bytes : List ℕ
   bytes = own.bytes
 
-  at : IsWithin x p z o.from o.size bytes
-  at = within_open x p o bytes found.1 (record { standing_is = own.standing_is; counted = own.counted }) own.more
+  at : IsWithin x p z o bytes
+  at = within_open x p o bytes found.1 (record { standing_is = own.standing_is; counted = own.counted }) more_left
 
   left_is : left.left ≡ o.left
-  left_is = found.2.2
+  left_is = found.2.left
 
   size_is : left.size ≡ o.size
-  size_is = found.2.1
+  size_is = found.2.size
 
   pub has_payloads : HasPayloads (standing (stream x) p).situation.stage
   has_payloads = subst HasPayloads (sym found.1) tt
 
   no_record : (next : Expect) → FrameStandsFor r.frames next []
-  no_record = subst (λ (a : Awaited). HasBegun a r.frames (standing (stream x) p).begun) is h.frames
+  no_record =
+      subst (λ (a : Awaited). HasBegun (direction_of x.side) a r.frames (standing (stream x) p).begun)
+      is h.frames
 
   same_grammar : (A : PayloadSettings → Type 0) → A (decoder_settings r.decoder) → A (payloads x (standing (stream x) p).situation.kind)
   same_grammar A a = subst A h.at.decodes a
@@ -84,7 +97,7 @@ module _ (r : StreamReader) (x : Settings) (p : List ℕ) (h : Reached r x p) (l
   -- some bytes of the piece, of those that are to come
   module _ (c : List ℕ) (n : ℕ) (within : n ≤ length c) (few : n ≤ left.left) (short : length p + n ≤ x.limits.session) where
     abbrev there : ℕ → OpenPayload
-    there k = payload_behind x z o.from o.size (bytes ++ take k c)
+    there k = payload_behind x z o (bytes ++ take k c)
 
     in_size : length bytes + n ≤ o.size
     in_size = omega (arith, own.counted, left_is, few)
@@ -96,22 +109,30 @@ module _ (r : StreamReader) (x : Settings) (p : List ℕ) (h : Reached r x p) (l
     further k le = let m = taken k le in length-append p (take k c) ∙ omega (arith, m)
 
     -- the decoder that has taken them
-    pub has_decoded : (mid : StreamReader) (now : PayloadLeft) → now.from ≡ left.from → now.size ≡ left.size → now.left ≡ left.left - n → mid.kind ≡ r.kind → mid.messages ≡ r.messages → decoder_settings mid.decoder ≡ decoder_settings r.decoder
+    pub has_decoded : (mid : StreamReader) (now : PayloadLeft) → now.from ≡ left.from → now.size ≡ left.size → now.left ≡ left.left - n → now.form ≡ left.form → mid.mode ≡ r.mode → mid.kind ≡ r.kind → mid.messages ≡ r.messages → decoder_settings mid.decoder ≡ decoder_settings r.decoder
         → DecoderStandsFor mid.decoder (standing (stream x) p).situation.strings (own.bytes ++ take n c) → (standing (stream x) p).situation.messages + 1 < 2 ^ 64
-        → HasDecoded mid x (standing (stream x) p).situation now (payload_behind x (standing (stream x) p).situation found.0.from found.0.size (own.bytes ++ take n c))
-    has_decoded mid now from size rest kind messages same stands small =
+        → HasDecoded mid x (standing (stream x) p).situation now (payload_behind x (standing (stream x) p).situation found.0 (own.bytes ++ take n c))
+    has_decoded mid now from size rest form mode kind messages same stands small =
         let m : length (bytes ++ take n c) ≡ length bytes + n = let k = taken n (omega arith) in length-append bytes (take n c) ∙ omega (arith, k) in
         record {
-          awaits = (from ∙ found.2.0, size ∙ found.2.1, omega (arith, rest, left_is, own.counted, m));
+          open_so = record {
+            from = from ∙ found.2.from;
+            size = size ∙ found.2.size;
+            left = omega (arith, rest, left_is, own.counted, m);
+            form = ap form_of form ∙ found.2.form;
+          };
+          mode = mode ∙ h.at.mode;
           kind = kind ∙ h.at.kind;
           messages = messages ∙ h.at.messages;
           few = small;
           decodes = same ∙ h.at.decodes;
-          bytes = bytes ++ take n c;
-          stands_for = stands;
-          standing_is = refl;
-          counted = omega (arith, m, in_size);
-          within = own.within;
+          part = record {
+            bytes = bytes ++ take n c;
+            stands_for = stands;
+            standing_is = refl;
+            counted = omega (arith, m, in_size);
+            within = own.within;
+          };
         }
 
     -- of which none before so many is refused by the payload
@@ -123,38 +144,50 @@ module _ (r : StreamReader) (x : Settings) (p : List ℕ) (h : Reached r x p) (l
       fits = let m = taken k le in omega (arith, m, le, in_size)
 
       stands : standing (stream x) (p ++ take k c) ≡ stands_so x z (there k) (length (p ++ take k c))
-      stands = bytes_stand x (take k c) p z o.from o.size bytes at some_taken fits
+      stands = bytes_stand x (take k c) p z o bytes at some_taken fits
 
       situation_there : (standing (stream x) (p ++ take k c)).situation ≡ behind_payload x z (there k)
       situation_there = ap (λ s. s.situation) stands
 
-      via_there : (standing (stream x) (p ++ take k c)).situation.via ≡ z.via
-      via_there = ap (λ (s : Situation). s.via) situation_there ∙ via_behind x z (there k)
+      text_there : (standing (stream x) (p ++ take k c)).situation.text ≡ z.text
+      text_there = ap (λ (s : Situation). s.text) situation_there ∙ text_behind x z (there k)
+
+      still_on : is_over_at (stream x) (p ++ take k c) ≡ false
+      unfolding is_over_at
+      still_on = ap (λ (s : Situation). is_over_in s.stage) situation_there ∙ payload_goes_on x z (there k)
 
       strings_there : strings_in (standing (stream x) (p ++ take k c)).situation ≡ (situation_of (payloads x z.kind) z.strings (bytes ++ take k c)).strings
       strings_there = ap strings_in situation_there ∙ strings_behind x z (there k)
 
       event_there : event_at (stream x) (p ++ take k c) ≡ completed_payload x z (there k)
-      event_there = bytes_event x p z o.from o.size bytes at (take k c) some_taken fits
+      event_there = bytes_event x p z o bytes at (take k c) some_taken fits
 
       before_there : IsQuietBefore (stream x) p c k
-      before_there = payload_quiet_before x p z o.from o.size bytes at c k (omega (arith, le, within)) (omega (arith, le, in_size)) (omega (arith, le, short)) h.going none
+      before_there = payload_quiet_before x p z o bytes at c k (omega (arith, le, within)) (omega (arith, le, in_size)) (omega (arith, le, short)) h.going none
 
       quiet_there : event_at (stream x) (p ++ take k c) ≡ None → IsQuiet (stream x) p c k
-      quiet_there = payload_quiet x p z o.from o.size bytes at c k (omega (arith, le, within)) (omega (arith, le, in_size)) (omega (arith, le, short)) h.going none
+      quiet_there = payload_quiet x p z o bytes at c k (omega (arith, le, within)) (omega (arith, le, in_size)) (omega (arith, le, short)) h.going none
 
       -- where the payload refuses them
       refusal_is : (why : Refusal) → refusal_at (payload_in x (standing (stream x) p).situation) (own.bytes ++ take k c) ≡ Some why → refusal_in x z (there k) ≡ Some why
       refusal_is why e =
           let m = taken k le in
           elim (eq-or-lt_of_le fits) [
-            | inl all ↦ last_refusal x p z o.from o.size bytes at (take k c) some_taken fits all ∙ ap (λ v. option_or v (ending_at (payload_in x z) (bytes ++ take k c))) e
-            | inr more ↦ more_refusal x p z o.from o.size bytes at (take k c) some_taken fits more ∙ e
+            | inl all ↦ at_last all (is_chunked o.form) refl
+            | inr more ↦ more_refusal x p z o bytes at (take k c) some_taken fits more ∙ e
           ]
+        where
+          at_last : length bytes + length (take k c) ≡ o.size → (b : Bool) → is_chunked o.form ≡ b
+              → refusal_in x z (there k) ≡ Some why
+          at_last all true chunked =
+              between_refusal x p z o bytes at (take k c) some_taken fits all chunked ∙ e
+          at_last all false last =
+              last_refusal x p z o bytes at (take k c) some_taken fits all last
+              ∙ ap (λ v. option_or v (ending_at (payload_in x z) (bytes ++ take k c))) e
 
       -- they bring no document
       stays_by : (behind_payload x z (there k)).messages ≡ z.messages → StaysWith r x p (p ++ take k c) (bytes ++ take k c)
-      stays_by e = record { via = via_there; messages = ap (λ (s : Situation). s.messages) situation_there ∙ e; strings = strings_there }
+      stays_by e = record { text = text_there; messages = ap (λ (s : Situation). s.messages) situation_there ∙ e; strings = strings_there }
 
       -- they are refused
       refused_so : (new : StreamReader) (told : ReadRefusal) (why : Refusal) → refusal_in x z (there k) ≡ Some why → told ≡ Refused (offence_in z.messages why) → Failed new x told (length p + k) (p ++ take k c) → UnitAnswers x p c new (Err told)
@@ -162,7 +195,7 @@ module _ (r : StreamReader) (x : Settings) (p : List ℕ) (h : Reached r x p) (l
           subst (λ (t : ReadRefusal). UnitAnswers x p c new (Err t)) (sym is) (
             k,
             quiet_there (event_there ∙ refused_eventless x z (there k) why refuses),
-            bytes_refused x p z o.from o.size bytes at (take k c) some_taken fits why refuses,
+            bytes_refused x p z o bytes at (take k c) some_taken fits why refuses,
             subst (λ (t : ReadRefusal). Failed new x t (length p + k) (p ++ take k c)) is failed,
           )
 
@@ -175,18 +208,21 @@ module _ (r : StreamReader) (x : Settings) (p : List ℕ) (h : Reached r x p) (l
             let from_there : (standing (stream x) (p ++ take k c)).from ≡ length (p ++ take k c) = ap (λ s. s.from) stands in
             record {
               at = subst (IsIn new x) (sym situation_there) is_in;
-              frames = subst (HasBegun new.awaited new.frames) (sym begun_there) (none_begun new.awaited new.frames (λ next. subst (λ (f : FrameReader). FrameStandsFor f next []) (sym frames) (no_record next)));
-              text = subst (λ (f : FrameReader). ShowsText f (standing (stream x) (p ++ take k c)).situation.via) (sym frames) (subst (ShowsText r.frames) (sym via_there) h.text);
+              frames = subst (HasBegun (direction_of x.side) new.awaited new.frames) (sym begun_there) (none_begun (direction_of x.side) new.awaited new.frames (λ next. subst (λ (f : FrameReader). FrameStandsFor f next []) (sym frames) (no_record next)));
+              text = subst (λ (f : FrameReader). FramesShowText f (standing (stream x) (p ++ take k c)).situation.text) (sym frames) (subst (FramesShowText r.frames) (sym text_there) h.text);
+              closing = λ over. let on = still_on in let bad = sym on ∙ over in cc;
               unit_from = omega (arith, unit_from, h.taken, from_there, long);
               taken = omega (arith, taken_is, h.taken, long);
               within = omega (arith, long, le, short);
-              going = bytes_going x p z o.from o.size bytes at (take k c) some_taken fits refuses;
+              going = bytes_going x p z o bytes at (take k c) some_taken fits refuses;
               unfailed = failure ∙ h.unfailed;
             }
 
         by_event : (v : Option StreamEvent) → completed_payload x z (there k) ≡ v → UnitAnswers x p c new (Ok (k, step_of v))
         by_event None e = (some, quiet_there (event_there ∙ e), reached, λ payloads. has_payloads)
         by_event (Some (opened mode kind via)) e = (opened mode kind via, some, before_there, event_there ∙ e, refl, reached)
+        by_event (Some accepted) e = (accepted, some, before_there, event_there ∙ e, refl, reached)
+        by_event (Some (peer_fault size text)) e = (peer_fault size text, some, before_there, event_there ∙ e, refl, reached)
         by_event (Some (message envelope)) e = (message envelope, some, before_there, event_there ∙ e, refl, reached)
         by_event (Some (ended size)) e = (ended size, some, before_there, event_there ∙ e, refl, reached)
 
@@ -198,14 +234,14 @@ module _ (r : StreamReader) (x : Settings) (p : List ℕ) (h : Reached r x p) (l
 
       failed_by : (v : Option Refusal) → refusal_in x z (there k) ≡ v → (new : StreamReader) (told : ReadRefusal) → BehindAnswers x (behind_payload x z (there k)) (completed_payload x z (there k)) (option_map (offence_in z.messages) v) new (Err told)
           → new.frames ≡ r.frames → new.taken ≡ r.taken + k → new.failure ≡ Some told → UnitAnswers x p c new (Err told)
-      unfolding failure_of taken_of messages_of ShowsVia ShowsStrings
+      unfolding failure_of taken_of messages_of ShowsText ShowsStrings
       failed_by None refuses new (Refused offence) a frames taken_is failure = absurd a
       failed_by v refuses new Memory a frames taken_is failure = absurd a
       failed_by (Some why) refuses new (Refused offence) a frames taken_is failure =
           refused_so new (Refused offence) why refuses (ap Refused a.0) (record {
             failure = failure;
             taken_is = omega (arith, taken_is, h.taken);
-            via = subst (λ (f : FrameReader). ShowsText f (standing (stream x) (p ++ take k c)).situation.via) (sym frames) (subst (ShowsText r.frames) (sym via_there) h.text);
+            text = subst (λ (f : FrameReader). FramesShowText f (standing (stream x) (p ++ take k c)).situation.text) (sym frames) (subst (FramesShowText r.frames) (sym text_there) h.text);
             messages = subst (λ (s : Situation). new.messages ≡ s.messages) (sym situation_there) a.1.messages;
             strings = subst (λ (s : Situation). ShowsTable new.decoder (strings_in s)) (sym situation_there) a.1.strings;
           })
@@ -217,7 +253,7 @@ module _ (r : StreamReader) (x : Settings) (p : List ℕ) (h : Reached r x p) (l
         let none_own : bytes ≡ bytes ++ take 0 c = sym (append-nil bytes) in
         subst (λ (q : List ℕ). StaysWith r x p q (bytes ++ take 0 c)) none
         (subst (λ (b : List ℕ). StaysWith r x p p b) none_own (record {
-          via = refl;
+          text = refl;
           messages = refl;
           strings = ap (strings_at z) found.1 ∙ ap (λ (s : PayloadStanding). s.situation.strings) own.standing_is;
         }))
@@ -263,7 +299,7 @@ module _ (r : StreamReader) (x : Settings) (p : List ℕ) (h : Reached r x p) (l
 
     module _ (some : 0 < n) (goes : FeedAnswers (decoder_settings r.decoder) (standing (stream x) p).situation.strings own.bytes (take n c) (Ok tt)) (new : StreamReader) where
       abbrev pub behind_fed : OpenPayload
-      behind_fed = payload_behind x (standing (stream x) p).situation found.0.from found.0.size (own.bytes ++ take n c)
+      behind_fed = payload_behind x (standing (stream x) p).situation found.0 (own.bytes ++ take n c)
 
       pub feed_took : (step : StreamStep) → BehindAnswers x (behind_payload x (standing (stream x) p).situation behind_fed) (completed_payload x (standing (stream x) p).situation behind_fed) (refused_payload x (standing (stream x) p).situation behind_fed) new (Ok step)
           → new.frames ≡ r.frames → new.taken ≡ r.taken + n → new.unit_from ≡ r.taken + n → new.failure ≡ r.failure → UnitAnswers x p c new (Ok (n, step))
@@ -275,11 +311,11 @@ module _ (r : StreamReader) (x : Settings) (p : List ℕ) (h : Reached r x p) (l
 
     module _ (new : StreamReader) (told : ReadRefusal) (same : decoder_settings new.decoder ≡ decoder_settings r.decoder) (failure : new.failure ≡ Some told) (frames : new.frames ≡ r.frames) (messages : new.messages ≡ r.messages) where
       failed_with : (fault : DecodeFault) (count : ℕ) (q b : List ℕ) → new.taken ≡ count → StaysWith r x p q b → DecoderFailedBehind new.decoder fault z.strings b → Failed new x told count q
-      unfolding failure_of taken_of messages_of ShowsVia ShowsStrings
+      unfolding failure_of taken_of messages_of ShowsText ShowsStrings
       failed_with fault count q b taken stays failed = record {
         failure = failure;
         taken_is = taken;
-        via = subst (λ (f : FrameReader). ShowsText f (standing (stream x) q).situation.via) (sym frames) (subst (ShowsText r.frames) (sym stays.via) h.text);
+        text = subst (λ (f : FrameReader). FramesShowText f (standing (stream x) q).situation.text) (sym frames) (subst (FramesShowText r.frames) (sym stays.text) h.text);
         messages = messages ∙ h.at.messages ∙ sym stays.messages;
         strings = subst (ShowsTable new.decoder) (sym stays.strings) (shows_failed new.decoder fault b same failed);
       }

@@ -1,125 +1,242 @@
 -- The payload of a document is within the quota, where nothing of the stream before is refused.
-use Rattle.std.proofs.Common.{◌≡◌, ℕ, ◌<◌, ◌≤◌, List, [], ◌++◌, length, take, Bool, true, false, Option, Some, None, refl, sym, ap, ◌∙◌, arith, append_assoc, length-append}
-use Rattle.std.specs.Prelude.{nat_lt}
-use Rattle.std.proofs.lemmas.Bool.{ltb-true, ltb-false}
+use Rattle.std.proofs.Common.{◌≡◌, ℕ, ◌+◌, ◌<◌, ◌≤◌, List, [], ◌++◌, length, false, Option, Some, None, refl, sym, ap, ◌∙◌, subst, arith, length-append}
+use Rattle.std.specs.Option.{option_map}
 use Rattle.std.proofs.lemmas.List.{take-append-le, take_all}
 use Rattle.unit_streams.specs.Front.{whole}
 use Rattle.unit_streams.specs.Grammar.{Standing, standing}
-use Rattle.unit_streams.specs.Judging.{event_at, is_over_at, refusal_at}
+use Rattle.unit_streams.specs.Judging.{event_at, refusal_at}
 use Rattle.unit_streams.specs.Refusals.{AreUnits}
-use Rattle.unit_streams.proofs.Passing.{given_some}
+use Rattle.unit_streams.proofs.Fronts.{whole_some}
+use Rattle.unit_streams.proofs.Passing.{given_some, refusal_from}
 use Rattle.unit_streams.proofs.Refusals.{unit_standing}
 use Rattle.unit_streams.proofs.Standing.{standing_nothing}
 use Rattle.nbfx_values.specs.declared.refusals.Offence.{Offence}
-use Rattle.nbfx_values.specs.declared.refusals.Reason.TheVariants.{MessageTooLarge}
 use Rattle.nmf_records.specs.declared.frame.Frame.{Frame}
 use Rattle.nmf_records.specs.declared.frame.Frame.TheVariants as frames
-use Rattle.nmf_records.specs.declared.script.Due.TheVariants as dues
-use Rattle.stream_reader.specs.Stream.{Envelope, OpenPayload, Settings, Situation, Stage, StreamEvent, StreamUnit, completed, completed_byte, completed_payload, completed_record, is_over_in, message, offence_at, payload_begun, payload_open, record_due, stream, unit_in, with_byte}
-use Rattle.stream_reader.specs.Laws.{IsUnrefusedBefore}
-use Rattle.stream_reader.proofs.Coming.{unit_of_record}
+use Rattle.stream_reader.specs.Stream.{Envelope, OpenPayload, sized, chunked, Settings, Situation, Stage, record_due, chunk_due, payload_open, StreamEvent, message, StreamUnit, frame, payload_byte, is_chunked, on_open, on_payload, offence_at, reason_in, payload_begun, payload_by, after, after_bare, behind_payload, completed, completed_bare, completed_payload, refused, refused_payload, stream, unit_in, with_byte, with_chunk}
+use Rattle.stream_reader.specs.Laws.{IsUnrefusedBefore, open_payload}
 use Rattle.stream_reader.proofs.Grammar.{readable}
-use Rattle.stream_reader.proofs.Outcomes.{goes_on, is_whole, is_refused, outcome}
-use Rattle.stream_reader.proofs.PayloadUnits.{IsTraced, only_byte, traced}
+use Rattle.stream_reader.proofs.Outcomes.{goes_on, wants_chunk, is_whole, is_refused, outcome}
+use Rattle.stream_reader.proofs.ToSession.{none_both, none_mapped}
+use Rattle.stream_reader.proofs.RightRecords.{right_size}
 use Rattle.stream_reader.proofs.Prefixes.{units_keep}
-use Rattle.stream_reader.proofs.Reasons.{too_large_is}
+
+-- the sizes of payloads that are open, or of the document that is told
+abbrev FitsOpen : Settings → Stage → Type 0
+FitsOpen x stage = (o : OpenPayload) → open_payload stage ≡ Some o → o.size ≤ x.limits.payload
 
 abbrev size_told : Option StreamEvent → ℕ
 size_told (Some (message e)) = e.size
-size_told _ = 0
+size_told event = 0
 
-abbrev size_open : Stage → ℕ
-size_open (payload_open o) = o.size
-size_open (record_due due) = 0
+module _ (x : Settings) (z : Situation) where
+  -- behind bytes of a payload
+  behind_fits : (p : OpenPayload) → p.size ≤ x.limits.payload
+      → FitsOpen x (behind_payload x z p).stage
+  behind_fits p low o is =
+      elim (outcome x z p) [
+        | goes_on more b c ↦
+            let same : Some p ≡ Some o = ap (λ (s : Situation). open_payload s.stage) (sym b) ∙ is in
+            let one : p ≡ o = cc in subst (λ (q : OpenPayload). q.size ≤ x.limits.payload) one low
+        | wants_chunk none h b c ↦
+            let same : Some p ≡ Some o = ap (λ (s : Situation). open_payload s.stage) (sym b) ∙ is in
+            let one : p ≡ o = cc in subst (λ (q : OpenPayload). q.size ≤ x.limits.payload) one low
+        | is_whole all none b c ↦
+            let bad = ap (λ (s : Situation). open_payload s.stage) (sym b) ∙ is in cc
+        | is_refused all r h b c ↦
+            let bad = ap (λ (s : Situation). open_payload s.stage) (sym b) ∙ is in cc
+      ]
 
--- a document's payload is all there, and of the size that its envelope has
-size_behind : (x : Settings) (z : Situation) (o : OpenPayload) (e : Envelope) → completed_payload x z o ≡ Some (message e) → (o.left ≡ 0) × (e.size ≡ o.size)
-size_behind x z o e some =
-    elim (outcome x z o) [
-      | goes_on more b c ↦ let bad = sym c ∙ some in cc
-      | is_whole all none b c ↦ (all, ap size_told (sym some ∙ c))
-      | is_refused all r is b c ↦ let bad = sym c ∙ some in cc
-    ]
+  -- a document that is told has this size, and all bytes are there
+  record IsTold (p : OpenPayload) (e : Envelope) : Type 0 where
+    none_left : p.left ≡ 0
+    last : is_chunked p.form ≡ false
+    size : e.size ≡ p.size
+
+  told_size : (p : OpenPayload) (e : Envelope) → completed_payload x z p ≡ Some (message e)
+      → IsTold p e
+  told_size p e some =
+      elim (outcome x z p) [
+        | goes_on more b c ↦ let bad = sym c ∙ some in cc
+        | wants_chunk none h b c ↦ let bad = sym c ∙ some in cc
+        | is_whole all none b c ↦ record {
+          none_left = all.none_left;
+          last = all.last;
+          size = ap size_told (sym some ∙ c);
+        }
+        | is_refused all r h b c ↦ let bad = sym c ∙ some in cc
+      ]
+
+  -- behind a record of no payload none is open
+  bare_none : (read : Frame) (text : List ℕ) → open_payload (after_bare x z read text).stage ≡ None
+  bare_none frames.Via text = refl
+  bare_none frames.Fault text = refl
+  bare_none (frames.Mode byte) text = refl
+  bare_none (frames.KnownEncoding encoding) text = refl
+  bare_none read text = refl
+
+  bare_untold : (to : ℕ) (read : Frame) (text : List ℕ) (e : Envelope)
+      → completed_bare z to read text ≡ Some (message e) → ⊥
+  bare_untold to frames.PreambleEnd text e some = cc
+  bare_untold to frames.PreambleAck text e some = cc
+  bare_untold to frames.End text e some = cc
+  bare_untold to frames.Fault text e some = cc
+  bare_untold to read text e some = cc
+
+  -- a payload that a record makes or resumes, where it isn't refused
+  made_fits : (from : ℕ) (read : Frame) (text : List ℕ) (p : OpenPayload)
+      → reason_in x z.stage read text ≡ None → payload_by x z from read ≡ Some p
+      → p.size ≤ x.limits.payload
+  made_fits from (frames.SizedEnvelope size) text p fine e =
+      let same : payload_begun x z from size sized ≡ p = cc in
+      subst (λ (q : OpenPayload). q.size ≤ x.limits.payload) same (right_size x size fine)
+  made_fits from frames.UnsizedEnvelope text p fine e =
+      let same : payload_begun x z from 0 chunked ≡ p = cc in
+      subst (λ (q : OpenPayload). q.size ≤ x.limits.payload) same (omega arith)
+  made_fits from (frames.Chunk size) text p fine e = in_chunks z.stage fine e where
+    in_chunks : (stage : Stage) → reason_in x stage (frames.Chunk size) text ≡ None
+        → payload_by x (record z { stage = stage }) from (frames.Chunk size) ≡ Some p
+        → p.size ≤ x.limits.payload
+    in_chunks (record_due due) fine e = cc
+    in_chunks (payload_open o) fine e = cc
+    in_chunks (chunk_due o) fine e =
+        let same : with_chunk o size ≡ p = cc in
+        subst (λ (q : OpenPayload). q.size ≤ x.limits.payload) same (right_size x (o.size + size) fine)
+  made_fits from read text p fine e = cc
+
+  -- and one that is whole with it
+  told_fits : (from : ℕ) (read : Frame) (p : OpenPayload) → FitsOpen x z.stage
+      → payload_by x z from read ≡ Some p → p.left ≡ 0 → is_chunked p.form ≡ false
+      → p.size ≤ x.limits.payload
+  told_fits from (frames.SizedEnvelope size) p fits e none last =
+      let same : payload_begun x z from size sized ≡ p = cc in
+      let left = ap (λ (q : OpenPayload). q.left) same in
+      let is = ap (λ (q : OpenPayload). q.size) same in omega (arith, left, is, none)
+  told_fits from frames.UnsizedEnvelope p fits e none last =
+      let same : payload_begun x z from 0 chunked ≡ p = cc in
+      let bad = ap (λ (q : OpenPayload). is_chunked q.form) same ∙ last in cc
+  told_fits from (frames.Chunk size) p fits e none last = in_chunks z.stage fits e where
+    in_chunks : (stage : Stage) → FitsOpen x stage
+        → payload_by x (record z { stage = stage }) from (frames.Chunk size) ≡ Some p
+        → p.size ≤ x.limits.payload
+    in_chunks (record_due due) fits e = cc
+    in_chunks (payload_open o) fits e = cc
+    in_chunks (chunk_due o) fits e =
+        let same : with_chunk o size ≡ p = cc in
+        let left : size ≡ 0 = ap (λ (q : OpenPayload). q.left) same ∙ none in
+        let is = ap (λ (q : OpenPayload). q.size) same in
+        let low = fits o refl in omega (arith, left, is, low)
+  told_fits from read p fits e none last = cc
+
+  -- behind a unit that isn't refused
+  record_fits : (from : ℕ) (read : Frame) (text : List ℕ) (v : Option OpenPayload)
+      → reason_in x z.stage read text ≡ None → payload_by x z from read ≡ v
+      → FitsOpen x (on_payload v (behind_payload x z) (after_bare x z read text)).stage
+  record_fits from read text (Some p) fine e = behind_fits p (made_fits from read text p fine e)
+  record_fits from read text None fine e =
+      λ o is. let bad = sym (bare_none read text) ∙ is in cc
+
+  byte_fits : (byte : ℕ) (stage : Stage) → FitsOpen x stage → FitsOpen x z.stage
+      → FitsOpen x (on_open stage (λ p. behind_payload x z (with_byte x z p byte)) z).stage
+  byte_fits byte (record_due due) fits own = own
+  byte_fits byte (chunk_due p) fits own = own
+  byte_fits byte (payload_open p) fits own = behind_fits (with_byte x z p byte) (fits p refl)
+
+  unit_fits : (from : ℕ) (u : StreamUnit) → FitsOpen x z.stage → refused x z from u ≡ None
+      → FitsOpen x (after x z from u).stage
+  unfolding after refused
+  unit_fits from (frame read) fits ok =
+      let none = none_both (option_map (offence_at from) (reason_in x z.stage read.frame read.text))
+      (on_payload (payload_by x z from read.frame) (refused_payload x z) None) ok in
+      record_fits from read.frame read.text (payload_by x z from read.frame)
+      (none_mapped (offence_at from) (reason_in x z.stage read.frame read.text) none.0) refl
+  unit_fits from (payload_byte byte) fits ok = byte_fits byte z.stage fits fits
+
+  -- and the document that a unit brings
+  record_told : (from to : ℕ) (read : Frame) (text : List ℕ) (v : Option OpenPayload) (e : Envelope)
+      → FitsOpen x z.stage → payload_by x z from read ≡ v
+      → on_payload v (completed_payload x z) (completed_bare z to read text) ≡ Some (message e)
+      → e.size ≤ x.limits.payload
+  record_told from to read text (Some p) e fits is some =
+      let t = told_size p e some in
+      let low = told_fits from read p fits is t.none_left t.last in
+      let size = t.size in omega (arith, low, size)
+  record_told from to read text None e fits is some = absurd (bare_untold to read text e some)
+
+  byte_told : (byte : ℕ) (stage : Stage) (e : Envelope) → FitsOpen x stage
+      → on_open stage (λ p. completed_payload x z (with_byte x z p byte)) None ≡ Some (message e)
+      → e.size ≤ x.limits.payload
+  byte_told byte (record_due due) e fits some = cc
+  byte_told byte (chunk_due p) e fits some = cc
+  byte_told byte (payload_open p) e fits some =
+      let size = (told_size (with_byte x z p byte) e some).size in
+      let low = fits p refl in omega (arith, size, low)
+
+  unit_told : (from to : ℕ) (u : StreamUnit) (e : Envelope) → FitsOpen x z.stage
+      → completed x z from to u ≡ Some (message e) → e.size ≤ x.limits.payload
+  unfolding completed
+  unit_told from to (frame read) e fits some =
+      record_told from to read.frame read.text (payload_by x z from read.frame) e fits refl some
+  unit_told from to (payload_byte byte) e fits some = byte_told byte z.stage e fits some
 
 module _ (x : Settings) where
-  -- the head of a payload isn't refused
-  head_small : (p more : List ℕ) (t : IsTraced x p) → 0 < length more → IsUnrefusedBefore x (p ++ more) → t.size ≤ x.limits.payload
-  unfolding is_over_at
-  head_small p more t some unrefused = by_test (nat_lt x.limits.payload t.size) refl where
-    head : List ℕ
-    head = t.has.before ++ t.has.head
+  -- of whole units of which none is refused, and the last of which may be
+  record FitsAt (p : List ℕ) : Type 0 where
+    opened : IsUnrefusedBefore x p → refusal_at (stream x) p ≡ None
+        → FitsOpen x (standing (stream x) p).situation.stage
+    told : IsUnrefusedBefore x p → (e : Envelope)
+        → (standing (stream x) p).event ≡ Some (message e) → e.size ≤ x.limits.payload
 
-    large : x.limits.payload < t.size → refusal_at (stream x) head ≡ Some (offence_at (length t.has.before) MessageTooLarge)
-    large lt =
-        let is_due : (standing (stream x) t.has.before).situation.stage ≡ record_due dues.Messages = ap (λ (z : Situation). z.stage) (sym t.has.situation) ∙ t.has.is_due in
-        (too_large_is x head (length t.has.before)).1 (record {
-          before = t.has.before;
-          bytes = t.has.head;
-          due = dues.Messages;
-          joined = refl;
-          place = refl;
-          units = t.has.units;
-          is_due = is_due;
-          going_on = ap is_over_in is_due;
-          shows = (t.size, t.has.is_head.1, refl, t.has.is_head.3, t.has.is_head.2, lt);
-        })
+  fits_first : FitsAt []
+  fits_first =
+      let s = standing_nothing (stream x) (readable x) in
+      record {
+        opened = λ before none o is.
+            let bad = ap (λ (w : Standing Situation StreamEvent Offence).
+            open_payload w.situation.stage) (sym s) ∙ is in cc;
+        told = λ before e some.
+            let bad = ap (λ (w : Standing Situation StreamEvent Offence). w.event) (sym s) ∙ some in cc;
+      }
 
-    small : refusal_at (stream x) head ≡ None
-    small =
-        let all : p ++ more ≡ head ++ (t.bytes ++ more) = ap (λ c. c ++ more) t.has.joined ∙ append_assoc head t.bytes more in
-        let size = length-append head (t.bytes ++ more) in
-        let behind = length-append t.bytes more in
-        let less : length head < length (p ++ more) = let n = ap length all in omega (arith, n, size, behind, some) in
-        let front : take (length head) (p ++ more) ≡ head = ap (take (length head)) all ∙ take-append-le (length head) head (t.bytes ++ more) (omega arith) ∙ take_all (length head) head (omega arith) in
-        ap (refusal_at (stream x)) (sym front) ∙ unrefused (length head) less
+  module _ (before bytes : List ℕ) (u : StreamUnit) (units : AreUnits (stream x) before) (reads : (stream x).unit_at (standing (stream x) before).situation (standing (stream x) before).from bytes ≡ whole u (length bytes)) (h : FitsAt before) where
+    some_bytes : 0 < length bytes
+    some_bytes =
+        (whole_some (unit_in x (standing (stream x) before).situation.stage
+        (standing (stream x) before).from)
+        ((readable x).reads (standing (stream x) before).situation (standing (stream x) before).from)
+        ((readable x).nothing (standing (stream x) before).situation
+        (standing (stream x) before).from) bytes u (length bytes) reads).0
 
-    by_test : (b : Bool) → nat_lt x.limits.payload t.size ≡ b → t.size ≤ x.limits.payload
-    by_test true lt = let bad = sym small ∙ large (ltb-true x.limits.payload t.size lt) in cc
-    by_test false lt = ltb-false x.limits.payload t.size lt
+    fits_before : IsUnrefusedBefore x (before ++ bytes)
+        → FitsOpen x (standing (stream x) before).situation.stage
+    fits_before unrefused =
+        let size = length-append before bytes in
+        let some = some_bytes in
+        h.opened
+        (λ n lt. ap (refusal_at (stream x)) (sym (take-append-le n before bytes (omega arith)))
+        ∙ unrefused n (omega (arith, size, some, lt)))
+        (ap (refusal_at (stream x)) (sym (take-append-le (length before) before bytes (omega arith)
+        ∙ take_all (length before) before (omega arith)))
+        ∙ unrefused (length before) (omega (arith, size, some)))
 
-  module _ (before bytes : List ℕ) (units : AreUnits (stream x) before) (e : Envelope) where
-    abbrev here : Standing Situation StreamEvent Offence
-    here = standing (stream x) before
+    fits_behind : FitsAt (before ++ bytes)
+    fits_behind =
+        let s = unit_standing (stream x) (readable x) before bytes u units reads in
+        record {
+          opened = λ unrefused none.
+              let ok = (none_both _ _ (sym (refusal_from (stream x) (before ++ bytes) _ s) ∙ none)).0 in
+              subst (λ (w : Standing Situation StreamEvent Offence). FitsOpen x w.situation.stage) (sym s)
+              (unit_fits x (standing (stream x) before).situation (standing (stream x) before).from u
+              (fits_before unrefused) ok);
+          told = λ unrefused e some.
+              unit_told x (standing (stream x) before).situation (standing (stream x) before).from
+              ((standing (stream x) before).from + length bytes) u e (fits_before unrefused)
+              (ap (λ (w : Standing Situation StreamEvent Offence). w.event) (sym s) ∙ some);
+        }
 
-    -- the head of an envelope that has no bytes
-    by_frame : (read : Frame) → completed_record x here.situation here.from read ≡ Some (message e) → e.size ≤ x.limits.payload
-    by_frame (frames.SizedEnvelope size) some = let told = size_behind x here.situation (payload_begun x here.situation here.from size) e some in let none = told.0 in let is = told.1 in omega (arith, none, is)
-    by_frame frames.PreambleEnd some = cc
-    by_frame frames.End some = cc
-    by_frame read some = cc
-
-    -- or a payload's last byte
-    by_unit : (stage : Stage) (u : StreamUnit) → here.situation.stage ≡ stage → unit_in x stage here.from bytes ≡ whole u (length bytes) → completed x here.situation here.from u ≡ Some (message e)
-        → IsUnrefusedBefore x (before ++ bytes) → e.size ≤ x.limits.payload
-    unfolding completed
-    by_unit (record_due due) u at reads some unrefused =
-        let c = unit_of_record x here.from bytes u (length bytes) due reads in
-        by_frame c.0.frame (ap (λ (v : StreamUnit). completed x here.situation here.from v) (sym c.1) ∙ some)
-    by_unit (payload_open o) u at reads some unrefused =
-        let c = only_byte x here.from bytes u o reads in
-        let t = traced x before units o at in
-        let one : 0 < length bytes = let n = ap length c.1 in omega (arith, n) in
-        let told : completed_payload x here.situation (with_byte x here.situation o c.0) ≡ Some (message e)
-        = ap (λ (stage : Stage). completed_byte x here.situation stage c.0) (sym at) ∙ ap (λ (v : StreamUnit). completed x here.situation here.from v) (sym c.2) ∙ some in
-        let same : o.size ≡ t.size = ap size_open (sym at ∙ ap (λ (z : Situation). z.stage) t.within.situation) in
-        let is = (size_behind x here.situation (with_byte x here.situation o c.0) e told).1 in
-        let small = head_small before bytes t one unrefused in
-        omega (arith, same, is, small)
-
-  -- the event that units end with
-  abbrev FitsLast : List ℕ → Type 0
-  FitsLast p = (e : Envelope) → (standing (stream x) p).event ≡ Some (message e) → IsUnrefusedBefore x p → e.size ≤ x.limits.payload
-
-  pub payloads_fit : (p : List ℕ) (e : Envelope) → event_at (stream x) p ≡ Some (message e) → IsUnrefusedBefore x p → e.size ≤ x.limits.payload
+  pub payloads_fit : (p : List ℕ) (e : Envelope) → event_at (stream x) p ≡ Some (message e)
+      → IsUnrefusedBefore x p → e.size ≤ x.limits.payload
   unfolding event_at
   payloads_fit p e some unrefused =
       let last = given_some (standing (stream x) p).begun (standing (stream x) p).event (message e) some in
-      units_keep (stream x) (readable x) FitsLast behind first p last.0 e last.1 unrefused
-    where
-      first : FitsLast []
-      first e some unrefused = let none = ap (λ (s : Standing Situation StreamEvent Offence). s.event) (standing_nothing (stream x) (readable x)) in let bad = sym none ∙ some in cc
-
-      behind : (before bytes : List ℕ) (u : StreamUnit) → AreUnits (stream x) before → (stream x).unit_at (standing (stream x) before).situation (standing (stream x) before).from bytes ≡ whole u (length bytes) → FitsLast before → FitsLast (before ++ bytes)
-      behind before bytes u units reads h e some unrefused =
-          let stands = ap (λ (s : Standing Situation StreamEvent Offence). s.event) (unit_standing (stream x) (readable x) before bytes u units reads) in
-          by_unit before bytes units e (standing (stream x) before).situation.stage u refl reads (sym stands ∙ some) unrefused
+      (units_keep (stream x) (readable x) FitsAt fits_behind fits_first p last.0).told unrefused e last.1

@@ -1,17 +1,20 @@
 -- A reader goes on behind bytes of a payload.
-use Rattle.std.proofs.Common.{◌≡◌, ◌+◌, ◌<◌, ◌≤◌, List, [], length, Option, Some, None, Result, Ok, Err, refl, sym, ap, ◌∙◌, subst, arith, inr}
+use Rattle.std.proofs.Common.{◌≡◌, ℕ, ◌+◌, ◌<◌, ◌≤◌, List, [], length, true, false, Option, Some, None, Result, Ok, Err, refl, sym, ap, ◌∙◌, subst, arith, inr}
 use Rattle.std.specs.Option.{option_map, option_or}
 use Rattle.unit_streams.specs.Judging.{refusal_at, ending_at}
 use Rattle.unit_streams.proofs.Pending.{pending_unrefused}
+use Rattle.unit_streams.proofs.Standing.{standing_nothing}
 use Rattle.nbfx_values.specs.declared.content.Item.{Item}
 use Rattle.nbfx_values.specs.declared.refusals.Offence.{Offence}
 use Rattle.string_tables.specs.SessionStrings.{used_cost}
-use Rattle.nmf_records.specs.declared.script.Due.TheVariants as dues
+use Rattle.session_dictionary.specs.Strings.{LimitedStrings}
 use Rattle.nbfx_decoder.specs.Payload.{Refusal, refusal, payload, Settings as PayloadSettings}
+use Rattle.nbfx_decoder.specs.declared.decoder.Decoder.{Decoder}
 use Rattle.nbfx_decoder.specs.declared.faults.DecodeFault.{DecodeFault}
 use Rattle.nbfx_decoder.specs.declared.faults.DecodeFault.TheVariants as faults
-use Rattle.nbfx_decoder.specs.Standing.{settings_of as decoder_settings, situation_of, StandsFor as DecoderStandsFor, FailedBehind as DecoderFailedBehind, FinishAnswers}
+use Rattle.nbfx_decoder.specs.Standing.{settings_of as decoder_settings, situation_of, table_at, StandsFor as DecoderStandsFor, FailedBehind as DecoderFailedBehind, FinishAnswers}
 use Rattle.nbfx_decoder.proofs.FeedSteps.{stands_as}
+use Rattle.nbfx_decoder.proofs.Readable.{readable as payload_readable}
 use Rattle.stream_reader.specs.declared.awaited.Awaited.{Awaited}
 use Rattle.stream_reader.specs.declared.awaited.Awaited.TheVariants as awaits
 use Rattle.stream_reader.specs.declared.awaited.PayloadLeft.{PayloadLeft}
@@ -19,101 +22,239 @@ use Rattle.stream_reader.specs.declared.reader.ReadRefusal.{ReadRefusal}
 use Rattle.stream_reader.specs.declared.reader.StreamReader.{StreamReader}
 use Rattle.stream_reader.specs.declared.reader.StreamStep.{StreamStep}
 use Rattle.stream_reader.specs.declared.reader.StreamStep.TheVariants as steps
-use Rattle.stream_reader.specs.Stream.{OpenPayload, Settings, Situation, StreamEvent, message, record_due, payload_open, behind_payload, completed_payload, offence_in, payload_in, payloads, refusal_in, refused_payload}
-use Rattle.stream_reader.specs.Standing.{Awaits}
-use Rattle.stream_reader.specs.Stepping.{BehindAnswers, HasDecoded, refusal_told}
-use Rattle.stream_reader.proofs.Outcomes.{behind_last, envelope_of, more_behind, more_completed, refused_behind, whole_behind}
-use Rattle.stream_reader.proofs.PayloadBytes.{behind_is, payload_behind, refusal_all, refusal_before}
+use Rattle.stream_reader.specs.Stream.{OpenPayload, PayloadStanding, Settings, Situation, Stage, StreamEvent, message, record_due, chunk_due, payload_open, due_behind, is_chunked, is_over_in, behind_payload, completed_payload, offence_in, payload_in, payloads, refusal_in, refused_payload}
+use Rattle.stream_reader.specs.Standing.{Awaits, HasPart, Recalls}
+use Rattle.stream_reader.specs.Stepping.{BehindAnswers, HasDecoded, due_after, is_chunked_form, refusal_told}
+use Rattle.stream_reader.proofs.Ending.{form_on}
+use Rattle.stream_reader.proofs.Outcomes.{HasAll, behind_whole, chunk_behind, envelope_of, more_behind, more_completed, refused_behind, whole_behind}
+use Rattle.stream_reader.proofs.PayloadBytes.{behind_is, payload_behind, refusal_all, refusal_before, refusal_between}
 use Rattle.stream_reader.proofs.ReaderFacts.{cost_within}
 
+-- a message that says so much
+message_as : (n n' size size' : ℕ) (doc doc' : List Item) (count count' cost cost' : ℕ) → n ≡ n'
+    → size ≡ size' → doc ≡ doc' → count ≡ count' → cost ≡ cost'
+    → steps.Message n size doc count cost ≡ steps.Message n' size' doc' count' cost'
+message_as n n' size size' doc doc' count count' cost cost' a b c d e =
+    ap (λ m. steps.Message m size doc count cost) a
+    ∙ ap (λ m. steps.Message n' m doc count cost) b
+    ∙ ap (λ m. steps.Message n' size' m count cost) c
+    ∙ ap (λ m. steps.Message n' size' doc' m cost) d
+    ∙ ap (steps.Message n' size' doc' count') e
+
+-- before the first byte of a payload its strings are those before it
+pub strings_first : (g : PayloadSettings) (strings : List (List ℕ))
+    → (situation_of g strings []).strings ≡ strings
+strings_first g strings =
+    ap (λ (s : PayloadStanding). s.situation.strings)
+    (standing_nothing (payload g strings) (payload_readable g strings))
+
 module _ (r : StreamReader) (x : Settings) (z : Situation) (here : PayloadLeft) (o : OpenPayload) (h : HasDecoded r x z here o) where
+  abbrev bytes : List ℕ
+  bytes = h.part.bytes
+
   left_is : here.left ≡ o.left
-  left_is = h.awaits.2
+  left_is = h.open_so.left
 
   -- its grammar is the decoder's
   grammar_is : (A : PayloadSettings → Type 0) → A (decoder_settings r.decoder) → A (payloads x z.kind)
   grammar_is A a = subst A h.decodes a
 
-  unrefused : refusal_at (payload_in x z) h.bytes ≡ None
-  unrefused = grammar_is (λ s. refusal_at (payload s z.strings) h.bytes ≡ None) (pending_unrefused (payload (decoder_settings r.decoder) z.strings) h.bytes (stands_as r.decoder z.strings h.bytes h.stands_for).pending)
+  unrefused : refusal_at (payload_in x z) bytes ≡ None
+  unrefused =
+      grammar_is (λ s. refusal_at (payload s z.strings) bytes ≡ None)
+      (pending_unrefused (payload (decoder_settings r.decoder) z.strings) bytes
+      (stands_as r.decoder z.strings bytes h.part.stands_for).pending)
 
-  open_is : (v : Option Refusal) → refusal_in x z (payload_behind x z o.from o.size h.bytes) ≡ v → refusal_in x z o ≡ v
-  open_is v e = ap (refusal_in x z) (behind_is x z o h.bytes (record { standing_is = h.standing_is; counted = h.counted })) ∙ e
+  open_is : (v : Option Refusal) → refusal_in x z (payload_behind x z o bytes) ≡ v
+      → refusal_in x z o ≡ v
+  open_is v e =
+      ap (refusal_in x z) (behind_is x z o bytes
+      (record { standing_is = h.part.standing_is; counted = h.part.counted })) ∙ e
 
-  refused_so : (v : Option Refusal) → refusal_in x z o ≡ v → refused_payload x z o ≡ option_map (offence_in z.messages) v
+  refused_so : (v : Option Refusal) → refusal_in x z o ≡ v
+      → refused_payload x z o ≡ option_map (offence_in z.messages) v
   refused_so v e = ap (option_map (offence_in z.messages)) e
 
-  answered : (new : StreamReader) (result : Result StreamStep ReadRefusal) (v : Option Offence) (s : Situation) (event : Option StreamEvent) → refused_payload x z o ≡ v → behind_payload x z o ≡ s → completed_payload x z o ≡ event → BehindAnswers x s event v new result
-      → BehindAnswers x (behind_payload x z o) (completed_payload x z o) (refused_payload x z o) new result
+  answered : (new : StreamReader) (result : Result StreamStep ReadRefusal) (v : Option Offence)
+      (s : Situation) (event : Option StreamEvent) → refused_payload x z o ≡ v
+      → behind_payload x z o ≡ s → completed_payload x z o ≡ event
+      → BehindAnswers x s event v new result
+      → BehindAnswers x (behind_payload x z o) (completed_payload x z o) (refused_payload x z o) new
+      result
   answered new result v s event refused leads completes a =
-      subst (λ (v : Option Offence). BehindAnswers x (behind_payload x z o) (completed_payload x z o) v new result) (sym refused)
-      (subst (λ (s : Situation). BehindAnswers x s (completed_payload x z o) v new result) (sym leads) (subst (λ (e : Option StreamEvent). BehindAnswers x s e v new result) (sym completes) a))
+      subst (λ (v : Option Offence).
+      BehindAnswers x (behind_payload x z o) (completed_payload x z o) v new result) (sym refused)
+      (subst (λ (s : Situation). BehindAnswers x s (completed_payload x z o) v new result) (sym leads)
+      (subst (λ (e : Option StreamEvent). BehindAnswers x s e v new result) (sym completes) a))
+
+  -- the part that the decoder has, whatever the stage
+  part_at : (d : Decoder) (stage : Stage) → d ≡ r.decoder
+      → HasPart d x (record z { stage = stage }) o
+  part_at d stage same = record {
+    bytes = bytes;
+    stands_for = subst (λ (d : Decoder). DecoderStandsFor d z.strings bytes) (sym same) h.part.stands_for;
+    standing_is = h.part.standing_is;
+    counted = h.part.counted;
+    within = h.part.within;
+  }
 
   -- there are more to come
-  pub behind_more : r.awaited ≡ awaits.Payload here → 0 < here.left → BehindAnswers x (behind_payload x z o) (completed_payload x z o) (refused_payload x z o) r (Ok steps.More)
+  pub behind_more : r.awaited ≡ awaits.Payload here → 0 < here.left
+      → BehindAnswers x (behind_payload x z o) (completed_payload x z o) (refused_payload x z o) r
+      (Ok steps.More)
   behind_more is some =
       let more : 0 < o.left = omega (arith, left_is, some) in
-      let few : length h.bytes < o.size = omega (arith, h.counted, more) in
-      answered r (Ok steps.More) None (record z { stage = payload_open o }) None (refused_so None (open_is None (refusal_before x z o.from o.size h.bytes few ∙ unrefused))) (more_behind x z o more) (more_completed x z o more) (
+      let few : length bytes < o.size = let n = h.part.counted in omega (arith, n, more) in
+      answered r (Ok steps.More) None (record z { stage = payload_open o }) None
+      (refused_so None (open_is None (refusal_before x z o bytes few ∙ unrefused)))
+      (more_behind x z o more) (more_completed x z o more) (
         record {
-          awaits = subst (λ (a : Awaited). Awaits a (payload_open o)) (sym is) h.awaits;
+          awaits = subst (λ (a : Awaited). Awaits a (payload_open o)) (sym is) h.open_so;
+          mode = h.mode;
           kind = h.kind;
           messages = h.messages;
           decodes = h.decodes;
-          payload = record { bytes = h.bytes; stands_for = h.stands_for; standing_is = h.standing_is; counted = h.counted; more = more; within = h.within };
+          payload = (more, part_at r.decoder (payload_open o) refl);
         },
         refl,
+        λ over. cc,
       )
 
-  module _ (none : here.left ≡ 0) (new : StreamReader) (same : decoder_settings new.decoder ≡ decoder_settings r.decoder) where
+  module _ (none : here.left ≡ 0) where
     none_left : o.left ≡ 0
     none_left = sym left_is ∙ none
 
-    by_end : (v : Option Refusal) → ending_at (payload (decoder_settings r.decoder) z.strings) h.bytes ≡ v → refusal_in x z o ≡ v
-    by_end v e =
-        open_is v
-        (refusal_all x z o.from o.size h.bytes (omega (arith, h.counted, none_left)) ∙ ap (λ w. option_or w (ending_at (payload_in x z) h.bytes)) unrefused ∙ grammar_is (λ s. ending_at (payload s z.strings) h.bytes ≡ v) e)
+    all_there : length bytes ≡ o.size
+    all_there = let n = h.part.counted in omega (arith, n, none_left)
 
-    standing_there : (situation_of (decoder_settings r.decoder) z.strings h.bytes) ≡ o.standing.situation
-    standing_there = ap (λ (s : PayloadSettings). situation_of s z.strings h.bytes) h.decodes ∙ sym (ap (λ s. s.situation) h.standing_is)
+    chunked_as : (b : _) → is_chunked_form here.form ≡ b → is_chunked o.form ≡ b
+    chunked_as b e = ap is_chunked (sym h.open_so.form) ∙ e
 
-    -- they are a document
-    pub behind_whole : (doc : List Item) → FinishAnswers (decoder_settings r.decoder) z.strings h.bytes (Ok doc) → DecoderStandsFor new.decoder (situation_of (decoder_settings r.decoder) z.strings h.bytes).strings []
-        → new.awaited ≡ awaits.Record dues.Messages → new.kind ≡ r.kind → new.messages ≡ r.messages + 1 → BehindAnswers x (behind_payload x z o) (completed_payload x z o) (refused_payload x z o) new (Ok (steps.Message here.size doc))
-    behind_whole doc ends stands awaited kind messages =
-        let w = whole_behind x z o none_left (by_end None ends.0) in
-        answered new (Ok (steps.Message here.size doc)) None (behind_last z o (z.messages + 1)) (Some (message (envelope_of z o))) (refused_so None (by_end None ends.0)) w.0 w.1 (
+    -- there are more chunks
+    pub behind_chunk : (new : StreamReader) → is_chunked_form here.form ≡ true
+        → new.awaited ≡ awaits.Chunk here → new.mode ≡ r.mode → new.kind ≡ r.kind
+        → new.messages ≡ r.messages → new.decoder ≡ r.decoder
+        → BehindAnswers x (behind_payload x z o) (completed_payload x z o) (refused_payload x z o)
+        new (Ok steps.More)
+    behind_chunk new chunked awaited mode kind messages decoder =
+        let is = chunked_as true chunked in
+        let w = chunk_behind x z o none_left is in
+        answered new (Ok steps.More) None (record z { stage = chunk_due o }) None
+        (refused_so None
+        (open_is None (refusal_between x z o bytes (omega (arith, all_there)) is ∙ unrefused)))
+        w.0 w.1 (
           record {
-            awaits = subst (λ (a : Awaited). Awaits a (record_due dues.Messages)) (sym awaited) refl;
+            awaits = subst (λ (a : Awaited). Awaits a (chunk_due o)) (sym awaited) h.open_so;
+            mode = mode ∙ h.mode;
             kind = kind ∙ h.kind;
-            messages = messages ∙ ap (λ n. n + 1) h.messages;
-            decodes = same ∙ h.decodes;
-            payload = subst (λ s. DecoderStandsFor new.decoder s.strings []) standing_there stands;
+            messages = messages ∙ h.messages;
+            decodes = ap decoder_settings decoder ∙ h.decodes;
+            payload = (none_left, part_at new.decoder (chunk_due o) decoder);
           },
-          ap (λ d. steps.Message here.size d) (ends.1 ∙ ap (λ s. s.items) standing_there) ∙ ap (λ n. steps.Message n o.standing.situation.items) h.awaits.1,
+          refl,
+          λ over. cc,
         )
 
-    -- they are refused, all as they are
-    pub behind_refused : (fault : DecodeFault) (told : ReadRefusal) → FinishAnswers (decoder_settings r.decoder) z.strings h.bytes (Err fault) → DecoderFailedBehind new.decoder fault z.strings h.bytes → told ≡ refusal_told r.messages fault → new.messages ≡ r.messages
-        → BehindAnswers x (behind_payload x z o) (completed_payload x z o) (refused_payload x z o) new (Err told)
-    behind_refused faults.Memory told ends failed is messages = absurd ends
-    behind_refused (faults.Payload at reason shown_by) told ends failed is messages =
-        let refusal_is = by_end (Some (refusal at reason)) ends.0 in
-        let w = refused_behind x z o none_left (refusal at reason) refusal_is in
-        subst (λ (t : ReadRefusal). BehindAnswers x (behind_payload x z o) (completed_payload x z o) (refused_payload x z o) new (Err t)) (sym is)
-        (answered new (Err (refusal_told r.messages (faults.Payload at reason shown_by))) (Some (offence_in z.messages (refusal at reason))) (behind_last z o z.messages) None (refused_so (Some (refusal at reason)) refusal_is) w.0 w.1 (
-          ap (λ n. offence_in n (refusal at reason)) h.messages,
-          record {
-            messages = messages ∙ h.messages;
-            strings = record {
-              before = z.strings;
-              bytes = h.bytes;
-              there = inr (faults.Payload at reason shown_by, failed);
-              same = ap (λ (s : PayloadSettings). (situation_of s z.strings h.bytes).strings) same ∙ ap (λ s. s.strings) standing_there;
-              within =
-                  subst (λ (s : PayloadSettings). used_cost o.standing.situation.strings ≤ s.limits.dictionary) (sym same)
-                  (subst (λ s. used_cost s.strings ≤ (decoder_settings r.decoder).limits.dictionary) standing_there
-                  (cost_within (decoder_settings r.decoder) z.strings h.bytes (stands_as r.decoder z.strings h.bytes h.stands_for).before));
-            };
-          },
-        ))
+    module _ (last : is_chunked_form here.form ≡ false) (new : StreamReader) (same : decoder_settings new.decoder ≡ decoder_settings r.decoder) where
+      last_form : is_chunked o.form ≡ false
+      last_form = chunked_as false last
+
+      has_all : HasAll o
+      has_all = record { none_left = none_left; last = last_form }
+
+      by_end : (v : Option Refusal)
+          → ending_at (payload (decoder_settings r.decoder) z.strings) bytes ≡ v
+          → refusal_in x z o ≡ v
+      by_end v e =
+          open_is v
+          (refusal_all x z o bytes all_there last_form
+          ∙ ap (λ w. option_or w (ending_at (payload_in x z) bytes)) unrefused
+          ∙ grammar_is (λ s. ending_at (payload s z.strings) bytes ≡ v) e)
+
+      standing_there : (situation_of (decoder_settings r.decoder) z.strings bytes)
+          ≡ o.standing.situation
+      standing_there =
+          ap (λ (s : PayloadSettings). situation_of s z.strings bytes) h.decodes
+          ∙ sym (ap (λ s. s.situation) h.part.standing_is)
+
+      -- it isn't over then
+      not_over : (closing : StreamReader) (v : Option StreamEvent)
+          → is_over_in (record_due (due_behind o.form)) ≡ true → Recalls closing.closing v
+      not_over closing v over = let on = form_on o.form in let bad = sym on ∙ over in cc
+
+      -- they are a document
+      pub behind_document : (doc : List Item) (table : LimitedStrings) (number count cost : ℕ)
+          → FinishAnswers (decoder_settings r.decoder) z.strings bytes (Ok doc)
+          → DecoderStandsFor new.decoder
+          (situation_of (decoder_settings r.decoder) z.strings bytes).strings []
+          → new.awaited ≡ awaits.Record (due_after here.form) → new.mode ≡ r.mode → new.kind ≡ r.kind
+          → new.messages ≡ r.messages + 1 → number ≡ r.messages
+          → table ≡ table_at new.decoder
+          (situation_of (decoder_settings r.decoder) z.strings bytes).strings []
+          → count ≡ length table.strings → cost ≡ used_cost table.strings
+          → BehindAnswers x (behind_payload x z o) (completed_payload x z o) (refused_payload x z o)
+          new (Ok (steps.Message number here.size doc count cost))
+      behind_document doc table number count cost ends stands awaited mode kind messages numbered
+          table_is counts costs =
+          let w = whole_behind x z o has_all (by_end None ends.0) in
+          let strings : table.strings ≡ o.standing.situation.strings =
+          ap (λ (t : LimitedStrings). t.strings) table_is
+          ∙ strings_first (decoder_settings new.decoder)
+          (situation_of (decoder_settings r.decoder) z.strings bytes).strings
+          ∙ ap (λ s. s.strings) standing_there in
+          answered new (Ok (steps.Message number here.size doc count cost)) None
+          (behind_whole z o (z.messages + 1)) (Some (message (envelope_of z o)))
+          (refused_so None (by_end None ends.0)) w.0 w.1 (
+            record {
+              awaits =
+                  subst (λ (a : Awaited). Awaits a (record_due (due_behind o.form))) (sym awaited)
+                  (ap due_behind h.open_so.form);
+              mode = mode ∙ h.mode;
+              kind = kind ∙ h.kind;
+              messages = messages ∙ ap (λ n. n + 1) h.messages;
+              decodes = same ∙ h.decodes;
+              payload = subst (λ s. DecoderStandsFor new.decoder s.strings []) standing_there stands;
+            },
+            message_as number z.messages here.size o.size doc o.standing.situation.items count _ cost _
+                (numbered ∙ h.messages) h.open_so.size (ends.1 ∙ ap (λ s. s.items) standing_there)
+                (counts ∙ ap length strings) (costs ∙ ap used_cost strings),
+            not_over new (Some (message (envelope_of z o))),
+          )
+
+      -- they are refused, all of them
+      pub behind_refused : (fault : DecodeFault) (told : ReadRefusal)
+          → FinishAnswers (decoder_settings r.decoder) z.strings bytes (Err fault)
+          → DecoderFailedBehind new.decoder fault z.strings bytes
+          → told ≡ refusal_told r.messages fault → new.messages ≡ r.messages
+          → BehindAnswers x (behind_payload x z o) (completed_payload x z o) (refused_payload x z o)
+          new (Err told)
+      behind_refused faults.Memory told ends failed is messages = absurd ends
+      behind_refused (faults.Payload at reason shown_by) told ends failed is messages =
+          let refusal_is = by_end (Some (refusal at reason)) ends.0 in
+          let w = refused_behind x z o has_all (refusal at reason) refusal_is in
+          subst (λ (t : ReadRefusal).
+          BehindAnswers x (behind_payload x z o) (completed_payload x z o) (refused_payload x z o) new
+          (Err t)) (sym is)
+          (answered new (Err (refusal_told r.messages (faults.Payload at reason shown_by)))
+          (Some (offence_in z.messages (refusal at reason))) (behind_whole z o z.messages) None
+          (refused_so (Some (refusal at reason)) refusal_is) w.0 w.1 (
+            ap (λ n. offence_in n (refusal at reason)) h.messages,
+            record {
+              messages = messages ∙ h.messages;
+              strings = record {
+                before = z.strings;
+                bytes = bytes;
+                there = inr (faults.Payload at reason shown_by, failed);
+                same =
+                    ap (λ (s : PayloadSettings). (situation_of s z.strings bytes).strings) same
+                    ∙ ap (λ s. s.strings) standing_there;
+                within =
+                    subst (λ (s : PayloadSettings).
+                    used_cost o.standing.situation.strings ≤ s.limits.dictionary) (sym same)
+                    (subst (λ s. used_cost s.strings ≤ (decoder_settings r.decoder).limits.dictionary)
+                    standing_there
+                    (cost_within (decoder_settings r.decoder) z.strings bytes
+                    (stands_as r.decoder z.strings bytes h.part.stands_for).before));
+              };
+            },
+          ))

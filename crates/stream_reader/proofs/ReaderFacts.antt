@@ -1,13 +1,17 @@
 -- What follows from what a reader stands for.
-use Rattle.std.proofs.Common.{◌≡◌, ℕ, ◌≤◌, ◌⊎◌, inl, inr, List, [], length, true, false, Option, Some, None, refl, sym, ap, ◌∙◌, subst, arith}
+use Rattle.std.proofs.Common.{◌≡◌, ℕ, ◌≤◌, ◌⊎◌, inl, inr, List, [], length, Bool, true, Option, Some, None, Ok, refl, sym, ap, ◌∙◌, subst, arith}
+use Rattle.std.specs.Prelude.{if◌then◌else◌}
 use Rattle.unit_streams.specs.Grammar.{standing, at_start}
-use Rattle.unit_streams.specs.Judging.{is_over_at, ending_at}
+use Rattle.unit_streams.specs.Judging.{event_at, is_over_at, ending_at}
 use Rattle.unit_streams.proofs.Standing.{standing_nothing}
 use Rattle.nbfx_values.specs.declared.limits.Quotas.{Quotas}
 use Rattle.nbfx_values.specs.QuotasOf.{limits_of}
 use Rattle.nbfx_values.specs.declared.refusals.Reason.TheVariants.{Truncated}
 use Rattle.nmf_records.specs.declared.reader.FrameReader.{FrameReader}
-use Rattle.nmf_records.specs.Reader.{ShowsText}
+use Rattle.nmf_records.specs.Reader.{ShowsText as FramesShowText}
+use Rattle.nmf_records.specs.declared.script.Due.{Due}
+use Rattle.nmf_records.specs.declared.script.Due.TheVariants as dues
+use Rattle.nbfx_values.specs.declared.session.Mode.{Mode}
 use Rattle.string_tables.specs.SessionStrings.{used_cost}
 use Rattle.nbfx_decoder.specs.Payload.{Settings as PayloadSettings, payload}
 use Rattle.nbfx_decoder.specs.declared.decoder.Decoder.{Decoder}
@@ -20,11 +24,17 @@ use Rattle.stream_reader.specs.declared.awaited.Awaited.{Awaited}
 use Rattle.stream_reader.specs.declared.awaited.Awaited.TheVariants as awaits
 use Rattle.stream_reader.specs.declared.reader.ReadRefusal.{ReadRefusal}
 use Rattle.stream_reader.specs.declared.reader.StreamReader.{StreamReader}
-use Rattle.stream_reader.specs.Stream.{Settings, Situation, Stage, record_due, payload_open, initiators, is_over_in, offence_at, open_from, payloads, stream, strings_at, strings_in, PayloadStanding}
-use Rattle.stream_reader.specs.Standing.{Awaits, Failed, FailedBehind, IsIn, Reached, ReadsPayload, ShowsTable, ShowsStrings, ShowsVia, begun_in, items_in, failure_of, messages_of, reads_initiators, settings_of, taken_of}
-use Rattle.stream_reader.specs.Stepping.{KeepsShown, has_ended, opened_at}
-use Rattle.stream_reader.proofs.Grammar.{readable, quiet_over}
-use Rattle.stream_reader.proofs.ReasonsOfStreams.{cut_is}
+use Rattle.stream_reader.specs.declared.awaited.Closing.{Closing}
+use Rattle.stream_reader.specs.declared.awaited.Closing.TheVariants as closings
+use Rattle.stream_reader.specs.declared.side.Side.{Side as SideRead}
+use Rattle.stream_reader.specs.Saying.{Repeats}
+use Rattle.stream_reader.specs.Sides.{side_of}
+use Rattle.stream_reader.specs.Stream.{Settings, Situation, Stage, OpenPayload, StreamEvent, opened, accepted, message, ended, peer_fault, record_due, chunk_due, payload_open, direction_of, is_over_in, may_end_in, offence_at, open_from, payloads, stream, strings_at, strings_in, PayloadStanding}
+use Rattle.stream_reader.specs.Standing.{Awaits, Failed, FailedBehind, HasPart, IsIn, Reached, ReadsPayload, Recalls, ShowsTable, ShowsStrings, ShowsText, begun_in, items_in, failure_of, messages_of, settings_of, taken_of}
+use Rattle.stream_reader.specs.Stepping.{KeepsShown, closing_step, has_ended, may_end_at, opened_at}
+use Rattle.stream_reader.proofs.Grammar.{readable}
+use Rattle.stream_reader.specs.Stream.{cut_off}
+use Rattle.stream_reader.proofs.Situations.{event_tells}
 
 -- a refused one stands for nothing
 pub not_failed : (r : StreamReader) (x : Settings) (p : List ℕ) (refusal : ReadRefusal) → Reached r x p → r.failure ≡ Some refusal → ⊥
@@ -41,15 +51,46 @@ stands_first x = standing_nothing (stream x) (readable x)
 -- it has ended where the session is over
 pub ended_as : (a : Awaited) (stage : Stage) → Awaits a stage → has_ended a ≡ is_over_in stage
 ended_as (awaits.Record due) (record_due other) is = rw is refl
+ended_as (awaits.Record due) (chunk_due p) is = absurd is
 ended_as (awaits.Record due) (payload_open p) is = absurd is
+ended_as (awaits.Chunk p) (record_due due) is = absurd is
+ended_as (awaits.Chunk p) (chunk_due q) is = refl
+ended_as (awaits.Chunk p) (payload_open q) is = absurd is
 ended_as (awaits.Payload p) (record_due due) is = absurd is
+ended_as (awaits.Payload p) (chunk_due q) is = absurd is
 ended_as (awaits.Payload p) (payload_open q) is = refl
 
 pub opened_as : (a : Awaited) (stage : Stage) (from : ℕ) → Awaits a stage → opened_at a from ≡ open_from stage from
 opened_as (awaits.Record due) (record_due other) from is = refl
+opened_as (awaits.Record due) (chunk_due p) from is = absurd is
 opened_as (awaits.Record due) (payload_open p) from is = absurd is
+opened_as (awaits.Chunk p) (record_due due) from is = absurd is
+opened_as (awaits.Chunk p) (chunk_due q) from is = is.from
+opened_as (awaits.Chunk p) (payload_open q) from is = absurd is
 opened_as (awaits.Payload p) (record_due due) from is = absurd is
-opened_as (awaits.Payload p) (payload_open q) from is = is.0
+opened_as (awaits.Payload p) (chunk_due q) from is = absurd is
+opened_as (awaits.Payload p) (payload_open q) from is = is.from
+
+-- and the input may end there alike
+may_end_due : (x : Settings) (mode : Mode) (due : Due) (from n : ℕ)
+    → may_end_in x mode (record_due due) from n
+    ≡ may_end_at (direction_of x.side) mode (awaits.Record due) from n
+may_end_due x mode dues.Over from n = refl
+may_end_due x mode _ from n = refl
+
+may_end_as : (x : Settings) (mode : Mode) (a : Awaited) (stage : Stage) (from n : ℕ)
+    → Awaits a stage
+    → may_end_in x mode stage from n ≡ may_end_at (direction_of x.side) mode a from n
+may_end_as x mode (awaits.Record due) (record_due other) from n is =
+    rw is (may_end_due x mode other from n)
+may_end_as x mode (awaits.Record due) (chunk_due p) from n is = absurd is
+may_end_as x mode (awaits.Record due) (payload_open p) from n is = absurd is
+may_end_as x mode (awaits.Chunk p) (record_due due) from n is = absurd is
+may_end_as x mode (awaits.Chunk p) (chunk_due q) from n is = refl
+may_end_as x mode (awaits.Chunk p) (payload_open q) from n is = absurd is
+may_end_as x mode (awaits.Payload p) (record_due due) from n is = absurd is
+may_end_as x mode (awaits.Payload p) (chunk_due q) from n is = absurd is
+may_end_as x mode (awaits.Payload p) (payload_open q) from n is = refl
 
 module _ (r : StreamReader) (x : Settings) (p : List ℕ) (h : Reached r x p) where
   pub over_as_ended : is_over_at (stream x) p ≡ has_ended r.awaited
@@ -61,6 +102,54 @@ module _ (r : StreamReader) (x : Settings) (p : List ℕ) (h : Reached r x p) wh
   open_as_opened =
       sym (opened_as r.awaited (standing (stream x) p).situation.stage (standing (stream x) p).from h.at.awaits)
       ∙ ap (opened_at r.awaited) (sym h.unit_from)
+
+  may_end_so : may_end_in x (standing (stream x) p).situation.mode
+      (standing (stream x) p).situation.stage (standing (stream x) p).from (length p)
+      ≡ may_end_at (direction_of x.side) r.mode r.awaited r.unit_from r.taken
+  may_end_so =
+      may_end_as x (standing (stream x) p).situation.mode r.awaited
+      (standing (stream x) p).situation.stage (standing (stream x) p).from (length p) h.at.awaits
+      ∙ ap (λ m. may_end_at (direction_of x.side) m r.awaited (standing (stream x) p).from (length p))
+      (sym h.at.mode)
+      ∙ ap (λ n. may_end_at (direction_of x.side) r.mode r.awaited n (length p)) (sym h.unit_from)
+      ∙ ap (may_end_at (direction_of x.side) r.mode r.awaited r.unit_from) (sym h.taken)
+
+  -- what the end of the input says of the bytes used
+  pub ending_is : (b : Bool)
+      → may_end_at (direction_of x.side) r.mode r.awaited r.unit_from r.taken ≡ b
+      → ending_at (stream x) p ≡ (if b then None
+      else Some (offence_at (opened_at r.awaited r.unit_from) Truncated))
+  unfolding ending_at cut_off
+  ending_is b e =
+      ap (λ c. if c then None else Some (offence_at
+      (open_from (standing (stream x) p).situation.stage (standing (stream x) p).from) Truncated))
+      (may_end_so ∙ e)
+      ∙ ap (λ from. if b then None else Some (offence_at from Truncated)) open_as_opened
+
+  -- the event that ended it is the one that it recalls
+  recalled : (closing : Closing) (v : Option StreamEvent) → event_at (stream x) p ≡ v
+      → Recalls closing v → Repeats v (Ok (0, closing_step closing (length p)))
+  recalled closings.End (Some (ended n)) e is =
+      ap (λ m. Ok (0, closing_step closings.End m)) (sym (event_tells x p (ended n) e))
+  recalled closings.Fault (Some (peer_fault n text)) e is =
+      ap (λ m. Ok (0, closing_step closings.Fault m)) (sym (event_tells x p (peer_fault n text) e).0)
+  recalled closings.End None e is = absurd is
+  recalled closings.End (Some (opened mode kind via)) e is = absurd is
+  recalled closings.End (Some accepted) e is = absurd is
+  recalled closings.End (Some (message envelope)) e is = absurd is
+  recalled closings.End (Some (peer_fault n text)) e is = absurd is
+  recalled closings.Fault None e is = absurd is
+  recalled closings.Fault (Some (opened mode kind via)) e is = absurd is
+  recalled closings.Fault (Some accepted) e is = absurd is
+  recalled closings.Fault (Some (message envelope)) e is = absurd is
+  recalled closings.Fault (Some (ended n)) e is = absurd is
+
+  pub repeats_end : is_over_at (stream x) p ≡ true
+      → Repeats (event_at (stream x) p) (Ok (0, closing_step r.closing r.taken))
+  repeats_end over =
+      subst (λ (n : ℕ). Repeats (event_at (stream x) p) (Ok (0, closing_step r.closing n)))
+      (sym h.taken)
+      (recalled r.closing (event_at (stream x) p) refl (h.closing over))
 
 -- the strings behind bytes of a payload cost no more than they may, where those before it don't
 pub cost_within : (x : PayloadSettings) (strings : List (List ℕ)) (bytes : List ℕ) → used_cost strings ≤ x.limits.dictionary → used_cost (situation_of x strings bytes).strings ≤ x.limits.dictionary
@@ -75,6 +164,23 @@ pub record HasCome (d : Decoder) (z : Situation) : Type 0 where
   pub items : (situation_of (decoder_settings d) before bytes).items ≡ items_in z.stage
   pub strings : (situation_of (decoder_settings d) before bytes).strings ≡ strings_in z
 
+has_part : (d : Decoder) (x : Settings) (z : Situation) (p : OpenPayload)
+    → decoder_settings d ≡ payloads x z.kind → HasPart d x z p
+    → p.standing.begun ≡ begun_in z.stage → p.standing.situation.items ≡ items_in z.stage
+    → p.standing.situation.strings ≡ strings_in z → HasCome d z
+has_part d x z p decodes h begun_is items_are strings_are =
+    let there : standing (payload (decoder_settings d) z.strings) h.bytes ≡ p.standing =
+    ap (λ (s : PayloadSettings). standing (payload s z.strings) h.bytes) decodes
+    ∙ sym h.standing_is in
+    record {
+      before = z.strings;
+      bytes = h.bytes;
+      stands_for = h.stands_for;
+      begun = ap (λ (s : PayloadStanding). s.begun) there ∙ begun_is;
+      items = ap (λ (s : PayloadStanding). s.situation.items) there ∙ items_are;
+      strings = ap (λ (s : PayloadStanding). s.situation.strings) there ∙ strings_are;
+    }
+
 has_come : (d : Decoder) (x : Settings) (z : Situation) (stage : Stage) → z.stage ≡ stage → decoder_settings d ≡ payloads x z.kind → ReadsPayload d x z stage → HasCome d z
 has_come d x z (record_due due) is decodes h =
     let first = standing_nothing (payload (decoder_settings d) z.strings) (payload_readable (decoder_settings d) z.strings) in
@@ -86,16 +192,10 @@ has_come d x z (record_due due) is decodes h =
       items = ap (λ (s : PayloadStanding). s.situation.items) first ∙ sym (ap items_in is);
       strings = ap (λ (s : PayloadStanding). s.situation.strings) first ∙ sym (ap (strings_at z) is);
     }
+has_come d x z (chunk_due p) is decodes h =
+    has_part d x z p decodes h.1 (sym (ap begun_in is)) (sym (ap items_in is)) (sym (ap (strings_at z) is))
 has_come d x z (payload_open p) is decodes h =
-    let there : standing (payload (decoder_settings d) z.strings) h.bytes ≡ p.standing = ap (λ (s : PayloadSettings). standing (payload s z.strings) h.bytes) decodes ∙ sym h.standing_is in
-    record {
-      before = z.strings;
-      bytes = h.bytes;
-      stands_for = h.stands_for;
-      begun = ap (λ (s : PayloadStanding). s.begun) there ∙ sym (ap begun_in is);
-      items = ap (λ (s : PayloadStanding). s.situation.items) there ∙ sym (ap items_in is);
-      strings = ap (λ (s : PayloadStanding). s.situation.strings) there ∙ sym (ap (strings_at z) is);
-    }
+    has_part d x z p decodes h.1 (sym (ap begun_in is)) (sym (ap items_in is)) (sym (ap (strings_at z) is))
 
 pub comes_in : (r : StreamReader) (x : Settings) (z : Situation) → IsIn r x z → HasCome r.decoder z
 comes_in r x z h = has_come r.decoder x z z.stage refl h.decodes h.payload
@@ -117,16 +217,20 @@ shows_in r x z h = shows_come r.decoder z (comes_in r x z h)
 
 -- a decoder that stands for what another does
 module _ (old new : Decoder) (same : decoder_settings new ≡ decoder_settings old) (stands : WhereDecoderStands old (DecoderStandsFor new)) (failed : WhereDecoderFailed old (DecoderFailedBehind new)) where
-  pub reads_too : (x : Settings) (z : Situation) (stage : Stage) → ReadsPayload old x z stage → ReadsPayload new x z stage
-  reads_too x z (record_due due) h = stands z.strings [] h
-  reads_too x z (payload_open p) h = record {
+  part_too : (x : Settings) (z : Situation) (p : OpenPayload) → HasPart old x z p → HasPart new x z p
+  part_too x z p h = record {
     bytes = h.bytes;
     stands_for = stands z.strings h.bytes h.stands_for;
     standing_is = h.standing_is;
     counted = h.counted;
-    more = h.more;
     within = h.within;
   }
+
+  pub reads_too : (x : Settings) (z : Situation) (stage : Stage) → ReadsPayload old x z stage
+      → ReadsPayload new x z stage
+  reads_too x z (record_due due) h = stands z.strings [] h
+  reads_too x z (chunk_due p) h = (h.0, part_too x z p h.1)
+  reads_too x z (payload_open p) h = (h.0, part_too x z p h.1)
 
   pub shows_too : (strings : List (List ℕ)) → ShowsTable old strings → ShowsTable new strings
   shows_too strings h = record {
@@ -140,31 +244,29 @@ module _ (old new : Decoder) (same : decoder_settings new ≡ decoder_settings o
     there (inl s) = inl (stands h.before h.bytes s)
     there (inr f) = inr (f.0, failed f.0 h.before h.bytes f.1)
 
--- what the end of the input says of the bytes used
-pub ending_over : (r : StreamReader) (x : Settings) (p : List ℕ) → Reached r x p → has_ended r.awaited ≡ true → ending_at (stream x) p ≡ None
-unfolding ending_at is_over_at
-ending_over r x p h e = (quiet_over x).any_end (standing (stream x) p).situation (standing (stream x) p).from (length p) (over_as_ended r x p h ∙ e)
-
-pub ending_open : (r : StreamReader) (p : List ℕ) → Reached r (settings_of r) p → has_ended r.awaited ≡ false → ending_at (stream (settings_of r)) p ≡ Some (offence_at (opened_at r.awaited r.unit_from) Truncated)
-unfolding ending_at is_over_at
-ending_open r p h e =
-    let x : Settings = settings_of r in
-    cut_is x (reads_initiators r) (standing (stream x) p).situation.stage (standing (stream x) p).from (length p) (over_as_ended r x p h ∙ e)
-    ∙ ap (λ from. Some (offence_at from Truncated)) (open_as_opened r x p h)
-
 -- what it is set to stays
-pub same_settings : (old new : StreamReader) → new.statics ≡ old.statics → new.quotas ≡ old.quotas → settings_of new ≡ settings_of old
+pub same_settings : (old new : StreamReader) → new.side ≡ old.side → new.statics ≡ old.statics
+    → new.quotas ≡ old.quotas → settings_of new ≡ settings_of old
 unfolding settings_of
-same_settings old new statics quotas = ap (λ s. initiators s.now (limits_of new.quotas)) statics ∙ ap (λ (q : Quotas). initiators old.statics.now (limits_of q)) quotas
+same_settings old new side statics quotas =
+    ap (λ (s : SideRead). record { side = side_of s; statics = new.statics.now; limits = limits_of new.quotas })
+    side
+    ∙ ap (λ s. record { side = side_of old.side; statics = s.now; limits = limits_of new.quotas }) statics
+    ∙ ap (λ (q : Quotas). record {
+      side = side_of old.side;
+      statics = old.statics.now;
+      limits = limits_of q;
+    }) quotas
 
 -- a refused reader shows what it stood for
 pub refused_shows : (old new : StreamReader) (x : Settings) (p : List ℕ) (refusal : ReadRefusal) (taken : ℕ) → Reached old x p → new.failure ≡ Some refusal → new.taken ≡ taken → KeepsShown old new
     → Failed new x refusal taken p
-unfolding failure_of taken_of messages_of ShowsVia ShowsStrings
+unfolding failure_of taken_of messages_of ShowsText ShowsStrings
 refused_shows old new x p refusal taken h failure taken_is kept = record {
   failure = failure;
   taken_is = taken_is;
-  via = subst (λ (f : FrameReader). ShowsText f (standing (stream x) p).situation.via) (sym kept.frames) h.text;
+  text = subst (λ (f : FrameReader). FramesShowText f (standing (stream x) p).situation.text)
+      (sym kept.frames) h.text;
   messages = kept.messages ∙ h.at.messages;
   strings = subst (λ (d : Decoder). ShowsTable d (strings_in (standing (stream x) p).situation)) (sym kept.decoder) (shows_in old x (standing (stream x) p).situation h.at);
 }

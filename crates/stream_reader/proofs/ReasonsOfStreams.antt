@@ -1,118 +1,184 @@
--- Which streams are too long, and which are cut off.
-use Rattle.std.proofs.Common.{◌≡◌, ℕ, ◌+◌, ◌-◌, ◌<◌, ◌≤◌, inl, inr, List, ◌++◌, length, take, drop, Bool, true, false, Some, None, refl, sym, ap, ◌∙◌, arith, ◌↔◌}
-use Rattle.std.specs.Prelude.{◌==◌, ◌&&◌, if◌then◌else◌}
+-- Which streams are refused first in a record, are too long, and are cut off.
+use Rattle.std.proofs.Common.{◌≡◌, ℕ, zero, suc, ◌+◌, ◌-◌, ◌<◌, ◌≤◌, inl, inr, List, ◌++◌, length, take, drop, Bool, true, false, Option, Some, None, refl, sym, ap, ◌∙◌, subst, arith, ◌↔◌}
+use Rattle.std.specs.Prelude.{if◌then◌else◌}
 use Rattle.std.proofs.Math.Seq.{take-add}
 use Rattle.std.proofs.lemmas.Bool.{cases_lt, cases_Bool}
 use Rattle.std.proofs.lemmas.List.{length-take-le}
 use Rattle.unit_streams.specs.Grammar.{Standing, standing}
-use Rattle.unit_streams.specs.Judging.{refusal_at, is_over_at, ending_at, answer, offends}
+use Rattle.unit_streams.specs.Judging.{refusal_at, is_over_at, ending_at, offence as offence_by, answer, offends}
 use Rattle.unit_streams.proofs.Answers.{answers_are_first}
 use Rattle.unit_streams.proofs.Offences.{offences_are_first}
 use Rattle.unit_streams.proofs.Ends.{after_end}
 use Rattle.unit_streams.proofs.Passing.{going_at}
-use Rattle.nbfx_values.specs.Limits.{Limits}
 use Rattle.nbfx_values.specs.declared.refusals.Offence.{Offence}
 use Rattle.nbfx_values.specs.declared.refusals.Reason.{Reason}
 use Rattle.nbfx_values.specs.declared.refusals.Reason.TheVariants as reasons
+use Rattle.nbfx_values.specs.declared.refusals.Place.{Place}
+use Rattle.nbfx_values.specs.declared.refusals.Place.TheVariants.{Frame as InFrame, Payload as InPayload}
+use Rattle.nbfx_values.specs.declared.session.Mode.{Mode}
+use Rattle.nbfx_decoder.specs.declared.section.Section.{Section}
+use Rattle.nbfx_decoder.specs.declared.section.Section.TheVariants.{TableSize, Strings, Nodes}
+use Rattle.nbfx_decoder.specs.Payload.{refusal, Settings as PayloadSettings, Situation as PayloadSituation}
+use Rattle.nbfx_decoder.specs.Reasons.{Shows as ShowsInSection}
+use Rattle.nbfx_decoder.specs.Standing.{situation_of}
 use Rattle.nmf_records.specs.declared.script.Due.TheVariants as dues
-use Rattle.nmf_records.specs.Script.{may_end}
-use Rattle.string_tables.specs.StaticStrings.{Entry}
-use Rattle.nbfx_decoder.specs.Payload.{refusal}
-use Rattle.stream_reader.specs.Stream.{Settings, initiators, Situation, Stage, record_due, payload_open, offence_in, StreamEvent, offence_at, is_over_in, open_from, cut_off, stream}
-use Rattle.stream_reader.specs.Judging.{offence}
-use Rattle.stream_reader.specs.Reasons.{ShowsFrom, ShowsInPayload, ShowsUnbuilt, IsTooLong, IsCutOff}
-use Rattle.stream_reader.specs.Laws.{Begins, IsInitiators}
-use Rattle.stream_reader.proofs.Initiators.{by_set}
+use Rattle.stream_reader.specs.Stream.{Settings, Situation, Stage, record_due, chunk_due, payload_open, StreamEvent, offence_at, offence_in, payloads, is_over_in, open_from, may_end_in, cut_off, stream}
+use Rattle.stream_reader.specs.Reasons.{ShowsFrom, ShowsInPayload, ShowsOf, IsTooLong, IsCutOff}
+use Rattle.stream_reader.specs.Laws.{Begins}
 use Rattle.stream_reader.proofs.Grammar.{readable, quiet_over}
-use Rattle.stream_reader.proofs.Reasons.{apart, in_payload_is, unbuilt_is, too_large_is, too_long_is, never_cut_off, same_place}
+use Rattle.stream_reader.proofs.Reasons.{refused_by_record, too_long_is, apart, never_cut, same_place}
+use Rattle.stream_reader.proofs.PayloadRefusals.{in_payload_is}
+use Rattle.stream_reader.proofs.LoneAck.{ack_may_end, only_ack_may_end}
 
 -- the end refuses a stream that isn't over, at what is open
-end_is : (x : Settings) (stage : Stage) (from n : ℕ) (o : Offence) → cut_off x stage from n ≡ Some o → (is_over_in stage ≡ false) × (o ≡ offence_at (open_from stage from) reasons.Truncated)
+end_is : (x : Settings) (mode : Mode) (stage : Stage) (from n : ℕ) (o : Offence)
+    → cut_off x mode stage from n ≡ Some o
+    → (is_over_in stage ≡ false) × (o ≡ offence_at (open_from stage from) reasons.Truncated)
 unfolding cut_off
-end_is x (record_due dues.Over) from n o e = cc
-end_is x (record_due due) from n o e = (refl, told (may_end x.direction x.mode due && (from == n)) e) where
-  told : (b : Bool) → (if b then None else Some (offence_at from reasons.Truncated)) ≡ Some o → o ≡ offence_at from reasons.Truncated
-  told true e = cc
-  told false e = cc
-end_is x (payload_open payload) from n o e = (refl, cc)
+end_is x mode stage from n o e = go (may_end_in x mode stage from n) refl e where
+  going : (stage : Stage) → may_end_in x mode stage from n ≡ false → is_over_in stage ≡ false
+  going (record_due dues.Over) e = cc
+  going (record_due _) e = refl
+  going (chunk_due p) e = refl
+  going (payload_open p) e = refl
 
--- and each that isn't over, of an initiator
-cut_within : (statics : List Entry) (l : Limits) (stage : Stage) (from n : ℕ) → is_over_in stage ≡ false → cut_off (initiators statics l) stage from n ≡ Some (offence_at (open_from stage from) reasons.Truncated)
-unfolding cut_off
-cut_within statics l (record_due dues.Over) from n o = cc
-cut_within statics l (record_due _) from n o = refl
-cut_within statics l (payload_open payload) from n o = refl
-
-pub cut_is : (x : Settings) → IsInitiators x → (stage : Stage) (from n : ℕ) → is_over_in stage ≡ false → cut_off x stage from n ≡ Some (offence_at (open_from stage from) reasons.Truncated)
-cut_is x set stage from n on = by_set (λ (s : Settings). cut_off s stage from n ≡ Some (offence_at (open_from stage from) reasons.Truncated)) (λ statics l. cut_within statics l stage from n on) x set
+  go : (b : Bool) → may_end_in x mode stage from n ≡ b
+      → (if b then None else Some (offence_at (open_from stage from) reasons.Truncated)) ≡ Some o
+      → (is_over_in stage ≡ false) × (o ≡ offence_at (open_from stage from) reasons.Truncated)
+  go true is e = cc
+  go false is e = (going stage is, cc)
 
 module _ (x : Settings) (p : List ℕ) where
-  ended_so : (o : Offence) → ending_at (stream x) p ≡ Some o → (is_over_at (stream x) p ≡ false) × (o ≡ offence_at (open_from (standing (stream x) p).situation.stage (standing (stream x) p).from) reasons.Truncated)
-  unfolding is_over_at ending_at
-  ended_so o e = end_is x (standing (stream x) p).situation.stage (standing (stream x) p).from (length p) o e
+  abbrev opened : ℕ
+  opened = open_from (standing (stream x) p).situation.stage (standing (stream x) p).from
 
-  cut_at : (from : ℕ) → ending_at (stream x) p ≡ Some (offence_at from reasons.Truncated) → IsCutOff x p from
+  ended_so : (o : Offence) → ending_at (stream x) p ≡ Some o
+      → (is_over_at (stream x) p ≡ false)
+      × (o ≡ offence_at (open_from (standing (stream x) p).situation.stage
+      (standing (stream x) p).from) reasons.Truncated)
+  unfolding is_over_at ending_at
+  ended_so o e =
+      end_is x (standing (stream x) p).situation.mode (standing (stream x) p).situation.stage
+      (standing (stream x) p).from (length p) o e
+
+  cut_at : (from : ℕ) → ending_at (stream x) p ≡ Some (offence_at from reasons.Truncated)
+      → IsCutOff x p from
   cut_at from e =
       let told = ended_so (offence_at from reasons.Truncated) e in
-      record { going_on = told.0; place = same_place from (open_from (standing (stream x) p).situation.stage (standing (stream x) p).from) reasons.Truncated reasons.Truncated told.1 }
+      record {
+        going_on = told.0;
+        not_alone = λ alone. let none = sym (ack_may_end x p alone) ∙ e in cc;
+        place = same_place from opened reasons.Truncated reasons.Truncated told.1;
+      }
 
-  module _ (set : IsInitiators x) where
-    at_cut : (from : ℕ) → IsCutOff x p from → ending_at (stream x) p ≡ Some (offence_at from reasons.Truncated)
-    unfolding is_over_at ending_at
-    at_cut from h = cut_is x set (standing (stream x) p).situation.stage (standing (stream x) p).from (length p) h.going_on ∙ ap (λ n. Some (offence_at n reasons.Truncated)) (sym h.place)
+  at_cut : (from : ℕ) → IsCutOff x p from
+      → ending_at (stream x) p ≡ Some (offence_at from reasons.Truncated)
+  at_cut from h = go (ending_at (stream x) p) refl where
+    go : (v : Option Offence) → ending_at (stream x) p ≡ v
+        → ending_at (stream x) p ≡ Some (offence_at from reasons.Truncated)
+    go None e = absurd (h.not_alone (only_ack_may_end x p e h.going_on))
+    go (Some o) e =
+        e ∙ ap Some ((ended_so o e).1 ∙ ap (λ n. offence_at n reasons.Truncated) (sym h.place))
 
-    pub cut_off_is : (from : ℕ) → (ending_at (stream x) p ≡ Some (offence_at from reasons.Truncated)) ↔ IsCutOff x p from
-    cut_off_is from = (cut_at from, at_cut from)
+  pub cut_off_is : (from : ℕ)
+      → (ending_at (stream x) p ≡ Some (offence_at from reasons.Truncated)) ↔ IsCutOff x p from
+  cut_off_is from = (cut_at from, at_cut from)
 
-  pub end_cuts_off : (o : Offence) → ending_at (stream x) p ≡ Some o → (o.reason ≡ reasons.Truncated) × (is_over_at (stream x) p ≡ false)
-  end_cuts_off o e = let told = ended_so o e in (ap (λ (o : Offence). o.reason) told.1, told.0)
+  pub end_cuts_off : (o : Offence) → ending_at (stream x) p ≡ Some o
+      → (o.reason ≡ reasons.Truncated) × (is_over_at (stream x) p ≡ false)
+  end_cuts_off o e =
+      let told = ended_so o e in (ap (λ (o : Offence). o.reason) told.1, told.0)
 
-  pub no_piece_cuts_off : (y : List ℕ) (n : ℕ) (o : Offence) → answer (stream x) p y ≡ offends n o → o.reason ≡ reasons.Truncated → ⊥
-  no_piece_cuts_off y n o e cut = never_cut_off x (p ++ take n y) o ((answers_are_first (stream x) p y (offends n o)).0 e).1 cut
+  -- no bytes of a payload show it
+  payload_uncut : (y : PayloadSettings) (strings : List (List ℕ)) (all : Bool) (bytes : List ℕ)
+      (at : ℕ) (reason : Reason) → reason ≡ reasons.Truncated → ShowsOf y strings all bytes at reason → ⊥
+  payload_uncut y strings all bytes at reason cut (inr (other, every, is, nothing)) = cc
+  payload_uncut y strings all bytes at reason cut (inl shows) =
+      none (situation_of y strings shows.before) (situation_of y strings shows.before).section shows.bytes
+      (subst (λ (r : Reason). ShowsInSection y (situation_of y strings shows.before)
+      (situation_of y strings shows.before).section shows.bytes r) cut shows.shows)
+    where
+      none : (z : PayloadSituation) (section : Section) (b : List ℕ)
+          → ShowsInSection y z section b reasons.Truncated → ⊥
+      none z TableSize b h = h
+      none z (Strings zero) b h = h
+      none z (Strings (suc more)) b h = h
+      none z Nodes b h = h
+
+  -- nor a record
+  never_by_place : (place : Place) (reason : Reason) → reason ≡ reasons.Truncated
+      → refusal_at (stream x) p ≡ Some (record { place = place; reason = reason }) → ⊥
+  never_by_place (InFrame from) reason cut e =
+      let h = (refused_by_record x p from reasons.Truncated (λ is. cc)).0
+      (e ∙ ap (λ (r : Reason). Some (offence_at from r)) cut) in
+      never_cut x p (standing (stream x) h.before).situation.stage h.bytes h.shows
+  never_by_place (InPayload number at) reason cut e =
+      let h = (in_payload_is x p number at reason).0 e in
+      payload_uncut (payloads x h.0.kind) h.0.strings h.2 h.1 at reason cut h.5
+
+  never_cut_off : (o : Offence) → refusal_at (stream x) p ≡ Some o → o.reason ≡ reasons.Truncated → ⊥
+  never_cut_off o e cut = never_by_place o.place o.reason cut e
+
+pub no_piece_cuts_off : (x : Settings) (p y : List ℕ) (n : ℕ) (o : Offence)
+    → answer (stream x) p y ≡ offends n o → o.reason ≡ reasons.Truncated → ⊥
+no_piece_cuts_off x p y n o e cut =
+    never_cut_off x (p ++ take n y) o ((answers_are_first (stream x) p y (offends n o)).0 e).1 cut
 
 module _ (x : Settings) (bytes : List ℕ) where
-  -- a stream that isn't refused by its bytes
-  module _ (set : IsInitiators x) where
-    cut_for : (from : ℕ) → offence x bytes ≡ Some (offence_at from reasons.Truncated) → ((i : ℕ) → i ≤ length bytes → refusal_at (stream x) (take i bytes) ≡ None) × IsCutOff x bytes from
-    cut_for from e =
-        elim ((offences_are_first (stream x) bytes (offence_at from reasons.Truncated)).0 e) [
-          | inl h ↦ absurd (never_cut_off x (take h.place bytes) (offence_at from reasons.Truncated) h.refused refl)
-          | inr h ↦ (h.unrefused, (cut_off_is x bytes set from).0 h.ended)
-        ]
+  cut_for : (from : ℕ) → offence_by (stream x) bytes ≡ Some (offence_at from reasons.Truncated)
+      → ((i : ℕ) → i ≤ length bytes → refusal_at (stream x) (take i bytes) ≡ None)
+      × IsCutOff x bytes from
+  cut_for from e =
+      elim ((offences_are_first (stream x) bytes (offence_at from reasons.Truncated)).0 e) [
+        | inl h ↦ absurd (never_cut_off x (take h.place bytes)
+            (offence_at from reasons.Truncated) h.refused refl)
+        | inr h ↦ (h.unrefused, (cut_off_is x bytes from).0 h.ended)
+      ]
 
-    pub cut_off_unrefused : (from : ℕ) → (offence x bytes ≡ Some (offence_at from reasons.Truncated)) ↔ (((i : ℕ) → i ≤ length bytes → refusal_at (stream x) (take i bytes) ≡ None) × IsCutOff x bytes from)
-    cut_off_unrefused from =
-        (cut_for from, λ h. (offences_are_first (stream x) bytes (offence_at from reasons.Truncated)).1 (inr (record { unrefused = h.0; ended = (cut_off_is x bytes set from).1 h.1 })))
+  pub cut_off_unrefused : (from : ℕ)
+      → (offence_by (stream x) bytes ≡ Some (offence_at from reasons.Truncated))
+      ↔ (((i : ℕ) → i ≤ length bytes → refusal_at (stream x) (take i bytes) ≡ None)
+      × IsCutOff x bytes from)
+  cut_off_unrefused from = (
+    cut_for from,
+    λ h. (offences_are_first (stream x) bytes (offence_at from reasons.Truncated)).1
+        (inr (record { unrefused = h.0; ended = (cut_off_is x bytes from).1 h.1 })),
+  )
 
   -- an offence other than the end's is that of the first prefix that is refused
   module _ (o : Offence) (isnt : ending_at (stream x) bytes ≡ Some o → ⊥) (Holds : List ℕ → Type 0) (law : (p : List ℕ) → (refusal_at (stream x) p ≡ Some o) ↔ Holds p) where
-    first_for : offence x bytes ≡ Some o → Begins x bytes Holds
+    first_for : offence_by (stream x) bytes ≡ Some o → Begins x bytes Holds
     first_for e =
         elim ((offences_are_first (stream x) bytes o).0 e) [
           | inl h ↦ (h.place, h.within, h.before, (law (take h.place bytes)).0 h.refused)
           | inr h ↦ absurd (isnt h.ended)
         ]
 
-    for_first : Begins x bytes Holds → offence x bytes ≡ Some o
+    for_first : Begins x bytes Holds → offence_by (stream x) bytes ≡ Some o
     for_first (n, within, before, holds) = (offences_are_first (stream x) bytes o).1 (inl (record { place = n; within = within; before = before; refused = (law (take n bytes)).1 holds }))
 
-    first_is : (offence x bytes ≡ Some o) ↔ Begins x bytes Holds
+    first_is : (offence_by (stream x) bytes ≡ Some o) ↔ Begins x bytes Holds
     first_is = (first_for, for_first)
 
   -- whose reason is none of these
   other_end : (from : ℕ) (reason : Reason) → (reason ≡ reasons.Truncated → ⊥) → ending_at (stream x) bytes ≡ Some (offence_at from reason) → ⊥
   other_end from reason isnt e = isnt (end_cuts_off x bytes (offence_at from reason) e).0
 
-  pub unbuilt_first : (from : ℕ) → (offence x bytes ≡ Some (offence_at from reasons.Unbuilt)) ↔ Begins x bytes (λ p. ShowsUnbuilt x p from)
-  unbuilt_first from = first_is (offence_at from reasons.Unbuilt) (other_end from reasons.Unbuilt (λ e. cc)) (λ p. ShowsUnbuilt x p from) (λ p. unbuilt_is x p from)
+  pub refused_first : (from : ℕ) (reason : Reason) → (reason ≡ reasons.SessionTooLong → ⊥)
+      → (reason ≡ reasons.Truncated → ⊥)
+      → (offence_by (stream x) bytes ≡ Some (offence_at from reason))
+      ↔ Begins x bytes (λ p. ShowsFrom x p from reason)
+  refused_first from reason short whole =
+      first_is (offence_at from reason) (other_end from reason whole)
+      (λ p. ShowsFrom x p from reason) (λ p. refused_by_record x p from reason short)
 
-  pub too_large_first : (from : ℕ) → (offence x bytes ≡ Some (offence_at from reasons.MessageTooLarge)) ↔ Begins x bytes (λ p. ShowsFrom x p from reasons.MessageTooLarge)
-  too_large_first from =
-      first_is (offence_at from reasons.MessageTooLarge) (other_end from reasons.MessageTooLarge (λ e. cc)) (λ p. ShowsFrom x p from reasons.MessageTooLarge) (λ p. too_large_is x p from)
-
-  pub in_payload_first : (number at : ℕ) (reason : Reason) → (offence x bytes ≡ Some (offence_in number (refusal at reason))) ↔ Begins x bytes (λ p. ShowsInPayload x p number at reason)
+  pub in_payload_first : (number at : ℕ) (reason : Reason)
+      → (offence_by (stream x) bytes ≡ Some (offence_in number (refusal at reason)))
+      ↔ Begins x bytes (λ p. ShowsInPayload x p number at reason)
   in_payload_first number at reason =
-      first_is (offence_in number (refusal at reason)) (λ e. apart _ reasons.Truncated number (refusal at reason) (sym (ended_so x bytes (offence_in number (refusal at reason)) e).1))
+      first_is (offence_in number (refusal at reason))
+      (λ e. apart _ reasons.Truncated number (refusal at reason)
+      (sym (ended_so x bytes (offence_in number (refusal at reason)) e).1))
       (λ p. ShowsInPayload x p number at reason) (λ p. in_payload_is x p number at reason)
 
   -- what is over stays so
@@ -155,7 +221,7 @@ module _ (x : Settings) (bytes : List ℕ) where
       let same = at_quota place from within before h in
       (omega (arith, same), (λ i lt. before i (omega (arith, same))), rw same at h)
 
-  pub too_long_at_quota : (from : ℕ) → (offence x bytes ≡ Some (offence_at from reasons.SessionTooLong)) ↔ IsTooLongAtQuota from
+  pub too_long_at_quota : (from : ℕ) → (offence_by (stream x) bytes ≡ Some (offence_at from reasons.SessionTooLong)) ↔ IsTooLongAtQuota from
   too_long_at_quota from =
       let first = first_is (offence_at from reasons.SessionTooLong) (other_end from reasons.SessionTooLong (λ e. cc)) (λ p. IsTooLong x p from) (λ p. too_long_is x p from) in
       ((λ e. long_for from (first.0 e)), (λ h. first.1 (x.limits.session, h.0, h.1, h.2)))

@@ -1,18 +1,10 @@
 -- A worked stream for each refusal of a record, and of a stream's length and end, by computation: its
 -- place, and the byte that shows it.
-use Rattle.std.proofs.Common.{◌≡◌, ◌^◌, ℕ, List, [], ◌∷◌, ◌++◌, length, Option, Some, None, refl}
-use Rattle.unit_streams.specs.Front.{Front, begun, whole, wrong}
+use Rattle.std.proofs.Common.{◌≡◌, ◌^◌, ℕ, List, [], ◌∷◌, ◌++◌, length, Some, None, refl}
 use Rattle.unit_streams.specs.Judging.{events}
 use Rattle.nbfx_values.specs.declared.refusals.Reason.{Reason}
 use Rattle.nbfx_values.specs.declared.refusals.Reason.TheVariants as reasons
-use Rattle.nmf_records.specs.declared.frame.FrameFault.{FrameFault}
-use Rattle.nmf_records.specs.declared.script.Direction.TheVariants.{FromInitiator}
-use Rattle.nmf_records.specs.declared.script.Due.{Due}
-use Rattle.nmf_records.specs.declared.script.Due.TheVariants as dues
-use Rattle.nmf_records.specs.Records.{Read}
-use Rattle.nmf_records.specs.Reading.{frame_at}
-use Rattle.nmf_records.specs.Script.{may_come}
-use Rattle.stream_reader.specs.Stream.{Settings, offence_at, reason_in, reason_of, stream}
+use Rattle.stream_reader.specs.Stream.{Settings, offence_at, stream}
 use Rattle.stream_reader.specs.Judging.{offence}
 use Rattle.stream_reader.proofs.OnLiterals.{streams_on_literals, element, of_session, preamble, set_to, usual, version, with_encoding, with_mode, with_via}
 
@@ -46,62 +38,62 @@ envelope = 6 ∷ 5 ∷ element
 
 -- a type byte above 0C, at each stage
 unknown_types :
-    Refuses usual (13 ∷ []) 0 reasons.Unbuilt
-    × Refuses usual (version ++ 13 ∷ []) 3 reasons.Unbuilt
-    × Refuses usual (with_mode ++ 255 ∷ []) 5 reasons.Unbuilt
-    × Refuses usual (with_via ++ 13 ∷ []) 20 reasons.Unbuilt
-    × Refuses usual (with_encoding 8 ++ 128 ∷ []) 22 reasons.Unbuilt
-    × RefusesBehind usual (13 ∷ []) 23 reasons.Unbuilt
+    Refuses usual (13 ∷ []) 0 reasons.UnknownRecord
+    × Refuses usual (version ++ 13 ∷ []) 3 reasons.UnknownRecord
+    × Refuses usual (with_mode ++ 255 ∷ []) 5 reasons.UnknownRecord
+    × Refuses usual (with_via ++ 13 ∷ []) 20 reasons.UnknownRecord
+    × Refuses usual (with_encoding 8 ++ 128 ∷ []) 22 reasons.UnknownRecord
+    × RefusesBehind usual (13 ∷ []) 23 reasons.UnknownRecord
 unfolding streams_on_literals
 unknown_types = (refl, refl, refl, refl, refl, refl)
 
 -- a known type that may not come, at each stage
 types_out_of_order :
-    Refuses usual (7 ∷ []) 0 reasons.Unbuilt
-    × Refuses usual (1 ∷ 2 ∷ []) 0 reasons.Unbuilt
-    × Refuses usual (version ++ 0 ∷ 1 ∷ 0 ∷ []) 3 reasons.Unbuilt
-    × Refuses usual (with_mode ++ 1 ∷ 2 ∷ []) 5 reasons.Unbuilt
-    × Refuses usual (with_via ++ 2 ∷ 0 ∷ []) 20 reasons.Unbuilt
-    × Refuses usual (with_encoding 8 ++ 6 ∷ 0 ∷ []) 22 reasons.Unbuilt
-    × RefusesBehind usual (12 ∷ []) 23 reasons.Unbuilt
-    × RefusesBehind usual (5 ∷ []) 23 reasons.Unbuilt
-    × RefusesBehind usual (8 ∷ []) 23 reasons.Unbuilt
-    × RefusesBehind usual (11 ∷ []) 23 reasons.Unbuilt
-    × RefusesAfter 2 usual (envelope ++ 12 ∷ []) 30 reasons.Unbuilt
+    Refuses usual (7 ∷ []) 0 reasons.OutOfOrder
+    × Refuses usual (1 ∷ 2 ∷ []) 0 reasons.OutOfOrder
+    × Refuses usual (version ++ 0 ∷ 1 ∷ 0 ∷ []) 3 reasons.OutOfOrder
+    × Refuses usual (with_mode ++ 1 ∷ 2 ∷ []) 5 reasons.OutOfOrder
+    × Refuses usual (with_via ++ 2 ∷ 0 ∷ []) 20 reasons.OutOfOrder
+    × Refuses usual (with_encoding 8 ++ 6 ∷ 0 ∷ []) 22 reasons.OutOfOrder
+    × RefusesBehind usual (12 ∷ []) 23 reasons.OutOfOrder
+    × RefusesBehind usual (5 ∷ []) 23 reasons.OutOfOrder
+    × RefusesBehind usual (8 ∷ []) 23 reasons.OutOfOrder
+    × RefusesBehind usual (11 ∷ []) 23 reasons.OutOfOrder
+    × RefusesAfter 2 usual (envelope ++ 12 ∷ []) 30 reasons.OutOfOrder
 unfolding streams_on_literals
 types_out_of_order = (refl, refl, refl, refl, refl, refl, refl, refl, refl, refl, (refl, refl))
 
 -- an encoding that is spelled out, an upgrade, and its answer
 types_without_a_record :
-    Refuses usual (with_via ++ 4 ∷ []) 20 reasons.Unbuilt
-    × Refuses usual (with_encoding 8 ++ 9 ∷ []) 22 reasons.Unbuilt
-    × Refuses usual (with_encoding 8 ++ 10 ∷ []) 22 reasons.Unbuilt
+    Refuses usual (with_via ++ 4 ∷ []) 20 reasons.BadEncoding
+    × Refuses usual (with_encoding 8 ++ 9 ∷ []) 22 reasons.UpgradeRefused
+    × Refuses usual (with_encoding 8 ++ 10 ∷ []) 22 reasons.OutOfOrder
 unfolding streams_on_literals
 types_without_a_record = (refl, refl, refl)
 
 -- a version other than 1.0, at the byte that makes it whole
 other_versions :
     Refuses usual (0 ∷ 1 ∷ []) 0 reasons.Truncated
-    × Refuses usual (0 ∷ 1 ∷ 1 ∷ []) 0 reasons.Unbuilt
+    × Refuses usual (0 ∷ 1 ∷ 1 ∷ []) 0 reasons.BadVersion
     × Refuses usual (0 ∷ 2 ∷ []) 0 reasons.Truncated
-    × Refuses usual (0 ∷ 2 ∷ 0 ∷ []) 0 reasons.Unbuilt
+    × Refuses usual (0 ∷ 2 ∷ 0 ∷ []) 0 reasons.BadVersion
 unfolding streams_on_literals
 other_versions = (refl, refl, refl, refl)
 
--- a mode other than duplex
+-- a mode other than singleton, duplex and simplex
 other_modes :
     Refuses usual (version ++ 1 ∷ []) 3 reasons.Truncated
-    × Refuses usual (version ++ 1 ∷ 1 ∷ []) 3 reasons.Unbuilt
-    × Refuses usual (version ++ 1 ∷ 3 ∷ []) 3 reasons.Unbuilt
-    × Refuses usual (version ++ 1 ∷ 0 ∷ []) 3 reasons.Unbuilt
+    × Refuses usual (version ++ 1 ∷ 4 ∷ []) 3 reasons.BadMode
+    × Refuses usual (version ++ 1 ∷ 0 ∷ []) 3 reasons.BadMode
+    × Refuses usual (version ++ 1 ∷ 3 ∷ []) 5 reasons.Truncated
 unfolding streams_on_literals
 other_modes = (refl, refl, refl, refl)
 
 -- an encoding other than 7 and 8
 other_encodings :
     Refuses usual (with_via ++ 3 ∷ []) 20 reasons.Truncated
-    × Refuses usual (with_encoding 6) 20 reasons.Unbuilt
-    × Refuses usual (with_encoding 9) 20 reasons.Unbuilt
+    × Refuses usual (with_encoding 6) 20 reasons.BadEncoding
+    × Refuses usual (with_encoding 9) 20 reasons.BadEncoding
     × Refuses usual (with_encoding 7) 22 reasons.Truncated
     × Refuses usual (with_encoding 8) 22 reasons.Truncated
 unfolding streams_on_literals
@@ -109,19 +101,19 @@ other_encodings = (refl, refl, refl, refl, refl)
 
 -- a Via above its quota, at its length
 long_vias :
-    Refuses of_short_via (with_mode ++ 2 ∷ 17 ∷ []) 5 reasons.Unbuilt
+    Refuses of_short_via (with_mode ++ 2 ∷ 17 ∷ []) 5 reasons.TextTooLong
     × Refuses of_short_via (with_mode ++ 2 ∷ 144 ∷ 0 ∷ []) 5 reasons.Truncated
     × Refuses of_short_via (with_mode ++ 2 ∷ 145 ∷ []) 5 reasons.Truncated
-    × Refuses of_short_via (with_mode ++ 2 ∷ 145 ∷ 0 ∷ []) 5 reasons.Unbuilt
+    × Refuses of_short_via (with_mode ++ 2 ∷ 145 ∷ 0 ∷ []) 5 reasons.TextTooLong
 unfolding streams_on_literals
 long_vias = (refl, refl, refl, refl)
 
 -- a Via that is not UTF-8, at its last byte
 vias_not_utf8 :
     Refuses usual (with_mode ++ 2 ∷ 2 ∷ 255 ∷ []) 5 reasons.Truncated
-    × Refuses usual (with_mode ++ 2 ∷ 2 ∷ 255 ∷ 97 ∷ []) 5 reasons.Unbuilt
-    × Refuses usual (with_mode ++ 2 ∷ 2 ∷ 195 ∷ 40 ∷ []) 5 reasons.Unbuilt
-    × Refuses usual (with_mode ++ 2 ∷ 1 ∷ 195 ∷ []) 5 reasons.Unbuilt
+    × Refuses usual (with_mode ++ 2 ∷ 2 ∷ 255 ∷ 97 ∷ []) 5 reasons.TextNotUtf8
+    × Refuses usual (with_mode ++ 2 ∷ 2 ∷ 195 ∷ 40 ∷ []) 5 reasons.TextNotUtf8
+    × Refuses usual (with_mode ++ 2 ∷ 1 ∷ 195 ∷ []) 5 reasons.TextNotUtf8
     × Refuses usual (with_mode ++ 2 ∷ 2 ∷ 195 ∷ 169 ∷ []) 9 reasons.Truncated
 unfolding streams_on_literals
 vias_not_utf8 = (refl, refl, refl, refl, refl)
@@ -129,11 +121,11 @@ vias_not_utf8 = (refl, refl, refl, refl, refl)
 -- an integer whose fifth byte is above 07
 bad_integers :
     Refuses usual (with_mode ++ 2 ∷ 255 ∷ 255 ∷ 255 ∷ 255 ∷ []) 5 reasons.Truncated
-    × Refuses usual (with_mode ++ 2 ∷ 255 ∷ 255 ∷ 255 ∷ 255 ∷ 8 ∷ []) 5 reasons.Unbuilt
-    × Refuses usual (with_mode ++ 2 ∷ 128 ∷ 128 ∷ 128 ∷ 128 ∷ 8 ∷ []) 5 reasons.Unbuilt
+    × Refuses usual (with_mode ++ 2 ∷ 255 ∷ 255 ∷ 255 ∷ 255 ∷ 8 ∷ []) 5 reasons.BadInt
+    × Refuses usual (with_mode ++ 2 ∷ 128 ∷ 128 ∷ 128 ∷ 128 ∷ 8 ∷ []) 5 reasons.BadInt
     × RefusesBehind usual (6 ∷ 255 ∷ 255 ∷ 255 ∷ 255 ∷ []) 23 reasons.Truncated
-    × RefusesBehind usual (6 ∷ 255 ∷ 255 ∷ 255 ∷ 255 ∷ 8 ∷ []) 23 reasons.Unbuilt
-    × RefusesBehind usual (6 ∷ 128 ∷ 128 ∷ 128 ∷ 128 ∷ 128 ∷ []) 23 reasons.Unbuilt
+    × RefusesBehind usual (6 ∷ 255 ∷ 255 ∷ 255 ∷ 255 ∷ 8 ∷ []) 23 reasons.BadInt
+    × RefusesBehind usual (6 ∷ 128 ∷ 128 ∷ 128 ∷ 128 ∷ 128 ∷ []) 23 reasons.BadInt
     × RefusesBehind usual (6 ∷ 255 ∷ 255 ∷ 255 ∷ 255 ∷ 7 ∷ []) 23 reasons.MessageTooLarge
 unfolding streams_on_literals
 bad_integers = (refl, refl, refl, refl, refl, refl, refl)
@@ -180,114 +172,11 @@ quota_reached = (refl, refl, refl, refl, refl, (refl, refl), (refl, refl), (refl
 
 -- a refusal of a record goes before that of the session's length, and so does an event
 unit_first :
-    Refuses (of_session 1) (13 ∷ []) 0 reasons.Unbuilt
-    × Refuses (of_session 4) (version ++ 13 ∷ []) 3 reasons.Unbuilt
+    Refuses (of_session 1) (13 ∷ []) 0 reasons.UnknownRecord
+    × Refuses (of_session 4) (version ++ 13 ∷ []) 3 reasons.UnknownRecord
     × RefusesAfter 1 (of_session 23) [] 23 reasons.SessionTooLong
     × RefusesAfter 1 (of_session 27) (6 ∷ 129 ∷ 128 ∷ 4 ∷ []) 23 reasons.MessageTooLarge
     × ClosesAfter 2 (of_session 24) (7 ∷ [])
     × ClosesAfter 2 (of_session 24) (7 ∷ 13 ∷ [])
 unfolding streams_on_literals
 unit_first = (refl, refl, (refl, refl), (refl, refl), (refl, refl), (refl, refl))
-
--- why the record at the front of some bytes is refused, told apart
-abbrev reason_at : Settings → Due → Front Read FrameFault → Option Reason
-reason_at x due begun = None
-reason_at x due (whole read n) = reason_in x read.frame
-reason_at x due (wrong fault n) = Some (reason_of due fault)
-
-abbrev named : Settings → Due → List ℕ → Option Reason
-named x due bytes = reason_at x due (frame_at x.limits.via (may_come FromInitiator due) bytes)
-
--- each record of a preamble, an envelope and the end, and one that is only begun
-nothing_named :
-    (named usual dues.Version (0 ∷ 1 ∷ 0 ∷ []) ≡ None)
-    × (named usual dues.Mode (1 ∷ 2 ∷ []) ≡ None)
-    × (named usual dues.Via (2 ∷ 2 ∷ 104 ∷ 105 ∷ []) ≡ None)
-    × (named usual dues.Encoding (3 ∷ 7 ∷ []) ≡ None)
-    × (named usual dues.Encoding (3 ∷ 8 ∷ []) ≡ None)
-    × (named usual dues.PreambleEnd (12 ∷ []) ≡ None)
-    × (named usual dues.Messages (6 ∷ 128 ∷ 128 ∷ 4 ∷ []) ≡ None)
-    × (named usual dues.Messages (7 ∷ []) ≡ None)
-    × (named usual dues.Messages (6 ∷ 129 ∷ []) ≡ None)
-unfolding streams_on_literals
-nothing_named = (refl, refl, refl, refl, refl, refl, refl, refl, refl)
-
--- the fifth byte of a size or of a length is above 07
-bad_integers_named :
-    (named usual dues.Messages (6 ∷ 255 ∷ 255 ∷ 255 ∷ 255 ∷ 8 ∷ []) ≡ Some reasons.BadInt)
-    × (named usual dues.Via (2 ∷ 255 ∷ 255 ∷ 255 ∷ 255 ∷ 8 ∷ []) ≡ Some reasons.BadInt)
-unfolding streams_on_literals
-bad_integers_named = (refl, refl)
-
--- a type byte above 0C, wherever it stands
-unknown_types_named :
-    (named usual dues.Version (13 ∷ []) ≡ Some reasons.UnknownRecord)
-    × (named usual dues.Mode (13 ∷ []) ≡ Some reasons.UnknownRecord)
-    × (named usual dues.Via (13 ∷ []) ≡ Some reasons.UnknownRecord)
-    × (named usual dues.Encoding (13 ∷ []) ≡ Some reasons.UnknownRecord)
-    × (named usual dues.PreambleEnd (13 ∷ []) ≡ Some reasons.UnknownRecord)
-    × (named usual dues.Messages (13 ∷ []) ≡ Some reasons.UnknownRecord)
-unfolding streams_on_literals
-unknown_types_named = (refl, refl, refl, refl, refl, refl)
-
--- a known type that may not come, and not for the encoding or an upgrade
-types_out_of_order_named :
-    (named usual dues.Version (7 ∷ []) ≡ Some reasons.OutOfOrder)
-    × (named usual dues.Version (4 ∷ []) ≡ Some reasons.OutOfOrder)
-    × (named usual dues.Mode (9 ∷ []) ≡ Some reasons.OutOfOrder)
-    × (named usual dues.Via (3 ∷ 8 ∷ []) ≡ Some reasons.OutOfOrder)
-    × (named usual dues.Encoding (9 ∷ []) ≡ Some reasons.OutOfOrder)
-    × (named usual dues.Encoding (12 ∷ []) ≡ Some reasons.OutOfOrder)
-    × (named usual dues.PreambleEnd (4 ∷ []) ≡ Some reasons.OutOfOrder)
-    × (named usual dues.PreambleEnd (8 ∷ []) ≡ Some reasons.OutOfOrder)
-    × (named usual dues.PreambleEnd (10 ∷ []) ≡ Some reasons.OutOfOrder)
-    × (named usual dues.Messages (4 ∷ []) ≡ Some reasons.OutOfOrder)
-    × (named usual dues.Messages (8 ∷ []) ≡ Some reasons.OutOfOrder)
-    × (named usual dues.Messages (9 ∷ []) ≡ Some reasons.OutOfOrder)
-unfolding streams_on_literals
-types_out_of_order_named = (refl, refl, refl, refl, refl, refl, refl, refl, refl, refl, refl, refl)
-
--- a version other than 1, 0
-other_versions_named :
-    (named usual dues.Version (0 ∷ 2 ∷ 0 ∷ []) ≡ Some reasons.BadVersion)
-    × (named usual dues.Version (0 ∷ 1 ∷ 1 ∷ []) ≡ Some reasons.BadVersion)
-unfolding streams_on_literals
-other_versions_named = (refl, refl)
-
--- a mode other than 2
-other_modes_named :
-    (named usual dues.Mode (1 ∷ 1 ∷ []) ≡ Some reasons.BadMode)
-    × (named usual dues.Mode (1 ∷ 3 ∷ []) ≡ Some reasons.BadMode)
-    × (named usual dues.Mode (1 ∷ 0 ∷ []) ≡ Some reasons.BadMode)
-unfolding streams_on_literals
-other_modes_named = (refl, refl, refl)
-
--- the length of a Via is above 2,048
-long_vias_named :
-    (named usual dues.Via (2 ∷ 129 ∷ 16 ∷ []) ≡ Some reasons.TextTooLong)
-    × (named usual dues.Via (2 ∷ 128 ∷ 16 ∷ []) ≡ None)
-unfolding streams_on_literals
-long_vias_named = (refl, refl)
-
--- a Via that is not UTF-8
-vias_not_utf8_named : named usual dues.Via (2 ∷ 1 ∷ 255 ∷ []) ≡ Some reasons.TextNotUtf8
-unfolding streams_on_literals
-vias_not_utf8_named = refl
-
--- an encoding other than 7 and 8, or spelled out
-other_encodings_named :
-    (named usual dues.Encoding (3 ∷ 9 ∷ []) ≡ Some reasons.BadEncoding)
-    × (named usual dues.Encoding (3 ∷ 6 ∷ []) ≡ Some reasons.BadEncoding)
-    × (named usual dues.Encoding (4 ∷ []) ≡ Some reasons.BadEncoding)
-unfolding streams_on_literals
-other_encodings_named = (refl, refl, refl)
-
--- an upgrade in place of the preamble's end
-upgrade_named : named usual dues.PreambleEnd (9 ∷ []) ≡ Some reasons.UpgradeRefused
-unfolding streams_on_literals
-upgrade_named = refl
-
--- an envelope of more than 65,536 bytes
-too_large_named : named usual dues.Messages (6 ∷ 129 ∷ 128 ∷ 4 ∷ []) ≡ Some reasons.MessageTooLarge
-unfolding streams_on_literals
-too_large_named = refl

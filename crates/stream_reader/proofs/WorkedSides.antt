@@ -13,7 +13,7 @@ use Rattle.nbfx_values.specs.declared.session.Kind.{Kind}
 use Rattle.nbfx_values.specs.declared.session.Kind.TheVariants.{Plain, Session}
 use Rattle.nbfx_decoder.specs.Payload.{refusal}
 use Rattle.nbfx_decoder.proofs.OnLiterals.{payloads_on_literals, envelope_strings}
-use Rattle.stream_reader.specs.EitherSide.{Settings, Side, initiators, receivers, StreamEvent, opened, accepted, message, ended, peer_fault, offence_at, offence_in, stream, unit_in, after, completed, refused, too_long, cut_off}
+use Rattle.stream_reader.specs.Stream.{Settings, Side, initiators, receivers, StreamEvent, opened, accepted, message, ended, peer_fault, offence_at, offence_in, stream, unit_in, after, completed, refused, too_long, cut_off}
 
 -- what a proof unfolds to compute streams
 unfoldable sides_on_literals : ⊤

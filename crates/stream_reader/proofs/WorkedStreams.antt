@@ -7,7 +7,7 @@ use Rattle.nbfx_values.specs.declared.refusals.Offence.{Offence}
 use Rattle.nbfx_values.specs.declared.refusals.Reason.TheVariants as reasons
 use Rattle.nbfx_values.specs.declared.content.Item.TheVariants.{Start, Close}
 use Rattle.nbfx_decoder.specs.Payload.{refusal}
-use Rattle.stream_reader.specs.Stream.{Envelope, Settings, StreamEvent, opened, message, ended, offence_at, offence_in, stream}
+use Rattle.stream_reader.specs.Stream.{Envelope, Settings, StreamEvent, opened, accepted, message, ended, peer_fault, offence_at, offence_in, stream}
 use Rattle.stream_reader.specs.Judging.{offence}
 use Rattle.stream_reader.proofs.OnLiterals.{streams_on_literals, usual, preamble, plain_preamble}
 
@@ -15,14 +15,18 @@ use Rattle.stream_reader.proofs.OnLiterals.{streams_on_literals, usual, preamble
 -- and strings
 data Shown : Type 0 where
   preamble_whole : Shown
+  ack_whole : Shown
   envelope_whole : (number size items depth content : ℕ) → List (List ℕ) → Shown
   session_whole : ℕ → Shown
+  fault_whole : ℕ → Shown
 
 abbrev shown : StreamEvent → Shown
 shown (opened mode kind via) = preamble_whole
 shown (message e) =
     envelope_whole e.number e.size (length e.items) (depth_of e.items) (content_of e.items) e.strings
+shown accepted = ack_whole
 shown (ended n) = session_whole n
+shown (peer_fault n text) = fault_whole n
 
 abbrev Tells : Settings → List ℕ → List Shown → Option Offence → Type 0
 Tells x bytes told end = (map shown (events (stream x) bytes) ≡ told) × (offence x bytes ≡ end)
@@ -96,8 +100,8 @@ unfolding streams_on_literals
 plain_session = (refl, refl)
 
 -- prefixes: one that is refused in a record, one in a payload, one that goes on, and one that is over
-refused_prefix : refusal_at (stream usual) (0 ∷ 1 ∷ 0 ∷ 1 ∷ 3 ∷ [])
-    ≡ Some (offence_at 3 reasons.Unbuilt)
+refused_prefix : refusal_at (stream usual) (0 ∷ 1 ∷ 0 ∷ 1 ∷ 4 ∷ [])
+    ≡ Some (offence_at 3 reasons.BadMode)
 unfolding streams_on_literals
 refused_prefix = refl
 

@@ -8,15 +8,21 @@ use Rattle.nbfx_decoder.specs.Standing.{settings_of, StandsFor, FailedBehind}
 use Rattle.stream_reader.specs.declared.awaited.Awaited.{Awaited}
 use Rattle.stream_reader.specs.declared.awaited.Awaited.TheVariants as awaits
 
--- how many bytes of a payload are still to come; before its head, as many as it may have
-abbrev pub to_come : ℕ → Awaited → ℕ
-to_come most (awaits.Record due) = most
-to_come most (awaits.Payload p) = p.left
+-- how many bytes a payload has, of the chunks so far, and how many of these are still to come
+abbrev pub size_of : Awaited → ℕ
+size_of (awaits.Record due) = 0
+size_of (awaits.Chunk p) = p.size
+size_of (awaits.Payload p) = p.size
 
--- the decoder stands for bytes of a payload which with so many more are within the quota
-abbrev pub HasRoom : Decoder → ℕ → ℕ → Type 0
-HasRoom d most n = (strings : List (List ℕ)) × (p : List ℕ) × StandsFor d strings p
-    × (length p + n ≤ most)
+abbrev pub to_come : Awaited → ℕ
+to_come (awaits.Record due) = 0
+to_come (awaits.Chunk p) = 0
+to_come (awaits.Payload p) = p.left
+
+-- the decoder stands for bytes of a payload, which with those to come are no more than it has
+abbrev pub HasRoom : Decoder → Awaited → Type 0
+HasRoom d awaited = (strings : List (List ℕ)) × (p : List ℕ) × StandsFor d strings p
+    × (length p + to_come awaited ≤ size_of awaited)
 
 -- it has failed behind bytes of a payload
 abbrev pub HasFailed : Decoder → Type 0
@@ -26,5 +32,6 @@ HasFailed d = (fault : DecodeFault) × (strings : List (List ℕ)) × (p : List 
 -- a decoder that hasn't failed has room for what is to come of the payload
 pub record IsBounded (d : Decoder) (quotas : Quotas) (awaited : Awaited) : Type 0 where
   pub limits : (settings_of d).limits ≡ limits_of quotas
-  pub few : to_come quotas.payload awaited ≤ quotas.payload
-  pub room : HasRoom d quotas.payload (to_come quotas.payload awaited) ⊎ HasFailed d
+  pub few : size_of awaited ≤ quotas.payload
+  pub ordered : to_come awaited ≤ size_of awaited
+  pub room : HasRoom d awaited ⊎ HasFailed d

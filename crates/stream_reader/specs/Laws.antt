@@ -1,56 +1,19 @@
--- What holds of streams by their definitions alone, whatever the settings. What is said of
--- sessions, and of streams that are cut off, is said of an initiator's stream in duplex mode.
-use Rattle.std.specs.Prelude.{◌≡◌, ◌+◌, ◌≤◌, ◌<◌, ◌*◌, ◌-◌, ℕ, List, ◌++◌, length, take, false, Some, None, ◌↔◌, ◌⊎◌}
+-- What holds of streams of either side by their definitions alone, whatever the settings.
+use Rattle.std.specs.Prelude.{◌≡◌, ◌+◌, ◌≤◌, ◌<◌, ◌*◌, ◌-◌, ℕ, List, length, take, false, Option, Some, None, ◌↔◌}
 use Rattle.unit_streams.specs.Grammar.{standing}
-use Rattle.unit_streams.specs.Judging.{event_at, refusal_at, is_over_at, ending_at, history, answer, offends}
+use Rattle.unit_streams.specs.Judging.{event_at, refusal_at, is_over_at, ending_at, offence as offence_by, answer, offends}
 use Rattle.nbfx_values.specs.Limits.{IsGood, Limits}
 use Rattle.nbfx_values.specs.Measures.{content_of, depth_of, opened_by}
 use Rattle.nbfx_values.specs.declared.session.Kind.{Kind}
-use Rattle.nbfx_values.specs.declared.session.Mode.TheVariants.{Duplex}
+use Rattle.nbfx_values.specs.declared.session.Mode.{Mode}
 use Rattle.nbfx_values.specs.declared.refusals.Offence.{Offence}
 use Rattle.nbfx_values.specs.declared.refusals.Reason.{Reason}
-use Rattle.nbfx_values.specs.declared.refusals.Reason.TheVariants.{Unbuilt, MessageTooLarge, Truncated, SessionTooLong}
+use Rattle.nbfx_values.specs.declared.refusals.Reason.TheVariants.{Truncated, SessionTooLong}
 use Rattle.string_tables.specs.SessionStrings.{used_cost}
-use Rattle.nbfx_decoder.specs.Payload.{Refusal, refusal}
+use Rattle.nbfx_decoder.specs.Payload.{refusal}
 use Rattle.nbfx_decoder.specs.Values.{values_of}
-use Rattle.nmf_records.specs.declared.frame.Frame.{Frame}
-use Rattle.nmf_records.specs.declared.script.Direction.TheVariants.{FromInitiator}
-use Rattle.nmf_records.specs.Script.{IsScript}
-use Rattle.stream_reader.specs.Stream.{Settings, Envelope, OpenPayload, message, offence_at, offence_in, payload_open, stream, strings_in}
-use Rattle.stream_reader.specs.Judging.{offence}
-use Rattle.stream_reader.specs.Sessions.{Carried, IsSession, IsClosed, HasScript, first_context}
-use Rattle.stream_reader.specs.Events.{session_events}
-use Rattle.stream_reader.specs.Reasons.{ShowsFrom, ShowsUnbuilt, ShowsInPayload, IsTooLong, IsCutOff}
-
--- settings of an initiator's stream in duplex mode, to any Via, with quotas that may be
-pub record IsInitiators (x : Settings) : Type 0 where
-  pub direction : x.direction ≡ FromInitiator
-  pub mode : x.mode ≡ Duplex
-  pub endpoint : x.endpoint ≡ None
-  pub good : IsGood x.limits
-
--- a stream has no offence exactly where a session stands at its front
-abbrev pub ClosedOrRefused : Type 0
-ClosedOrRefused = (x : Settings) → IsInitiators x
-    → (bytes : List ℕ) → (offence x bytes ≡ None) ↔ IsClosed x bytes
-
--- a session is the records of a script, none of which is refused, with the payloads of documents,
--- within the session quota
-abbrev pub SessionsAreScripts : Type 0
-SessionsAreScripts = (x : Settings) → IsInitiators x → (bytes : List ℕ)
-    → ((via : List ℕ) × (kind : Kind) × (carried : List Carried)
-    × IsSession x via kind carried bytes)
-    ↔ ((script : List Frame) × IsScript FromInitiator Duplex script
-    × HasScript x first_context script bytes × (length bytes ≤ x.limits.session))
-
--- Where a session stands at the front of a stream, its parts are the stream's history, whatever
--- follows.
-abbrev pub SessionsAreTold : Type 0
-SessionsAreTold = (x : Settings) → IsInitiators x
-    → (via : List ℕ) (kind : Kind) (carried : List Carried) (session rest : List ℕ)
-    → IsSession x via kind carried session
-    → history (stream x) (session ++ rest)
-    ≡ record { events = session_events via kind carried (length session); offence = None }
+use Rattle.stream_reader.specs.Stream.{Settings, Stage, record_due, chunk_due, payload_open, Envelope, OpenPayload, message, opened, peer_fault, ended, offence_at, offence_in, stream, strings_in}
+use Rattle.stream_reader.specs.Reasons.{ShowsFrom, ShowsInPayload, IsTooLong, IsCutOff}
 
 -- a document that an envelope brings, and the strings behind it, are within the quotas
 pub record FitsIn (quotas : Limits) (e : Envelope) : Type 0 where
@@ -80,6 +43,30 @@ MessagesAreCounted = (x : Settings) (p : List ℕ) (e : Envelope)
     → (strings_in (standing (stream x) p).situation ≡ e.strings)
     × ((standing (stream x) p).situation.messages ≡ e.number + 1)
 
+-- a preamble that is opened tells the mode, the encoding and the text behind it, which is its Via
+abbrev pub PreamblesAreTold : Type 0
+PreamblesAreTold = (x : Settings) (p : List ℕ) (mode : Mode) (kind : Kind) (via : List ℕ)
+    → event_at (stream x) p ≡ Some (opened mode kind via)
+    → (mode ≡ (standing (stream x) p).situation.mode)
+    × (kind ≡ (standing (stream x) p).situation.kind)
+    × (via ≡ (standing (stream x) p).situation.text)
+
+-- an end, and a Fault, tell how many bytes there are, and a Fault the text behind it
+abbrev pub EndsAreMeasured : Type 0
+EndsAreMeasured = (x : Settings) (p : List ℕ) (n : ℕ)
+    → event_at (stream x) p ≡ Some (ended n) → n ≡ length p
+
+abbrev pub FaultsAreMeasured : Type 0
+FaultsAreMeasured = (x : Settings) (p : List ℕ) (n : ℕ) (text : List ℕ)
+    → event_at (stream x) p ≡ Some (peer_fault n text)
+    → (n ≡ length p) × (text ≡ (standing (stream x) p).situation.text)
+
+-- the payload that is open, in one part or between two chunks
+abbrev pub open_payload : Stage → Option OpenPayload
+open_payload (record_due due) = None
+open_payload (chunk_due p) = Some p
+open_payload (payload_open p) = Some p
+
 -- what there is of a payload that is open is within the quotas: its document so far, and the
 -- strings behind its bytes; and it has no more items than twice its bytes so far, and no more
 -- values than bytes
@@ -92,47 +79,24 @@ pub record IsBoundedIn (quotas : Limits) (o : OpenPayload) : Type 0 where
 
 abbrev pub OpenPayloadsAreBounded : Type 0
 OpenPayloadsAreBounded = (x : Settings) → IsGood x.limits → (p : List ℕ) (o : OpenPayload)
-    → (standing (stream x) p).situation.stage ≡ payload_open o → IsBoundedIn x.limits o
+    → open_payload (standing (stream x) p).situation.stage ≡ Some o → IsBoundedIn x.limits o
 
--- bytes are a session of one list of documents at most, each of which leaves one list of strings
-abbrev pub SpellsOneSession : Type 0
-SpellsOneSession = (x : Settings) → IsInitiators x
-    → (via other_via : List ℕ) (kind other_kind : Kind) (carried others : List Carried)
-    (bytes : List ℕ)
-    → IsSession x via kind carried bytes → IsSession x other_via other_kind others bytes
-    → session_events via kind carried (length bytes)
-    ≡ session_events other_via other_kind others (length bytes)
+-- as too long exactly by its length
+abbrev pub TooLongByLength : Type 0
+TooLongByLength = (x : Settings) (p : List ℕ) (from : ℕ)
+    → (refusal_at (stream x) p ≡ Some (offence_at from SessionTooLong)) ↔ IsTooLong x p from
 
--- A prefix is refused in a record for three reasons alone, and else in a payload.
-abbrev pub RefusedInRecordOrPayload : Type 0
-RefusedInRecordOrPayload = (x : Settings) (p : List ℕ) (o : Offence)
-    → refusal_at (stream x) p ≡ Some o
-    → ((from : ℕ) × ((o ≡ offence_at from Unbuilt) ⊎ (o ≡ offence_at from MessageTooLarge)
-    ⊎ (o ≡ offence_at from SessionTooLong)))
-    ⊎ ((number : ℕ) × (r : Refusal) × (o ≡ offence_in number r))
-
--- a prefix is refused as unbuilt exactly where it shows one of the first ten reasons
-abbrev pub UnbuiltByRecord : Type 0
-UnbuiltByRecord = (x : Settings) (p : List ℕ) (from : ℕ)
-    → (refusal_at (stream x) p ≡ Some (offence_at from Unbuilt))
-    ↔ ShowsUnbuilt x p from
-
--- as too large exactly where it ends with the head of a large envelope
-abbrev pub TooLargeByHead : Type 0
-TooLargeByHead = (x : Settings) (p : List ℕ) (from : ℕ)
-    → (refusal_at (stream x) p ≡ Some (offence_at from MessageTooLarge))
-    ↔ ShowsFrom x p from MessageTooLarge
+-- as any other reason in a record exactly where its bytes show it
+abbrev pub RefusedByRecord : Type 0
+RefusedByRecord = (x : Settings) (p : List ℕ) (from : ℕ) (reason : Reason)
+    → (reason ≡ SessionTooLong → ⊥)
+    → (refusal_at (stream x) p ≡ Some (offence_at from reason)) ↔ ShowsFrom x p from reason
 
 -- in a payload exactly where the bytes of the payload show it
 abbrev pub InPayloadByBytes : Type 0
 InPayloadByBytes = (x : Settings) (p : List ℕ) (number at : ℕ) (reason : Reason)
     → (refusal_at (stream x) p ≡ Some (offence_in number (refusal at reason)))
     ↔ ShowsInPayload x p number at reason
-
--- as too long exactly by its length
-abbrev pub TooLongByLength : Type 0
-TooLongByLength = (x : Settings) (p : List ℕ) (from : ℕ)
-    → (refusal_at (stream x) p ≡ Some (offence_at from SessionTooLong)) ↔ IsTooLong x p from
 
 -- no piece shows that a stream is cut off
 abbrev pub NoPieceCutsOff : Type 0
@@ -141,7 +105,7 @@ NoPieceCutsOff = (x : Settings) (p y : List ℕ) (n : ℕ) (o : Offence)
 
 -- the end of the input does where the session isn't over, and shows nothing else
 abbrev pub CutOffByEnd : Type 0
-CutOffByEnd = (x : Settings) → IsInitiators x → (p : List ℕ) (from : ℕ)
+CutOffByEnd = (x : Settings) (p : List ℕ) (from : ℕ)
     → (ending_at (stream x) p ≡ Some (offence_at from Truncated)) ↔ IsCutOff x p from
 
 abbrev pub EndCutsOff : Type 0
@@ -155,32 +119,29 @@ Begins x bytes Holds =
     × Holds (take n bytes)
 
 -- of whole streams
-abbrev pub UnbuiltFirst : Type 0
-UnbuiltFirst = (x : Settings) (bytes : List ℕ) (from : ℕ)
-    → (offence x bytes ≡ Some (offence_at from Unbuilt))
-    ↔ Begins x bytes (λ p. ShowsUnbuilt x p from)
-
-abbrev pub TooLargeFirst : Type 0
-TooLargeFirst = (x : Settings) (bytes : List ℕ) (from : ℕ)
-    → (offence x bytes ≡ Some (offence_at from MessageTooLarge))
-    ↔ Begins x bytes (λ p. ShowsFrom x p from MessageTooLarge)
+abbrev pub RefusedFirst : Type 0
+RefusedFirst = (x : Settings) (bytes : List ℕ) (from : ℕ) (reason : Reason)
+    → (reason ≡ SessionTooLong → ⊥) → (reason ≡ Truncated → ⊥)
+    → (offence_by (stream x) bytes ≡ Some (offence_at from reason))
+    ↔ Begins x bytes (λ p. ShowsFrom x p from reason)
 
 abbrev pub InPayloadFirst : Type 0
 InPayloadFirst = (x : Settings) (bytes : List ℕ) (number at : ℕ) (reason : Reason)
-    → (offence x bytes ≡ Some (offence_in number (refusal at reason)))
+    → (offence_by (stream x) bytes ≡ Some (offence_in number (refusal at reason)))
     ↔ Begins x bytes (λ p. ShowsInPayload x p number at reason)
 
 -- a stream is too long exactly where its bytes up to the session quota are
 abbrev pub TooLongAtQuota : Type 0
 TooLongAtQuota = (x : Settings) (bytes : List ℕ) (from : ℕ)
-    → (offence x bytes ≡ Some (offence_at from SessionTooLong))
+    → (offence_by (stream x) bytes ≡ Some (offence_at from SessionTooLong))
     ↔ ((x.limits.session ≤ length bytes)
     × ((i : ℕ) → i < x.limits.session → refusal_at (stream x) (take i bytes) ≡ None)
     × IsTooLong x (take x.limits.session bytes) from)
 
--- a stream is cut off exactly where nothing of it is refused and it isn't over
+-- a stream is cut off exactly where nothing of it is refused, it isn't over and not a lone Ack that
+-- is enough
 abbrev pub CutOffUnrefused : Type 0
-CutOffUnrefused = (x : Settings) → IsInitiators x → (bytes : List ℕ) (from : ℕ)
-    → (offence x bytes ≡ Some (offence_at from Truncated))
+CutOffUnrefused = (x : Settings) (bytes : List ℕ) (from : ℕ)
+    → (offence_by (stream x) bytes ≡ Some (offence_at from Truncated))
     ↔ (((i : ℕ) → i ≤ length bytes → refusal_at (stream x) (take i bytes) ≡ None)
     × IsCutOff x bytes from)

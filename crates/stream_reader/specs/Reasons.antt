@@ -1,32 +1,37 @@
--- Which bytes of a stream give each reason for refusing it.
-use Rattle.std.specs.Prelude.{◌≡◌, ◌≢◌, ℕ, ◌<◌, ◌≤◌, ◌⊎◌, List, [], ◌∷◌, ◌++◌, length, drop, false}
+-- Which bytes of a stream of either side give each reason for refusing it in a record, or by its
+-- length, and where it is cut off.
+use Rattle.std.specs.Prelude.{◌≡◌, ◌≢◌, ℕ, ◌+◌, ◌<◌, ◌≤◌, ◌⊎◌, ◌==◌, List, [], ◌∷◌, ◌++◌, length, drop, Bool, true, false, Some}
 use Rattle.unit_streams.specs.Grammar.{standing}
 use Rattle.unit_streams.specs.Judging.{is_over_at}
 use Rattle.unit_streams.specs.Going.{IsGoing}
 use Rattle.unit_streams.specs.Refusals.{AreUnits}
 use Rattle.multibyte_ints.specs.Integer.{Spells}
 use Rattle.multibyte_ints.specs.Laws.{FifthIsAbove}
+use Rattle.nbfx_values.specs.declared.session.Kind.{Kind}
 use Rattle.nbfx_values.specs.declared.session.Kind.TheVariants.{Plain, Session}
+use Rattle.nbfx_values.specs.declared.session.Mode.TheVariants.{Singleton, Duplex, Simplex}
 use Rattle.nbfx_values.specs.Session.{mode_number, kind_number}
 use Rattle.nbfx_values.specs.declared.refusals.Reason.{Reason}
 use Rattle.nbfx_values.specs.declared.refusals.Reason.TheVariants as reasons
-use Rattle.nbfx_values.specs.Refusals.{reason_number}
 use Rattle.nmf_records.specs.declared.script.Due.{Due}
 use Rattle.nmf_records.specs.declared.script.Due.TheVariants as dues
-use Rattle.nmf_records.specs.declared.record_types.TheConstants.{VERSION, MODE, KNOWN_ENCODING, SIZED_ENVELOPE}
-use Rattle.nmf_records.specs.declared.frame.Frame.TheVariants.{SizedEnvelope}
+use Rattle.nmf_records.specs.declared.record_types.TheConstants.{VERSION, MODE, KNOWN_ENCODING, SIZED_ENVELOPE, PREAMBLE_ACK}
+use Rattle.nmf_records.specs.declared.frame.Frame.TheVariants.{Via, SizedEnvelope, UnsizedEnvelope, Chunk}
 use Rattle.nmf_records.specs.Records.{IsRecordOf}
+use Rattle.nmf_records.specs.Reading.{MayCome}
 use Rattle.nmf_records.specs.Script.{may_come}
 use Rattle.nmf_records.specs.Laws.{BeginsUnknown, BeginsUnexpected, IntegerComes, HasLongText, HasBadText}
+use Rattle.nbfx_decoder.specs.Payload.{Settings as PayloadSettings}
 use Rattle.nbfx_decoder.specs.Reasons.{IsCutAt, ShowsFrom as ShowsAt}
 use Rattle.nbfx_decoder.specs.Laws.{ShowsNothing}
-use Rattle.nbfx_decoder.specs.Payload.{Settings as PayloadSettings}
-use Rattle.stream_reader.specs.Stream.{Settings, Situation, record_due, open_from, payloads, stream, unexpected}
+use Rattle.stream_reader.specs.Sessions.{IsBare, joined}
+use Rattle.stream_reader.specs.Stream.{Settings, Situation, Stage, payloads, record_due, chunk_due, payload_open, initiators, receivers, direction_of, open_from, stream, unexpected}
 
 -- a known type that may not come, which is answered so
 abbrev pub BeginsOtherwise : Settings → Due → List ℕ → Reason → Type 0
 BeginsOtherwise x due bytes reason =
-    (t : ℕ) × BeginsUnexpected (may_come x.direction due) bytes t × (unexpected due t ≡ reason)
+    (t : ℕ) × BeginsUnexpected (may_come (direction_of x.side) due) bytes t
+    × (unexpected due t ≡ reason)
 
 -- a version other than 1.0
 abbrev pub IsOtherVersion : Due → List ℕ → Type 0
@@ -34,10 +39,18 @@ IsOtherVersion due bytes =
     (major : ℕ) × (minor : ℕ) × (due ≡ dues.Version) × (bytes ≡ VERSION ∷ major ∷ minor ∷ [])
     × ((major ≢ 1) ⊎ (minor ≢ 0))
 
--- a mode other than the settings'
-abbrev pub IsOtherMode : Settings → Due → List ℕ → Type 0
-IsOtherMode x due bytes = (mode : ℕ) × (due ≡ dues.Mode) × (bytes ≡ MODE ∷ mode ∷ [])
-    × (mode ≢ mode_number x.mode)
+-- a mode other than singleton, duplex and simplex
+abbrev pub IsOtherMode : Due → List ℕ → Type 0
+IsOtherMode due bytes = (mode : ℕ) × (due ≡ dues.Mode) × (bytes ≡ MODE ∷ mode ∷ [])
+    × (mode ≢ mode_number Singleton) × (mode ≢ mode_number Duplex)
+    × (mode ≢ mode_number Simplex)
+
+-- a Via other than the one that is served
+abbrev pub IsOtherVia : Settings → Due → List ℕ → Type 0
+IsOtherVia x due bytes =
+    (endpoint : List ℕ) × (via : List ℕ) × (due ≡ dues.Via)
+    × (x.side ≡ initiators (Some endpoint)) × IsRecordOf Via via bytes
+    × (length via ≤ x.limits.via) × (via ≢ endpoint)
 
 -- a known encoding other than binary, with a session's strings or without
 abbrev pub IsOtherEncoding : Due → List ℕ → Type 0
@@ -51,65 +64,133 @@ IsLargeHead x due bytes =
     (size : ℕ) × (spelling : List ℕ) × (due ≡ dues.Messages) × (bytes ≡ SIZED_ENVELOPE ∷ spelling)
     × Spells size spelling × (x.limits.payload < size)
 
--- bytes that show the reason where this is due
-abbrev pub Shows : Settings → Due → List ℕ → Reason → Type 0
-Shows x due bytes reasons.BadInt =
-    (k : ℕ) × IntegerComes (may_come x.direction due) bytes k × FifthIsAbove (drop k bytes)
-Shows x due bytes reasons.UnknownRecord = BeginsUnknown (may_come x.direction due) bytes
-Shows x due bytes reasons.OutOfOrder = BeginsOtherwise x due bytes reasons.OutOfOrder
-Shows x due bytes reasons.BadVersion = IsOtherVersion due bytes
-Shows x due bytes reasons.BadMode = IsOtherMode x due bytes
-Shows x due bytes reasons.TextTooLong =
-    (n : ℕ) × HasLongText x.limits.via (may_come x.direction due) bytes n
-Shows x due bytes reasons.TextNotUtf8 =
-    (n : ℕ) × HasBadText x.limits.via (may_come x.direction due) bytes n
-Shows x due bytes reasons.BadEncoding =
+-- the size of a chunk with which a payload that had so many bytes is above the quota
+abbrev pub IsLargeChunk : Settings → Due → ℕ → List ℕ → Type 0
+IsLargeChunk x due before bytes =
+    (size : ℕ) × (due ≡ dues.Chunk) × Spells size bytes × (x.limits.payload < before + size)
+
+-- bytes that show the reason where this is due, behind so many bytes of a payload
+abbrev pub Shows : Settings → Due → ℕ → List ℕ → Reason → Type 0
+Shows x due before bytes reasons.BadInt =
+    (k : ℕ) × IntegerComes (may_come (direction_of x.side) due) bytes k
+    × FifthIsAbove (drop k bytes)
+Shows x due before bytes reasons.UnknownRecord =
+    BeginsUnknown (may_come (direction_of x.side) due) bytes
+Shows x due before bytes reasons.OutOfOrder = BeginsOtherwise x due bytes reasons.OutOfOrder
+Shows x due before bytes reasons.BadVersion = IsOtherVersion due bytes
+Shows x due before bytes reasons.BadMode = IsOtherMode due bytes
+Shows x due before bytes reasons.TextTooLong =
+    (n : ℕ) × HasLongText x.limits.via (may_come (direction_of x.side) due) bytes n
+Shows x due before bytes reasons.TextNotUtf8 =
+    (n : ℕ) × HasBadText x.limits.via (may_come (direction_of x.side) due) bytes n
+Shows x due before bytes reasons.EndpointNotFound = IsOtherVia x due bytes
+Shows x due before bytes reasons.BadEncoding =
     IsOtherEncoding due bytes ⊎ BeginsOtherwise x due bytes reasons.BadEncoding
-Shows x due bytes reasons.UpgradeRefused = BeginsOtherwise x due bytes reasons.UpgradeRefused
-Shows x due bytes reasons.MessageTooLarge = IsLargeHead x due bytes
-Shows x due bytes _ = ⊥
+Shows x due before bytes reasons.UpgradeRefused =
+    BeginsOtherwise x due bytes reasons.UpgradeRefused
+Shows x due before bytes reasons.MessageTooLarge =
+    IsLargeHead x due bytes ⊎ IsLargeChunk x due before bytes
+Shows x due before bytes _ = ⊥
+
+-- bytes that show the reason at this stage, where a record or a chunk's size is read
+abbrev pub ShowsIn : Settings → Stage → List ℕ → Reason → Type 0
+ShowsIn x (record_due due) bytes reason = Shows x due 0 bytes reason
+ShowsIn x (chunk_due p) bytes reason = Shows x dues.Chunk p.size bytes reason
+ShowsIn x (payload_open p) bytes reason = ⊥
 
 -- the stream p is whole units, and then bytes from this offset on that show the reason
 pub record ShowsFrom (x : Settings) (p : List ℕ) (from : ℕ) (reason : Reason) : Type 0 where
   pub before : List ℕ
   pub bytes : List ℕ
-  pub due : Due
   pub joined : p ≡ before ++ bytes
   pub place : from ≡ length before
   pub units : AreUnits (stream x) before
-  pub is_due : (standing (stream x) before).situation.stage ≡ record_due due
   pub going_on : is_over_at (stream x) before ≡ false
-  pub shows : Shows x due bytes reason
+  pub shows : ShowsIn x (standing (stream x) before).situation.stage bytes reason
 
--- it shows one of the first ten reasons
-abbrev pub ShowsUnbuilt : Settings → List ℕ → ℕ → Type 0
-ShowsUnbuilt x p from = (reason : Reason) × (reason_number reason < 11) × ShowsFrom x p from reason
+-- chunks of these bytes, of which none is empty, with their sizes
+unfoldable pub AreWhole : List (List ℕ) → List ℕ → Type 0
+AreWhole [] bytes = bytes ≡ []
+AreWhole (chunk ∷ more) bytes =
+    (head : List ℕ) × (rest : List ℕ) × (0 < length chunk)
+    × IsBare (Chunk (length chunk)) head
+    × (bytes ≡ (head ++ chunk) ++ rest) × AreWhole more rest
 
--- the stream p is whole units, the head of an envelope with a payload of so many bytes, and then
--- these bytes of the payload
-pub record HasPayload (x : Settings) (p : List ℕ) (z : Situation) (size : ℕ) (bytes : List ℕ)
+-- the bytes are an envelope so far, of one part, that has brought these of its payload, which are
+-- all of them or not
+pub record IsSizedPart (z : Situation) (bytes payload : List ℕ) (all : Bool) : Type 0 where
+  pub size : ℕ
+  pub head : List ℕ
+  pub is_due : z.stage ≡ record_due dues.Messages
+  pub is_head : IsBare (SizedEnvelope size) head
+  pub joined : bytes ≡ head ++ payload
+  pub within : length payload ≤ size
+  pub is_all : all ≡ (length payload == size)
+
+-- of chunks, up to the end of one
+pub record IsChunked (x : Settings) (z : Situation) (bytes payload : List ℕ) : Type 0 where
+  pub due : Due
+  pub head : List ℕ
+  pub front : List ℕ
+  pub chunks : List (List ℕ)
+  pub is_due : z.stage ≡ record_due due
+  pub may_come_there : MayCome (may_come (direction_of x.side) due) UnsizedEnvelope
+  pub is_head : IsBare UnsizedEnvelope head
+  pub are_whole : AreWhole chunks front
+  pub joined_bytes : bytes ≡ head ++ front
+  pub payload_is : payload ≡ joined chunks
+
+-- up to the size of another, which ends the payload where it is 0
+pub record IsResumed (x : Settings) (z : Situation) (bytes payload : List ℕ) (all : Bool)
+    : Type 0 where
+  pub front : List ℕ
+  pub head : List ℕ
+  pub size : ℕ
+  pub chunked : IsChunked x z front payload
+  pub is_head : IsBare (Chunk size) head
+  pub joined_bytes : bytes ≡ front ++ head
+  pub low : length payload + size ≤ x.limits.payload
+  pub is_all : all ≡ (size == 0)
+
+-- up to a byte of it
+pub record IsInChunk (x : Settings) (z : Situation) (bytes payload : List ℕ) : Type 0 where
+  pub front : List ℕ
+  pub head : List ℕ
+  pub size : ℕ
+  pub before : List ℕ
+  pub part : List ℕ
+  pub chunked : IsChunked x z front before
+  pub is_head : IsBare (Chunk size) head
+  pub some : 0 < length part
+  pub within : length part ≤ size
+  pub joined_bytes : bytes ≡ (front ++ head) ++ part
+  pub payload_is : payload ≡ before ++ part
+
+abbrev pub IsPart : Settings → Situation → List ℕ → List ℕ → Bool → Type 0
+IsPart x z bytes payload all = IsSizedPart z bytes payload all
+    ⊎ IsResumed x z bytes payload all ⊎ ((all ≡ false) × IsInChunk x z bytes payload)
+
+-- the stream p is whole units, and then an envelope so far
+pub record HasPayload (x : Settings) (p : List ℕ) (z : Situation) (payload : List ℕ) (all : Bool)
     : Type 0 where
   pub before : List ℕ
-  pub head : List ℕ
-  pub joined : p ≡ before ++ head ++ bytes
+  pub bytes : List ℕ
+  pub joined : p ≡ before ++ bytes
   pub units : AreUnits (stream x) before
   pub situation : z ≡ (standing (stream x) before).situation
-  pub is_due : z.stage ≡ record_due dues.Messages
-  pub is_head : IsRecordOf (SizedEnvelope size) [] head
-  pub within : length bytes ≤ size
+  pub part : IsPart x z bytes payload all
 
--- bytes of a payload of so many show the reason, or they are all, show none and its root hasn't
--- ended
-abbrev pub ShowsOf : PayloadSettings → List (List ℕ) → ℕ → List ℕ → ℕ → Reason → Type 0
-ShowsOf x strings size bytes at reason = ShowsAt x strings bytes at reason
-    ⊎ ((reason ≡ reasons.DocumentCut) × (length bytes ≡ size) × IsCutAt x strings bytes at
+-- bytes of a payload show the reason, or they are all, show none and its root hasn't ended
+abbrev pub ShowsOf : PayloadSettings → List (List ℕ) → Bool → List ℕ → ℕ → Reason → Type 0
+ShowsOf x strings all bytes at reason = ShowsAt x strings bytes at reason
+    ⊎ ((reason ≡ reasons.DocumentCut) × (all ≡ true) × IsCutAt x strings bytes at
     × ShowsNothing x strings bytes)
 
 -- the payload of the envelope with this number shows the reason, at this offset of the payload
 abbrev pub ShowsInPayload : Settings → List ℕ → ℕ → ℕ → Reason → Type 0
 ShowsInPayload x p number at reason =
-    (z : Situation) × (size : ℕ) × (bytes : List ℕ) × HasPayload x p z size bytes
-    × (z.messages ≡ number) × ShowsOf (payloads x z.kind) z.strings size bytes at reason
+    (z : Situation) × (payload : List ℕ) × (all : Bool) × HasPayload x p z payload all
+    × (z.messages ≡ number) × ShowsOf (payloads x z.kind) z.strings all payload at reason
 
 -- the open record, or the envelope that is open, begins at this offset
 abbrev pub OpensAt : Settings → List ℕ → ℕ → Type 0
@@ -123,7 +204,12 @@ pub record IsTooLong (x : Settings) (p : List ℕ) (from : ℕ) : Type 0 where
   pub going : IsGoing (stream x) (standing (stream x) p)
   pub place : OpensAt x p from
 
--- the stream p isn't over
+-- the stream p is the Ack alone of a receiver in simplex mode
+abbrev pub IsLoneAck : Settings → List ℕ → Type 0
+IsLoneAck x p = (kind : Kind) × (x.side ≡ receivers Simplex kind) × (p ≡ PREAMBLE_ACK ∷ [])
+
+-- the stream p isn't over, nor the Ack that is enough where messages are one-way
 pub record IsCutOff (x : Settings) (p : List ℕ) (from : ℕ) : Type 0 where
   pub going_on : is_over_at (stream x) p ≡ false
+  pub not_alone : IsLoneAck x p → ⊥
   pub place : OpensAt x p from

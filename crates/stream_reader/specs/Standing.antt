@@ -1,9 +1,10 @@
 -- What a reader of a stream stands for, and what it shows. Of the bytes that it used it keeps the
 -- framing's text, and of an open payload what a decoder does.
-use Rattle.std.specs.Prelude.{◌≡◌, ⊤, ℕ, ◌+◌, ◌<◌, ◌≤◌, ◌⊎◌, List, [], ◌++◌, length, take, Option, Some, None, refl}
+use Rattle.std.specs.Prelude.{◌≡◌, ⊤, ℕ, ◌+◌, ◌<◌, ◌≤◌, ◌⊎◌, List, [], ◌++◌, length, take, true, Option, Some, None}
 use Rattle.unit_streams.specs.Grammar.{standing}
-use Rattle.unit_streams.specs.Judging.{Answer, refusal_at, used}
+use Rattle.unit_streams.specs.Judging.{Answer, event_at, is_over_at, refusal_at, used}
 use Rattle.unit_streams.specs.Going.{IsGoing, IsQuiet}
+use Rattle.nbfx_values.specs.Limits.{IsGood}
 use Rattle.nbfx_values.specs.QuotasOf.{limits_of}
 use Rattle.nbfx_values.specs.declared.refusals.Offence.{Offence}
 use Rattle.nbfx_values.specs.declared.content.Item.{Item}
@@ -13,26 +14,32 @@ use Rattle.nbfx_decoder.specs.declared.faults.DecodeFault.{DecodeFault}
 use Rattle.nbfx_decoder.specs.Standing.{settings_of as decoder_settings, held_of as decoder_held_of, content_held_of as decoder_content_held_of, situation_of, StandsFor as DecoderStandsFor, FailedBehind as DecoderFailedBehind}
 use Rattle.nmf_records.specs.declared.frame.Expect.{Expect}
 use Rattle.nmf_records.specs.declared.reader.FrameReader.{FrameReader}
-use Rattle.nmf_records.specs.declared.script.Direction.TheVariants.{FromInitiator}
+use Rattle.nmf_records.specs.declared.script.Direction.{Direction}
 use Rattle.nmf_records.specs.declared.script.Due.TheVariants as dues
-use Rattle.nmf_records.specs.Reader.{StandsFor as FrameStandsFor, ShowsText, held_of as frames_held_of}
+use Rattle.nmf_records.specs.Reader.{StandsFor as FrameStandsFor, ShowsText as FramesShowText, held_of as frames_held_of}
 use Rattle.nmf_records.specs.Script.{may_come}
 use Rattle.stream_reader.specs.declared.awaited.Awaited.{Awaited}
 use Rattle.stream_reader.specs.declared.awaited.Awaited.TheVariants as awaits
+use Rattle.stream_reader.specs.declared.awaited.Closing.{Closing}
+use Rattle.stream_reader.specs.declared.awaited.Closing.TheVariants as closings
+use Rattle.stream_reader.specs.declared.awaited.Form.{Form as FormRead}
+use Rattle.stream_reader.specs.declared.awaited.Form.TheVariants as forms
+use Rattle.stream_reader.specs.declared.awaited.PayloadLeft.{PayloadLeft}
 use Rattle.stream_reader.specs.declared.reader.ReadRefusal.{ReadRefusal}
 use Rattle.stream_reader.specs.declared.reader.ReadRefusal.TheVariants.{Offence as Refused, Memory}
 use Rattle.stream_reader.specs.declared.reader.StreamReader.{StreamReader}
-use Rattle.stream_reader.specs.Laws.{IsInitiators}
-use Rattle.stream_reader.specs.Stream.{Settings, Situation, Stage, OpenPayload, StreamEvent, record_due, payload_open, initiators, payload_in, payloads, stream, strings_in}
+use Rattle.stream_reader.specs.Sides.{side_of}
+use Rattle.stream_reader.specs.Stream.{Settings, Situation, Stage, Form, sized, chunked, last_chunk, OpenPayload, StreamEvent, ended, peer_fault, record_due, chunk_due, payload_open, direction_of, payload_in, payloads, stream, strings_in}
 
 -- what the reader is set to
 unfoldable pub settings_of : StreamReader → Settings
-settings_of r = initiators r.statics.now (limits_of r.quotas)
+settings_of r =
+    record { side = side_of r.side; statics = r.statics.now; limits = limits_of r.quotas }
 
--- it reads an initiator's stream
-pub reads_initiators : (r : StreamReader) → IsInitiators (settings_of r)
+-- its quotas may be
+pub has_good_quotas : (r : StreamReader) → IsGood (settings_of r).limits
 unfolding settings_of
-reads_initiators r = record { direction = refl; mode = refl; endpoint = refl; good = r.quotas.good }
+has_good_quotas r = r.quotas.good
 
 -- how many bytes it has used, or that show its offence
 unfoldable pub taken_of : StreamReader → ℕ
@@ -54,41 +61,63 @@ held_of r = decoder_held_of r.decoder + frames_held_of r.frames
 unfoldable pub content_held_of : StreamReader → ℕ
 content_held_of r = decoder_content_held_of r.decoder
 
--- the Via that it shows
-unfoldable pub ShowsVia : StreamReader → List ℕ → Type 0
-ShowsVia r via = ShowsText r.frames via
+-- the text that it shows
+unfoldable pub ShowsText : StreamReader → List ℕ → Type 0
+ShowsText r text = FramesShowText r.frames text
+
+-- how a payload goes on
+abbrev pub form_of : FormRead → Form
+form_of forms.Sized = sized
+form_of forms.Chunked = chunked
+form_of forms.LastChunk = last_chunk
+
+-- the numbers of a payload are those of the stream's
+pub record IsOpenSo (p : PayloadLeft) (q : OpenPayload) : Type 0 where
+  pub from : p.from ≡ q.from
+  pub size : p.size ≡ q.size
+  pub left : p.left ≡ q.left
+  pub form : form_of p.form ≡ q.form
 
 -- what comes next of the stream comes next of the reader
 abbrev pub Awaits : Awaited → Stage → Type 0
 Awaits (awaits.Record due) (record_due other) = due ≡ other
-Awaits (awaits.Payload p) (payload_open q) =
-    (p.from ≡ q.from) × (p.size ≡ q.size) × (p.left ≡ q.left)
+Awaits (awaits.Chunk p) (chunk_due q) = IsOpenSo p q
+Awaits (awaits.Payload p) (payload_open q) = IsOpenSo p q
 Awaits _ _ = ⊥
 
--- the reader of records has these bytes of one, or, within a payload, of none
-abbrev pub HasBegun : Awaited → FrameReader → List ℕ → Type 0
-HasBegun (awaits.Payload p) frames begun = (next : Expect) → FrameStandsFor frames next []
-HasBegun (awaits.Record due) frames begun =
-    FrameStandsFor frames (may_come FromInitiator due) begun
+-- the reader of records has these bytes of one, or of a chunk's size, or, within a payload, of none
+abbrev pub HasBegun : Direction → Awaited → FrameReader → List ℕ → Type 0
+HasBegun direction (awaits.Payload p) frames begun = (next : Expect) → FrameStandsFor frames next []
+HasBegun direction (awaits.Chunk p) frames begun =
+    FrameStandsFor frames (may_come direction dues.Chunk) begun
+HasBegun direction (awaits.Record due) frames begun =
+    FrameStandsFor frames (may_come direction due) begun
 
--- the bytes so far of the payload that stands so, of which it has more
-pub record IsWithinPayload (d : Decoder) (x : Settings) (z : Situation) (p : OpenPayload)
-    : Type 0 where
+-- the decoder has the bytes so far of the payload that stands so
+pub record HasPart (d : Decoder) (x : Settings) (z : Situation) (p : OpenPayload) : Type 0 where
   pub bytes : List ℕ
   pub stands_for : DecoderStandsFor d z.strings bytes
   pub standing_is : p.standing ≡ standing (payload_in x z) bytes
   pub counted : length bytes + p.left ≡ p.size
-  pub more : 0 < p.left
   pub within : p.size ≤ x.limits.payload
 
--- the decoder has come as far as the payload that is open, or is before the next one
+-- the decoder has come as far as the payload that is open, of which there is more or another chunk
+-- comes, or is before the next one
 abbrev pub ReadsPayload : Decoder → Settings → Situation → Stage → Type 0
 ReadsPayload d x z (record_due due) = DecoderStandsFor d z.strings []
-ReadsPayload d x z (payload_open p) = IsWithinPayload d x z p
+ReadsPayload d x z (chunk_due p) = (p.left ≡ 0) × HasPart d x z p
+ReadsPayload d x z (payload_open p) = (0 < p.left) × HasPart d x z p
+
+-- how the session has ended is what this event says
+abbrev pub Recalls : Closing → Option StreamEvent → Type 0
+Recalls closings.End (Some (ended n)) = ⊤
+Recalls closings.Fault (Some (peer_fault n text)) = ⊤
+Recalls closing event = ⊥
 
 -- it is in this situation
 pub record IsIn (r : StreamReader) (x : Settings) (z : Situation) : Type 0 where
   pub awaits : Awaits r.awaited z.stage
+  pub mode : r.mode ≡ z.mode
   pub kind : r.kind ≡ z.kind
   pub messages : r.messages ≡ z.messages
   pub decodes : decoder_settings r.decoder ≡ payloads x z.kind
@@ -97,8 +126,9 @@ pub record IsIn (r : StreamReader) (x : Settings) (z : Situation) : Type 0 where
 -- it has come as far as p, and isn't refused
 pub record Reached (r : StreamReader) (x : Settings) (p : List ℕ) : Type 0 where
   pub at : IsIn r x (standing (stream x) p).situation
-  pub frames : HasBegun r.awaited r.frames (standing (stream x) p).begun
-  pub text : ShowsText r.frames (standing (stream x) p).situation.via
+  pub frames : HasBegun (direction_of x.side) r.awaited r.frames (standing (stream x) p).begun
+  pub text : FramesShowText r.frames (standing (stream x) p).situation.text
+  pub closing : is_over_at (stream x) p ≡ true → Recalls r.closing (event_at (stream x) p)
   pub unit_from : r.unit_from ≡ (standing (stream x) p).from
   pub taken : r.taken ≡ length p
   pub within : length p ≤ x.limits.session
@@ -132,12 +162,12 @@ unfoldable pub ShowsStrings : StreamReader → List (List ℕ) → Type 0
 ShowsStrings r strings = ShowsTable r.decoder strings
 
 -- what a refused reader shows: the refusal, how many bytes were used or show it, and behind the
--- bytes p the Via, how many documents were whole, and the strings
+-- bytes p the text, how many documents were whole, and the strings
 pub record Failed (r : StreamReader) (x : Settings) (refusal : ReadRefusal) (taken : ℕ)
     (p : List ℕ) : Type 0 where
   pub failure : failure_of r ≡ Some refusal
   pub taken_is : taken_of r ≡ taken
-  pub via : ShowsVia r (standing (stream x) p).situation.via
+  pub text : ShowsText r (standing (stream x) p).situation.text
   pub messages : messages_of r ≡ (standing (stream x) p).situation.messages
   pub strings : ShowsStrings r (strings_in (standing (stream x) p).situation)
 
@@ -173,15 +203,20 @@ FailsBy r = FailsSo (settings_of r) (FailedBehind r)
 -- payloads may come
 abbrev pub HasPayloads : Stage → Type 0
 HasPayloads (record_due dues.Messages) = ⊤
+HasPayloads (record_due dues.Envelope) = ⊤
+HasPayloads (record_due dues.Reply) = ⊤
+HasPayloads (chunk_due p) = ⊤
 HasPayloads (payload_open p) = ⊤
 HasPayloads _ = ⊥
 
 -- the bytes of the payload's unit that isn't whole
 abbrev pub begun_in : Stage → List ℕ
 begun_in (record_due due) = []
+begun_in (chunk_due p) = p.standing.begun
 begun_in (payload_open p) = p.standing.begun
 
 -- the items of the payload so far
 abbrev pub items_in : Stage → List Item
 items_in (record_due due) = []
+items_in (chunk_due p) = p.standing.situation.items
 items_in (payload_open p) = p.standing.situation.items

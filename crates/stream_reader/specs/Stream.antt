@@ -1,9 +1,9 @@
--- A stream as a grammar of units, by whose stream it is and in which mode: a record, where an
--- envelope's is its head, or a byte of an envelope's payload. What the payload is read by is nested
--- in it: a byte of it leads on where the payload stands, by the grammar of payloads. The bytes of a
--- chunk, which singleton mode has, are no units yet.
+-- A stream of either side as a grammar of units: a record, where an envelope's is its head, the
+-- size of a chunk, or a byte of an envelope's payload. What the payload is read by is nested in it:
+-- a byte of it, sized or of a chunk, leads on where the payload stands, by the grammar of payloads.
 use Rattle.std.specs.Prelude.{ℕ, ◌+◌, ◌-◌, List, [], ◌∷◌, Bool, true, false, Option, Some, None, nat_lt, nat_le, ◌==◌, ◌&&◌, ◌||◌, not, if◌then◌else◌}
 use Rattle.std.specs.Option.{option_map, option_or}
+use Rattle.std.specs.Str.{bytes_eq}
 use Rattle.unit_streams.specs.Front.{Front, begun}
 use Rattle.unit_streams.specs.Parts.{a_byte, seen}
 use Rattle.unit_streams.specs.Grammar.{Grammar, Standing, at_start, resumed}
@@ -12,22 +12,21 @@ use Rattle.nbfx_values.specs.Limits.{Limits}
 use Rattle.nbfx_values.specs.Session.{mode_number, kind_number}
 use Rattle.nbfx_values.specs.declared.content.Item.{Item}
 use Rattle.nbfx_values.specs.declared.session.Mode.{Mode}
-use Rattle.nbfx_values.specs.declared.session.Mode.TheVariants.{Duplex}
+use Rattle.nbfx_values.specs.declared.session.Mode.TheVariants.{Singleton, Duplex, Simplex}
 use Rattle.nbfx_values.specs.declared.session.Kind.{Kind}
 use Rattle.nbfx_values.specs.declared.session.Kind.TheVariants.{Plain, Session}
 use Rattle.nbfx_values.specs.declared.refusals.Place.TheVariants as places
 use Rattle.nbfx_values.specs.declared.refusals.Offence.{Offence}
 use Rattle.nbfx_values.specs.declared.refusals.Reason.{Reason}
 use Rattle.nbfx_values.specs.declared.refusals.Reason.TheVariants as reasons
-use Rattle.nbfx_values.specs.Refusals.{reason_number}
 use Rattle.string_tables.specs.StaticStrings.{Entry}
 use Rattle.nbfx_decoder.specs.Payload.{NoEvent, PayloadUnit, Refusal, payload, Settings as PayloadSettings, Situation as PayloadSituation}
 use Rattle.nmf_records.specs.declared.frame.Frame.{Frame}
-use Rattle.nmf_records.specs.declared.frame.Frame.TheVariants.{Version, Mode as ModeRecord, Via, KnownEncoding, SizedEnvelope, End, PreambleEnd}
+use Rattle.nmf_records.specs.declared.frame.Frame.TheVariants.{Version, Mode as ModeRecord, Via, KnownEncoding, UnsizedEnvelope, Chunk, SizedEnvelope, End, Fault, PreambleAck, PreambleEnd}
 use Rattle.nmf_records.specs.declared.frame.FrameFault.{FrameFault}
 use Rattle.nmf_records.specs.declared.frame.FrameFault.TheVariants as faults
 use Rattle.nmf_records.specs.declared.script.Direction.{Direction}
-use Rattle.nmf_records.specs.declared.script.Direction.TheVariants.{FromInitiator}
+use Rattle.nmf_records.specs.declared.script.Direction.TheVariants.{FromInitiator, FromReceiver}
 use Rattle.nmf_records.specs.declared.script.Due.{Due}
 use Rattle.nmf_records.specs.declared.script.Due.TheVariants as dues
 use Rattle.nmf_records.specs.declared.record_types.TheConstants.{EXTENSIBLE_ENCODING, UPGRADE_REQUEST}
@@ -35,40 +34,58 @@ use Rattle.nmf_records.specs.Records.{Read}
 use Rattle.nmf_records.specs.Reading.{frame_at}
 use Rattle.nmf_records.specs.Script.{first, may_come, leads, may_end}
 
+-- whose stream it is
+pub data Side : Type 0 where
+  -- an initiator's, to the Via that is served alone, or to any
+  initiators : Option (List ℕ) → Side
+  -- a receiver's, in the mode and the encoding that its initiator named
+  receivers : Mode → Kind → Side
+
+abbrev pub direction_of : Side → Direction
+direction_of (initiators endpoint) = FromInitiator
+direction_of (receivers mode kind) = FromReceiver
+
 -- what a reading end is set to
 pub record Settings : Type 0 where
-  -- whose stream it reads
-  pub direction : Direction
-  -- how the two ends talk
-  pub mode : Mode
-  -- the Via that is served, or None where any is; no other Via is refused yet
-  pub endpoint : Option (List ℕ)
+  pub side : Side
   -- the strings that both ends have
   pub statics : List Entry
   pub limits : Limits
 
--- an initiator's stream in duplex mode, to any Via
-abbrev pub initiators : List Entry → Limits → Settings
-initiators statics limits = record {
-  direction = FromInitiator;
-  mode = Duplex;
-  endpoint = None;
-  statics = statics;
-  limits = limits;
-}
+-- an initiator's stream, to any Via
+abbrev pub any_initiators : List Entry → Limits → Settings
+any_initiators statics limits =
+    record { side = initiators None; statics = statics; limits = limits }
 
 -- where a payload stands
 abbrev pub PayloadStanding : Type 0
 PayloadStanding = Standing PayloadSituation NoEvent Refusal
 
--- the payload of an envelope, of which some bytes are still to come
+-- how a payload goes on behind the bytes that are still to come
+pub data Form : Type 0 where
+  -- it is whole, and a record of a session's messages comes
+  sized : Form
+  -- the size of another chunk comes
+  chunked : Form
+  -- the size 0 has ended it, and End comes
+  last_chunk : Form
+
+-- what is due there
+abbrev pub due_behind : Form → Due
+due_behind sized = dues.Messages
+due_behind chunked = dues.Chunk
+due_behind last_chunk = dues.End
+
+-- the payload of an envelope, in one part or in chunks, so far as their sizes are known
 pub record OpenPayload : Type 0 where
   -- the offset of its envelope's type byte
   pub from : ℕ
-  -- bytes in all
+  -- bytes in all, of the chunks so far
   pub size : ℕ
-  -- bytes still to come
+  -- bytes still to come of these
   pub left : ℕ
+  -- how it goes on behind them
+  pub form : Form
   -- by its bytes so far
   pub standing : PayloadStanding
 
@@ -76,26 +93,39 @@ pub record OpenPayload : Type 0 where
 pub data Stage : Type 0 where
   -- a record, of those that may come where this is due
   record_due : Due → Stage
+  -- the size of the payload's next chunk
+  chunk_due : OpenPayload → Stage
   -- a byte of a payload
   payload_open : OpenPayload → Stage
 
 -- what whole units leave behind
 pub record Situation : Type 0 where
   pub stage : Stage
-  -- of the Known Encoding record; a session's until there is one
+  -- of an initiator's Mode record, duplex until there is one; a receiver's is the settings'
+  pub mode : Mode
+  -- of an initiator's Known Encoding record, a session's until there is one
   pub kind : Kind
-  -- of the Via record; empty until there is one
-  pub via : List ℕ
+  -- of the last Via or Fault; empty until there is one
+  pub text : List ℕ
   -- how many documents are whole
   pub messages : ℕ
   -- the strings that the payloads before have brought
   pub strings : List (List ℕ)
 
+abbrev pub first_mode : Side → Mode
+first_mode (initiators endpoint) = Duplex
+first_mode (receivers mode kind) = mode
+
+abbrev pub first_kind : Side → Kind
+first_kind (initiators endpoint) = Session
+first_kind (receivers mode kind) = kind
+
 abbrev pub beginning : Settings → Situation
 beginning x = record {
-  stage = record_due (first x.direction);
-  kind = Session;
-  via = [];
+  stage = record_due (first (direction_of x.side));
+  mode = first_mode x.side;
+  kind = first_kind x.side;
+  text = [];
   messages = 0;
   strings = [];
 }
@@ -116,12 +146,16 @@ pub record Envelope : Type 0 where
   pub strings : List (List ℕ)
 
 pub data StreamEvent : Type 0 where
-  -- the preamble is whole
+  -- an initiator's preamble is whole
   opened : Mode → Kind → (via : List ℕ) → StreamEvent
-  -- an envelope is
+  -- a receiver takes the session on
+  accepted : StreamEvent
+  -- an envelope is whole
   message : Envelope → StreamEvent
   -- so many bytes are a session
   ended : ℕ → StreamEvent
+  -- a receiver's Fault ends the session behind so many bytes
+  peer_fault : ℕ → (text : List ℕ) → StreamEvent
 
 -- why a type byte may not come
 abbrev pub unexpected : Due → ℕ → Reason
@@ -138,6 +172,15 @@ reason_of due faults.BadInt = reasons.BadInt
 reason_of due faults.TextTooLong = reasons.TextTooLong
 reason_of due faults.TextNotUtf8 = reasons.TextNotUtf8
 
+-- the modes that there are, and the one that a byte names
+abbrev pub is_mode : ℕ → Bool
+is_mode byte = (byte == mode_number Singleton) || ((byte == mode_number Duplex)
+    || (byte == mode_number Simplex))
+
+abbrev pub mode_of : ℕ → Mode
+mode_of byte = if byte == mode_number Singleton then Singleton
+    else (if byte == mode_number Simplex then Simplex else Duplex)
+
 -- a known encoding is binary, with a session's strings or without
 abbrev pub is_binary : ℕ → Bool
 is_binary encoding = (encoding == kind_number Plain) || (encoding == kind_number Session)
@@ -146,21 +189,32 @@ is_binary encoding = (encoding == kind_number Plain) || (encoding == kind_number
 abbrev pub kind_of : ℕ → Kind
 kind_of encoding = if encoding == kind_number Plain then Plain else Session
 
--- why what a whole record says is refused
-abbrev pub reason_in : Settings → Frame → Option Reason
-reason_in x (Version major minor) =
-    if (major == 1) && (minor == 0) then None else Some reasons.BadVersion
-reason_in x (ModeRecord mode) =
-    if mode == mode_number x.mode then None else Some reasons.BadMode
-reason_in x (KnownEncoding encoding) =
-    if is_binary encoding then None else Some reasons.BadEncoding
-reason_in x (SizedEnvelope size) =
-    if nat_lt x.limits.payload size then Some reasons.MessageTooLarge else None
-reason_in x _ = None
+-- the Via is served
+abbrev pub serves : Side → List ℕ → Bool
+serves (initiators (Some endpoint)) via = bytes_eq endpoint via
+serves side via = true
 
--- The reasons 1 to 10 are answered as one in a record until each is told apart.
-abbrev pub built : Reason → Reason
-built reason = if nat_lt (reason_number reason) 11 then reasons.Unbuilt else reason
+-- the bytes of the payload before a chunk
+abbrev pub size_before : Stage → ℕ
+size_before (chunk_due p) = p.size
+size_before stage = 0
+
+-- why a size is refused, with which a payload has so many bytes
+abbrev pub too_large : Settings → ℕ → Option Reason
+too_large x size = if nat_lt x.limits.payload size then Some reasons.MessageTooLarge else None
+
+-- why what a whole record says is refused
+abbrev pub reason_in : Settings → Stage → Frame → List ℕ → Option Reason
+reason_in x stage (Version major minor) text =
+    if (major == 1) && (minor == 0) then None else Some reasons.BadVersion
+reason_in x stage (ModeRecord byte) text = if is_mode byte then None else Some reasons.BadMode
+reason_in x stage Via text =
+    if serves x.side text then None else Some reasons.EndpointNotFound
+reason_in x stage (KnownEncoding encoding) text =
+    if is_binary encoding then None else Some reasons.BadEncoding
+reason_in x stage (SizedEnvelope size) text = too_large x size
+reason_in x stage (Chunk size) text = too_large x (size_before stage + size)
+reason_in x stage read text = None
 
 -- a refusal in a record at this offset of the stream
 abbrev pub offence_at : ℕ → Reason → Offence
@@ -178,12 +232,12 @@ payloads x kind = record { statics = x.statics; kind = kind; limits = x.limits }
 abbrev pub payload_in : Settings → Situation → Grammar PayloadSituation PayloadUnit NoEvent Refusal
 payload_in x z = payload (payloads x z.kind) z.strings
 
--- the record at the front of some bytes, where one is due
+-- the record at the front of some bytes, where one is due, or a chunk's size
 abbrev pub record_at : Settings → Due → ℕ → List ℕ → Front StreamUnit Offence
 record_at x dues.Over from bytes = begun
 record_at x due from bytes =
-    seen frame (λ fault. offence_at from (built (reason_of due fault)))
-    (frame_at x.limits.via (may_come x.direction due) bytes)
+    seen frame (λ fault. offence_at from (reason_of due fault))
+    (frame_at x.limits.via (may_come (direction_of x.side) due) bytes)
 
 abbrev pub payload_at : List ℕ → Front StreamUnit Offence
 payload_at bytes = seen payload_byte (λ o. o) (a_byte bytes)
@@ -191,24 +245,35 @@ payload_at bytes = seen payload_byte (λ o. o) (a_byte bytes)
 -- the unit at the front of some bytes
 unfoldable pub unit_in : Settings → Stage → ℕ → List ℕ → Front StreamUnit Offence
 unit_in x (record_due due) from bytes = record_at x due from bytes
+unit_in x (chunk_due p) from bytes = record_at x dues.Chunk from bytes
 unit_in x (payload_open p) from bytes = payload_at bytes
 
 -- what is due where a record is read
 abbrev pub due_in : Stage → Due
 due_in (record_due due) = due
-due_in (payload_open p) = dues.Messages
+due_in (chunk_due p) = dues.Chunk
+due_in (payload_open p) = due_behind p.form
 
--- where a record leads
-abbrev pub led : Settings → Stage → Frame → Stage
-led x stage read = record_due (leads x.direction x.mode (due_in stage) read)
+-- where a record leads, in this mode
+abbrev pub led : Settings → Mode → Stage → Frame → Due
+led x mode stage read = leads (direction_of x.side) mode (due_in stage) read
 
 -- a payload of so many bytes, before the first of them
-abbrev pub payload_begun : Settings → Situation → ℕ → ℕ → OpenPayload
-payload_begun x z from size = record {
+abbrev pub payload_begun : Settings → Situation → ℕ → ℕ → Form → OpenPayload
+payload_begun x z from size form = record {
   from = from;
   size = size;
   left = size;
+  form = form;
   standing = at_start (payload_in x z) [];
+}
+
+-- the payload with a chunk of so many bytes more, which ends it where they are none
+abbrev pub with_chunk : OpenPayload → ℕ → OpenPayload
+with_chunk p size = record p {
+  size = p.size + size;
+  left = size;
+  form = if size == 0 then last_chunk else chunked;
 }
 
 -- the payload with one more byte
@@ -218,18 +283,27 @@ with_byte x z p byte = record p {
   standing = resumed (payload_in x z) p.standing (byte ∷ []);
 }
 
+-- another chunk's size comes behind it
+abbrev pub is_chunked : Form → Bool
+is_chunked chunked = true
+is_chunked form = false
+
+-- all bytes of the payload are there
+abbrev pub is_whole : OpenPayload → Bool
+is_whole p = (p.left == 0) && not (is_chunked p.form)
+
 -- why a payload that stands so is refused by its last byte, or, where all its bytes are there, by
 -- its end
 abbrev pub refusal_in : Settings → Situation → OpenPayload → Option Refusal
 refusal_in x z p = option_or (refusal_of (payload_in x z) p.standing (p.size - p.left))
-    (if p.left == 0
+    (if is_whole p
     then (payload_in x z).at_end p.standing.situation p.standing.from p.size
     else None)
 
 -- the document of a payload that isn't refused, where all its bytes are there
 abbrev pub envelope_unless : ℕ → OpenPayload → Option Refusal → Option Envelope
 envelope_unless number p (Some r) = None
-envelope_unless number p None = if p.left == 0
+envelope_unless number p None = if is_whole p
     then Some (record {
       number = number;
       size = p.size;
@@ -246,86 +320,116 @@ abbrev pub counted : Option Envelope → ℕ → ℕ
 counted None n = n
 counted (Some envelope) n = n + 1
 
--- the situation behind bytes of a payload, where another record comes behind the last of them
-abbrev pub behind_payload : Settings → Situation → OpenPayload → Situation
-behind_payload x z p = if p.left == 0
-    then record z {
-      stage = record_due dues.Messages;
+-- the situation behind bytes of a payload of which none is to come: another chunk's size comes, or
+-- another record
+abbrev pub behind_last : Settings → Situation → OpenPayload → Situation
+behind_last x z p = if is_chunked p.form
+    then record z { stage = chunk_due p }
+    else record z {
+      stage = record_due (due_behind p.form);
       messages = counted (envelope_in x z p) z.messages;
       strings = p.standing.situation.strings;
     }
-    else record z { stage = payload_open p }
 
--- the situation behind a record that begins at this offset
-abbrev pub after_record : Settings → Situation → ℕ → Frame → List ℕ → Situation
-after_record x z from Via text = record z { stage = led x z.stage Via; via = text }
-after_record x z from (KnownEncoding encoding) text = record z {
-  stage = led x z.stage (KnownEncoding encoding);
+-- the situation behind bytes of a payload
+abbrev pub behind_payload : Settings → Situation → OpenPayload → Situation
+behind_payload x z p =
+    if p.left == 0 then behind_last x z p else record z { stage = payload_open p }
+
+-- the payload behind the head of an envelope, or a chunk's size, at this offset, where there is one
+abbrev pub payload_by : Settings → Situation → ℕ → Frame → Option OpenPayload
+payload_by x z from (SizedEnvelope size) = Some (payload_begun x z from size sized)
+payload_by x z from UnsizedEnvelope = Some (payload_begun x z from 0 chunked)
+payload_by x z from (Chunk size) = in_chunks z.stage where
+  in_chunks : Stage → Option OpenPayload
+  in_chunks (chunk_due p) = Some (with_chunk p size)
+  in_chunks stage = None
+payload_by x z from read = None
+
+-- what f makes of a payload, or else the other
+abbrev pub on_payload : {A : Type 0} → Option OpenPayload → (OpenPayload → A) → A → A
+on_payload (Some p) f other = f p
+on_payload None f other = other
+
+-- the situation behind a record of no payload
+abbrev pub after_bare : Settings → Situation → Frame → List ℕ → Situation
+after_bare x z Via text = record z { stage = record_due (led x z.mode z.stage Via); text = text }
+after_bare x z Fault text =
+    record z { stage = record_due (led x z.mode z.stage Fault); text = text }
+after_bare x z (ModeRecord byte) text = record z {
+  stage = record_due (led x z.mode z.stage (ModeRecord byte));
+  mode = mode_of byte;
+}
+after_bare x z (KnownEncoding encoding) text = record z {
+  stage = record_due (led x z.mode z.stage (KnownEncoding encoding));
   kind = kind_of encoding;
   strings = [];
 }
-after_record x z from (SizedEnvelope size) text = behind_payload x z (payload_begun x z from size)
-after_record x z from read text = record z { stage = led x z.stage read }
+after_bare x z read text = record z { stage = record_due (led x z.mode z.stage read) }
 
-abbrev pub after_byte : Settings → Situation → Stage → ℕ → Situation
-after_byte x z (record_due due) byte = z
-after_byte x z (payload_open p) byte = behind_payload x z (with_byte x z p byte)
+-- the situation behind a record that begins at this offset
+abbrev pub after_record : Settings → Situation → ℕ → Frame → List ℕ → Situation
+after_record x z from read text =
+    on_payload (payload_by x z from read) (behind_payload x z) (after_bare x z read text)
+
+-- of a byte where a payload is open
+abbrev pub on_open : {A : Type 0} → Stage → (OpenPayload → A) → A → A
+on_open (payload_open p) f other = f p
+on_open stage f other = other
 
 unfoldable pub after : Settings → Situation → ℕ → StreamUnit → Situation
 after x z from (frame read) = after_record x z from read.frame read.text
-after x z from (payload_byte byte) = after_byte x z z.stage byte
+after x z from (payload_byte byte) =
+    on_open z.stage (λ p. behind_payload x z (with_byte x z p byte)) z
 
 -- the event that bytes of a payload complete
 abbrev pub completed_payload : Settings → Situation → OpenPayload → Option StreamEvent
 completed_payload x z p = option_map message (envelope_in x z p)
 
--- the event that a record completes which begins at this offset
-abbrev pub completed_record : Settings → Situation → ℕ → Frame → Option StreamEvent
-completed_record x z from PreambleEnd = Some (opened x.mode z.kind z.via)
-completed_record x z from (SizedEnvelope size) = completed_payload x z (payload_begun x z from size)
-completed_record x z from End = Some (ended (from + 1))
-completed_record x z from _ = None
+-- the event that a record of no payload completes, up to this offset
+abbrev pub completed_bare : Situation → ℕ → Frame → List ℕ → Option StreamEvent
+completed_bare z to PreambleEnd text = Some (opened z.mode z.kind z.text)
+completed_bare z to PreambleAck text = Some accepted
+completed_bare z to End text = Some (ended to)
+completed_bare z to Fault text = Some (peer_fault to text)
+completed_bare z to read text = None
 
-abbrev pub completed_byte : Settings → Situation → Stage → ℕ → Option StreamEvent
-completed_byte x z (record_due due) byte = None
-completed_byte x z (payload_open p) byte = completed_payload x z (with_byte x z p byte)
+-- the event that a record completes which begins at this offset, up to that one
+abbrev pub completed_record : Settings → Situation → ℕ → ℕ → Frame → List ℕ → Option StreamEvent
+completed_record x z from to read text =
+    on_payload (payload_by x z from read) (completed_payload x z) (completed_bare z to read text)
 
-unfoldable pub completed : Settings → Situation → ℕ → StreamUnit → Option StreamEvent
-completed x z from (frame read) = completed_record x z from read.frame
-completed x z from (payload_byte byte) = completed_byte x z z.stage byte
+unfoldable pub completed : Settings → Situation → ℕ → ℕ → StreamUnit → Option StreamEvent
+completed x z from to (frame read) = completed_record x z from to read.frame read.text
+completed x z from to (payload_byte byte) =
+    on_open z.stage (λ p. completed_payload x z (with_byte x z p byte)) None
 
 -- why bytes of a payload are refused
 abbrev pub refused_payload : Settings → Situation → OpenPayload → Option Offence
 refused_payload x z p = option_map (offence_in z.messages) (refusal_in x z p)
 
--- why an envelope is of which no byte of the payload has come: there is none to come
-abbrev pub refused_head : Settings → Situation → ℕ → Frame → Option Offence
-refused_head x z from (SizedEnvelope size) = refused_payload x z (payload_begun x z from size)
-refused_head x z from _ = None
-
--- why a record is refused that begins at this offset
-abbrev pub refused_record : Settings → Situation → ℕ → Frame → Option Offence
-refused_record x z from read = option_or
-    (option_map (λ reason. offence_at from (built reason)) (reason_in x read))
-    (refused_head x z from read)
-
-abbrev pub refused_byte : Settings → Situation → Stage → ℕ → Option Offence
-refused_byte x z (record_due due) byte = None
-refused_byte x z (payload_open p) byte = refused_payload x z (with_byte x z p byte)
+-- why a record is refused that begins at this offset: by what it says, or by a payload of which no
+-- byte is to come
+abbrev pub refused_record : Settings → Situation → ℕ → Frame → List ℕ → Option Offence
+refused_record x z from read text = option_or
+    (option_map (offence_at from) (reason_in x z.stage read text))
+    (on_payload (payload_by x z from read) (refused_payload x z) None)
 
 unfoldable pub refused : Settings → Situation → ℕ → StreamUnit → Option Offence
-refused x z from (frame read) = refused_record x z from read.frame
-refused x z from (payload_byte byte) = refused_byte x z z.stage byte
+refused x z from (frame read) = refused_record x z from read.frame read.text
+refused x z from (payload_byte byte) =
+    on_open z.stage (λ p. refused_payload x z (with_byte x z p byte)) None
 
 -- the session is over
 abbrev pub is_over_in : Stage → Bool
 is_over_in (record_due dues.Over) = true
-is_over_in _ = false
+is_over_in stage = false
 
 -- the first byte of the record that isn't whole (of an envelope, its type byte), or the end of the
 -- bytes
 abbrev pub open_from : Stage → ℕ → ℕ
 open_from (payload_open p) from = p.from
+open_from (chunk_due p) from = p.from
 open_from (record_due due) from = from
 
 -- as many bytes as the session quota, and the session isn't over
@@ -336,12 +440,16 @@ too_long x stage from n = if nat_le x.limits.session n && not (is_over_in stage)
 
 -- the input may end behind so many bytes where the session is over, and where it may end and no
 -- byte of another record has come
-unfoldable pub cut_off : Settings → Stage → ℕ → ℕ → Option Offence
-cut_off x (record_due dues.Over) from n = None
-cut_off x (record_due due) from n = if may_end x.direction x.mode due && (from == n)
+abbrev pub may_end_in : Settings → Mode → Stage → ℕ → ℕ → Bool
+may_end_in x mode (record_due dues.Over) from n = true
+may_end_in x mode (record_due due) from n =
+    may_end (direction_of x.side) mode due && (from == n)
+may_end_in x mode stage from n = false
+
+unfoldable pub cut_off : Settings → Mode → Stage → ℕ → ℕ → Option Offence
+cut_off x mode stage from n = if may_end_in x mode stage from n
     then None
-    else Some (offence_at from reasons.Truncated)
-cut_off x (payload_open p) from n = Some (offence_at p.from reasons.Truncated)
+    else Some (offence_at (open_from stage from) reasons.Truncated)
 
 -- the stream's grammar
 abbrev pub stream : Settings → Grammar Situation StreamUnit StreamEvent Offence
@@ -350,20 +458,22 @@ stream x = record {
   unit_at = λ z from bytes. unit_in x z.stage from bytes;
   after = after x;
   refused = refused x;
-  completed = λ z from to unit. completed x z from unit;
+  completed = completed x;
   is_over = λ z. is_over_in z.stage;
   at_length = λ z from n. too_long x z.stage from n;
-  at_end = λ z from n. cut_off x z.stage from n;
+  at_end = λ z from n. cut_off x z.mode z.stage from n;
 }
 
 -- the events that end a session
 abbrev pub ends : StreamEvent → Bool
 ends (ended n) = true
-ends _ = false
+ends (peer_fault n text) = true
+ends event = false
 
 -- the strings of the direction so far, those of an open payload among them
 abbrev pub strings_at : Situation → Stage → List (List ℕ)
 strings_at z (record_due due) = z.strings
+strings_at z (chunk_due p) = p.standing.situation.strings
 strings_at z (payload_open p) = p.standing.situation.strings
 
 abbrev pub strings_in : Situation → List (List ℕ)

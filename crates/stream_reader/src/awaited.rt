@@ -1,29 +1,84 @@
 //! What comes next in a stream.
 
-ghost use Rattle.std.specs.Prelude.{◌≡◌, ◌==◌, ◌||◌};
-ghost use Rattle.nbfx_values.specs.Limits.{Limits};
-ghost use Rattle.nbfx_values.specs.QuotasOf.{limits_of};
-ghost use Rattle.nbfx_values.specs.Session.{kind_number};
-ghost use Rattle.stream_reader.specs.Stepping.{RefusedAs};
-ghost use Rattle.stream_reader.specs.Stream.{Settings, is_binary, kind_of, reason_in};
+ghost use Rattle.std.specs.Prelude.{◌≡◌};
+ghost use Rattle.stream_reader.specs.Stepping.{begun_with, due_after, is_chunked_form, joined_with};
 
 use nbfx_decoder::DecodeFault;
-use nbfx_values::{Kind, Mode, Quotas, Reason};
-use nmf_records::{Due, Frame};
+use nmf_records::Due;
 
-/// The payload of an envelope, of which some bytes are still to come.
+/// How a payload goes on after the bytes that are still to come.
+#[derive(Clone, Copy, Debug, PartialEq, Eq)]
+pub(crate) enum Form {
+    /// It ends, and a record of a session's messages comes.
+    Sized,
+    /// The size of another chunk comes.
+    Chunked,
+    /// The size 0 has ended it, and End comes.
+    LastChunk,
+}
+
+impl Form {
+    /// What is due there.
+    pub(crate) fn due_after(self) -> Due
+        ensures { result ≡ due_after self }
+    {
+        match self {
+            Form::Sized => Due::Messages,
+            Form::Chunked => Due::Chunk,
+            Form::LastChunk => Due::End,
+        }
+    }
+
+    pub(crate) fn is_chunked(self) -> bool
+        ensures { result ≡ is_chunked_form self }
+    {
+        matches!(self, Form::Chunked)
+    }
+}
+
+/// The payload of an envelope, in one part or in chunks, of which bytes are still to come.
 #[derive(Clone, Copy, Debug, PartialEq, Eq)]
 pub(crate) struct PayloadLeft {
     /// The offset of the envelope's type byte.
     pub(crate) from: u64,
-    /// Bytes in all.
+    /// Bytes in all, of the chunks so far.
     pub(crate) size: u32,
-    /// Bytes still to come.
+    /// Bytes still to come of these.
     pub(crate) left: u32,
+    pub(crate) form: Form,
 }
 
 impl PayloadLeft {
     ghost use Rattle.stream_reader.specs.Stepping.{more_shown};
+
+    /// A payload before its first byte.
+    pub(crate) fn new(from: u64, size: u32, form: Form) -> PayloadLeft
+        ensures { result ≡ begun_with from size form }
+    {
+        PayloadLeft {
+            from,
+            size,
+            left: size,
+            form,
+        }
+    }
+
+    /// The payload with a chunk of so many bytes more, which ends it where they are none.
+    pub(crate) fn with_chunk(self, chunk: u32) -> PayloadLeft
+        ensures { joined_with self chunk result }
+    {
+        let form = if chunk == 0 {
+            Form::LastChunk
+        } else {
+            Form::Chunked
+        };
+        PayloadLeft {
+            size: self.size.saturating_add(chunk),
+            left: chunk,
+            form,
+            ..self
+        }
+    }
 
     /// How many more bytes show this fault than have come.
     pub(crate) fn more_shown(&self, fault: DecodeFault) -> u32
@@ -42,38 +97,17 @@ impl PayloadLeft {
 pub(crate) enum Awaited {
     /// A record, of those that may come where this is due.
     Record(Due),
+    /// The size of the payload's next chunk.
+    Chunk(PayloadLeft),
     /// A byte of a payload.
     Payload(PayloadLeft),
 }
 
-/// Why what a whole record says is refused in an initiator's stream in duplex mode.
-pub(crate) fn refused(quotas: &Quotas, frame: Frame) -> Option<Reason>
-    ensures { (x : Settings) → x.mode ≡ Mode.Duplex → x.limits ≡ limits_of quotas.now
-        → RefusedAs (reason_in x frame) result }
-{
-    match frame {
-        Frame::Version { major: 1, minor: 0 } => None,
-        Frame::Version { .. } => Some(Reason::Unbuilt),
-        Frame::Mode(mode) if mode != Mode::Duplex.number() => Some(Reason::Unbuilt),
-        Frame::KnownEncoding(encoding) if !is_binary(encoding) => Some(Reason::Unbuilt),
-        Frame::SizedEnvelope(size) if size > quotas.payload => Some(Reason::MessageTooLarge),
-        _ => None,
-    }
-}
-
-fn is_binary(encoding: u8) -> bool
-    ensures { result ≡ is_binary encoding }
-{
-    encoding == Kind::Plain.number() || encoding == Kind::Session.number()
-}
-
-/// What payloads are under this known encoding.
-pub(crate) fn kind_of(encoding: u8) -> Kind
-    ensures { result ≡ kind_of encoding }
-{
-    if encoding == Kind::Plain.number() {
-        Kind::Plain
-    } else {
-        Kind::Session
-    }
+/// How a session has ended.
+#[derive(Clone, Copy, Debug, PartialEq, Eq)]
+pub(crate) enum Closing {
+    /// By the End record.
+    End,
+    /// By a receiver's Fault.
+    Fault,
 }

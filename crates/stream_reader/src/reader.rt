@@ -1,19 +1,21 @@
 //! A stream, in any pieces.
 
-ghost use Rattle.std.specs.Prelude.{◌≡◌, ℕ, ◌+◌, ◌^◌, ◌≤◌, ◌<◌, List, [], ◌++◌, length, take, IfOk, IfErr, OnOk, IsErrOf, Ok, Err, Some, None, false, true};
+ghost use Rattle.std.specs.Prelude.{◌≡◌, ℕ, ◌+◌, ◌≤◌, List, [], ◌++◌, length, take, IfOk, IfErr, OnOk, IsErrOf, Ok, Err, Some, None, false, true};
 ghost use Rattle.unit_streams.specs.Grammar.{standing};
-ghost use Rattle.unit_streams.specs.Judging.{answer, is_over_at, ending_at};
+ghost use Rattle.unit_streams.specs.Judging.{answer, event_at, is_over_at, ending_at};
 ghost use Rattle.nbfx_values.specs.Measures.{content_of};
 ghost use Rattle.nbfx_values.specs.QuotasOf.{limits_of};
 ghost use Rattle.nmf_records.specs.Reader.{limit_of};
 ghost use Rattle.stream_reader.specs.Bounds.{IsBounded};
 ghost use Rattle.string_tables.specs.SessionStrings.{used_cost};
-ghost use Rattle.stream_reader.specs.Stream.{initiators, stream, offence_at, strings_in};
+ghost use Rattle.stream_reader.specs.Sides.{side_of};
+ghost use Rattle.stream_reader.specs.Stream.{stream, strings_in};
 
-use crate::awaited::{self, Awaited, PayloadLeft};
-use nbfx_decoder::{DecodeFault, Decoder};
-use nbfx_values::{Doc, Kept, Kind, Mode, Offence, Place, Quotas, Reason};
-use nmf_records::{Direction, Due, Frame, FrameReader, FrameStep};
+use crate::awaited::{Awaited, Closing};
+use crate::side::Side;
+use nbfx_decoder::Decoder;
+use nbfx_values::{Doc, Kept, Kind, Mode, Offence, Quotas, Reason};
+use nmf_records::{Due, FrameReader};
 use session_dictionary::SessionTable;
 use static_dictionary::StaticTable;
 use std::alloc::Global;
@@ -24,12 +26,34 @@ use unit_streams::Memory;
 pub enum StreamStep {
     /// Nothing yet.
     More,
-    /// The preamble.
-    Opened { mode: Mode, kind: Kind },
-    /// An envelope with a payload of this many bytes, which is this document's.
-    Message { size: u32, doc: Doc },
-    /// The session.
-    Ended,
+    /// An initiator's preamble; [`StreamReader::text`] is its Via.
+    Opened {
+        mode: Mode,
+        kind: Kind,
+    },
+    /// A receiver's Ack.
+    Accepted,
+    /// An envelope.
+    Message {
+        /// Counted from 0.
+        number: u64,
+        /// Bytes of its payload, of all chunks.
+        size: u32,
+        doc: Doc,
+        /// How many strings the direction has after it, which are those of [`StreamReader::table`].
+        strings: u32,
+        /// What these cost.
+        used: u32,
+    },
+    /// The session, of this many bytes.
+    Ended {
+        bytes: u64,
+    },
+    /// A receiver's Fault, which ends the session of this many bytes; [`StreamReader::text`] is its
+    /// text.
+    PeerFault {
+        bytes: u64,
+    },
 }
 
 /// Why a stream isn't read on.
@@ -37,60 +61,69 @@ pub enum StreamStep {
 pub enum ReadRefusal {
     /// The stream is refused so.
     Offence(Offence),
-    /// There was no memory for what it holds.
+    /// Out of memory.
     Memory,
 }
 
-/// Reads an initiator's stream (MC-NMF, duplex mode), in whatever pieces its bytes come. It holds
-/// of an envelope's payload what a [`Decoder`] does: the items of the records that are whole, and
-/// the bytes of the one that isn't.
+/// Reads the stream of one side (MC-NMF), in whatever pieces its bytes come. It holds of an
+/// envelope's payload what a [`Decoder`] does: the items of the whole records, and the bytes of the
+/// unfinished one.
 #[derive(Drop)]
 pub struct StreamReader<'s> {
-    alloc: Global,
-    statics: &'s StaticTable,
-    quotas: Quotas,
-    frames: FrameReader,
-    decoder: Decoder<'s>,
-    awaited: Awaited,
-    kind: Kind,
-    /// How many documents are whole.
-    messages: u64,
+    pub(crate) alloc: Global,
+    pub(crate) side: Side,
+    pub(crate) statics: &'s StaticTable,
+    pub(crate) quotas: Quotas,
+    pub(crate) frames: FrameReader,
+    pub(crate) decoder: Decoder<'s>,
+    pub(crate) awaited: Awaited,
+    /// How the session ended, once it has.
+    pub(crate) closing: Closing,
+    pub(crate) mode: Mode,
+    pub(crate) kind: Kind,
+    /// How many documents were read.
+    pub(crate) messages: u64,
     /// How many bytes were used.
-    taken: u64,
+    pub(crate) taken: u64,
     /// The offset at which the unit begins that is read.
-    unit_from: u64,
-    failure: Option<ReadRefusal>,
+    pub(crate) unit_from: u64,
+    pub(crate) failure: Option<ReadRefusal>,
     ghost limit: { limit_of frames ≡ quotas.via },
     ghost bounded: { ∥ IsBounded decoder quotas awaited ∥₁ },
 }
 
 impl<'s> StreamReader<'s> {
-    ghost use Rattle.nbfx_decoder.specs.Standing.{settings_of as decoder_settings, StandsFor as DecoderStandsFor};
     ghost use Rattle.stream_reader.specs.declared.reader.ReadRefusal.{ReadRefusal as Failure};
-    ghost use Rattle.stream_reader.specs.Saying.{Says, said_at_end};
-    ghost use Rattle.stream_reader.specs.Standing.{settings_of, taken_of, held_of, content_held_of, messages_of, failure_of, StandsFor, FailedBehind, ShowsVia, ShowsStrings, WhereItStands, WhereItFailed, FailsBy, HasPayloads, begun_in, items_in, Reached};
-    ghost use Rattle.stream_reader.specs.Stepping.{UnitAnswers, BehindAnswers, HasDecoded, IsDue, Keeps, KeepsShown, has_ended, is_head, opened_at, step_of, taken_since, refusal_told};
-    ghost use Rattle.stream_reader.specs.Stream.{Settings, Situation, OpenPayload, record_due, payloads, behind_payload, completed_payload, refused_payload, after_record, completed_record, refused_record};
+    ghost use Rattle.stream_reader.specs.Saying.{Says, Repeats, said_at_end};
+    ghost use Rattle.stream_reader.specs.Standing.{settings_of, taken_of, held_of, content_held_of, messages_of, failure_of, StandsFor, FailedBehind, ShowsText, ShowsStrings, WhereItStands, WhereItFailed, FailsBy, HasPayloads, begun_in, items_in};
 
-    /// A reader before the first byte. It makes all the room that it needs up to the preamble's
-    /// end.
+    /// A reader before the first byte. It makes all the room that it needs before the first
+    /// envelope.
     pub fn new(
         alloc: Global,
         statics: &'s StaticTable,
         quotas: Quotas,
+        side: Side,
     ) -> Result<StreamReader<'s>, Memory>
         ensures stands { IfOk result (λ reader. StandsFor reader []) }
-        ensures settings { IfOk result
-            (λ reader. settings_of reader ≡ initiators statics.now (limits_of quotas)) }
+        ensures settings { IfOk result (λ reader. settings_of reader ≡ record {
+          side = side_of side;
+          statics = statics.now;
+          limits = limits_of quotas;
+        }) }
     {
+        let kind = side.kind();
         Ok(StreamReader {
             alloc,
             statics,
             quotas,
             frames: FrameReader::new(alloc, quotas.via)?,
-            decoder: Decoder::new(alloc, statics, quotas, Kind::Session),
-            awaited: Awaited::Record(Due::first(Direction::FromInitiator)),
-            kind: Kind::Session,
+            decoder: Decoder::new(alloc, statics, quotas, kind),
+            awaited: Awaited::Record(Due::first(side.direction())),
+            closing: Closing::End,
+            mode: side.mode(),
+            kind,
+            side,
             messages: 0,
             taken: 0,
             unit_from: 0,
@@ -99,8 +132,8 @@ impl<'s> StreamReader<'s> {
     }
 
     /// Uses the bytes of the piece up to and including the one that completes the next event, and
-    /// says how many they are. After a refusal it is refused the same way; after the end it uses
-    /// nothing.
+    /// says how many they are. After a refusal it is refused the same way; after the session's end
+    /// it uses nothing, and repeats the event that ended it.
     pub fn feed(&mut self, piece: &[u8]) -> Result<(usize, StreamStep), ReadRefusal>
         ensures within { IfOk result (λ answer. answer.0 ≤ length piece.now) }
         // The answer is decided at the first byte that completes an event or shows a refusal.
@@ -108,11 +141,12 @@ impl<'s> StreamReader<'s> {
             is_over_at (stream (settings_of self.old)) p ≡ false
             → Says (length piece.now) (answer (stream (settings_of self.old)) p piece.now)
             result) }
+        // It takes no memory where no payload may come before the next event.
         ensures wanted { WhereItStands self.old (λ p. IsErrOf result ReadRefusal.Memory
             → HasPayloads (standing (stream (settings_of self.old)) p).situation.stage) }
         ensures ended { WhereItStands self.old (λ p.
             is_over_at (stream (settings_of self.old)) p ≡ true
-            → result ≡ Ok (0, StreamStep.Ended)) }
+            → Repeats (event_at (stream (settings_of self.old)) p) result) }
         ensures repeated { (refusal : Failure) → failure_of self.old ≡ Some refusal
             → result ≡ Err refusal }
         ensures unchanged { (refusal : Failure) → failure_of self.old ≡ Some refusal
@@ -132,7 +166,7 @@ impl<'s> StreamReader<'s> {
             return Err(refusal);
         }
         if self.has_ended() {
-            return Ok((0, StreamStep::Ended));
+            return Ok((0, self.closing_step()));
         }
         let room = self.room(piece.len());
         let mut used = 0;
@@ -158,7 +192,8 @@ impl<'s> StreamReader<'s> {
         Ok((used, StreamStep::More))
     }
 
-    /// Says that the input is over, which is no offence exactly after the session's end.
+    /// Says that the input is over, which is no offence exactly after the session's end, and after
+    /// a receiver's Ack in simplex mode where no byte of another record has come.
     pub fn end_of_input(&mut self) -> Result<(), ReadRefusal>
         ensures answers { WhereItStands self.old (λ p.
             result ≡ said_at_end (ending_at (stream (settings_of self.old)) p)) }
@@ -177,7 +212,7 @@ impl<'s> StreamReader<'s> {
         if let Some(refusal) = self.failure {
             return Err(refusal);
         }
-        if self.has_ended() {
+        if self.may_end() {
             return Ok(());
         }
         let from = self.open_from();
@@ -193,13 +228,14 @@ impl<'s> StreamReader<'s> {
         self.decoder.reuse(doc);
     }
 
-    /// The Via, once its record is whole, and else the empty text.
-    pub fn via(&self) -> &str
-        ensures shown { (via : List ℕ) → ShowsVia self.now via → result.now ≡ via }
+    /// The text of the last Via or Fault record, once all of it was read, and before that the empty
+    /// text.
+    pub fn text(&self) -> &str
+        ensures shown { (text : List ℕ) → ShowsText self.now text → result.now ≡ text }
         ensures stands { WhereItStands self.now (λ p.
-            result.now ≡ (standing (stream (settings_of self.now)) p).situation.via) }
+            result.now ≡ (standing (stream (settings_of self.now)) p).situation.text) }
         ensures failed { WhereItFailed self.now (λ refusal taken p.
-            result.now ≡ (standing (stream (settings_of self.now)) p).situation.via) }
+            result.now ≡ (standing (stream (settings_of self.now)) p).situation.text) }
     {
         self.frames.text()
     }
@@ -216,7 +252,7 @@ impl<'s> StreamReader<'s> {
         self.taken
     }
 
-    /// How many documents are whole.
+    /// How many documents were read.
     pub fn messages(&self) -> u64
         ensures counted { result ≡ messages_of self.now }
         ensures stands { WhereItStands self.now (λ p.
@@ -227,8 +263,7 @@ impl<'s> StreamReader<'s> {
         self.messages
     }
 
-    /// The strings of the direction so far; after a refusal in a payload, those that were whole
-    /// before.
+    /// The strings of the direction so far; after a refusal in a payload, those read before it.
     pub fn table(&self) -> &SessionTable
         ensures shown { (strings : List (List ℕ)) → ShowsStrings self.now strings
             → result.now.strings ≡ strings }
@@ -244,8 +279,8 @@ impl<'s> StreamReader<'s> {
         self.decoder.table()
     }
 
-    /// What it holds of the input: in bytes, the framing's text and the unit of the payload that
-    /// isn't whole, and the content of the document so far.
+    /// What it holds of the input: in bytes, the framing's text and the unfinished unit of the
+    /// payload, and the content of the document so far.
     #[tactic(auto, unfolding(crate::specs::Standing::held_of, crate::specs::Standing::content_held_of))]
     pub fn kept(&self) -> Kept
         ensures held { result.raw ≡ held_of self.now }
@@ -266,260 +301,6 @@ impl<'s> StreamReader<'s> {
         Kept {
             raw: payload.raw.saturating_add(self.frames.held() as u64),
             content: payload.content,
-        }
-    }
-
-    fn has_ended(&self) -> bool
-        ensures { result ≡ has_ended self.now.awaited }
-    {
-        matches!(self.awaited, Awaited::Record(Due::Over))
-    }
-
-    // How many of so many bytes may be read within the session quota.
-    fn room(&self, len: usize) -> usize
-        ensures within { result ≤ len }
-        ensures quota { self.now.taken ≤ self.now.quotas.session
-            → self.now.taken + result ≤ self.now.quotas.session }
-        ensures full { result < len → self.now.quotas.session ≤ self.now.taken + result }
-        ensures none { self.now.quotas.session < self.now.taken → result ≡ 0 }
-    {
-        let room = self.quotas.session.saturating_sub(self.taken);
-        len.min(room as usize)
-    }
-
-    // The first byte of the record that isn't whole.
-    fn open_from(&self) -> u64
-        ensures { result ≡ opened_at self.now.awaited self.now.unit_from }
-    {
-        match self.awaited {
-            Awaited::Payload(payload) => payload.from,
-            Awaited::Record(_) => self.unit_from,
-        }
-    }
-
-    // Fails for good by a record that begins at this offset.
-    fn refuse(&mut self, from: u64, reason: Reason) -> ReadRefusal
-        ensures offence { result ≡ ReadRefusal.Offence (offence_at from reason) }
-        ensures failure { self.new.failure ≡ Some result }
-        ensures taken { self.new.taken ≡ self.old.taken }
-        ensures shown { KeepsShown self.old self.new }
-    {
-        let place = Place::Frame(from);
-        self.fail(ReadRefusal::Offence(Offence { place, reason }))
-    }
-
-    // Fails for good by a payload.
-    fn refuse_payload(&mut self, fault: DecodeFault) -> ReadRefusal
-        ensures told { result ≡ refusal_told self.old.messages fault }
-        ensures failure { self.new.failure ≡ Some result }
-        ensures taken { self.new.taken ≡ self.old.taken }
-        ensures shown { KeepsShown self.old self.new }
-    {
-        match fault {
-            DecodeFault::Payload { at, reason, .. } => {
-                let message = self.messages;
-                let place = Place::Payload { message, at };
-                self.fail(ReadRefusal::Offence(Offence { place, reason }))
-            }
-            DecodeFault::Memory => self.fail(ReadRefusal::Memory),
-        }
-    }
-
-    // A refusal in a call before which so many bytes were used; for want of memory no others count.
-    fn refused_since(&mut self, before: u64, refusal: ReadRefusal) -> ReadRefusal
-        ensures same { result ≡ refusal }
-        ensures failure { self.new.failure ≡ self.old.failure }
-        ensures taken { self.new.taken ≡ taken_since before self.old.taken refusal }
-        ensures shown { KeepsShown self.old self.new }
-    {
-        if refusal == ReadRefusal::Memory {
-            self.taken = before;
-        }
-        refusal
-    }
-
-    fn fail(&mut self, refusal: ReadRefusal) -> ReadRefusal
-        ensures same { result ≡ refusal }
-        ensures failure { self.new.failure ≡ Some refusal }
-        ensures taken { self.new.taken ≡ self.old.taken }
-        ensures shown { KeepsShown self.old self.new }
-    {
-        self.failure = Some(refusal);
-        refusal
-    }
-
-    // Takes bytes of one unit, or of several of a payload.
-    fn unit(&mut self, bytes: &[u8]) -> Result<(usize, StreamStep), ReadRefusal>
-        requires some { 0 < length bytes.now }
-        requires fits { self.old.taken + length bytes.now ≤ self.old.quotas.session }
-        ensures answers { WhereItStands self.old (λ p.
-            is_over_at (stream (settings_of self.old)) p ≡ false
-            → UnitAnswers (settings_of self.old) p bytes.now self.new result) }
-        ensures refused { IfErr result (λ refusal. failure_of self.new ≡ Some refusal) }
-        ensures settings { settings_of self.new ≡ settings_of self.old }
-        ensures within { IfOk result (λ answer. answer.0 ≤ length bytes.now) }
-        ensures taken { IfOk result (λ answer. self.new.taken ≡ self.old.taken + answer.0) }
-    {
-        match self.awaited {
-            Awaited::Payload(payload) => self.payload(payload, bytes),
-            Awaited::Record(due) => self.record(due, bytes),
-        }
-    }
-
-    // Takes bytes of the payload, as far as they are its own.
-    fn payload(
-        &mut self,
-        payload: PayloadLeft,
-        bytes: &[u8],
-    ) -> Result<(usize, StreamStep), ReadRefusal>
-        requires awaited { self.old.awaited ≡ Awaited.Payload payload }
-        requires some { 0 < length bytes.now }
-        requires fits { self.old.taken + length bytes.now ≤ self.old.quotas.session }
-        ensures answers { WhereItStands self.old (λ p.
-            UnitAnswers (settings_of self.old) p bytes.now self.new result) }
-        ensures refused { IfErr result (λ refusal. failure_of self.new ≡ Some refusal) }
-        ensures settings { settings_of self.new ≡ settings_of self.old }
-        ensures within { IfOk result (λ answer. answer.0 ≤ length bytes.now) }
-        ensures taken { IfOk result (λ answer. self.new.taken ≡ self.old.taken + answer.0) }
-    {
-        let n = bytes.len().min(payload.left as usize);
-        if let Err(fault) = self.decoder.feed(&bytes[..n]) {
-            self.taken = self.taken.saturating_add(payload.more_shown(fault) as u64);
-            return Err(self.refuse_payload(fault));
-        }
-        self.taken += n as u64;
-        self.unit_from = self.taken;
-        let left = payload.left - n as u32;
-        let payload = PayloadLeft { left, ..payload };
-        self.awaited = Awaited::Payload(payload);
-        let step = self.behind_payload(payload)?;
-        Ok((n, step))
-    }
-
-    // Goes on behind bytes of a payload; behind the last of them it hands out its document.
-    fn behind_payload(&mut self, payload: PayloadLeft) -> Result<StreamStep, ReadRefusal>
-        requires awaited { self.old.awaited ≡ Awaited.Payload payload }
-        ensures answers { (x : Settings) (z : Situation) (p : OpenPayload)
-            → HasDecoded self.old x z payload p
-            → BehindAnswers x (behind_payload x z p) (completed_payload x z p)
-            (refused_payload x z p) self.new result }
-        ensures refused { IfErr result (λ refusal. failure_of self.new ≡ Some refusal) }
-        ensures unit_from { OnOk result (self.new.unit_from ≡ self.old.unit_from) }
-        ensures unfailed { OnOk result (self.new.failure ≡ self.old.failure) }
-        ensures keeps { Keeps self.old self.new }
-    {
-        if payload.left > 0 {
-            return Ok(StreamStep::More);
-        }
-        let doc = match self.decoder.finish() {
-            Ok(doc) => doc,
-            Err(fault) => return Err(self.refuse_payload(fault)),
-        };
-        self.awaited = Awaited::Record(Due::Messages);
-        self.messages = self.messages.saturating_add(1);
-        let size = payload.size;
-        Ok(StreamStep::Message { size, doc })
-    }
-
-    // Takes bytes of a record.
-    fn record(&mut self, due: Due, bytes: &[u8]) -> Result<(usize, StreamStep), ReadRefusal>
-        requires awaited { self.old.awaited ≡ Awaited.Record due }
-        requires some { 0 < length bytes.now }
-        requires fits { self.old.taken + length bytes.now ≤ self.old.quotas.session }
-        ensures answers { WhereItStands self.old (λ p.
-            is_over_at (stream (settings_of self.old)) p ≡ false
-            → UnitAnswers (settings_of self.old) p bytes.now self.new result) }
-        ensures refused { IfErr result (λ refusal. failure_of self.new ≡ Some refusal) }
-        ensures settings { settings_of self.new ≡ settings_of self.old }
-        ensures within { IfOk result (λ answer. answer.0 ≤ length bytes.now) }
-        ensures taken { IfOk result (λ answer. self.new.taken ≡ self.old.taken + answer.0) }
-    {
-        match self
-            .frames
-            .feed(bytes, due.expect(Direction::FromInitiator))
-        {
-            Ok((n, FrameStep::More)) => {
-                self.taken += n as u64;
-                Ok((n, StreamStep::More))
-            }
-            Ok((n, FrameStep::Done(frame))) => {
-                self.taken += n as u64;
-                let step = self.behind(due, frame)?;
-                Ok((n, step))
-            }
-            Err(refusal) => {
-                self.taken = self.unit_from.saturating_add(refusal.shown_by as u64);
-                Err(self.refuse(self.unit_from, Reason::Unbuilt))
-            }
-        }
-    }
-
-    // Goes on behind a whole record.
-    fn behind(&mut self, due: Due, frame: Frame) -> Result<StreamStep, ReadRefusal>
-        requires awaited { self.old.awaited ≡ Awaited.Record due }
-        ensures answers { let x : Settings = settings_of self.old in
-            (z : Situation) (text : List ℕ) → IsDue self.old x z due frame
-            → BehindAnswers x (after_record x z self.old.unit_from frame text)
-            (completed_record x z self.old.unit_from frame)
-            (refused_record x z self.old.unit_from frame) self.new result }
-        ensures refused { IfErr result (λ refusal. failure_of self.new ≡ Some refusal) }
-        ensures unit_from { OnOk result (self.new.unit_from ≡ self.old.taken) }
-        ensures unfailed { OnOk result (self.new.failure ≡ self.old.failure) }
-        ensures keeps { Keeps self.old self.new }
-    {
-        if let Some(reason) = awaited::refused(&self.quotas, frame) {
-            return Err(self.refuse(self.unit_from, reason));
-        }
-        let from = self.unit_from;
-        self.unit_from = self.taken;
-        if let Frame::SizedEnvelope(size) = frame {
-            let payload = PayloadLeft {
-                from,
-                size,
-                left: size,
-            };
-            self.awaited = Awaited::Payload(payload);
-            return self.behind_payload(payload);
-        }
-        self.awaited = Awaited::Record(due.behind(Direction::FromInitiator, Mode::Duplex, frame));
-        if let Frame::KnownEncoding(encoding) = frame {
-            self.read_as(awaited::kind_of(encoding));
-            return Ok(StreamStep::More);
-        }
-        Ok(self.step_behind(frame))
-    }
-
-    // From here on payloads are of this kind, with no strings before.
-    fn read_as(&mut self, kind: Kind)
-        ensures kind { self.new.kind ≡ kind }
-        ensures stands { DecoderStandsFor self.new.decoder [] [] }
-        ensures decodes { decoder_settings self.new.decoder ≡ record {
-          statics = self.old.statics.now;
-          kind = kind;
-          limits = limits_of self.old.quotas;
-        } }
-        ensures awaited { self.new.awaited ≡ self.old.awaited }
-        ensures messages { self.new.messages ≡ self.old.messages }
-        ensures unit_from { self.new.unit_from ≡ self.old.unit_from }
-        ensures failure { self.new.failure ≡ self.old.failure }
-        ensures keeps { Keeps self.old self.new }
-    {
-        self.kind = kind;
-        self.decoder = Decoder::new(self.alloc, self.statics, self.quotas, kind);
-    }
-
-    fn step_behind(&self, frame: Frame) -> StreamStep
-        ensures { (x : Settings) (z : Situation) (from : ℕ) → z.kind ≡ self.now.kind
-            → x.mode ≡ Mode.Duplex → is_head frame ≡ false
-            → result ≡ step_of (completed_record x z from frame) }
-    {
-        match frame {
-            Frame::PreambleEnd => StreamStep::Opened {
-                mode: Mode::Duplex,
-                kind: self.kind,
-            },
-            Frame::End => StreamStep::Ended,
-            _ => StreamStep::More,
         }
     }
 }

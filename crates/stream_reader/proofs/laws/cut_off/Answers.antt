@@ -4,7 +4,7 @@ use Rattle.stream_reader.proofs.laws.cut_off.Goals as goal
 pub returns : goal.returns
 returns c = record {
   no_piece = no_piece_cuts_off;
-  by_end = λ x set p from. cut_off_is x p set from;
+  by_end = cut_off_is;
   end_alone = end_cuts_off;
-  unrefused = λ x set bytes from. cut_off_unrefused x bytes set from;
+  unrefused = cut_off_unrefused;
 }

@@ -1,9 +1,6 @@
 use Rattle.stream_reader.proofs.PayloadSizes.{payloads_fit}
-use Rattle.stream_reader.proofs.Situations.{documents_fit}
+use Rattle.stream_reader.proofs.Situations.{documents_fit, open_payloads}
 use Rattle.stream_reader.proofs.laws.documents_fit.Goals as goal
 
-pub returns-clause-documents : goal.returns-clause-documents
-returns-clause-documents c = documents_fit
-
-pub returns-clause-payloads : goal.returns-clause-payloads
-returns-clause-payloads c = payloads_fit
+pub returns : goal.returns
+returns c = record { documents = documents_fit; payloads = payloads_fit; open_payloads = open_payloads }

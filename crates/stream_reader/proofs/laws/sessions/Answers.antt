@@ -1,4 +1,4 @@
-use Rattle.stream_reader.proofs.Closed.{sessions_are_told, spells_one_session}
+use Rattle.stream_reader.proofs.SessionEnds.{sessions_are_told, spells_one_session}
 use Rattle.stream_reader.proofs.laws.sessions.Goals as goal
 
 pub returns : goal.returns

@@ -1,14 +1,14 @@
-use Rattle.receiver_machine.specs.Standing.{settings_of, taken_of, messages_of, failure_of, ShowsVia, ShowsStrings, StandsFor, FailedBehind}
+use Rattle.receiver_machine.specs.Standing.{settings_of, taken_of, messages_of, failure_of, ShowsText, ShowsStrings, StandsFor, FailedBehind}
 use Rattle.receiver_machine.proofs.receiver.Receiver.messages.Goals as goal
 
 pub returns-clause-counted : goal.returns-clause-counted
-unfolding settings_of taken_of messages_of failure_of ShowsVia ShowsStrings StandsFor FailedBehind
+unfolding settings_of taken_of messages_of failure_of ShowsText ShowsStrings StandsFor FailedBehind
 returns-clause-counted c = c.messages.ensures.counted
 
 pub returns-clause-stands : goal.returns-clause-stands
-unfolding settings_of taken_of messages_of failure_of ShowsVia ShowsStrings StandsFor FailedBehind
+unfolding settings_of taken_of messages_of failure_of ShowsText ShowsStrings StandsFor FailedBehind
 returns-clause-stands c = c.messages.ensures.stands
 
 pub returns-clause-failed : goal.returns-clause-failed
-unfolding settings_of taken_of messages_of failure_of ShowsVia ShowsStrings StandsFor FailedBehind
+unfolding settings_of taken_of messages_of failure_of ShowsText ShowsStrings StandsFor FailedBehind
 returns-clause-failed c = c.messages.ensures.failed

@@ -1,14 +1,14 @@
-use Rattle.receiver_machine.specs.Standing.{settings_of, taken_of, messages_of, failure_of, ShowsVia, ShowsStrings, StandsFor, FailedBehind}
+use Rattle.receiver_machine.specs.Standing.{settings_of, taken_of, messages_of, failure_of, ShowsText, ShowsStrings, StandsFor, FailedBehind}
 use Rattle.receiver_machine.proofs.receiver.Receiver.reuse.Goals as goal
 
 pub returns-clause-stands : goal.returns-clause-stands
-unfolding settings_of taken_of messages_of failure_of ShowsVia ShowsStrings StandsFor FailedBehind
+unfolding settings_of taken_of messages_of failure_of ShowsText ShowsStrings StandsFor FailedBehind
 returns-clause-stands c = c.reuse.ensures.stands
 
 pub returns-clause-failed : goal.returns-clause-failed
-unfolding settings_of taken_of messages_of failure_of ShowsVia ShowsStrings StandsFor FailedBehind
+unfolding settings_of taken_of messages_of failure_of ShowsText ShowsStrings StandsFor FailedBehind
 returns-clause-failed c = c.reuse.ensures.failed
 
 pub returns-clause-settings : goal.returns-clause-settings
-unfolding settings_of taken_of messages_of failure_of ShowsVia ShowsStrings StandsFor FailedBehind
+unfolding settings_of taken_of messages_of failure_of ShowsText ShowsStrings StandsFor FailedBehind
 returns-clause-settings c = c.reuse.ensures.settings

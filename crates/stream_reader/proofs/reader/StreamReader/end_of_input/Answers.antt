@@ -1,11 +1,21 @@
-use Rattle.std.proofs.Common.{Err, sym, ap, ◌∙◌}
+use Rattle.std.proofs.Common.{◌≡◌, Bool, true, false, Err, sym, ap, ◌∙◌}
 use Rattle.nbfx_values.specs.declared.refusals.Reason.TheVariants.{Truncated}
 use Rattle.stream_reader.specs.declared.reader.ReadRefusal.TheVariants.{Offence as Refused}
 use Rattle.stream_reader.specs.Saying.{said_at_end}
-use Rattle.stream_reader.specs.Standing.{StandsFor, failure_of}
-use Rattle.stream_reader.specs.Stream.{offence_at}
-use Rattle.stream_reader.proofs.ReaderFacts.{not_failed, ending_open, ending_over, failed_as_set, refused_shows, same_settings}
+use Rattle.stream_reader.specs.Sides.{side_of}
+use Rattle.stream_reader.specs.declared.reader.StreamReader.{StreamReader}
+use Rattle.stream_reader.specs.Standing.{StandsFor, failure_of, settings_of}
+use Rattle.stream_reader.specs.Stepping.{may_end_at}
+use Rattle.stream_reader.specs.Stream.{direction_of, offence_at}
+use Rattle.stream_reader.proofs.ReaderFacts.{not_failed, ending_is, failed_as_set, refused_shows, same_settings}
 use Rattle.stream_reader.proofs.reader.StreamReader.end_of_input.Goals as goal
+
+-- whose stream it reads
+as_set : (r : StreamReader) (b : Bool)
+    → may_end_at (direction_of (side_of r.side)) r.mode r.awaited r.unit_from r.taken ≡ b
+    → may_end_at (direction_of (settings_of r).side) r.mode r.awaited r.unit_from r.taken ≡ b
+unfolding settings_of
+as_set r b e = e
 
 pub returns-in-Some-clause-answers : goal.returns-in-Some-clause-answers
 unfolding StandsFor
@@ -23,19 +33,23 @@ pub returns-in-Some-clause-refused : goal.returns-in-Some-clause-refused
 unfolding failure_of
 returns-in-Some-clause-refused c = c.in-Some.is
 
-pub returns-then-has_ended-clause-answers : goal.returns-then-has_ended-clause-answers
+pub returns-then-may_end-clause-answers : goal.returns-then-may_end-clause-answers
 unfolding StandsFor
-returns-then-has_ended-clause-answers c = λ p h. sym (ap said_at_end (ending_over c.args.self.now _ p h (sym c.has_ended.ensures ∙ c.if-has_ended.true)))
+returns-then-may_end-clause-answers c = λ p h.
+    let may = sym c.may_end.ensures ∙ c.if-may_end.true in
+    sym (ap said_at_end (ending_is c.args.self.now _ p h true (as_set c.args.self.now true may)))
 
-pub returns-then-has_ended-clause-repeated : goal.returns-then-has_ended-clause-repeated
+pub returns-then-may_end-clause-repeated : goal.returns-then-may_end-clause-repeated
 unfolding failure_of
-returns-then-has_ended-clause-repeated c = λ refusal e. absurd (c.in_default.not-Some refusal e)
+returns-then-may_end-clause-repeated c = λ refusal e. absurd (c.in_default.not-Some refusal e)
 
 pub returns-clause-answers : goal.returns-clause-answers
 unfolding StandsFor
 returns-clause-answers c = λ p h.
-    ap Err (c.refuse.ensures.offence ∙ ap (λ from. Refused (offence_at from Truncated)) c.open_from-from.ensures)
-    ∙ sym (ap said_at_end (ending_open c.args.self.now p h (sym c.has_ended.ensures ∙ c.if-has_ended.false)))
+    let may = sym c.may_end.ensures ∙ c.if-may_end.false in
+    ap Err (c.refuse.ensures.offence
+    ∙ ap (λ from. Refused (offence_at from Truncated)) c.open_from-from.ensures)
+    ∙ sym (ap said_at_end (ending_is c.args.self.now _ p h false (as_set c.args.self.now false may)))
 
 pub returns-clause-repeated : goal.returns-clause-repeated
 unfolding failure_of
@@ -48,7 +62,7 @@ returns-clause-unchanged c = λ refusal e. absurd (c.in_default.not-Some refusal
 pub returns-clause-failed : goal.returns-clause-failed
 unfolding StandsFor
 returns-clause-failed c = λ p h.
-    let same = same_settings c.args.self.now c.refuse.new.self c.refuse.ensures.shown.statics c.refuse.ensures.shown.quotas in
+    let same = same_settings c.args.self.now c.refuse.new.self c.refuse.ensures.shown.side c.refuse.ensures.shown.statics c.refuse.ensures.shown.quotas in
     failed_as_set c.refuse.new.self _ c.refuse.result _ p same
     (refused_shows c.args.self.now c.refuse.new.self _ p c.refuse.result _ h c.refuse.ensures.failure (c.refuse.ensures.taken ∙ h.taken) c.refuse.ensures.shown)
 
@@ -57,7 +71,7 @@ unfolding failure_of
 returns-clause-refused c = c.refuse.ensures.failure
 
 pub returns-clause-settings : goal.returns-clause-settings
-returns-clause-settings c = same_settings _ _ c.refuse.ensures.shown.statics c.refuse.ensures.shown.quotas
+returns-clause-settings c = same_settings _ _ c.refuse.ensures.shown.side c.refuse.ensures.shown.statics c.refuse.ensures.shown.quotas
 
 pub returns-in-Some-clause-wanted : goal.returns-in-Some-clause-wanted
 unfolding failure_of

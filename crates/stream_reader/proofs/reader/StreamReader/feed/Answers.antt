@@ -1,7 +1,7 @@
 use Rattle.std.proofs.Common.{◌≡◌, ℕ, ◌+◌, ◌-◌, ◌<◌, ◌≤◌, inl, inr, List, ◌++◌, length, take, drop, true, false, Some, Result, Ok, Err, refl, sym, ap, ◌∙◌, subst, arith, length-append, length-drop}
 use Rattle.std.proofs.lemmas.Bool.{cases_lt}
 use Rattle.std.proofs.lemmas.List.{take-append-drop, length-take-le}
-use Rattle.unit_streams.specs.Judging.{is_over_at}
+use Rattle.unit_streams.specs.Judging.{event_at, is_over_at}
 use Rattle.nbfx_values.specs.declared.refusals.Offence.{Offence}
 use Rattle.nbfx_values.specs.declared.refusals.Reason.TheVariants.{SessionTooLong}
 use Rattle.stream_reader.specs.declared.reader.ReadRefusal.{ReadRefusal}
@@ -9,10 +9,11 @@ use Rattle.stream_reader.specs.declared.reader.ReadRefusal.TheVariants.{Offence 
 use Rattle.stream_reader.specs.declared.reader.StreamReader.{StreamReader}
 use Rattle.stream_reader.specs.declared.reader.StreamStep.{StreamStep}
 use Rattle.stream_reader.specs.declared.reader.StreamStep.TheVariants as steps
+use Rattle.stream_reader.specs.Saying.{Repeats}
 use Rattle.stream_reader.specs.Stream.{Settings, offence_at, stream}
-use Rattle.stream_reader.specs.Standing.{Reached, StandsFor, failure_of, reads_initiators, settings_of}
+use Rattle.stream_reader.specs.Standing.{Reached, StandsFor, failure_of, settings_of}
 use Rattle.stream_reader.specs.Stepping.{has_ended, taken_since, UnitAnswers}
-use Rattle.stream_reader.proofs.ReaderFacts.{not_failed, open_as_opened, over_as_ended, refused_shows, same_settings}
+use Rattle.stream_reader.proofs.ReaderFacts.{not_failed, open_as_opened, over_as_ended, refused_shows, repeats_end, same_settings}
 use Rattle.stream_reader.proofs.FeedSteps.{Along, Fed, FedRefused, along_none, along_more, along_event, along_refused, along_too_long, along_end, fails_at_once, fails_since, says_refused, some_taken, unit_by, wanted_payloads}
 use Rattle.stream_reader.proofs.reader.StreamReader.feed.Goals as goal
 use Rattle.stream_reader.proofs.reader.StreamReader.feed.Goals.{At-loop-used}
@@ -62,13 +63,19 @@ pub returns-then-has_ended-clause-repeated : goal.returns-then-has_ended-clause-
 unfolding failure_of
 returns-then-has_ended-clause-repeated c = λ refusal e. absurd (c.in_default.not-Some refusal e)
 
+pub returns-then-has_ended-clause-ended : goal.returns-then-has_ended-clause-ended
+unfolding StandsFor
+returns-then-has_ended-clause-ended c = λ p stands over.
+    subst (λ (step : StreamStep). Repeats (event_at (stream (settings_of c.args.self.now)) p) (Ok (0, step)))
+    (sym c.closing_step.ensures) (repeats_end c.args.self.now (settings_of c.args.self.now) p stands over)
+
 pub loop-used-init : goal.loop-used-init
 unfolding StandsFor
 loop-used-init c = record {
   within = omega arith;
   settings = refl;
   taken = omega arith;
-  along = λ p stands on. along_none (settings_of c.args.self.now) (reads_initiators c.args.self.now) p c.args.piece.now c.args.self.now stands on;
+  along = λ p stands on. along_none (settings_of c.args.self.now) p c.args.piece.now c.args.self.now stands on;
 }
 
 -- the bytes that a unit is read from, and those behind them
@@ -158,7 +165,7 @@ loop-used-preserved c =
       along = λ p stands on.
           let a = inv.along p stands on in
           let u = rw c.in-More.is at (unit_answers f c.unit.new.self (Ok c.in-Ok.answer) c.in-Ok.ensures.answers p stands) in
-          along_more (x f) (reads_initiators c.args.self.now) p (piece f) c.loop-used.self (used f) a (here (piece f) (used f) (room f)) (behind (piece f) (used f) (room f)) (split (piece f) (used f) (room f)) c.unit.new.self c.in-Ok.answer.0 u;
+          along_more (x f) p (piece f) c.loop-used.self (used f) a (here (piece f) (used f) (room f)) (behind (piece f) (used f) (room f)) (split (piece f) (used f) (room f)) c.unit.new.self c.in-Ok.answer.0 u;
     }
 
 -- a refusal of a unit
@@ -167,16 +174,16 @@ unfolding failure_of StandsFor
 returns-in-Err c =
     let f : At-loop-used = (goal.at-returns-in-Err c).At-loop-used in
     let new : StreamReader = c.refused_since.new.self in
-    let settings = same_settings c.unit.new.self new c.refused_since.ensures.shown.statics c.refused_since.ensures.shown.quotas ∙ settings_still f c.unit.new.self c.in-Err.ensures.settings in
+    let settings = same_settings c.unit.new.self new c.refused_since.ensures.shown.side c.refused_since.ensures.shown.statics c.refused_since.ensures.shown.quotas ∙ settings_still f c.unit.new.self c.in-Err.ensures.settings in
     let told : (p : List ℕ) → StandsFor c.args.self.now p → FedRefused c.unit.new.self (x f) p (piece f) c.in-Err.refusal
     = λ p stands.
     let a = so_far f p stands in
-    along_refused (x f) (reads_initiators c.args.self.now) p (piece f) c.loop-used.self (used f) a (here (piece f) (used f) (room f)) (behind (piece f) (used f) (room f)) (split (piece f) (used f) (room f)) c.unit.new.self c.in-Err.refusal (unit_answers f c.unit.new.self (Err c.in-Err.refusal) c.in-Err.ensures.answers p stands) in
+    along_refused (x f) p (piece f) c.loop-used.self (used f) a (here (piece f) (used f) (room f)) (behind (piece f) (used f) (room f)) (split (piece f) (used f) (room f)) c.unit.new.self c.in-Err.refusal (unit_answers f c.unit.new.self (Err c.in-Err.refusal) c.in-Err.ensures.answers p stands) in
     rw c.refused_since.ensures.same (record {
       within = tt;
       answers = λ p stands on. says_refused c.unit.new.self (x f) p (piece f) c.in-Err.refusal (told p stands);
       wanted = λ p stands is. wanted_payloads c.unit.new.self (x f) p (piece f) c.in-Err.refusal (told p stands) (let e = is in cc);
-      ended = no_end f;
+      ended = λ p stands over. no_end f p stands over;
       repeated = no_refusal f _;
       unchanged = no_refusal f _;
       stands = λ p stands. tt;
@@ -195,13 +202,13 @@ returns-then-n-eq0 c =
     let never : (p : List ℕ) → StandsFor c.args.self.now p → ⊥
     = λ p stands.
     let a = so_far f p stands in
-    let some = some_taken (x f) (reads_initiators c.args.self.now) p (piece f) c.loop-used.self (used f) a (here (piece f) (used f) (room f)) (behind (piece f) (used f) (room f)) (split (piece f) (used f) (room f)) c.unit.new.self c.in-Ok.answer.0 c.in-Ok.answer.1 (unit_answers f c.unit.new.self (Ok c.in-Ok.answer) c.in-Ok.ensures.answers p stands) in
+    let some = some_taken (x f) p (piece f) c.loop-used.self (used f) a (here (piece f) (used f) (room f)) (behind (piece f) (used f) (room f)) (split (piece f) (used f) (room f)) c.unit.new.self c.in-Ok.answer.0 c.in-Ok.answer.1 (unit_answers f c.unit.new.self (Ok c.in-Ok.answer) c.in-Ok.ensures.answers p stands) in
     omega (arith, some, c.if-n-eq0.true) in
     record {
       within = let len = here_len (piece f) (used f) (room f) inv.within c.room-room.ensures.within in omega (arith, c.in-Ok.ensures.within, inv.within, len, c.room-room.ensures.within);
       answers = λ p stands on. absurd (never p stands);
       wanted = λ p stands wanted. absurd (never p stands);
-      ended = no_end f;
+      ended = λ p stands over. no_end f p stands over;
       repeated = no_refusal f _;
       unchanged = no_refusal f _;
       stands = λ p stands. absurd (never p stands);
@@ -221,13 +228,13 @@ returns-in_default-step c =
     let told : (p : List ℕ) → StandsFor c.args.self.now p → Fed c.unit.new.self (x f) p (piece f) (used f + n) c.in-Ok.answer.1
     = λ p stands.
     let a = so_far f p stands in
-    along_event (x f) (reads_initiators c.args.self.now) p (piece f) c.loop-used.self (used f) a (here (piece f) (used f) (room f)) (behind (piece f) (used f) (room f)) (split (piece f) (used f) (room f)) c.unit.new.self n c.in-Ok.answer.1 c.in_default-step.not-More
+    along_event (x f) p (piece f) c.loop-used.self (used f) a (here (piece f) (used f) (room f)) (behind (piece f) (used f) (room f)) (split (piece f) (used f) (room f)) c.unit.new.self n c.in-Ok.answer.1 c.in_default-step.not-More
     (unit_answers f c.unit.new.self (Ok c.in-Ok.answer) c.in-Ok.ensures.answers p stands) in
     record {
       within = let len = here_len (piece f) (used f) (room f) inv.within c.room-room.ensures.within in omega (arith, c.in-Ok.ensures.within, inv.within, len, c.room-room.ensures.within);
       answers = λ p stands on. sym (told p stands).0;
       wanted = λ p stands wanted. cc;
-      ended = no_end f;
+      ended = λ p stands over. no_end f p stands over;
       repeated = no_refusal f _;
       unchanged = no_refusal f _;
       stands = λ p stands. stands_by c.unit.new.self (p ++ take (used f + n) (piece f)) (x f) settings (told p stands).1;
@@ -244,20 +251,20 @@ returns-then-self c =
     let inv = c.loop-used.invariant in
     let new : StreamReader = c.refuse.new.self in
     let kept = c.refuse.ensures.shown in
-    let settings = settings_still f new (same_settings c.loop-used.self new kept.statics kept.quotas) in
+    let settings = settings_still f new (same_settings c.loop-used.self new kept.side kept.statics kept.quotas) in
     let o : Offence = offence_at c.open_from-from.result SessionTooLong in
     let told : (p : List ℕ) → StandsFor c.args.self.now p → FedRefused new (x f) p (piece f) (Refused o)
     = λ p stands.
     let a = so_far f p stands in
     let here_len : length (p ++ take (used f) (piece f)) ≡ length p + used f = let m = length-append p (take (used f) (piece f)) in let k = length-take-le (used f) (piece f) a.quiet.within in omega (arith, m, k) in
     let long : (x f).limits.session ≤ length (p ++ take (used f) (piece f)) = let session = session_of c.args.self.now in omega (arith, c.if-self.true, a.reached.taken, session_is _ _ inv.settings, session) in
-    along_too_long (x f) (reads_initiators c.args.self.now) p (piece f) c.loop-used.self (used f) a new o long (ap (λ n. offence_at n SessionTooLong) (c.open_from-from.ensures ∙ sym (open_as_opened c.loop-used.self (x f) _ a.reached)))
+    along_too_long (x f) p (piece f) c.loop-used.self (used f) a new o long (ap (λ n. offence_at n SessionTooLong) (c.open_from-from.ensures ∙ sym (open_as_opened c.loop-used.self (x f) _ a.reached)))
     (refused_shows c.loop-used.self new (x f) (p ++ take (used f) (piece f)) (Refused o) (length p + used f) a.reached (c.refuse.ensures.failure ∙ ap Some c.refuse.ensures.offence) (c.refuse.ensures.taken ∙ a.reached.taken ∙ here_len) kept) in
     rw c.refuse.ensures.offence (record {
       within = tt;
       answers = λ p stands on. says_refused new (x f) p (piece f) (Refused o) (told p stands);
       wanted = λ p stands is. cc;
-      ended = no_end f;
+      ended = λ p stands over. no_end f p stands over;
       repeated = no_refusal f _;
       unchanged = no_refusal f _;
       stands = λ p stands. tt;
@@ -279,12 +286,12 @@ returns c =
     let told : (p : List ℕ) → StandsFor c.args.self.now p → Fed c.loop-used.self (x f) p (piece f) (used f) steps.More
     = λ p stands.
     let a = so_far f p stands in
-    along_end (x f) (reads_initiators c.args.self.now) p (piece f) c.loop-used.self (used f) a steps.More all (let quota = session_of c.args.self.now in omega (arith, c.if-self.false, a.reached.taken, session, quota)) refl in
+    along_end (x f) p (piece f) c.loop-used.self (used f) a steps.More all (let quota = session_of c.args.self.now in omega (arith, c.if-self.false, a.reached.taken, session, quota)) refl in
     record {
       within = omega (arith, all);
       answers = λ p stands on. sym (told p stands).0;
       wanted = λ p stands wanted. cc;
-      ended = no_end f;
+      ended = λ p stands over. no_end f p stands over;
       repeated = no_refusal f _;
       unchanged = no_refusal f _;
       stands = λ p stands. stands_by c.loop-used.self (p ++ take (used f) (piece f)) (x f) inv.settings (told p stands).1;

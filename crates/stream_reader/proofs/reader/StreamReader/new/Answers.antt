@@ -1,29 +1,50 @@
-use Rattle.std.proofs.Common.{refl, sym, ap, arith}
+use Rattle.std.proofs.Common.{◌≡◌, [], false, refl, sym, ap, ◌∙◌, arith}
 use Rattle.unit_streams.specs.Grammar.{Standing}
 use Rattle.nbfx_values.specs.QuotasOf.{limits_of}
 use Rattle.nbfx_values.specs.declared.refusals.Offence.{Offence}
-use Rattle.nmf_records.specs.declared.script.Direction.TheVariants.{FromInitiator}
-use Rattle.nmf_records.specs.declared.script.Due.TheVariants as dues
-use Rattle.nmf_records.specs.Script.{may_come}
-use Rattle.stream_reader.specs.Stream.{Settings, initiators, Situation, StreamEvent, beginning}
+use Rattle.nmf_records.specs.Script.{first, may_come}
+use Rattle.unit_streams.specs.Judging.{is_over_at}
+use Rattle.stream_reader.specs.Sides.{side_of}
+use Rattle.stream_reader.specs.Stream.{Settings, Situation, StreamEvent, beginning, direction_of, payloads, stream}
 use Rattle.stream_reader.specs.Standing.{StandsFor, settings_of}
 use Rattle.stream_reader.proofs.Grammar.{readable}
 use Rattle.nbfx_decoder.specs.Payload.{Settings as PayloadSettings}
 use Rattle.stream_reader.proofs.Bounded.{bounded_new}
+use Rattle.stream_reader.proofs.Ending.{first_on}
 use Rattle.stream_reader.proofs.ReaderFacts.{stands_first}
 use Rattle.stream_reader.proofs.reader.StreamReader.new.Goals as goal
+
+-- no stream is over before its first byte
+not_over : (x : Settings) → is_over_at (stream x) [] ≡ false
+unfolding is_over_at
+not_over x =
+    ap (λ (s : Standing Situation StreamEvent Offence). (stream x).is_over s.situation) (stands_first x)
+    ∙ first_on x.side
 
 pub returns-clause-stands : goal.returns-clause-stands
 unfolding StandsFor settings_of
 returns-clause-stands c =
-    let x : Settings = initiators c.args.statics.now (limits_of c.args.quotas) in
+    let x : Settings = record {
+      side = side_of c.args.side;
+      statics = c.args.statics.now;
+      limits = limits_of c.args.quotas;
+    } in
     let e = stands_first x in
     let decoder = c.new-2.ensures in
+    let due = c.first.ensures ∙ ap first c.direction.ensures in
     record {
-      at = rw e (record { awaits = c.first.ensures; kind = refl; messages = refl; decodes = decoder.settings; payload = decoder.stands });
-      frames = rw (c.first.ensures, e) (c.in_ok-new.ensures.stands (may_come FromInitiator dues.Version));
+      at = rw e (record {
+        awaits = due;
+        mode = c.mode.ensures;
+        kind = c.kind-kind.ensures;
+        messages = refl;
+        decodes = decoder.settings ∙ ap (payloads x) c.kind-kind.ensures;
+        payload = decoder.stands;
+      });
+      frames = rw e (c.in_ok-new.ensures.stands (may_come (direction_of x.side) c.first.result));
       text = rw e c.in_ok-new.ensures.text;
       unit_from = sym (ap (λ (s : Standing Situation StreamEvent Offence). s.from) e);
+      closing = λ over. let on = not_over x in let bad = sym on ∙ over in cc;
       taken = refl;
       within = omega arith;
       going = rw e (record { next = (readable x).nothing (beginning x) 0; last = refl });
@@ -37,4 +58,4 @@ returns-clause-settings c = refl
 pub invariant_of-result-clause-bounded : goal.invariant_of-result-clause-bounded
 invariant_of-result-clause-bounded c =
     let limits = ap (λ (s : PayloadSettings). s.limits) c.new-2.ensures.settings in
-    ∣ bounded_new _ _ _ limits c.new-2.ensures.stands (omega arith) ∣₁
+    ∣ bounded_new _ _ _ limits c.new-2.ensures.stands (omega arith) (omega arith) ∣₁

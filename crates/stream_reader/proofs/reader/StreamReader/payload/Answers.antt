@@ -8,11 +8,11 @@ use Rattle.nbfx_decoder.specs.Standing.{settings_of as decoder_settings, FailedW
 use Rattle.stream_reader.specs.declared.awaited.Awaited.TheVariants as awaits
 use Rattle.stream_reader.specs.declared.awaited.PayloadLeft.{PayloadLeft}
 use Rattle.stream_reader.specs.declared.reader.StreamReader.{StreamReader}
-use Rattle.stream_reader.specs.Bounds.{IsBounded, to_come}
+use Rattle.stream_reader.specs.Bounds.{IsBounded, size_of, to_come}
 use Rattle.stream_reader.specs.Standing.{Reached, StandsFor, failure_of, settings_of}
 use Rattle.stream_reader.specs.Stream.{Settings, stream}
 use Rattle.stream_reader.proofs.Bounded.{bounded_fed, bounded_refused, failed_within, may_take}
-use Rattle.stream_reader.proofs.PayloadFeeds.{found, own, has_decoded, feed_took, feed_behind, feed_fails}
+use Rattle.stream_reader.proofs.PayloadFeeds.{found, own, more_left, has_decoded, feed_took, feed_behind, feed_fails}
 use Rattle.stream_reader.proofs.ReaderFacts.{failure_as, same_settings}
 use Rattle.stream_reader.proofs.Situations.{messages_within}
 use Rattle.stream_reader.proofs.reader.StreamReader.payload.Goals as goal
@@ -21,7 +21,7 @@ use Rattle.stream_reader.proofs.reader.StreamReader.payload.Goals.{After-feed}
 pub feed-requires : goal.feed-requires
 feed-requires c = λ none.
     let n = length-take-le c.min-n.result c.args.bytes.now (omega (arith, c.min-n.ensures)) in
-    let come : to_come c.args.self.now.quotas.payload c.args.self.now.awaited ≡ c.args.payload.left = ap (to_come c.args.self.now.quotas.payload) c.requires.awaited in
+    let come : to_come c.args.self.now.awaited ≡ c.args.payload.left = ap to_come c.requires.awaited in
     may_take c.args.self.now.quotas c.args.self.now.decoder c.args.self.now.awaited (length (take c.min-n.result c.args.bytes.now)) c.args.self.now.bounded (omega (arith, c.min-n.ensures, n, come)) none
 
 pub invariant_of-self-clause-bounded : goal.invariant_of-self-clause-bounded
@@ -36,20 +36,21 @@ returns-in-Err-clause-refused c = c.refuse_payload.ensures.failure
 
 pub returns-in-Err-clause-settings : goal.returns-in-Err-clause-settings
 unfolding settings_of
-returns-in-Err-clause-settings c = same_settings c.args.self.now c.refuse_payload.new.self c.refuse_payload.ensures.shown.statics c.refuse_payload.ensures.shown.quotas
+returns-in-Err-clause-settings c = same_settings c.args.self.now c.refuse_payload.new.self c.refuse_payload.ensures.shown.side c.refuse_payload.ensures.shown.statics c.refuse_payload.ensures.shown.quotas
 
 pub returns-in_err-step-clause-settings : goal.returns-in_err-step-clause-settings
-returns-in_err-step-clause-settings c = same_settings c.args.self.now c.behind_payload.new.self c.in_err-step.ensures.keeps.statics c.in_err-step.ensures.keeps.quotas
+returns-in_err-step-clause-settings c = same_settings c.args.self.now c.behind_payload.new.self c.in_err-step.ensures.keeps.side c.in_err-step.ensures.keeps.statics c.in_err-step.ensures.keeps.quotas
 
 pub returns-clause-settings : goal.returns-clause-settings
-returns-clause-settings c = same_settings c.args.self.now c.behind_payload.new.self c.in_ok-step.ensures.keeps.statics c.in_ok-step.ensures.keeps.quotas
+returns-clause-settings c = same_settings c.args.self.now c.behind_payload.new.self c.in_ok-step.ensures.keeps.side c.in_ok-step.ensures.keeps.statics c.in_ok-step.ensures.keeps.quotas
 
 pub invariant_of-self-2-clause-bounded : goal.invariant_of-self-2-clause-bounded
 invariant_of-self-2-clause-bounded c =
     let n = length-take-le c.min-n.result c.args.bytes.now (omega (arith, c.min-n.ensures)) in
-    let come : to_come c.args.self.now.quotas.payload c.args.self.now.awaited ≡ c.args.payload.left = ap (to_come c.args.self.now.quotas.payload) c.requires.awaited in
+    let come : to_come c.args.self.now.awaited ≡ c.args.payload.left = ap to_come c.requires.awaited in
+    let size = sym (ap size_of c.requires.awaited) in
     ∥∥₁_map c.args.self.now.bounded
-    (λ (b : IsBounded _ _ _). bounded_fed _ _ _ _ c.feed.ensures.settings b c.feed.result c.feed.ensures.repeated c.feed.ensures.unchanged _ (take c.min-n.result c.args.bytes.now) (omega (arith, c.min-n.ensures, n, come)) c.in_default.not-Err c.feed.ensures.stands)
+    (λ (b : IsBounded _ _ _). bounded_fed _ _ _ _ c.feed.ensures.settings b c.feed.result c.feed.ensures.repeated c.feed.ensures.unchanged _ (take c.min-n.result c.args.bytes.now) size (omega (arith, c.min-n.ensures, n, come)) c.in_default.not-Err c.feed.ensures.stands)
 
 -- what is known before the bytes are fed
 session_is : (r : StreamReader) → (settings_of r).limits.session ≡ r.quotas.session
@@ -77,7 +78,7 @@ returns-in-Err-clause-answers c = λ p h.
 -- bytes that the decoder has taken are behind it
 module _ (r : StreamReader) (left : PayloadLeft) (is : r.awaited ≡ awaits.Payload left) (c : List ℕ) (n : ℕ) (least : n ≡ min (length c) left.left) (some : 0 < length c) (fits : r.taken + length c ≤ r.quotas.session) where
   some_read : (p : List ℕ) → Reached r (settings_of r) p → 0 < n
-  some_read p h = let o = found r (settings_of r) p h left is in let more = (own r (settings_of r) p h left is).more in omega (arith, least, some, o.2.2, more)
+  some_read p h = let o = found r (settings_of r) p h left is in let more = more_left r (settings_of r) p h left is in let same = o.2.left in omega (arith, least, some, same, more)
 
   within : n ≤ length c
   within = omega (arith, least)
@@ -101,7 +102,7 @@ returns-in_err-step-clause-answers c = λ p h.
     let within_bytes = within r left c.requires.awaited bytes n c.min-n.ensures c.requires.some c.requires.fits in
     let short_of = short r left c.requires.awaited bytes n c.min-n.ensures c.requires.some c.requires.fits p h in
     let some = some_read r left c.requires.awaited bytes n c.min-n.ensures c.requires.some c.requires.fits p h in
-    let decoded = has_decoded r x p h left c.requires.awaited bytes n within_bytes few_bytes short_of _ _ refl refl refl refl refl c.in_default.ensures.settings (c.in_default.ensures.stands _ own_is.bytes own_is.stands_for) (few_messages r p h) in
+    let decoded = has_decoded r x p h left c.requires.awaited bytes n within_bytes few_bytes short_of _ _ refl refl refl refl refl refl refl c.in_default.ensures.settings (c.in_default.ensures.stands _ own_is.bytes own_is.stands_for) (few_messages r p h) in
     let told = err_from_is_err_and c.from_residual.result c.from_residual.ensures.1 in
     rw (told.1, told.2)
     (feed_behind r x p h left c.requires.awaited bytes n within_bytes few_bytes short_of some (c.in_default.ensures.answers _ own_is.bytes own_is.stands_for) c.behind_payload.new.self c.in_err-step.field-0.0 (c.in_err-step.ensures.answers x _ _ decoded) c.in_err-step.ensures.keeps.frames c.in_err-step.ensures.keeps.taken (failure_as _ _ c.in_err-step.ensures.refused))
@@ -119,6 +120,6 @@ returns-clause-answers c = λ p h.
     let within_bytes = within r left c.requires.awaited bytes n c.min-n.ensures c.requires.some c.requires.fits in
     let short_of = short r left c.requires.awaited bytes n c.min-n.ensures c.requires.some c.requires.fits p h in
     let some = some_read r left c.requires.awaited bytes n c.min-n.ensures c.requires.some c.requires.fits p h in
-    let decoded = has_decoded r x p h left c.requires.awaited bytes n within_bytes few_bytes short_of _ _ refl refl refl refl refl c.in_default.ensures.settings (c.in_default.ensures.stands _ own_is.bytes own_is.stands_for) (few_messages r p h) in
+    let decoded = has_decoded r x p h left c.requires.awaited bytes n within_bytes few_bytes short_of _ _ refl refl refl refl refl refl refl c.in_default.ensures.settings (c.in_default.ensures.stands _ own_is.bytes own_is.stands_for) (few_messages r p h) in
     feed_took r x p h left c.requires.awaited bytes n within_bytes few_bytes short_of some (c.in_default.ensures.answers _ own_is.bytes own_is.stands_for) c.behind_payload.new.self c.in_ok-step.step (c.in_ok-step.ensures.answers x _ _ decoded) c.in_ok-step.ensures.keeps.frames c.in_ok-step.ensures.keeps.taken
     c.in_ok-step.ensures.unit_from c.in_ok-step.ensures.unfailed

@@ -8,4 +8,5 @@ use Rattle.stream_reader.proofs.reader.StreamReader.read_as.Goals as goal
 pub invariant_of-self-2-clause-bounded : goal.invariant_of-self-2-clause-bounded
 invariant_of-self-2-clause-bounded c =
     let limits = ap (λ (x : Settings). x.limits) c.new.ensures.settings in
-    ∥∥₁_map c.args.self.now.bounded (λ (b : IsBounded _ _ _). bounded_new _ _ _ limits c.new.ensures.stands b.few)
+    ∥∥₁_map c.args.self.now.bounded
+    (λ (b : IsBounded _ _ _). bounded_new _ _ _ limits c.new.ensures.stands b.few b.ordered)

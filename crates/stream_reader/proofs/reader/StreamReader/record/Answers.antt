@@ -3,26 +3,36 @@ use Rattle.std.proofs.lemmas.Result.{err_from_is_err_and}
 use Rattle.unit_streams.specs.Grammar.{standing}
 use Rattle.unit_streams.specs.Judging.{is_over_at}
 use Rattle.unit_streams.proofs.Standing.{standing_length}
-use Rattle.nbfx_values.specs.Limits.{Limits}
-use Rattle.nbfx_values.specs.QuotasOf.{limits_of}
-use Rattle.nbfx_values.specs.declared.refusals.Reason.TheVariants.{Unbuilt}
 use Rattle.nmf_records.specs.declared.frame.Expect.{Expect}
 use Rattle.nmf_records.specs.declared.reader.FrameReader.{FrameReader}
-use Rattle.nmf_records.specs.Reader.{shown_behind, ShowsText, StandsFor as FrameStandsFor}
-use Rattle.nmf_records.specs.declared.script.Direction.TheVariants.{FromInitiator}
+use Rattle.nmf_records.specs.Reader.{limit_of, shown_behind, ShowsText as FramesShowText, StandsFor as FrameStandsFor}
 use Rattle.nmf_records.specs.Script.{may_come}
 use Rattle.nmf_records.proofs.Frames.{frames_front}
-use Rattle.string_tables.specs.StaticStrings.{Entry}
 use Rattle.stream_reader.specs.declared.reader.ReadRefusal.TheVariants.{Offence as Refused}
 use Rattle.stream_reader.specs.declared.reader.StreamReader.{StreamReader}
-use Rattle.stream_reader.specs.Stream.{Settings, Situation, initiators, stream, offence_at}
+use Rattle.stream_reader.specs.Sides.{side_of}
+use Rattle.stream_reader.specs.Stream.{Settings, Situation, direction_of, offence_at, reason_of, stream}
 use Rattle.stream_reader.specs.Standing.{Reached, StandsFor, failure_of, settings_of}
 use Rattle.stream_reader.proofs.Grammar.{readable}
 use Rattle.stream_reader.proofs.ReaderFacts.{failure_as, same_settings}
-use Rattle.stream_reader.proofs.RecordSteps.{frames_here, shown_so, more_so, done_so, wrong_so, record_is_due, record_more, record_done, record_refused, record_wrong}
+use Rattle.stream_reader.proofs.RecordFacts.{done_so, more_so, shown_so, wrong_so}
+use Rattle.stream_reader.proofs.RecordSteps.{frames_here, may_come_so, none_before, shown_via, record_more, record_done, record_refused, record_wrong}
 use Rattle.stream_reader.proofs.Situations.{messages_within}
 use Rattle.stream_reader.proofs.reader.StreamReader.record.Goals as goal
 use Rattle.stream_reader.proofs.reader.StreamReader.record.Goals.{After-feed}
+
+-- what it is set to
+limit_is : (r : StreamReader) → limit_of r.frames ≡ (settings_of r).limits.via
+unfolding settings_of
+limit_is r = r.limit
+
+direction_is : (r : StreamReader) → direction_of (side_of r.side) ≡ direction_of (settings_of r).side
+unfolding settings_of
+direction_is r = refl
+
+session_is : (r : StreamReader) → (settings_of r).limits.session ≡ r.quotas.session
+unfolding settings_of
+session_is r = refl
 
 -- where the records' reader was given the bytes, by the stream's settings
 module _ (f : After-feed) (p : List ℕ) where
@@ -32,96 +42,179 @@ module _ (f : After-feed) (p : List ℕ) where
   abbrev y : List ℕ
   y = f.args.bytes.now
 
-  abbrev statics : List Entry
-  statics = f.args.self.now.statics.now
-
-  abbrev l : Limits
-  l = limits_of f.args.self.now.quotas
-
   abbrev x : Settings
-  x = initiators f.args.self.now.statics.now (limits_of f.args.self.now.quotas)
+  x = settings_of f.args.self.now
 
   abbrev b : List ℕ
-  b = (standing (stream (initiators f.args.self.now.statics.now (limits_of f.args.self.now.quotas))) p).begun
+  b = (standing (stream (settings_of f.args.self.now)) p).begun
 
   abbrev z : Situation
-  z = (standing (stream (initiators f.args.self.now.statics.now (limits_of f.args.self.now.quotas))) p).situation
+  z = (standing (stream (settings_of f.args.self.now)) p).situation
 
-  module _ (h : Reached f.args.self.now (initiators f.args.self.now.statics.now (limits_of f.args.self.now.quotas)) p) (on : is_over_at (stream (initiators f.args.self.now.statics.now (limits_of f.args.self.now.quotas))) p ≡ false) where
-    fits : length p + length y ≤ l.session
-    fits = omega (arith, f.requires.fits, h.taken)
+  expected_is : f.expect-expect.result ≡ may_come (direction_of (settings_of f.args.self.now).side) f.args.due
+  expected_is =
+      f.expect-expect.ensures
+      ∙ ap (λ d. may_come d f.args.due) (f.direction.ensures ∙ direction_is f.args.self.now)
 
-    stands : FrameStandsFor r.frames f.expect.result b
-    stands = subst (λ (e : Expect). FrameStandsFor r.frames e b) (sym f.expect.ensures) (frames_here r statics l p y f.args.due f.requires.awaited h on fits)
+  module _ (h : Reached f.args.self.now (settings_of f.args.self.now) p) (on : is_over_at (stream (settings_of f.args.self.now)) p ≡ false) where
+    fits : length p + length y ≤ x.limits.session
+    fits = let session = session_is r in omega (arith, f.requires.fits, h.taken, session)
 
-    shown : ShowsText f.feed.new.self (shown_behind l.via (may_come FromInitiator f.args.due) (b ++ y) z.via)
-    shown = shown_so _ l.via _ f.args.due r.limit f.expect.ensures f.feed.new.self b y z.via (f.feed.ensures.text b z.via stands h.text)
+    stands : FrameStandsFor r.frames f.expect-expect.result b
+    stands =
+        subst (λ (e : Expect). FrameStandsFor r.frames e b) (sym expected_is)
+        (frames_here r x p y f.args.due f.requires.awaited h on fits)
+
+    shown : FramesShowText f.feed.new.self
+        (shown_behind x.limits.via (may_come (direction_of x.side) f.args.due) (b ++ y) z.text)
+    shown =
+        shown_so _ x.limits.via _ _ (limit_is r) expected_is f.feed.new.self b y z.text
+        (f.feed.ensures.text b z.text stands h.text)
 
     few : z.messages + 1 < 2 ^ 64
-    few = let least = messages_within x p in let most = r.quotas.good.session_most in omega (arith, least, h.within, most)
+    few =
+        let least = messages_within x p in
+        let most = r.quotas.good.session_most in
+        let session = session_is r in
+        omega (arith, least, h.within, most, session)
 
 pub returns-in-Ok-default-More-clause-answers : goal.returns-in-Ok-default-More-clause-answers
-unfolding StandsFor settings_of
+unfolding StandsFor
 returns-in-Ok-default-More-clause-answers c = λ p h on.
     let f : After-feed = (goal.at-returns-in-Ok-default-More-clause-answers c).After-feed in
-    let said = more_so _ (l f p).via _ c.args.due (r f p).limit c.expect.ensures c.feed.new.self (b f p) (y f p) c.in-Ok-default-More.n c.in-Ok-default-More.field-0-1 c.in-Ok-default-More.field-0-1-is
-    (c.in-Ok-default-More.ensures.answers _ (stands f p h on)) (c.in-Ok-default-More.ensures.stands _ (stands f p h on)) in
-    record_more (r f p) (statics f p) (l f p) p (y f p) c.args.due c.requires.awaited h on (fits f p h on) _ c.in-Ok-default-More.n (omega (arith, said.0, c.requires.some)) said.0 said.1 refl refl refl refl refl refl refl said.2 (shown f p h on)
+    let step = c.in-Ok-default-More in
+    let said = more_so _ (x f p).limits.via _ _ (limit_is (r f p)) (expected_is f p) c.feed.new.self
+    (b f p) (y f p) step.n step.field-0-1 step.field-0-1-is
+    (step.ensures.answers _ (stands f p h on)) (step.ensures.stands _ (stands f p h on)) in
+    record_more (r f p) (x f p) p (y f p) c.args.due c.requires.awaited h on (fits f p h on) _ step.n
+    (omega (arith, said.0, c.requires.some)) said.0 said.1 refl refl refl refl refl refl refl refl
+    said.2 (shown f p h on)
 
 pub returns-in-Ok-default-More-clause-settings : goal.returns-in-Ok-default-More-clause-settings
-returns-in-Ok-default-More-clause-settings c = same_settings c.args.self.now _ refl refl
+returns-in-Ok-default-More-clause-settings c = same_settings c.args.self.now _ refl refl refl
 
 pub returns-in_err-step-in-Ok-default-Done-clause-settings : goal.returns-in_err-step-in-Ok-default-Done-clause-settings
 returns-in_err-step-in-Ok-default-Done-clause-settings c =
-    same_settings c.args.self.now c.behind.new.self c.in_err-step-in-Ok-default-Done.ensures.keeps.statics c.in_err-step-in-Ok-default-Done.ensures.keeps.quotas
+    let keeps = c.in_err-step-in-Ok-default-Done.ensures.keeps in
+    same_settings c.args.self.now c.behind.new.self keeps.side keeps.statics keeps.quotas
 
 pub returns-in_ok-step-in-Ok-default-Done-clause-settings : goal.returns-in_ok-step-in-Ok-default-Done-clause-settings
 returns-in_ok-step-in-Ok-default-Done-clause-settings c =
-    same_settings c.args.self.now c.behind.new.self c.in_ok-step-in-Ok-default-Done.ensures.keeps.statics c.in_ok-step-in-Ok-default-Done.ensures.keeps.quotas
+    let keeps = c.in_ok-step-in-Ok-default-Done.ensures.keeps in
+    same_settings c.args.self.now c.behind.new.self keeps.side keeps.statics keeps.quotas
 
 pub returns-in-Err-clause-refused : goal.returns-in-Err-clause-refused
 unfolding failure_of
 returns-in-Err-clause-refused c = c.refuse.ensures.failure
 
 pub returns-in-Err-clause-settings : goal.returns-in-Err-clause-settings
-returns-in-Err-clause-settings c = same_settings c.args.self.now c.refuse.new.self c.refuse.ensures.shown.statics c.refuse.ensures.shown.quotas
+returns-in-Err-clause-settings c =
+    let kept = c.refuse.ensures.shown in
+    same_settings c.args.self.now c.refuse.new.self kept.side kept.statics kept.quotas
 
 pub returns-in_ok-step-in-Ok-default-Done-clause-answers : goal.returns-in_ok-step-in-Ok-default-Done-clause-answers
 unfolding StandsFor settings_of
 returns-in_ok-step-in-Ok-default-Done-clause-answers c = λ p h on.
     let f : After-feed = (goal.at-returns-in_ok-step-in-Ok-default-Done-clause-answers c).After-feed in
-    let read = c.in-Ok-default-Done.frame in
-    let said = done_so _ (l f p).via _ c.args.due (r f p).limit c.expect.ensures c.feed.new.self (b f p) (y f p) c.in-Ok-default-Done.n _ read c.in-Ok-default-Done.field-0-1-is
-    (c.in-Ok-default-Done.ensures.answers _ (stands f p h on)) (c.in-Ok-default-Done.ensures.stands _ (stands f p h on)) in
-    let due = record_is_due (r f p) (statics f p) (l f p) p (y f p) c.args.due c.requires.awaited h on (fits f p h on) read said.0 c.in-Ok-default-Done.n said.1 _ refl refl refl refl (few f p h on) in
-    let behind = c.in_ok-step-in-Ok-default-Done.ensures.answers (z f p) said.0 due in
-    record_done (r f p) (statics f p) (l f p) p (y f p) c.args.due c.requires.awaited h on (fits f p h on) read said.0 c.in-Ok-default-Done.n said.1 c.behind.new.self c.feed.new.self c.in_ok-step-in-Ok-default-Done.ensures.keeps.frames (shown f p h on)
-    c.in_ok-step-in-Ok-default-Done.ensures.keeps.taken c.args.self.now.unit_from h.unit_from _ behind c.in_ok-step-in-Ok-default-Done.ensures.unit_from said.2 c.in_ok-step-in-Ok-default-Done.ensures.unfailed
+    let step = c.in-Ok-default-Done in
+    let read = step.frame in
+    let done = c.in_ok-step-in-Ok-default-Done.ensures in
+    let said = done_so _ (x f p).limits.via _ _ (limit_is (r f p)) (expected_is f p) c.feed.new.self
+    (b f p) (y f p) step.n _ read step.field-0-1-is
+    (step.ensures.answers _ (stands f p h on)) (step.ensures.stands _ (stands f p h on)) in
+    let behind = done.answers read (z f p) said.0 (rw step.field-0-1-is refl) (record {
+      at = record {
+        awaits = h.at.awaits;
+        mode = h.at.mode;
+        kind = h.at.kind;
+        messages = h.at.messages;
+        decodes = h.at.decodes;
+        payload = h.at.payload;
+      };
+      due = c.args.due;
+      due_is = c.requires.awaited;
+      may = may_come_so (r f p) (x f p) p (y f p) c.args.due c.requires.awaited h on
+          (fits f p h on) read said.0 step.n said.1;
+      few = few f p h on;
+      no_strings = none_before (r f p) (x f p) p (y f p) c.args.due c.requires.awaited h on
+          (fits f p h on) read said.0 step.n said.1;
+      shown = shown_via (r f p) (x f p) p (y f p) c.args.due c.requires.awaited h on
+          (fits f p h on) read said.0 step.n said.1 c.feed.new.self (shown f p h on);
+    }) in
+    record_done (r f p) (x f p) p (y f p) c.args.due c.requires.awaited h on (fits f p h on) read
+    said.0 step.n said.1 c.behind.new.self c.feed.new.self done.keeps.frames (shown f p h on)
+    done.keeps.taken c.args.self.now.unit_from _ h.unit_from refl _ behind done.unit_from said.2
+    done.unfailed
 
 pub returns-in_err-step-in-Ok-default-Done-clause-answers : goal.returns-in_err-step-in-Ok-default-Done-clause-answers
 unfolding StandsFor settings_of
 returns-in_err-step-in-Ok-default-Done-clause-answers c = λ p h on.
     let f : After-feed = (goal.at-returns-in_err-step-in-Ok-default-Done-clause-answers c).After-feed in
-    let read = c.in-Ok-default-Done.frame in
-    let said = done_so _ (l f p).via _ c.args.due (r f p).limit c.expect.ensures c.feed.new.self (b f p) (y f p) c.in-Ok-default-Done.n _ read c.in-Ok-default-Done.field-0-1-is
-    (c.in-Ok-default-Done.ensures.answers _ (stands f p h on)) (c.in-Ok-default-Done.ensures.stands _ (stands f p h on)) in
-    let due = record_is_due (r f p) (statics f p) (l f p) p (y f p) c.args.due c.requires.awaited h on (fits f p h on) read said.0 c.in-Ok-default-Done.n said.1 _ refl refl refl refl (few f p h on) in
-    let behind = c.in_err-step-in-Ok-default-Done.ensures.answers (z f p) said.0 due in
+    let step = c.in-Ok-default-Done in
+    let read = step.frame in
+    let done = c.in_err-step-in-Ok-default-Done.ensures in
+    let said = done_so _ (x f p).limits.via _ _ (limit_is (r f p)) (expected_is f p) c.feed.new.self
+    (b f p) (y f p) step.n _ read step.field-0-1-is
+    (step.ensures.answers _ (stands f p h on)) (step.ensures.stands _ (stands f p h on)) in
+    let behind = done.answers read (z f p) said.0 (rw step.field-0-1-is refl) (record {
+      at = record {
+        awaits = h.at.awaits;
+        mode = h.at.mode;
+        kind = h.at.kind;
+        messages = h.at.messages;
+        decodes = h.at.decodes;
+        payload = h.at.payload;
+      };
+      due = c.args.due;
+      due_is = c.requires.awaited;
+      may = may_come_so (r f p) (x f p) p (y f p) c.args.due c.requires.awaited h on
+          (fits f p h on) read said.0 step.n said.1;
+      few = few f p h on;
+      no_strings = none_before (r f p) (x f p) p (y f p) c.args.due c.requires.awaited h on
+          (fits f p h on) read said.0 step.n said.1;
+      shown = shown_via (r f p) (x f p) p (y f p) c.args.due c.requires.awaited h on
+          (fits f p h on) read said.0 step.n said.1 c.feed.new.self (shown f p h on);
+    }) in
     let told = err_from_is_err_and c.from_residual.result c.from_residual.ensures.1 in
     rw (told.1, told.2)
-    (record_refused (r f p) (statics f p) (l f p) p (y f p) c.args.due c.requires.awaited h on (fits f p h on) read said.0 c.in-Ok-default-Done.n said.1 c.behind.new.self c.feed.new.self c.in_err-step-in-Ok-default-Done.ensures.keeps.frames (shown f p h on)
-    c.in_err-step-in-Ok-default-Done.ensures.keeps.taken c.args.self.now.unit_from h.unit_from c.in_err-step-in-Ok-default-Done.field-0.0 behind (failure_as _ _ c.in_err-step-in-Ok-default-Done.ensures.refused))
+    (record_refused (r f p) (x f p) p (y f p) c.args.due c.requires.awaited h on (fits f p h on)
+    read said.0 step.n said.1 c.behind.new.self c.feed.new.self done.keeps.frames (shown f p h on)
+    done.keeps.taken c.args.self.now.unit_from _ h.unit_from refl
+    c.in_err-step-in-Ok-default-Done.field-0.0 behind (failure_as _ _ done.refused))
 
 pub returns-in-Err-clause-answers : goal.returns-in-Err-clause-answers
-unfolding StandsFor settings_of
+unfolding StandsFor
 returns-in-Err-clause-answers c = λ p h on.
     let f : After-feed = (goal.at-returns-in-Err-clause-answers c).After-feed in
     let bytes : List ℕ = b f p ++ y f p in
-    let read = wrong_so _ (l f p).via _ c.args.due (r f p).limit c.expect.ensures c.feed.new.self (b f p) (y f p) c.in-Err.refusal (c.in-Err.ensures.answers _ (stands f p h on)) in
+    let read = wrong_so _ (x f p).limits.via _ _ (limit_is (r f p)) (expected_is f p)
+    c.feed.new.self (b f p) (y f p) c.in-Err.refusal
+    (c.in-Err.ensures.answers _ (stands f p h on)) in
     let place = standing_length (stream (x f p)) (readable (x f p)) p in
-    let within = (frames_front (l f p).via (may_come FromInitiator c.args.due)).wrong_within bytes _ _ read in
-    let taken : c.refuse.new.self.taken ≡ (standing (stream (x f p)) p).from + c.in-Err.refusal.shown_by
-    = c.refuse.ensures.taken ∙ (let most = (r f p).quotas.good.session_most in omega (arith, c.saturating_add-self.ensures, h.unit_from, place, length-append (b f p) (y f p), within, fits f p h on, most)) in
-    record_wrong (r f p) (statics f p) (l f p) p (y f p) c.args.due c.requires.awaited h on (fits f p h on) c.refuse.new.self c.in-Err.refusal.fault c.in-Err.refusal.shown_by c.refuse.result read
-    (c.refuse.ensures.offence ∙ ap (λ n. Refused (offence_at n Unbuilt)) h.unit_from) (subst (λ (t : FrameReader). ShowsText t (shown_behind (l f p).via (may_come FromInitiator c.args.due) bytes (z f p).via)) (sym c.refuse.ensures.shown.frames) (shown f p h on))
+    let within = (frames_front (x f p).limits.via
+    (may_come (direction_of (x f p).side) c.args.due)).wrong_within bytes _ _ read in
+    let session = session_is (r f p) in
+    let taken : c.refuse.new.self.taken
+    ≡ (standing (stream (x f p)) p).from + c.in-Err.refusal.shown_by =
+    c.refuse.ensures.taken
+    ∙ (let most = (r f p).quotas.good.session_most in
+    omega (
+      arith,
+      c.saturating_add-self.ensures,
+      h.unit_from,
+      place,
+      length-append (b f p) (y f p),
+      within,
+      fits f p h on,
+      most,
+      session,
+    )) in
+    record_wrong (r f p) (x f p) p (y f p) c.args.due c.requires.awaited h on (fits f p h on)
+    c.refuse.new.self c.in-Err.refusal.fault c.in-Err.refusal.shown_by c.refuse.result read
+    (c.refuse.ensures.offence
+    ∙ ap (λ reason. Refused (offence_at (r f p).unit_from reason)) c.reason_of-reason.ensures
+    ∙ ap (λ n. Refused (offence_at n (reason_of c.args.due c.in-Err.refusal.fault))) h.unit_from)
+    (subst (λ (t : FrameReader). FramesShowText t (shown_behind (x f p).limits.via
+    (may_come (direction_of (x f p).side) c.args.due) bytes (z f p).text))
+    (sym c.refuse.ensures.shown.frames) (shown f p h on))
     taken c.refuse.ensures.failure c.refuse.ensures.shown.messages c.refuse.ensures.shown.decoder

@@ -1,7 +1,7 @@
 use Rattle.std.proofs.Common.{refl, ◌∙◌}
 use Rattle.std.proofs.Math.Logic.{∥∥₁_map}
 use Rattle.stream_reader.specs.Bounds.{IsBounded}
-use Rattle.stream_reader.specs.Standing.{StandsFor, FailedBehind, ShowsVia, ShowsStrings, settings_of, taken_of, messages_of, failure_of}
+use Rattle.stream_reader.specs.Standing.{StandsFor, FailedBehind, ShowsText, ShowsStrings, settings_of, taken_of, messages_of, failure_of}
 use Rattle.stream_reader.proofs.Bounded.{bounded_reused}
 use Rattle.stream_reader.proofs.ReaderFacts.{reads_too, shows_too}
 use Rattle.stream_reader.proofs.reader.StreamReader.reuse.Goals as goal
@@ -15,6 +15,7 @@ unfolding StandsFor settings_of
 returns-clause-stands c = λ p h. record {
   at = record {
     awaits = h.at.awaits;
+    mode = h.at.mode;
     kind = h.at.kind;
     messages = h.at.messages;
     decodes = c.reuse.ensures.settings ∙ h.at.decodes;
@@ -22,6 +23,7 @@ returns-clause-stands c = λ p h. record {
   };
   frames = h.frames;
   text = h.text;
+  closing = h.closing;
   unit_from = h.unit_from;
   taken = h.taken;
   within = h.within;
@@ -30,11 +32,11 @@ returns-clause-stands c = λ p h. record {
 }
 
 pub returns-clause-failed : goal.returns-clause-failed
-unfolding FailedBehind settings_of failure_of taken_of messages_of ShowsVia ShowsStrings
+unfolding FailedBehind settings_of failure_of taken_of messages_of ShowsText ShowsStrings
 returns-clause-failed c = λ refusal taken p h. record {
   failure = h.failure;
   taken_is = h.taken_is;
-  via = h.via;
+  text = h.text;
   messages = h.messages;
   strings = shows_too _ _ c.reuse.ensures.settings c.reuse.ensures.stands c.reuse.ensures.failed _ h.strings;
 }

@@ -1,0 +1,196 @@
+-- What a record leads to that is read, and what its reader answers, by the limit and what may come.
+use Rattle.std.proofs.Common.{◌≡◌, ℕ, ◌+◌, ◌<◌, ◌≤◌, List, [], ◌++◌, length, Bool, true, false, Option, Some, None, Ok, Err, refl, sym, subst, arith}
+use Rattle.std.specs.Prelude.{◌==◌, if◌then◌else◌}
+use Rattle.std.specs.Option.{option_map, option_or}
+use Rattle.unit_streams.specs.Front.{begun, whole, wrong}
+use Rattle.nbfx_values.specs.declared.refusals.Offence.{Offence}
+use Rattle.nbfx_values.specs.declared.refusals.Reason.{Reason}
+use Rattle.nmf_records.specs.declared.frame.Frame.{Frame}
+use Rattle.nmf_records.specs.declared.frame.Frame.TheVariants as frames
+use Rattle.nmf_records.specs.declared.frame.FrameRefusal.{FrameRefusal}
+use Rattle.nmf_records.specs.declared.frame.FrameStep.{FrameStep}
+use Rattle.nmf_records.specs.declared.frame.FrameStep.TheVariants.{More, Done}
+use Rattle.nmf_records.specs.declared.reader.FrameReader.{FrameReader}
+use Rattle.nmf_records.specs.declared.frame.Expect.{Expect}
+use Rattle.nmf_records.specs.declared.script.Direction.{Direction}
+use Rattle.nmf_records.specs.declared.script.Direction.TheVariants.{FromInitiator, FromReceiver}
+use Rattle.nmf_records.specs.declared.script.Due.{Due}
+use Rattle.nmf_records.specs.declared.script.Due.TheVariants as dues
+use Rattle.nmf_records.specs.Reading.{MayCome, with_text, frame_at}
+use Rattle.nmf_records.specs.Reader.{StandsFor as FrameStandsFor, ShowsText as FramesShowText, FrameAnswers, AfterPiece, shown_behind}
+use Rattle.nmf_records.specs.Script.{may_come}
+use Rattle.nbfx_decoder.specs.Payload.{Refusal}
+use Rattle.stream_reader.specs.declared.awaited.Awaited.{Awaited}
+use Rattle.stream_reader.specs.declared.awaited.Awaited.TheVariants as awaits
+use Rattle.stream_reader.specs.Stream.{Settings, OpenPayload, Situation, Stage, sized, record_due, chunk_due, payload_open, direction_of, reason_in, offence_at, payload_begun, payload_by, with_chunk, on_payload, after_record, completed_bare, completed_payload, completed_record, refused_payload, refused_record, after, refusal_in, offence_in}
+use Rattle.stream_reader.specs.Standing.{HasBegun, HasPayloads}
+use Rattle.stream_reader.specs.Stepping.{due_of}
+use Rattle.stream_reader.proofs.MadePayloads.{size_large}
+use Rattle.stream_reader.proofs.DueRecords.{chunk_due as size_due, envelope_due}
+use Rattle.stream_reader.proofs.Outcomes.{more_completed, refused_eventless}
+use Rattle.stream_reader.proofs.Texts.{ReadsDue, reads_record, reads_size}
+
+module _ (x : Settings) (z : Situation) (from to : ℕ) (f : Frame) (text : List ℕ) where
+  -- a size that is refused is of a payload with bytes to come
+  large_left : (low : (o : OpenPayload) → z.stage ≡ chunk_due o → o.size ≤ x.limits.payload)
+      (p : OpenPayload) (why : Reason) → payload_by x z from f ≡ Some p
+      → reason_in x z.stage f text ≡ Some why → 0 < p.left
+  large_left low p why made e = by_frame f made e where
+    by_size : (size : ℕ) (stage : Stage) → z.stage ≡ stage
+        → payload_by x (record z { stage = stage }) from (frames.Chunk size) ≡ Some p
+        → reason_in x stage (frames.Chunk size) text ≡ Some why → 0 < p.left
+    by_size size (record_due due) at made e = cc
+    by_size size (payload_open o) at made e = cc
+    by_size size (chunk_due o) at made e =
+        let same : with_chunk o size ≡ p = cc in
+        let large = size_large x (o.size + size) why e in
+        subst (λ (q : OpenPayload). 0 < q.left) same
+        (let few = low o at in omega (arith, large, few))
+
+    by_frame : (g : Frame) → payload_by x z from g ≡ Some p
+        → reason_in x z.stage g text ≡ Some why → 0 < p.left
+    by_frame (frames.SizedEnvelope size) made e =
+        let same : payload_begun x z from size sized ≡ p = cc in
+        let large = size_large x size why e in
+        subst (λ (q : OpenPayload). 0 < q.left) same (omega (arith, large))
+    by_frame (frames.Chunk size) made e = by_size size z.stage refl made e
+    by_frame frames.UnsizedEnvelope made e = cc
+    by_frame g made e = cc
+
+  -- a record that is refused completes nothing
+  pub refused_none : ((o : OpenPayload) → z.stage ≡ chunk_due o → o.size ≤ x.limits.payload)
+      → (o : Offence) → refused_record x z from f text ≡ Some o
+      → completed_record x z from to f text ≡ None
+  refused_none low o e =
+      by_both (payload_by x z from f) refl (reason_in x z.stage f text) refl e
+    where
+      by_own : (p : OpenPayload) (v : Option Refusal) → refusal_in x z p ≡ v
+          → option_map (offence_in z.messages) v ≡ Some o → completed_payload x z p ≡ None
+      by_own p None is e = cc
+      by_own p (Some why) is e = refused_eventless x z p why is
+
+      bare : (g : Frame) (w : Option Reason) → reason_in x z.stage g text ≡ w
+          → option_or (option_map (offence_at from) w) None ≡ Some o
+          → completed_bare z to g text ≡ None
+      bare frames.End None is e = cc
+      bare frames.End (Some why) is e = cc
+      bare frames.Fault None is e = cc
+      bare frames.Fault (Some why) is e = cc
+      bare frames.PreambleEnd None is e = cc
+      bare frames.PreambleEnd (Some why) is e = cc
+      bare frames.PreambleAck None is e = cc
+      bare frames.PreambleAck (Some why) is e = cc
+      bare g w is e = refl
+
+      by_both : (v : Option OpenPayload) → payload_by x z from f ≡ v → (w : Option Reason)
+          → reason_in x z.stage f text ≡ w
+          → option_or (option_map (offence_at from) w) (on_payload v (refused_payload x z) None) ≡ Some o
+          → on_payload v (completed_payload x z) (completed_bare z to f text) ≡ None
+      by_both (Some p) made (Some why) is e = more_completed x z p (large_left low p why made is)
+      by_both (Some p) made None is e = by_own p (refusal_in x z p) refl e
+      by_both None made w is e = bare f w is e
+
+  -- payloads come behind a record that completes no event only where they could before
+  pub quiet_payloads : (due : Due) → ReadsDue z.stage due → MayCome (may_come (direction_of x.side) due) f
+      → completed_record x z from to f text ≡ None
+      → HasPayloads (after_record x z from f text).stage → HasPayloads z.stage
+  quiet_payloads due at may none has =
+      elim at [
+        | reads_size o is same ↦ subst HasPayloads (sym is) tt
+        | reads_record is ↦ subst HasPayloads (sym is) (by_frame f is may none has)
+      ]
+    where
+      unsized_due : (direction : Direction) (due : Due)
+          → MayCome (may_come direction due) frames.UnsizedEnvelope → HasPayloads (record_due due)
+      unsized_due direction dues.Envelope may = tt
+      unsized_due direction dues.Reply may = tt
+      unsized_due FromInitiator _ may = cc
+      unsized_due FromReceiver _ may = cc
+
+      no_chunk : (size : ℕ) (next : Due) → z.stage ≡ record_due due
+          → HasPayloads (after_record x z from (frames.Chunk size) text).stage
+          → MayCome (may_come (direction_of x.side) due) (frames.Chunk size)
+          → HasPayloads (record_due due)
+      no_chunk size next is has may = absurd (go (size == 0) (rw (is, size_due (direction_of x.side) due size may) at has)) where
+        go : (b : Bool) → HasPayloads (record_due (if b then dues.End else dues.Chunk)) → ⊥
+        go true has = has
+        go false has = has
+
+      by_frame : (g : Frame) → z.stage ≡ record_due due
+          → MayCome (may_come (direction_of x.side) due) g
+          → completed_record x z from to g text ≡ None
+          → HasPayloads (after_record x z from g text).stage → HasPayloads (record_due due)
+      by_frame (frames.SizedEnvelope size) is may none has =
+          subst (λ (n : Due). HasPayloads (record_due n))
+          (sym (envelope_due (direction_of x.side) due size may)) tt
+      by_frame frames.UnsizedEnvelope is may none has = unsized_due (direction_of x.side) due may
+      by_frame (frames.Chunk size) is may none has = no_chunk size due is has may
+      by_frame (frames.Version major minor) is may none has = absurd has
+      by_frame (frames.Mode mode) is may none has = absurd has
+      by_frame frames.Via is may none has = absurd has
+      by_frame (frames.KnownEncoding encoding) is may none has = absurd has
+      by_frame frames.End is may none has = cc
+      by_frame frames.Fault is may none has = cc
+      by_frame frames.PreambleEnd is may none has = cc
+      by_frame frames.PreambleAck is may none has = cc
+
+-- what a reader of records answers and shows, by the limit and what may come
+module _ (limit via : ℕ) (expect other : Expect) (l : limit ≡ via) (m : expect ≡ other) (new : FrameReader) (b y : List ℕ) where
+  by_same : (P : ℕ → Expect → Type 0) → P limit expect → P via other
+  by_same P h = subst (λ (n : ℕ). P n other) l (subst (P limit) m h)
+
+  pub shown_so : (s : List ℕ) → FramesShowText new (shown_behind limit expect (b ++ y) s)
+      → FramesShowText new (shown_behind via other (b ++ y) s)
+  shown_so s = by_same (λ n e. FramesShowText new (shown_behind n e (b ++ y) s))
+
+  pub more_so : (n : ℕ) (step : FrameStep) → step ≡ More
+      → FrameAnswers limit expect b y (Ok (n, step)) → AfterPiece new expect (b ++ y) (Ok (n, step))
+      → (n ≡ length y) × (frame_at via other (b ++ y) ≡ begun) × FrameStandsFor new other (b ++ y)
+  more_so n step is said after =
+      let a : FrameAnswers limit expect b y (Ok (n, More)) =
+      subst (λ (t : FrameStep). FrameAnswers limit expect b y (Ok (n, t))) is said in
+      let f : FrameStandsFor new expect (b ++ y) =
+      subst (λ (t : FrameStep). AfterPiece new expect (b ++ y) (Ok (n, t))) is after in (
+        a.0,
+        by_same (λ k e. frame_at k e (b ++ y) ≡ begun) a.1,
+        subst (λ (e : Expect). FrameStandsFor new e (b ++ y)) m f,
+      )
+
+  pub done_so : (n : ℕ) (step : FrameStep) (f : Frame) → step ≡ Done f
+      → FrameAnswers limit expect b y (Ok (n, step)) → AfterPiece new expect (b ++ y) (Ok (n, step))
+      → (text : List ℕ) × (frame_at via other (b ++ y) ≡ whole (with_text f text) (length b + n))
+      × ((next : Expect) → FrameStandsFor new next [])
+  done_so n step f is said after =
+      let a : FrameAnswers limit expect b y (Ok (n, Done f)) =
+      subst (λ (t : FrameStep). FrameAnswers limit expect b y (Ok (n, t))) is said in (
+        a.0,
+        by_same (λ k e. frame_at k e (b ++ y) ≡ whole (with_text f a.0) (length b + n)) a.1,
+        subst (λ (t : FrameStep). AfterPiece new expect (b ++ y) (Ok (n, t))) is after,
+      )
+
+  pub wrong_so : (refusal : FrameRefusal) → FrameAnswers limit expect b y (Err refusal)
+      → frame_at via other (b ++ y) ≡ wrong refusal.fault refusal.shown_by
+  wrong_so refusal = by_same (λ k e. frame_at k e (b ++ y) ≡ wrong refusal.fault refusal.shown_by)
+
+-- the reader of records has the bytes of what is due, as it is awaited
+pub begun_due : (direction : Direction) (a : Awaited) (due : Due) (frames : FrameReader) (b : List ℕ)
+    → due_of a ≡ Some due → HasBegun direction a frames b
+    → FrameStandsFor frames (may_come direction due) b
+begun_due direction (awaits.Record other) due frames b is h =
+    let same : other ≡ due = cc in
+    subst (λ (n : Due). FrameStandsFor frames (may_come direction n) b) same h
+begun_due direction (awaits.Chunk p) due frames b is h =
+    let same : dues.Chunk ≡ due = cc in
+    subst (λ (n : Due). FrameStandsFor frames (may_come direction n) b) same h
+begun_due direction (awaits.Payload p) due frames b is h = cc
+
+pub begun_awaited : (direction : Direction) (a : Awaited) (due : Due) (frames : FrameReader) (b : List ℕ)
+    → due_of a ≡ Some due → FrameStandsFor frames (may_come direction due) b
+    → HasBegun direction a frames b
+begun_awaited direction (awaits.Record other) due frames b is h =
+    let same : other ≡ due = cc in
+    subst (λ (n : Due). FrameStandsFor frames (may_come direction n) b) (sym same) h
+begun_awaited direction (awaits.Chunk p) due frames b is h =
+    let same : dues.Chunk ≡ due = cc in
+    subst (λ (n : Due). FrameStandsFor frames (may_come direction n) b) (sym same) h
+begun_awaited direction (awaits.Payload p) due frames b is h = cc

@@ -1,0 +1,447 @@
+-- Which text is shown: that of the situation, until a record brings another. Where a text may still
+-- begin there is none before, and there are no strings before the encoding's record.
+use Rattle.std.proofs.Common.{◌≡◌, ℕ, ◌+◌, inl, inr, List, [], ◌∷◌, ◌++◌, take, drop, Bool, true, false, Option, Some, None, refl, sym, ap, ◌∙◌, subst}
+use Rattle.std.specs.Prelude.{◌==◌, ◌||◌, not, if◌then◌else◌}
+use Rattle.std.proofs.lemmas.Bool.{eqb-true, cases_Bool, and_left}
+use Rattle.std.proofs.lemmas.List.{take-append-drop}
+use Rattle.unit_streams.specs.Front.{Front, begun, whole, wrong}
+use Rattle.unit_streams.specs.Grammar.{standing}
+use Rattle.unit_streams.proofs.Standing.{standing_keeps}
+use Rattle.nbfx_values.specs.declared.session.Mode.{Mode}
+use Rattle.nbfx_values.specs.declared.session.Mode.TheVariants.{Singleton, Duplex, Simplex}
+use Rattle.nmf_records.specs.declared.record_types.TheConstants.{VERSION, MODE, VIA, KNOWN_ENCODING, UNSIZED_ENVELOPE, SIZED_ENVELOPE, END, FAULT, PREAMBLE_ACK, PREAMBLE_END}
+use Rattle.nmf_records.specs.declared.frame.Frame.{Frame}
+use Rattle.nmf_records.specs.declared.frame.Frame.TheVariants as frames
+use Rattle.nmf_records.specs.declared.frame.Expect.{Expect}
+use Rattle.nmf_records.specs.declared.frame.Expect.TheVariants.{Types, Chunk}
+use Rattle.nmf_records.specs.declared.frame.FrameFault.{FrameFault}
+use Rattle.nmf_records.specs.declared.script.Direction.{Direction}
+use Rattle.nmf_records.specs.declared.script.Direction.TheVariants.{FromInitiator, FromReceiver}
+use Rattle.nmf_records.specs.declared.script.Due.{Due}
+use Rattle.nmf_records.specs.declared.script.Due.TheVariants as dues
+use Rattle.nmf_records.specs.Records.{Read, IsRecordOf}
+use Rattle.nmf_records.specs.Reading.{MayCome, allows, frame_at, begins_text}
+use Rattle.nmf_records.specs.Script.{behind_preamble, first, may_come}
+use Rattle.nmf_records.specs.Reader.{text_after, text_read}
+use Rattle.nmf_records.proofs.Records.{read_record}
+use Rattle.nmf_records.proofs.Showing.{plain_head}
+use Rattle.stream_reader.specs.Stream.{Form, sized, chunked, last_chunk, Settings, direction_of, OpenPayload, Situation, Stage, beginning, record_due, chunk_due, payload_open, StreamUnit, due_behind, due_in, is_over_in, mode_of, on_open, on_payload, payload_by, unit_in, behind_payload, payload_begun, with_byte, after_bare, after_record, after, stream}
+use Rattle.stream_reader.proofs.DueRecords.{version_due, mode_due, via_due, encoding_due, chunk_due as size_due}
+use Rattle.stream_reader.proofs.Grammar.{readable}
+use Rattle.stream_reader.proofs.Coming.{unit_of_record, unit_of_chunk, unit_of_payload}
+use Rattle.stream_reader.proofs.Outcomes.{goes_on, wants_chunk, is_whole, is_refused, outcome, text_behind}
+
+-- no Via was read yet
+abbrev pub before_via : Stage → Bool
+before_via (record_due dues.Version) = true
+before_via (record_due dues.Mode) = true
+before_via (record_due dues.Via) = true
+before_via stage = false
+
+-- nor the encoding's record
+abbrev pub before_encoding : Stage → Bool
+before_encoding (record_due dues.Encoding) = true
+before_encoding stage = before_via stage
+
+-- a text may still come: an initiator's Via, or a receiver's Fault
+abbrev pub wants_text : Direction → Stage → Bool
+wants_text FromInitiator stage = before_via stage
+wants_text FromReceiver stage = not (is_over_in stage)
+
+-- what holds of the texts and strings of each situation; a receiver's stream has no preamble
+pub record IsEarly (direction : Direction) (z : Situation) : Type 0 where
+  pub text : wants_text direction z.stage ≡ true → z.text ≡ []
+  pub strings : before_encoding z.stage ≡ true → z.strings ≡ []
+  pub late : direction ≡ FromReceiver → before_encoding z.stage ≡ false
+
+-- at a stage behind the preamble, where a text may come only if it might before
+abbrev GoesOn : Direction → Stage → Stage → Type 0
+GoesOn direction old new = (wants_text direction new ≡ true → wants_text direction old ≡ true)
+    × (before_encoding new ≡ false)
+
+on_again : (direction : Direction) (old new : Stage) → before_encoding new ≡ false
+    → is_over_in old ≡ false → GoesOn direction old new
+on_again FromInitiator old new late on =
+    (λ wants. let none = via_too new late in let bad = sym none ∙ wants in cc, late)
+  where
+    via_too : (stage : Stage) → before_encoding stage ≡ false → before_via stage ≡ false
+    via_too (record_due dues.Encoding) e = cc
+    via_too (record_due dues.Version) e = cc
+    via_too (record_due dues.Mode) e = cc
+    via_too (record_due dues.Via) e = cc
+    via_too stage e = e
+on_again FromReceiver old new late on = (λ wants. ap not on, late)
+
+early_at : (direction : Direction) (z new : Situation) → GoesOn direction z.stage new.stage
+    → new.text ≡ z.text → IsEarly direction z → IsEarly direction new
+early_at direction z new goes text h = record {
+  text = λ e. text ∙ h.text (goes.0 e);
+  strings = λ e. let bad = sym goes.1 ∙ e in cc;
+  late = λ is. goes.1;
+}
+
+behind_on : (direction : Direction) (mode : Mode)
+    → before_encoding (record_due (behind_preamble direction mode)) ≡ false
+behind_on FromInitiator Singleton = refl
+behind_on FromInitiator Duplex = refl
+behind_on FromInitiator Simplex = refl
+behind_on FromReceiver Singleton = refl
+behind_on FromReceiver Duplex = refl
+behind_on FromReceiver Simplex = refl
+
+form_late : (form : Form) → before_encoding (record_due (due_behind form)) ≡ false
+form_late sized = refl
+form_late chunked = refl
+form_late last_chunk = refl
+
+-- a record that may come, of a session that isn't over
+pub due_on : (direction : Direction) (due : Due) (f : Frame) → MayCome (may_come direction due) f
+    → is_over_in (record_due due) ≡ false
+due_on direction dues.Over (frames.Version major minor) may = cc
+due_on direction dues.Over (frames.Mode mode) may = cc
+due_on direction dues.Over frames.Via may = cc
+due_on direction dues.Over (frames.KnownEncoding encoding) may = cc
+due_on direction dues.Over frames.UnsizedEnvelope may = cc
+due_on direction dues.Over (frames.Chunk size) may = cc
+due_on direction dues.Over (frames.SizedEnvelope size) may = cc
+due_on direction dues.Over frames.End may = cc
+due_on direction dues.Over frames.Fault may = cc
+due_on direction dues.Over frames.PreambleAck may = cc
+due_on direction dues.Over frames.PreambleEnd may = cc
+due_on direction _ f may = refl
+
+module _ (x : Settings) (z : Situation) (h : IsEarly (direction_of x.side) z) where
+  abbrev d : Direction
+  d = direction_of x.side
+
+  -- bytes of a payload
+  early_payload : (p : OpenPayload) → is_over_in z.stage ≡ false
+      → IsEarly (direction_of x.side) (behind_payload x z p)
+  early_payload p on =
+      elim (outcome x z p) [
+        | goes_on more b c ↦ rw b (at (payload_open p) refl z.text z.messages z.strings refl)
+        | wants_chunk none is b c ↦ rw b (at (chunk_due p) refl z.text z.messages z.strings refl)
+        | is_whole all none b c ↦
+            rw b (at (record_due (due_behind p.form)) (form_late p.form) z.text (z.messages + 1)
+            p.standing.situation.strings refl)
+        | is_refused all r is b c ↦
+            rw b (at (record_due (due_behind p.form)) (form_late p.form) z.text z.messages
+            p.standing.situation.strings refl)
+      ]
+    where
+      at : (stage : Stage) → before_encoding stage ≡ false → (text : List ℕ) (messages : ℕ)
+          (strings : List (List ℕ)) → text ≡ z.text
+          → IsEarly (direction_of x.side)
+          (record z { stage = stage; text = text; messages = messages; strings = strings })
+      at stage late text messages strings same =
+          early_at d z _ (on_again d z.stage stage late on) same h
+
+  module _ (due : Due) (at : z.stage ≡ record_due due) where
+    -- before the encoding's record
+    none_before : before_encoding (record_due due) ≡ true → z.strings ≡ []
+    none_before e = h.strings (ap before_encoding at ∙ e)
+
+    never : before_encoding (record_due due) ≡ true → direction_of x.side ≡ FromReceiver → ⊥
+    never e is = let late = sym (ap before_encoding at ∙ e) ∙ h.late is in cc
+
+    none_yet : (other : Due) → due ≡ other → before_via (record_due other) ≡ true → z.text ≡ []
+    none_yet other same early =
+        h.text (ap (wants_text d) (at ∙ ap record_due same) ∙ wanted (direction_of x.side) other early)
+      where
+        wanted : (direction : Direction) (due : Due) → before_via (record_due due) ≡ true
+            → wants_text direction (record_due due) ≡ true
+        wanted FromInitiator due e = e
+        wanted FromReceiver dues.Version e = refl
+        wanted FromReceiver dues.Mode e = refl
+        wanted FromReceiver dues.Via e = refl
+        wanted FromReceiver _ e = cc
+
+    -- behind the Via only a receiver's text may come
+    receivers_alone : (direction : Direction) (due : Due) → before_via (record_due due) ≡ false
+        → wants_text direction (record_due due) ≡ true → direction ≡ FromReceiver
+    receivers_alone FromInitiator due is e = let bad = sym is ∙ e in cc
+    receivers_alone FromReceiver due is e = refl
+
+    -- within the preamble
+    preamble_early : (other next : Due) (text : List ℕ) (mode : Mode) → due ≡ other
+        → before_encoding (record_due other) ≡ true
+        → (before_via (record_due next) ≡ true → text ≡ [])
+        → IsEarly (direction_of x.side)
+        (record z { stage = record_due next; text = text; mode = mode })
+    preamble_early other next text mode same early none =
+        let here = ap (λ n. before_encoding (record_due n)) same ∙ early in record {
+          text = λ e. by_test (before_via (record_due next)) refl e;
+          strings = λ e. none_before here;
+          late = λ is. absurd (never here is);
+        }
+      where
+        by_test : (b : Bool) → before_via (record_due next) ≡ b
+            → wants_text (direction_of x.side) (record_due next) ≡ true → text ≡ []
+        by_test true is e = none is
+        by_test false is e =
+            absurd (never (ap (λ n. before_encoding (record_due n)) same ∙ early)
+            (receivers_alone (direction_of x.side) next is e))
+
+    going : (f : Frame) → MayCome (may_come (direction_of x.side) due) f → is_over_in z.stage ≡ false
+    going f may = ap is_over_in at ∙ due_on d due f may
+
+    -- a record of no payload
+    early_bare : (from : ℕ) (f : Frame) (text : List ℕ) → MayCome (may_come (direction_of x.side) due) f
+        → payload_by x z from f ≡ None → IsEarly (direction_of x.side) (after_bare x z f text)
+    early_bare from (frames.Version major minor) text may none =
+        let same = version_due d due major minor may in
+        preamble_early dues.Version dues.Mode z.text z.mode same refl
+        (λ e. none_yet dues.Version same refl)
+    early_bare from (frames.Mode byte) text may none =
+        let same = mode_due d due byte may in
+        preamble_early dues.Mode dues.Via z.text (mode_of byte) same refl
+        (λ e. none_yet dues.Mode same refl)
+    early_bare from frames.Via text may none =
+        preamble_early dues.Via dues.Encoding text z.mode (via_due d due may) refl (λ e. cc)
+    early_bare from (frames.KnownEncoding encoding) text may none =
+        let here = ap (λ n. before_encoding (record_due n)) (encoding_due d due encoding may) in
+        record {
+          text = λ e. absurd (never here (receivers_alone d dues.PreambleEnd refl e));
+          strings = λ e. refl;
+          late = λ is. refl;
+        }
+    early_bare from frames.End text may none =
+        early_at d z _ (on_again d z.stage (record_due dues.Over) refl (going frames.End may)) refl h
+    early_bare from frames.Fault text may none =
+        record { text = over (direction_of x.side); strings = λ e. cc; late = λ is. refl }
+      where
+        over : (direction : Direction) → wants_text direction (record_due dues.Over) ≡ true
+            → text ≡ []
+        over FromInitiator e = cc
+        over FromReceiver e = cc
+    early_bare from frames.PreambleEnd text may none =
+        early_at d z _
+        (on_again d z.stage _ (behind_on d z.mode) (going frames.PreambleEnd may)) refl h
+    early_bare from frames.PreambleAck text may none =
+        early_at d z _
+        (on_again d z.stage _ (behind_on d z.mode) (going frames.PreambleAck may)) refl h
+    early_bare from frames.UnsizedEnvelope text may none = cc
+    early_bare from (frames.SizedEnvelope size) text may none = cc
+    early_bare from (frames.Chunk size) text may none =
+        early_at d z _
+        (on_again d z.stage _ (late (size == 0)) (going (frames.Chunk size) may)) refl h
+      where
+        late : (b : Bool)
+            → before_encoding (record_due (if b then dues.End else due_in z.stage)) ≡ false
+        late true = refl
+        late false =
+            ap (λ s. before_encoding (record_due (due_in s))) at
+            ∙ ap (λ n. before_encoding (record_due n)) (size_due d due size may)
+
+  -- behind a record
+  early_record : (from : ℕ) (f : Frame) (text : List ℕ) (due : Due) → is_over_in z.stage ≡ false
+      → MayCome (may_come (direction_of x.side) due) f
+      → (v : Option OpenPayload) → payload_by x z from f ≡ v
+      → (v ≡ None → z.stage ≡ record_due due)
+      → IsEarly (direction_of x.side) (on_payload v (behind_payload x z) (after_bare x z f text))
+  early_record from f text due on may (Some p) e at = early_payload p on
+  early_record from f text due on may None e at = early_bare due (at refl) from f text may e
+
+  early_byte : (byte : ℕ) (stage : Stage) → z.stage ≡ stage
+      → IsEarly (direction_of x.side) (on_open stage (λ p. behind_payload x z (with_byte x z p byte)) z)
+  early_byte byte (record_due due) at = h
+  early_byte byte (chunk_due p) at = h
+  early_byte byte (payload_open p) at = early_payload (with_byte x z p byte) (ap is_over_in at)
+
+-- at a chunk's size a payload is made of what may come
+pub chunk_made : (x : Settings) (z : Situation) (from : ℕ) (o : OpenPayload) (f : Frame)
+    → z.stage ≡ chunk_due o → MayCome (may_come (direction_of x.side) dues.Chunk) f
+    → payload_by x z from f ≡ None → ⊥
+chunk_made x z from o (frames.Chunk size) at may e = let none = rw at at e in cc
+chunk_made x z from o (frames.Version major minor) at may e = cc
+chunk_made x z from o (frames.Mode mode) at may e = cc
+chunk_made x z from o frames.Via at may e = cc
+chunk_made x z from o (frames.KnownEncoding encoding) at may e = cc
+chunk_made x z from o frames.UnsizedEnvelope at may e = cc
+chunk_made x z from o (frames.SizedEnvelope size) at may e = cc
+chunk_made x z from o frames.End at may e = cc
+chunk_made x z from o frames.Fault at may e = cc
+chunk_made x z from o frames.PreambleAck at may e = cc
+chunk_made x z from o frames.PreambleEnd at may e = cc
+
+module _ (x : Settings) where
+  early_unit : (stage : Stage) (z : Situation) (from : ℕ) (b : List ℕ) (u : StreamUnit) (k : ℕ)
+      → z.stage ≡ stage → unit_in x stage from b ≡ whole u k → IsEarly (direction_of x.side) z
+      → IsEarly (direction_of x.side) (after x z from u)
+  unfolding after
+  early_unit (record_due due) z from b u k at e h =
+      let c = unit_of_record x from b u k due e in
+      rw c.1 (early_record x z h from c.0.frame c.0.text due
+      (ap is_over_in at ∙ due_on (direction_of x.side) due c.0.frame c.2.may) c.2.may
+      (payload_by x z from c.0.frame) refl (λ none. at))
+  early_unit (chunk_due p) z from b u k at e h =
+      let c = unit_of_chunk x from b u k p e in
+      rw c.1 (early_record x z h from c.0.frame c.0.text dues.Chunk
+      (ap is_over_in at) c.2.may (payload_by x z from c.0.frame) refl
+      (λ none. absurd (chunk_made x z from p c.0.frame at c.2.may none)))
+  early_unit (payload_open p) z from b u k at e h =
+      let c = unit_of_payload x from b u k p e in rw c.3 (early_byte x z h c.0 z.stage refl)
+
+  early_first : IsEarly (direction_of x.side) (beginning x)
+  early_first = record {
+    text = λ e. refl;
+    strings = λ e. refl;
+    late = by_direction (direction_of x.side);
+  } where
+    by_direction : (direction : Direction) → direction ≡ FromReceiver
+        → before_encoding (record_due (first direction)) ≡ false
+    by_direction FromInitiator is = cc
+    by_direction FromReceiver is = refl
+
+  pub early : (p : List ℕ) → IsEarly (direction_of x.side) (standing (stream x) p).situation
+  early p =
+      standing_keeps (stream x) (readable x) (λ z from. IsEarly (direction_of x.side) z) early_first
+      (λ z from b u k e some h. early_unit z.stage z from b u k refl e h) p
+
+-- the text behind a record, where s was shown before
+abbrev pub kept_by : Frame → List ℕ → List ℕ → List ℕ
+kept_by frames.Via text s = text
+kept_by frames.Fault text s = text
+kept_by f text s = s
+
+module _ (expect : Expect) (k : ℕ) (b text s : List ℕ) where
+  first_byte : (kind : ℕ) (rest : List ℕ) → take k b ≡ kind ∷ rest → b ≡ kind ∷ (rest ++ drop k b)
+  first_byte kind rest e = sym (take-append-drop k b) ∙ ap (λ d. d ++ drop k b) e
+
+  abbrev shows : Bool → List ℕ
+  shows t = if t then text else s
+
+  plain : (kind : ℕ) (rest : List ℕ) → ((kind == VIA) || (kind == FAULT)) ≡ false
+      → take k b ≡ kind ∷ rest → (if begins_text expect b then text else s) ≡ s
+  plain kind rest is e =
+      ap (λ c. shows (begins_text expect c)) (first_byte kind rest e)
+      ∙ ap shows (plain_head expect kind (rest ++ drop k b) is)
+
+  texted : (kind : ℕ) (rest : List ℕ) → ((kind == VIA) || (kind == FAULT)) ≡ true → (types : ℕ)
+      → expect ≡ Types types → allows types kind ≡ true → take k b ≡ kind ∷ rest
+      → (if begins_text expect b then text else s) ≡ text
+  texted kind rest is types same may e =
+      ap (λ c. shows (begins_text expect c)) (first_byte kind rest e) ∙ rw (same, may, is) refl
+
+-- a record that may come shows its text
+whole_shown : (expect : Expect) (k : ℕ) (b s : List ℕ) (f : Frame) (text : List ℕ)
+    → IsRecordOf f text (take k b) → MayCome expect f
+    → (if begins_text expect b then text else s) ≡ kept_by f text s
+whole_shown (Types types) k b s frames.Via text is may =
+    texted (Types types) k b text s VIA is.0 refl types refl may is.2
+whole_shown (Types types) k b s frames.Fault text is may =
+    texted (Types types) k b text s FAULT is.0 refl types refl may is.2
+whole_shown Chunk k b s frames.Via text is may = cc
+whole_shown Chunk k b s frames.Fault text is may = cc
+whole_shown expect k b s (frames.Version major minor) text is may =
+    plain expect k b text s VERSION (major ∷ minor ∷ []) refl is.1
+whole_shown expect k b s (frames.Mode mode) text is may =
+    plain expect k b text s MODE (mode ∷ []) refl is.1
+whole_shown expect k b s (frames.KnownEncoding encoding) text is may =
+    plain expect k b text s KNOWN_ENCODING (encoding ∷ []) refl is.1
+whole_shown expect k b s frames.UnsizedEnvelope text is may =
+    plain expect k b text s UNSIZED_ENVELOPE [] refl is.1
+whole_shown expect k b s (frames.SizedEnvelope size) text is may =
+    plain expect k b text s SIZED_ENVELOPE is.1 refl is.3
+whole_shown expect k b s frames.End text is may = plain expect k b text s END [] refl is.1
+whole_shown expect k b s frames.PreambleAck text is may =
+    plain expect k b text s PREAMBLE_ACK [] refl is.1
+whole_shown expect k b s frames.PreambleEnd text is may =
+    plain expect k b text s PREAMBLE_END [] refl is.1
+whole_shown Chunk k b s (frames.Chunk size) text is may = refl
+whole_shown (Types types) k b s (frames.Chunk size) text is may = cc
+
+-- the situation behind a record has that text
+kept_text : (x : Settings) (z : Situation) (from : ℕ) (f : Frame) (text : List ℕ)
+    → kept_by f text z.text ≡ (after_record x z from f text).text
+kept_text x z from frames.Via text = refl
+kept_text x z from frames.Fault text = refl
+kept_text x z from (frames.SizedEnvelope size) text =
+    sym (text_behind x z (payload_begun x z from size sized))
+kept_text x z from frames.UnsizedEnvelope text =
+    sym (text_behind x z (payload_begun x z from 0 chunked))
+kept_text x z from (frames.Chunk size) text = go (payload_by x z from (frames.Chunk size)) where
+  go : (v : Option OpenPayload) → z.text
+      ≡ (on_payload v (behind_payload x z) (after_bare x z (frames.Chunk size) text)).text
+  go (Some p) = sym (text_behind x z p)
+  go None = refl
+kept_text x z from f text = refl
+
+-- no text begins where none may come
+never_begins : (types : ℕ) → allows types VIA ≡ false → allows types FAULT ≡ false → (b : List ℕ)
+    → begins_text (Types types) b ≡ false
+never_begins types e f [] = refl
+never_begins types e f (kind ∷ rest) =
+    elim (cases_Bool (kind == VIA)) [
+      | inl t ↦
+          let is : kind ≡ VIA = eqb-true kind VIA t in
+          and_left (allows types kind) ((kind == VIA) || (kind == FAULT)) (rw is e)
+      | inr n ↦ elim (cases_Bool (kind == FAULT)) [
+        | inl t ↦
+            let is : kind ≡ FAULT = eqb-true kind FAULT t in
+            and_left (allows types kind) ((kind == VIA) || (kind == FAULT)) (rw is f)
+        | inr m ↦ plain_head (Types types) kind rest (rw (n, m) refl)
+      ]
+    ]
+
+none_begins : (types : ℕ) → allows types VIA ≡ false → allows types FAULT ≡ false → (b : List ℕ)
+    → begins_text (Types types) b ≡ true → ⊥
+none_begins types e f b begins = let none = never_begins types e f b in cc
+
+-- an initiator's text begins where its Via is due, a receiver's in place of any record
+begins_where : (direction : Direction) (due : Due) (b : List ℕ)
+    → begins_text (may_come direction due) b ≡ true → wants_text direction (record_due due) ≡ true
+begins_where FromInitiator dues.Version b e = refl
+begins_where FromInitiator dues.Mode b e = refl
+begins_where FromInitiator dues.Via b e = refl
+begins_where FromInitiator dues.Chunk b e = cc
+begins_where FromInitiator _ b e = absurd (none_begins _ refl refl b e)
+begins_where FromReceiver dues.Over b e = absurd (none_begins _ refl refl b e)
+begins_where FromReceiver _ b e = refl
+
+-- a record is read where this is due, or the size of a chunk
+pub data ReadsDue (stage : Stage) (due : Due) : Type 0 where
+  reads_record : stage ≡ record_due due → ReadsDue stage due
+  reads_size : (o : OpenPayload) → stage ≡ chunk_due o → due ≡ dues.Chunk → ReadsDue stage due
+
+module _ (x : Settings) (z : Situation) (due : Due) (at : ReadsDue z.stage due) (h : IsEarly (direction_of x.side) z) where
+  -- where a text begins there was none before
+  none_shown : (b : List ℕ) → begins_text (may_come (direction_of x.side) due) b ≡ true → z.text ≡ []
+  none_shown b begins =
+      elim at [
+        | reads_record is ↦ h.text
+            (ap (wants_text (direction_of x.side)) is ∙ begins_where (direction_of x.side) due b begins)
+        | reads_size o is same ↦
+            let bad = subst (λ (n : Due). begins_text (may_come (direction_of x.side) n) b ≡ true)
+            same begins in cc
+      ]
+
+  -- of bytes without a whole text the same text is shown
+  same_shown : (b : List ℕ) (reading : Front Read FrameFault) → text_read reading ≡ []
+      → text_after z.text (may_come (direction_of x.side) due) b reading ≡ z.text
+  same_shown b reading nothing =
+      go (begins_text (may_come (direction_of x.side) due) b) refl
+    where
+      go : (t : Bool) → begins_text (may_come (direction_of x.side) due) b ≡ t
+          → (if t then text_read reading else z.text) ≡ z.text
+      go true is = nothing ∙ sym (none_shown b is)
+      go false is = refl
+
+  -- a record that has begun
+  pub begun_text : (b : List ℕ)
+      → text_after z.text (may_come (direction_of x.side) due) b begun ≡ z.text
+  begun_text b = same_shown b begun refl
+
+  -- a wrong record
+  pub wrong_text : (b : List ℕ) (fault : FrameFault) (k : ℕ)
+      → text_after z.text (may_come (direction_of x.side) due) b (wrong fault k) ≡ z.text
+  wrong_text b fault k = same_shown b (wrong fault k) refl
+
+-- a record that is whole
+pub whole_text : (x : Settings) (z : Situation) (limit : ℕ) (expect : Expect) (from : ℕ) (b : List ℕ)
+    (read : Read) (k : ℕ) → frame_at limit expect b ≡ whole read k
+    → text_after z.text expect b (whole read k) ≡ (after_record x z from read.frame read.text).text
+whole_text x z limit expect from b read k e =
+    let r = read_record limit expect b read k e in
+    whole_shown expect k b z.text read.frame read.text r.0 r.1
+    ∙ kept_text x z from read.frame read.text

@@ -1,0 +1,66 @@
+use Rattle.std.proofs.Common.{◌≡◌, ℕ, ◌+◌, List, Bool, true, false, Some, None, refl, sym, ap, ◌∙◌}
+use Rattle.std.specs.Prelude.{if◌then◌else◌}
+use Rattle.nbfx_values.specs.QuotasOf.{limits_of}
+use Rattle.nbfx_values.specs.declared.refusals.Reason.TheVariants as reasons
+use Rattle.nmf_records.specs.declared.frame.Frame.TheVariants as frames
+use Rattle.stream_reader.specs.declared.awaited.Awaited.{Awaited}
+use Rattle.stream_reader.specs.declared.awaited.Awaited.TheVariants as awaits
+use Rattle.stream_reader.specs.declared.reader.StreamReader.{StreamReader}
+use Rattle.stream_reader.specs.Sides.{side_of}
+use Rattle.stream_reader.specs.Standing.{Awaits, settings_of}
+use Rattle.stream_reader.specs.Stepping.{size_before_of}
+use Rattle.stream_reader.specs.Stream.{Stage, record_due, chunk_due, payload_open, reason_in, serves, size_before, too_large}
+use Rattle.stream_reader.proofs.reader.StreamReader.reason_in.Goals as goal
+
+-- what it is set to
+serves_so : (r : StreamReader) (stage : Stage) (via text : List ℕ) (b : Bool) → via ≡ text
+    → serves (side_of r.side) via ≡ b
+    → (if b then None else Some reasons.EndpointNotFound)
+    ≡ reason_in (settings_of r) stage frames.Via text
+unfolding settings_of
+serves_so r stage via text b same is =
+    sym (ap (λ c. if c then None else Some reasons.EndpointNotFound)
+    (ap (serves (side_of r.side)) (sym same) ∙ is))
+
+limits_are : (r : StreamReader) → (settings_of r).limits ≡ limits_of r.quotas
+unfolding settings_of
+limits_are r = refl
+
+-- the bytes of a payload before a chunk
+before_as : (a : Awaited) (stage : Stage) → Awaits a stage → size_before_of a ≡ size_before stage
+before_as (awaits.Record due) (record_due other) is = refl
+before_as (awaits.Record due) (chunk_due o) is = absurd is
+before_as (awaits.Record due) (payload_open o) is = absurd is
+before_as (awaits.Chunk p) (record_due due) is = absurd is
+before_as (awaits.Chunk p) (chunk_due o) is = is.size
+before_as (awaits.Chunk p) (payload_open o) is = absurd is
+before_as (awaits.Payload p) (record_due due) is = absurd is
+before_as (awaits.Payload p) (chunk_due o) is = absurd is
+before_as (awaits.Payload p) (payload_open o) is = refl
+
+pub returns-in-Via : goal.returns-in-Via
+returns-in-Via c = λ stage text awaits shown.
+    serves_so c.args.self.now stage c.text.result.now text true
+    (c.text.ensures text (shown c.in-Via.is)) (sym c.serves.ensures ∙ c.if-serves.true)
+    ∙ ap (λ f. reason_in (settings_of c.args.self.now) stage f text) (sym c.in-Via.is)
+
+pub returns-in-Via-2 : goal.returns-in-Via-2
+returns-in-Via-2 c = λ stage text awaits shown.
+    serves_so c.args.self.now stage c.text.result.now text false
+    (c.text.ensures text (shown c.in-Via.is)) (sym c.serves.ensures ∙ c.if-serves.false)
+    ∙ ap (λ f. reason_in (settings_of c.args.self.now) stage f text) (sym c.in-Via.is)
+
+pub returns-in-SizedEnvelope : goal.returns-in-SizedEnvelope
+returns-in-SizedEnvelope c = λ stage text awaits shown.
+    c.too_large.ensures (settings_of c.args.self.now) (limits_are c.args.self.now)
+    ∙ ap (too_large (settings_of c.args.self.now)) c.from.ensures
+    ∙ ap (λ f. reason_in (settings_of c.args.self.now) stage f text) (sym c.in-SizedEnvelope.is)
+
+pub returns-in-Chunk : goal.returns-in-Chunk
+returns-in-Chunk c = λ stage text awaits shown.
+    let before = c.from-in-Chunk.ensures ∙ c.size_before.ensures
+    ∙ before_as c.args.self.now.awaited stage awaits in
+    c.too_large-in-Chunk.ensures (settings_of c.args.self.now) (limits_are c.args.self.now)
+    ∙ ap (λ n. too_large (settings_of c.args.self.now) (n + c.from-in-Chunk-2.result)) before
+    ∙ ap (λ n. too_large (settings_of c.args.self.now) (size_before stage + n)) c.from-in-Chunk-2.ensures
+    ∙ ap (λ f. reason_in (settings_of c.args.self.now) stage f text) (sym c.in-Chunk.is)

@@ -1,6 +1,0 @@
-use Rattle.stream_reader.proofs.EitherReasons.{refused_by_record}
-use Rattle.stream_reader.proofs.EitherReasonsOfStreams.{refused_first}
-use Rattle.stream_reader.proofs.sides.reasons_of_records.Goals as goal
-
-pub returns : goal.returns
-returns c = record { by_record = refused_by_record; first = refused_first }

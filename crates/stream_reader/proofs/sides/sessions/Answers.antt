@@ -1,5 +1,0 @@
-use Rattle.stream_reader.proofs.EitherSessionEnds.{sessions_are_told, spells_one_session}
-use Rattle.stream_reader.proofs.sides.sessions.Goals as goal
-
-pub returns : goal.returns
-returns c = record { told = sessions_are_told; one = spells_one_session }

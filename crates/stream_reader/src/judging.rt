@@ -1,0 +1,105 @@
+//! Why a record is refused in the stream of either side, and what it says that isn't.
+
+ghost use Rattle.std.specs.Prelude.{◌≡◌, ◌==◌, ◌||◌, Some, None, if◌then◌else◌};
+ghost use Rattle.stream_reader.specs.Stream.{Settings, reason_of, unexpected, is_binary, is_mode, mode_of, kind_of, too_large};
+ghost use Rattle.nbfx_values.specs.QuotasOf.{limits_of};
+ghost use Rattle.nbfx_values.specs.Session.{kind_number, mode_number};
+
+use nbfx_values::{Kind, Mode, Quotas, Reason};
+use nmf_records::record_types::{EXTENSIBLE_ENCODING, UPGRADE_REQUEST};
+use nmf_records::{Due, FrameFault};
+
+/// Why bytes are refused that are no record which may come where this is due.
+pub(crate) fn reason_of(due: Due, fault: FrameFault) -> Reason
+    ensures { result ≡ reason_of due fault }
+{
+    match fault {
+        FrameFault::UnknownRecord => Reason::UnknownRecord,
+        FrameFault::Unexpected(kind) => unexpected(due, kind),
+        FrameFault::BadInt => Reason::BadInt,
+        FrameFault::TextTooLong => Reason::TextTooLong,
+        FrameFault::TextNotUtf8 => Reason::TextNotUtf8,
+    }
+}
+
+fn unexpected(due: Due, kind: u8) -> Reason
+    ensures { result ≡ unexpected due kind }
+{
+    match due {
+        Due::Encoding => {
+            if kind == EXTENSIBLE_ENCODING {
+                Reason::BadEncoding
+            } else {
+                Reason::OutOfOrder
+            }
+        }
+        Due::PreambleEnd => {
+            if kind == UPGRADE_REQUEST {
+                Reason::UpgradeRefused
+            } else {
+                Reason::OutOfOrder
+            }
+        }
+        _ => Reason::OutOfOrder,
+    }
+}
+
+/// Why a Mode record with this byte is refused.
+pub(crate) fn bad_mode(byte: u8) -> Option<Reason>
+    ensures { result ≡ (if is_mode byte then None else Some Reason.BadMode) }
+{
+    if byte == Mode::Singleton.number()
+        || byte == Mode::Duplex.number()
+        || byte == Mode::Simplex.number()
+    {
+        None
+    } else {
+        Some(Reason::BadMode)
+    }
+}
+
+/// The mode that a Mode record with this byte names.
+pub(crate) fn mode_of(byte: u8) -> Mode
+    ensures { result ≡ mode_of byte }
+{
+    if byte == Mode::Singleton.number() {
+        Mode::Singleton
+    } else if byte == Mode::Simplex.number() {
+        Mode::Simplex
+    } else {
+        Mode::Duplex
+    }
+}
+
+/// Why a known encoding is refused.
+pub(crate) fn bad_encoding(encoding: u8) -> Option<Reason>
+    ensures { result ≡ (if is_binary encoding then None else Some Reason.BadEncoding) }
+{
+    if encoding == Kind::Plain.number() || encoding == Kind::Session.number() {
+        None
+    } else {
+        Some(Reason::BadEncoding)
+    }
+}
+
+/// What payloads are under this known encoding.
+pub(crate) fn kind_of(encoding: u8) -> Kind
+    ensures { result ≡ kind_of encoding }
+{
+    if encoding == Kind::Plain.number() {
+        Kind::Plain
+    } else {
+        Kind::Session
+    }
+}
+
+/// Why a size is refused, with which a payload has so many bytes in all.
+pub(crate) fn too_large(quotas: &Quotas, size: u64) -> Option<Reason>
+    ensures { (x : Settings) → x.limits ≡ limits_of quotas.now → result ≡ too_large x size }
+{
+    if size > u64::from(quotas.payload) {
+        Some(Reason::MessageTooLarge)
+    } else {
+        None
+    }
+}
