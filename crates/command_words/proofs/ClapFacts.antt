@@ -16,7 +16,7 @@ use Rattle.command_words.specs.declared.action.Action.{Action}
 use Rattle.command_words.specs.declared.option_name.OptionName.{OptionName}
 use Rattle.command_words.specs.Options.{Given, IsOnce, SpellOptions, Text, option_text, value_of}
 use Rattle.command_words.specs.Commands.{options_of, word_of}
-use Rattle.command_words.specs.Reading.{HasFound, IsReadable, app_for, app_with, found_values}
+use Rattle.command_words.specs.Reading.{HasTaken, IsReadable, app_for, app_with, found_values}
 use Rattle.command_words.specs.Requests.{GiveOptions}
 use Rattle.command_words.proofs.OptionFacts.{new-from_once, once-from_new}
 use Rattle.command_words.proofs.ReadingFacts.{Passes, are_known, held_behind, reading-complete, reading-sound, rows_behind}
@@ -73,14 +73,19 @@ module _ (action : Action) (words : List Text) (app : App) (is : app ≡ app_for
   simple_and_free : is_simple_and_free app ≡ true
   simple_and_free = ap is_simple_and_free is ∙ is_simple_and_free-app_with (word_of action) (options_of action)
 
-  pub found-from_parse : (matches : ArgMatches) → AllByRecursion IsReadable words → (is_simple_and_free app ≡ true → fault_of app words ≡ [])
-      → HasMatchesOf app words matches → HasFound action words matches
-  found-from_parse matches readable kinds has =
-      let fault : fault_of (app_for action) words ≡ [] = ap (λ a. fault_of a words) (sym is) ∙ kinds simple_and_free in
-      let found = parse-takes (word_of action) (options_of action) words matches readable fault (subst (λ a. HasMatchesOf a words matches) is has) in
+  pub taken-from_parse : (matches : ArgMatches) → AllByRecursion IsReadable words
+      → (is_simple_and_free app ≡ true → fault_of app words ≡ [])
+      → HasMatchesOf app words matches → HasTaken action words matches
+  taken-from_parse matches readable kinds has =
+      let fault : fault_of (app_for action) words ≡ [] =
+      ap (λ a. fault_of a words) (sym is) ∙ kinds simple_and_free in
+      let found = parse-takes (word_of action) (options_of action) words matches readable fault
+      (subst (λ a. HasMatchesOf a words matches) is has) in
       record {
         given = found.0;
-        gives = record { spelled = found.1; known = found.2; once = found.3 };
+        spelled = found.1;
+        known = found.2;
+        once = found.3;
         values = found.4;
       }
 

@@ -1,19 +1,22 @@
 -- Numbers as values write them.
-use Rattle.std.proofs.Common.{◌≡◌, ◌≢◌, ◌∙◌, ℕ, zero, suc, ◌<◌, ◌≤◌, ◌^◌, true, [], ◌∷◌, length, get_or, Option, Some, None, Result, Ok, Err, refl, sym, ap, subst, arith}
+use Rattle.std.proofs.Common.{◌≡◌, ◌≢◌, ◌∙◌, ℕ, zero, suc, ◌<◌, ◌≤◌, ◌^◌, true, [], ◌∷◌, length, get_or, Option, Some, None, Result, Ok, Err, refl, sym, ap, subst, arith, codes}
 use Rattle.std.specs.Prelude.{IfNone, IfSome, IsSome}
 use Rattle.std.specs.Result.{OkIff, result_ok}
-use Rattle.std.specs.Fmt.{decimal}
+use Rattle.std.specs.Fmt.{decimal, digits}
 use Rattle.std.specs.Str.Parse.{AllDigits, ParsesUnsigned, digits_value}
 use Rattle.std.proofs.lemmas.Bool.{le-leb, leb-true, lt-ltb, ltb-true}
 use Rattle.std.proofs.lemmas.Fmt.{decimal-digits_value, decimal_digit, decimal_injective, decimal_is_IsNumeral, first_decimal, parse-decimal}
 use Rattle.std.proofs.lemmas.Str.Parse.{IsNumeralModel, digit_at, numerals_by_value, parse_plain, tells_digits}
 use Rattle.clap.proofs.WalkLemmas.{both}
 use Rattle.nbfx_values.specs.Limits.{IsGood, Limits, limits, usual_limits}
+use Rattle.nbfx_values.specs.declared.session.Kind.TheVariants as kinds
+use Rattle.nbfx_values.specs.declared.session.Kind.TheVariants.{Plain}
 use Rattle.command_words.specs.declared.option_name.OptionName.{OptionName}
 use Rattle.command_words.specs.declared.option_name.OptionName.TheVariants.{Payload, Depth, Dictionary, Content, Session}
 use Rattle.command_words.specs.Options.{Text}
 use Rattle.command_words.specs.Reading.{begins_plain}
-use Rattle.command_words.specs.Requests.{AreLimits, IsNumber, usual_content}
+use Rattle.command_words.specs.Requests.{AreLimits, usual_content}
+use Rattle.command_words.specs.Values.{IsNumber, kind_text}
 
 -- ---- decimal digits
 
@@ -103,3 +106,13 @@ pub none-good : {Q : Type 0} (r : Option Q) (value : OptionName → Option Text)
     → ((l : Limits) → AreLimits value l → IsGood l → read ≡ l) → IfNone r ((l : Limits) → AreLimits value l → ¬ IsGood l)
 none-good (Some quotas) value read found same = tt
 none-good None value read found same = λ l are good. let some = found (subst IsGood (sym (same l are good)) good) in cc some
+
+-- ---- encodings
+
+pub seven : kind_text Plain ≡ codes "7"
+unfolding digits
+seven = refl
+
+pub eight : kind_text kinds.Session ≡ codes "8"
+unfolding digits
+eight = refl

@@ -1,27 +1,33 @@
 -- Facts about options and the values that they are given.
-use Rattle.std.proofs.Common.{◌≡◌, ◌⊎◌, ◌∙◌, true, false, List, [], ◌∷◌, ◌++◌, None, refl, sym, ap, inl, inr, codes, true≢false}
-use Rattle.std.specs.Prelude.{if◌then◌else◌}
+use Rattle.std.proofs.Common.{◌≡◌, ◌≢◌, ◌⊎◌, ◌∙◌, suc, true, false, not, List, [], ◌∷◌, ◌++◌, Some, None, arith, refl, sym, ap, subst, inl, inr, codes, true≢false}
+use Rattle.std.specs.Prelude.{All, if◌then◌else◌}
+use Rattle.std.specs.List.{list_all, list_any}
 use Rattle.std.specs.Str.{bytes_eq}
 use Rattle.std.proofs.lemmas.Bool.{cases_Bool}
 use Rattle.std.proofs.lemmas.Slice.Eq.{bytes_eq-Decides}
+use Rattle.clap.proofs.WalkLemmas.{both}
 use Rattle.command_words.specs.declared.option_name.OptionName.{OptionName}
-use Rattle.command_words.specs.declared.option_name.OptionName.TheVariants.{Static, Payload, Depth, Dictionary, Content, Session}
-use Rattle.command_words.specs.Options.{Given, IsOnce, Text, is_option, option_text, value_of}
+use Rattle.command_words.specs.declared.option_name.OptionName.TheVariants.{Static, Replies, Encoding, Payload, Depth, Dictionary, Content, Session}
+use Rattle.command_words.specs.Options.{Given, IsOnce, Text, is_empty, is_option, option_text, value_of}
 
 -- ---- options by their texts
 
 -- the option that has a text
-abbrev named : Text → OptionName
+abbrev pub named : Text → OptionName
 named text =
     if bytes_eq text (codes "static") then Static
+    else if bytes_eq text (codes "replies") then Replies
+    else if bytes_eq text (codes "encoding") then Encoding
     else if bytes_eq text (codes "payload") then Payload
     else if bytes_eq text (codes "depth") then Depth
     else if bytes_eq text (codes "dictionary") then Dictionary
     else if bytes_eq text (codes "content") then Content
     else Session
 
-named-option_text : (option : OptionName) → named (option_text option) ≡ option
+pub named-option_text : (option : OptionName) → named (option_text option) ≡ option
 named-option_text Static = refl
+named-option_text Replies = refl
+named-option_text Encoding = refl
 named-option_text Payload = refl
 named-option_text Depth = refl
 named-option_text Dictionary = refl
@@ -147,3 +153,52 @@ new-from_once given once = new-once [] given (absent-nil given) once
 
 pub once-from_new : (given : List Given) → IsNew [] given → IsOnce given
 once-from_new given new = (once-new [] given new).1
+
+-- ---- values that are not empty
+
+not_empty : (text : Text) → text ≢ [] → not (is_empty text) ≡ true
+not_empty [] some = absurd (some refl)
+not_empty (byte ∷ rest) some = refl
+
+-- options whose values aren't empty
+pub full-from_values : (options : List OptionName) (given : List Given) → IsOnce given
+    → list_all (λ one. list_any (is_option one.0) options) given ≡ true
+    → ((option : OptionName) → list_any (is_option option) options ≡ true
+    → value_of given option ≢ Some [])
+    → list_all (λ one. not (is_empty one.1)) given ≡ true
+full-from_values options [] once known full = refl
+full-from_values options (one ∷ given) once known full =
+    let parts = both _ _ known in
+    let first : not (is_empty one.1) ≡ true = not_empty one.1 (λ e.
+    full one.0 parts.0 (rw (is_option-same one.0) (ap Some e))) in
+    let rest = full-from_values options given once.1 parts.1 (λ option is_known e.
+    elim (cases_Bool (is_option one.0 option)) [
+      | inl same ↦
+          let is : one.0 ≡ option = same-is_option one.0 option same in
+          cc (sym once.0 ∙ ap (value_of given) is ∙ e)
+      | inr other ↦ full option is_known (rw other e)
+    ]) in
+    rw (first, rest) refl
+
+pub full-no_empty : (given : List Given) (option : OptionName)
+    → list_all (λ one. not (is_empty one.1)) given ≡ true → value_of given option ≢ Some []
+full-no_empty [] option full e = cc e
+full-no_empty (one ∷ given) option full e =
+    let parts = both (not (is_empty one.1)) _ full in
+    elim (cases_Bool (is_option one.0 option)) [
+      | inl same ↦
+          let is : one.1 ≡ [] = cc (rw same at e) in
+          cc (rw is at parts.0)
+      | inr other ↦ full-no_empty given option parts.1 (rw other at e)
+    ]
+
+-- what holds of each of the options, of one of them
+pub among : (P : OptionName → Type 0) (options : List OptionName) (option : OptionName)
+    → All P options → list_any (is_option option) options ≡ true → P option
+among P [] option all known = cc known
+among P (one ∷ options) option all known =
+    elim (cases_Bool (is_option option one)) [
+      | inl same ↦ subst P (sym (same-is_option option one same)) (all 0 one (omega arith))
+      | inr other ↦
+          among P options option (λ k d lt. all (suc k) d (omega arith)) (rw other at known)
+    ]

@@ -1,19 +1,20 @@
 -- Words that may be given to clap, and what it makes of them.
-use Rattle.std.proofs.Common.{◌≡◌, ◌∙◌, ◌<◌, ℕ, zero, suc, false, List, [], ◌∷◌, ◌++◌, ◌+◌, ◌-◌, ◌≤◌, drop, length, map, take, Option, Some, String, sym, ap, subst, inl, inr, codes, arith, slice_index_or, string_bytes}
+use Rattle.std.proofs.Common.{◌≡◌, ◌≢◌, ◌∙◌, ◌<◌, ℕ, zero, suc, false, List, [], ◌∷◌, ◌++◌, ◌+◌, ◌-◌, ◌≤◌, drop, length, map, take, Option, Some, String, sym, ap, subst, inl, inr, codes, arith, slice_index_or, string_bytes}
 use Rattle.std.specs.Prelude.{All, Any}
 use Rattle.std.specs.List.{AllByRecursion}
 use Rattle.clap.specs.Lexer.{long_of}
-use Rattle.command_words.specs.declared.option_name.OptionName.{OptionName}
 use Rattle.std.proofs.lemmas.Bool.{cases_lt}
 use Rattle.std.proofs.lemmas.List.{get_or_default, take_all}
 use Rattle.clap.specs.declared.parser.matches.ArgMatches.{ArgMatches}
 use Rattle.command_words.specs.declared.action.Action.{Action}
 use Rattle.command_words.specs.declared.words.WordsFault.TheVariants.{Memory, NotUnderstood}
-use Rattle.command_words.specs.Commands.{word_of}
+use Rattle.command_words.specs.Commands.{options_of, word_of}
 use Rattle.command_words.specs.Options.{Given, SpellOptions, Text, begins_with_hyphen, dashed, value_of}
-use Rattle.command_words.specs.Reading.{HasFound, IsLoneHyphens, IsReadable, found_values}
-use Rattle.command_words.specs.Requests.{AskFor, Asked, IsRequest}
-use Rattle.command_words.proofs.LawFacts.{spells-one, word_of-injective}
+use Rattle.command_words.specs.Reading.{HasFound, HasTaken, IsLoneHyphens, IsReadable, found_values}
+use Rattle.command_words.specs.Requests.{AskFor, Asked, GiveOptions, IsRequest, Values}
+use Rattle.command_words.proofs.OptionFacts.{among, full-from_values, full-no_empty}
+use Rattle.command_words.proofs.RequestFacts.{word_of-injective}
+use Rattle.command_words.proofs.SpellFacts.{spells-one}
 use Rattle.command_words.proofs.WordFacts.{long_of-dashed, long_of-joined}
 
 module _ {A : Type 0} where
@@ -78,15 +79,69 @@ words-cut (first ∷ second ∷ rest) command some at =
     let whole : take (length (first ∷ second ∷ rest) - 2) rest ≡ rest = ap (λ n. take n rest) all ∙ take_all (length rest) rest (omega arith) in
     (string_bytes first, (λ i. string_bytes first ∷ string_bytes (sym at i) ∷ map string_bytes (sym whole i)))
 
+-- options of which none has an empty value
+pub found-from_taken : (action : Action) (words : List Text) (matches : ArgMatches)
+    → HasTaken action words matches
+    → All (λ option. found_values matches option ≢ Some []) (options_of action)
+    → HasFound action words matches
+found-from_taken action words matches taken some = record {
+  given = taken.given;
+  gives = record {
+    spelled = taken.spelled;
+    known = taken.known;
+    once = taken.once;
+    full = full-from_values (options_of action) taken.given taken.once taken.known
+        (λ option known e.
+        among (λ o. found_values matches o ≢ Some []) (options_of action) option some known
+        (taken.values option ∙ e));
+  };
+  values = taken.values;
+}
+
+-- options of which one has an empty value
+pub empty-refused : (action : Action) (words : List Text) (matches : ArgMatches)
+    → HasTaken action words matches
+    → Any (λ option. found_values matches option ≡ Some []) (options_of action)
+    → (given : List Given) → ¬ GiveOptions action words given
+empty-refused action words matches taken (k, option, lt, at, empty) given gives =
+    let same = spells-one given taken.given words gives.spelled taken.spelled in
+    full-no_empty given option gives.full
+    (ap (λ g. value_of g option) same ∙ sym (taken.values option) ∙ empty)
+
+-- the options that were found, as those of a request
+values-same : (action : Action) (words : List Text) (matches : ArgMatches)
+    (found : HasFound action words matches)
+    → ◌≡◌ {A = Values} (value_of found.given) (found_values matches)
+values-same action words matches found = λ i option. sym (found.values option) i
+
+pub request-from_found : (words options : List Text) (program : Text) (action : Action)
+    (matches : ArgMatches) (asked : Asked) → words ≡ program ∷ word_of action ∷ options
+    → HasFound action options matches → AskFor action (found_values matches) asked
+    → IsRequest words asked
+request-from_found words options program action matches asked is found meant = record {
+  program = program;
+  action = action;
+  options = options;
+  given = found.given;
+  command = is;
+  gives = found.gives;
+  meant = subst (λ value. AskFor action value asked)
+      (sym (values-same action options matches found)) meant;
+}
+
 -- the words of a request give the options that were found
-pub request-asks : (words options : List Text) (program : Text) (action : Action) (matches : ArgMatches) (asked : Asked) → words ≡ program ∷ word_of action ∷ options
-    → HasFound action options matches → IsRequest words asked → AskFor action (found_values matches) asked
+pub request-asks : (words options : List Text) (program : Text) (action : Action)
+    (matches : ArgMatches) (asked : Asked) → words ≡ program ∷ word_of action ∷ options
+    → HasFound action options matches → IsRequest words asked
+    → AskFor action (found_values matches) asked
 request-asks words options program action matches asked is found request =
-    let same : program ∷ word_of action ∷ options ≡ request.program ∷ word_of asked.action ∷ request.options = sym is ∙ request.command in
+    let same : program ∷ word_of action ∷ options
+    ≡ request.program ∷ word_of request.action ∷ request.options = sym is ∙ request.command in
     let same_options : request.options ≡ options = cc same in
-    let given : request.given ≡ found.given =
-    spells-one request.given found.given options (subst (λ ws. SpellOptions ws request.given) same_options request.gives.spelled) found.gives.spelled in
-    let values : ◌≡◌ {A = OptionName → Option Text} (value_of request.given) (found_values matches) =
-    ap value_of given ∙ (λ i option. sym (found.values option) i) in
-    let same_action : asked.action ≡ action = word_of-injective asked.action action (cc same) in
-    subst (λ value. AskFor action value asked) values (subst (λ a. AskFor a (value_of request.given) asked) same_action request.meant)
+    let spelled = subst (λ ws. SpellOptions ws request.given) same_options request.gives.spelled in
+    let given = spells-one request.given found.given options spelled found.gives.spelled in
+    let values = ap value_of given ∙ values-same action options matches found in
+    let same_action : request.action ≡ action =
+    word_of-injective request.action action (cc same) in
+    let meant = subst (λ a. AskFor a (value_of request.given) asked) same_action request.meant in
+    subst (λ value. AskFor action value asked) values meant

@@ -10,7 +10,7 @@ use Rattle.clap.specs.Lexer.{long_of, name_and_value, short_of}
 use Rattle.clap.proofs.CutLemmas.{Lacks}
 use Rattle.clap.proofs.LexerLemmas.{name_and_value-at, name_and_value-without}
 use Rattle.command_words.specs.declared.option_name.OptionName.{OptionName}
-use Rattle.command_words.specs.declared.option_name.OptionName.TheVariants.{Static, Payload, Depth, Dictionary, Content, Session}
+use Rattle.command_words.specs.declared.option_name.OptionName.TheVariants.{Static, Replies, Encoding, Payload, Depth, Dictionary, Content, Session}
 use Rattle.command_words.specs.Options.{Text, begins_with_hyphen, dashed, option_text}
 use Rattle.command_words.specs.Reading.{IsReadable}
 
@@ -18,6 +18,8 @@ use Rattle.command_words.specs.Reading.{IsReadable}
 
 pub long_of-dashed : (option : OptionName) → long_of (dashed option) ≡ Some (option_text option, None)
 long_of-dashed Static = refl
+long_of-dashed Replies = refl
+long_of-dashed Encoding = refl
 long_of-dashed Payload = refl
 long_of-dashed Depth = refl
 long_of-dashed Dictionary = refl
@@ -26,6 +28,8 @@ long_of-dashed Session = refl
 
 pub long_of-joined : (option : OptionName) (value : Text) → long_of (dashed option ++ (codes "=" ++ value)) ≡ Some (option_text option, Some value)
 long_of-joined Static value = refl
+long_of-joined Replies value = refl
+long_of-joined Encoding value = refl
 long_of-joined Payload value = refl
 long_of-joined Depth value = refl
 long_of-joined Dictionary value = refl

@@ -1,222 +1,254 @@
--- Words of each form and of none, by the definitions alone.
-use Rattle.std.proofs.Common.{◌≡◌, ◌∙◌, false, List, [], ◌∷◌, refl, sym, ap, subst, inl, inr, codes, arith, true≢false}
-use Rattle.std.specs.Fmt.{decimal, digits}
-use Rattle.std.proofs.lemmas.Fmt.{decimal_injective}
-use Rattle.std.specs.Str.{bytes_eq}
-use Rattle.std.proofs.lemmas.Slice.Eq.{bytes_eq-Decides}
-use Rattle.clap.specs.Faults.{fault_of}
-use Rattle.clap.proofs.OnLiterals.{clap_on_literals}
-use Rattle.clap.specs.declared.error.kind.ErrorKind.{ErrorKind}
-use Rattle.nbfx_values.specs.Limits.{IsGood, Limits, limits, usual_limits}
-use Rattle.command_words.specs.declared.action.Action.{Action}
-use Rattle.command_words.specs.declared.action.Action.TheVariants.{Check, Dump}
-use Rattle.command_words.specs.declared.option_name.OptionName.TheVariants.{Static, Payload, Depth}
-use Rattle.command_words.specs.Commands.{options_of, word_of}
-use Rattle.command_words.specs.Options.{Given, SpellOptions, Text, value_of}
-use Rattle.command_words.specs.Reading.{app_for, begins_plain}
-use Rattle.command_words.specs.Requests.{Asked, AskToRead, GiveOptions, IsRequest}
-use Rattle.command_words.proofs.ClapFacts.{spelled-takes}
-use Rattle.command_words.proofs.LawFacts.{for-reading, spells-one, word_of-injective}
-use Rattle.command_words.proofs.NumberFacts.{decimal-plain}
+-- Words that are requests, with what they ask for, and words that are none. Each line has the words
+-- with a space between each two.
+use Rattle.std.proofs.Common.{◌≡◌, ◌∙◌, ◌==◌, List, [], ◌∷◌, ◌++◌, map, Some, None, refl, sym, codes}
+use Rattle.std.specs.Prelude.{if◌then◌else◌}
+use Rattle.std.specs.Fmt.{digits}
+use Rattle.std.specs.List.{AllByRecursion}
+use Rattle.nbfx_values.specs.Limits.{Limits, limits, usual_limits}
+use Rattle.nbfx_values.specs.declared.session.Kind.TheVariants.{Plain, Session}
+use Rattle.nbfx_values.specs.declared.session.Mode.TheVariants.{Singleton, Duplex, Simplex}
+use Rattle.command_words.specs.declared.task.Detail.{Detail}
+use Rattle.command_words.specs.declared.task.Detail.TheVariants.{Summary, Whole}
+use Rattle.command_words.specs.declared.task.Origin.{Origin}
+use Rattle.command_words.specs.declared.task.Origin.TheVariants.{Initiator, Receiver}
+use Rattle.command_words.specs.Options.{Text}
+use Rattle.command_words.specs.Requests.{Asked, IsRequest}
+use Rattle.command_words.specs.Tasks.{Task, report}
+use Rattle.command_words.proofs.RequestFacts.{request_in, request-complete, request-sound}
+
+-- the words of a line, the first of which has begun
+abbrev words_from : Text → Text → List Text
+words_from word [] = word ∷ []
+words_from word (byte ∷ rest) =
+    if byte == 32 then word ∷ words_from [] rest else words_from (word ++ byte ∷ []) rest
+
+abbrev words : Text → List Text
+words line = words_from [] line
+
+-- a line of words, and what they ask for
+abbrev Row : Type 0
+Row = Text × Asked
+
+abbrev AreRequests : List Row → Type 0
+AreRequests rows = AllByRecursion (λ (row : Row). IsRequest (words row.0) row.1) rows
+
+abbrev AreRefused : List Text → Type 0
+AreRefused lines = AllByRecursion (λ line. (asked : Asked) → ¬ IsRequest (words line) asked) lines
+
+are-requests : (rows : List Row)
+    → map (λ (row : Row). request_in (words row.0)) rows ≡ map (λ (row : Row). Some row.1) rows
+    → AreRequests rows
+are-requests [] same = tt
+are-requests (row ∷ rows) same =
+    (request-sound (words row.0) row.1 (cc same), are-requests rows (cc same))
+
+some≢none : (asked : Asked) → Some asked ≡ None → ⊥
+some≢none asked e = cc e
+
+are-refused : (lines : List Text)
+    → map (λ line. request_in (words line)) lines ≡ map (λ (line : Text). None) lines
+    → AreRefused lines
+are-refused [] same = tt
+are-refused (line ∷ lines) same =
+    let none : request_in (words line) ≡ None = cc same in (
+      λ asked is. some≢none asked (sym (request-complete (words line) asked is) ∙ none),
+      are-refused lines (cc same),
+    )
 
 -- ---- requests
 
-abbrev asked : Action → Text → Limits → Asked
-asked action statics limits = record { action = action; statics = statics; limits = limits }
+abbrev asks : Text → Limits → Task → Asked
+asks statics limits task = record { statics = statics; limits = limits; task = task }
 
-usual-good : IsGood usual_limits
-usual-good = record {
-  payload_least = omega arith;
-  payload_most = omega arith;
-  depth_least = omega arith;
-  depth_most = omega arith;
-  dictionary_most = omega arith;
-  content_least = omega arith;
-  content_most = omega arith;
-  via_least = omega arith;
-  via_most = omega arith;
-  session_least = omega arith;
-  session_most = omega arith;
-}
+-- with the static strings of the file S
+abbrev within : Limits → Detail → Origin → Asked
+within limits detail origin = asks (codes "S") limits (report detail origin)
 
-check_alone : IsRequest (codes "nettcp" ∷ codes "check" ∷ codes "--static" ∷ codes "S" ∷ []) (asked Check (codes "S") usual_limits)
-check_alone = record {
-  program = codes "nettcp";
-  options = codes "--static" ∷ codes "S" ∷ [];
-  given = (Static, codes "S") ∷ [];
-  command = refl;
-  gives = record { spelled = ([], inl (refl, refl), refl); known = refl; once = (refl, tt) };
-  meant = record {
-    named = refl;
-    not_empty = λ e. cc e;
-    numbers = record { payload = refl; depth = refl; dictionary = refl; content = refl; via = refl; session = refl };
-    good = usual-good;
-  };
-}
+abbrev usual : Detail → Origin → Asked
+usual = within usual_limits
 
--- two options, one of them as one word, in any order
-abbrev deep : Limits
-deep = limits 65536 8 2048 262144 2048 281474976710656
+-- options as one word or two, in any order
+abbrev spelled : List Row
+spelled =
+    (codes "nettcp check --static S", usual Summary Initiator) ∷
+    (codes " check --static=S", usual Summary Initiator) ∷
+    (codes "nettcp dump --static=S", usual Whole Initiator) ∷
+    (codes "x dump --static=a=b", asks (codes "a=b") usual_limits (report Whole Initiator)) ∷
+    (codes "x dump --static=-x", asks (codes "-x") usual_limits (report Whole Initiator)) ∷
+    (codes "x dump --static=--", asks (codes "--") usual_limits (report Whole Initiator)) ∷ (
+      codes "x check --session 1 --static S",
+      within (limits 65536 32 2048 262144 2048 1) Summary Initiator,
+    ) ∷ (
+      codes "x check --content=9000 --depth 8 --static S --dictionary 1000 --payload=8192",
+      within (limits 8192 8 1000 9000 2048 281474976710656) Summary Initiator,
+    ) ∷
+    []
 
-deep-good : IsGood deep
-deep-good = record {
-  payload_least = omega arith;
-  payload_most = omega arith;
-  depth_least = omega arith;
-  depth_most = omega arith;
-  dictionary_most = omega arith;
-  content_least = omega arith;
-  content_most = omega arith;
-  via_least = omega arith;
-  via_most = omega arith;
-  session_least = omega arith;
-  session_most = omega arith;
-}
-
-name_first : IsRequest (codes "nettcp" ∷ codes "dump" ∷ codes "--static=a=b" ∷ codes "--depth" ∷ codes "8" ∷ []) (asked Dump (codes "a=b") deep)
+are_spelled : AreRequests spelled
 unfolding digits
-name_first = record {
-  program = codes "nettcp";
-  options = codes "--static=a=b" ∷ codes "--depth" ∷ codes "8" ∷ [];
-  given = (Static, codes "a=b") ∷ (Depth, codes "8") ∷ [];
-  command = refl;
-  gives = record { spelled = (codes "--depth" ∷ codes "8" ∷ [], inr refl, ([], inl (refl, refl), refl)); known = refl; once = (refl, (refl, tt)) };
-  meant = record {
-    named = refl;
-    not_empty = λ e. cc e;
-    numbers = record { payload = refl; depth = refl; dictionary = refl; content = refl; via = refl; session = refl };
-    good = deep-good;
-  };
-}
+are_spelled = are-requests spelled refl
 
-number_first : IsRequest (codes "nettcp" ∷ codes "dump" ∷ codes "--depth=8" ∷ codes "--static=-x" ∷ []) (asked Dump (codes "-x") deep)
+-- quotas at their least and greatest, and the content that goes with a payload
+abbrev numbers : List Row
+numbers = (
+  codes "x check --static S --payload 4096",
+  within (limits 4096 32 2048 262144 2048 281474976710656) Summary Initiator,
+) ∷ (
+  codes "x check --static S --payload 65537",
+  within (limits 65537 32 2048 262148 2048 281474976710656) Summary Initiator,
+) ∷ (
+  codes "x check --static S --payload 1048576",
+  within (limits 1048576 32 2048 4194304 2048 281474976710656) Summary Initiator,
+) ∷ (
+  codes "x check --static S --depth 4",
+  within (limits 65536 4 2048 262144 2048 281474976710656) Summary Initiator,
+) ∷ (
+  codes "x check --static S --depth 128",
+  within (limits 65536 128 2048 262144 2048 281474976710656) Summary Initiator,
+) ∷ (
+  codes "x check --static S --dictionary 0",
+  within (limits 65536 32 0 262144 2048 281474976710656) Summary Initiator,
+) ∷ (
+  codes "x check --static S --dictionary 65536",
+  within (limits 65536 32 65536 262144 2048 281474976710656) Summary Initiator,
+) ∷ (
+  codes "x check --static S --content 65536",
+  within (limits 65536 32 2048 65536 2048 281474976710656) Summary Initiator,
+) ∷ (
+  codes "x check --static S --content 16777216",
+  within (limits 65536 32 2048 16777216 2048 281474976710656) Summary Initiator,
+) ∷
+    (codes "x check --static S --session 281474976710656", usual Summary Initiator) ∷
+    []
+
+are_numbers : AreRequests numbers
 unfolding digits
-number_first = record {
-  program = codes "nettcp";
-  options = codes "--depth=8" ∷ codes "--static=-x" ∷ [];
-  given = (Depth, codes "8") ∷ (Static, codes "-x") ∷ [];
-  command = refl;
-  gives = record { spelled = (codes "--static=-x" ∷ [], inr refl, ([], inr refl, refl)); known = refl; once = (refl, (refl, tt)) };
-  meant = record {
-    named = refl;
-    not_empty = λ e. cc e;
-    numbers = record { payload = refl; depth = refl; dictionary = refl; content = refl; via = refl; session = refl };
-    good = deep-good;
-  };
-}
+are_numbers = are-requests numbers refl
 
--- a greater payload has a greater content
-abbrev great : Limits
-great = limits 131072 32 2048 524288 2048 281474976710656
+-- whose stream it is
+abbrev replies : List Row
+replies =
+    (codes "x check --static S --replies duplex", usual Summary (Receiver Duplex Session)) ∷
+    (codes "x dump --static S --replies=simplex", usual Whole (Receiver Simplex Session)) ∷
+    (codes "x dump --replies singleton --static S", usual Whole (Receiver Singleton Session)) ∷ (
+      codes "x check --encoding 7 --replies duplex --static S",
+      usual Summary (Receiver Duplex Plain),
+    ) ∷ (
+      codes "x check --static S --replies singleton --encoding=8",
+      usual Summary (Receiver Singleton Session),
+    ) ∷
+    (codes "x check --static S --encoding 7", usual Summary Initiator) ∷
+    (codes "x dump --static S --encoding 8", usual Whole Initiator) ∷
+    []
 
-great_payload : IsRequest (codes "nettcp" ∷ codes "check" ∷ codes "--static" ∷ codes "S" ∷ codes "--payload" ∷ codes "131072" ∷ []) (asked Check (codes "S") great)
+are_replies : AreRequests replies
 unfolding digits
-great_payload = record {
-  program = codes "nettcp";
-  options = codes "--static" ∷ codes "S" ∷ codes "--payload" ∷ codes "131072" ∷ [];
-  given = (Static, codes "S") ∷ (Payload, codes "131072") ∷ [];
-  command = refl;
-  gives = record { spelled = (codes "--payload" ∷ codes "131072" ∷ [], inl (refl, refl), ([], inl (refl, refl), refl)); known = refl; once = (refl, (refl, tt)) };
-  meant = record {
-    named = refl;
-    not_empty = λ e. cc e;
-    numbers = record { payload = refl; depth = refl; dictionary = refl; content = refl; via = refl; session = refl };
-    good = record {
-      payload_least = omega arith;
-      payload_most = omega arith;
-      depth_least = omega arith;
-      depth_most = omega arith;
-      dictionary_most = omega arith;
-      content_least = omega arith;
-      content_most = omega arith;
-      via_least = omega arith;
-      via_most = omega arith;
-      session_least = omega arith;
-      session_most = omega arith;
-    };
-  };
-}
+are_replies = are-requests replies refl
 
--- ---- words in no form
+-- ---- none
 
-abbrev IsRefused : List Text → Type 0
-IsRefused words = (asked : Asked) → ¬ IsRequest words asked
+-- no command, or another word in its place
+abbrev no_command : List Text
+no_command =
+    codes "nettcp" ∷
+    codes "nettcp Check --static S" ∷
+    codes "nettcp  --static S" ∷
+    codes "nettcp --static S check" ∷
+    codes "nettcp --help" ∷
+    codes "nettcp help" ∷
+    []
 
--- options of a command that clap refuses
-refused_options : (action : Action) (options : List Text) (kind : ErrorKind) → fault_of (app_for action) options ≡ kind ∷ [] → IsRefused (codes "nettcp" ∷ word_of action ∷ options)
-refused_options action options kind fault asked request =
-    let same : codes "nettcp" ∷ word_of action ∷ options ≡ request.program ∷ word_of asked.action ∷ request.options = request.command in
-    let same_action = word_of-injective action asked.action (cc same) in
-    let gives : GiveOptions action options request.given =
-    subst (λ a. GiveOptions a options request.given) (sym same_action) (subst (λ ws. GiveOptions asked.action ws request.given) (cc same) request.gives) in
-    let none = spelled-takes (word_of action) (options_of action) options request.given gives.spelled gives.known gives.once in
-    cc (sym fault ∙ none)
+no_command_is : AreRefused no_command
+no_command_is = are-refused no_command refl
 
--- options whose values mean nothing
-unmeant_options : (action : Action) (options : List Text) (given : List Given) → SpellOptions options given
-    → ((statics : Text) (limits : Limits) → ¬ AskToRead (value_of given) statics limits) → IsRefused (codes "nettcp" ∷ word_of action ∷ options)
-unmeant_options action options given spelled none asked request =
-    let same : codes "nettcp" ∷ word_of action ∷ options ≡ request.program ∷ word_of asked.action ∷ request.options = request.command in
-    let same_given = spells-one request.given given options (subst (λ ws. SpellOptions ws request.given) (cc same) request.gives.spelled) spelled in
-    none asked.statics asked.limits (subst (λ g. AskToRead (value_of g) asked.statics asked.limits) same_given (for-reading asked.action (value_of request.given) asked request.meant))
+no_words : (asked : Asked) → ¬ IsRequest [] asked
+no_words asked is = some≢none asked (sym (request-complete [] asked is))
 
-twice : IsRefused (codes "nettcp" ∷ codes "check" ∷ codes "--static" ∷ codes "S" ∷ codes "--static=S" ∷ [])
-unfolding clap_on_literals
-twice = refused_options Check (codes "--static" ∷ codes "S" ∷ codes "--static=S" ∷ []) _ refl
+-- a word that is no option of the command, or an option without a value or with an empty one
+abbrev not_spelled : List Text
+not_spelled =
+    codes "x check --static S more" ∷
+    codes "x check --static S " ∷
+    codes "x check --static S -" ∷
+    codes "x check --static S --" ∷
+    codes "x check -- --static=S" ∷
+    codes "x check --static S -h" ∷
+    codes "x check --static S --help" ∷
+    codes "x check --static S --version" ∷
+    codes "x check -s S" ∷
+    codes "x check --stat S" ∷
+    codes "x check --STATIC S" ∷
+    codes "x check --static S --=" ∷
+    codes "x check --static S --=4" ∷
+    codes "x check --static" ∷
+    codes "x check --static=" ∷
+    codes "x check --static " ∷
+    codes "x check --static -x" ∷
+    codes "x check --static -" ∷
+    codes "x check --static --" ∷
+    codes "x check --static S --depth" ∷
+    codes "x check --static S --depth=" ∷
+    codes "x check --static S --replies=" ∷
+    codes "x check --static S --encoding " ∷
+    []
 
-hyphen_in_front : IsRefused (codes "nettcp" ∷ codes "check" ∷ codes "--static" ∷ codes "-x" ∷ [])
-unfolding clap_on_literals
-hyphen_in_front = refused_options Check (codes "--static" ∷ codes "-x" ∷ []) _ refl
-
-stray_word : IsRefused (codes "nettcp" ∷ codes "check" ∷ codes "--static" ∷ codes "S" ∷ codes "extra" ∷ [])
-unfolding clap_on_literals
-stray_word = refused_options Check (codes "--static" ∷ codes "S" ∷ codes "extra" ∷ []) _ refl
-
-help_behind : IsRefused (codes "nettcp" ∷ codes "check" ∷ codes "--help" ∷ [])
-unfolding clap_on_literals
-help_behind = refused_options Check (codes "--help" ∷ []) _ refl
-
-no_value : IsRefused (codes "nettcp" ∷ codes "check" ∷ codes "--static" ∷ [])
-unfolding clap_on_literals
-no_value = refused_options Check (codes "--static" ∷ []) _ refl
-
-no_name : IsRefused (codes "nettcp" ∷ codes "check" ∷ [])
-no_name = unmeant_options Check [] [] refl (λ statics limits asks. cc asks.named)
-
-empty_name : IsRefused (codes "nettcp" ∷ codes "check" ∷ codes "--static=" ∷ [])
-empty_name = unmeant_options Check (codes "--static=" ∷ []) ((Static, []) ∷ []) ([], inr refl, refl) (λ statics limits asks. asks.not_empty (cc asks.named))
-
-shallow : IsRefused (codes "nettcp" ∷ codes "check" ∷ codes "--static" ∷ codes "S" ∷ codes "--depth" ∷ codes "3" ∷ [])
+are_not_spelled : AreRefused not_spelled
 unfolding digits
-shallow = unmeant_options Check (codes "--static" ∷ codes "S" ∷ codes "--depth" ∷ codes "3" ∷ []) ((Static, codes "S") ∷ (Depth, codes "3") ∷ [])
-    (codes "--depth" ∷ codes "3" ∷ [], inl (refl, refl), ([], inl (refl, refl), refl))
-    (λ statics limits asks.
-    let three : decimal 3 ≡ decimal limits.depth = asks.numbers.depth in
-    let is : 3 ≡ limits.depth = decimal_injective 3 limits.depth (omega arith) (omega (arith, asks.good.depth_most)) three in
-    absurd (omega (arith, asks.good.depth_least)))
+are_not_spelled = are-refused not_spelled refl
 
-zero_in_front : IsRefused (codes "nettcp" ∷ codes "check" ∷ codes "--static" ∷ codes "S" ∷ codes "--depth" ∷ codes "04" ∷ [])
-zero_in_front = unmeant_options Check (codes "--static" ∷ codes "S" ∷ codes "--depth" ∷ codes "04" ∷ []) ((Static, codes "S") ∷ (Depth, codes "04") ∷ [])
-    (codes "--depth" ∷ codes "04" ∷ [], inl (refl, refl), ([], inl (refl, refl), refl))
-    (λ statics limits asks.
-    let plain = ap begins_plain asks.numbers.depth ∙ decimal-plain limits.depth (omega (arith, asks.good.depth_most)) in
-    true≢false (sym plain))
+-- the file's name isn't there, or an option is given twice
+abbrev missing_or_twice : List Text
+missing_or_twice =
+    codes "x check" ∷
+    codes "x check --depth 8" ∷
+    codes "x dump --replies duplex" ∷
+    codes "x check --static S --static S" ∷
+    codes "x check --static S --static=T" ∷
+    codes "x check --static S --depth 8 --depth=8" ∷
+    codes "x dump --replies duplex --static S --replies=duplex" ∷
+    []
 
--- a word that names no command
-no_command : (word : Text) (options : List Text) → ((action : Action) → bytes_eq word (word_of action) ≡ false) → IsRefused (codes "nettcp" ∷ word ∷ options)
-no_command word options unknown asked request =
-    let same : codes "nettcp" ∷ word ∷ options ≡ request.program ∷ word_of asked.action ∷ request.options = request.command in
-    let is : word ≡ word_of asked.action = cc same in
-    true≢false (sym ((bytes_eq-Decides word (word_of asked.action)).1 is) ∙ unknown asked.action)
+are_missing_or_twice : AreRefused missing_or_twice
+unfolding digits
+are_missing_or_twice = are-refused missing_or_twice refl
 
-great_letter : IsRefused (codes "nettcp" ∷ codes "Check" ∷ codes "--static" ∷ codes "S" ∷ [])
-great_letter = no_command (codes "Check") (codes "--static" ∷ codes "S" ∷ []) (λ action. elim action as (λ a. bytes_eq (codes "Check") (word_of a) ≡ false) [ Check ↦ refl | Dump ↦ refl ])
+-- no number, or none that is good
+abbrev no_good_number : List Text
+no_good_number =
+    codes "x check --static S --payload 4095" ∷
+    codes "x check --static S --payload 1048577" ∷
+    codes "x check --static S --depth 3" ∷
+    codes "x check --static S --depth 129" ∷
+    codes "x check --static S --dictionary 65537" ∷
+    codes "x check --static S --content 65535" ∷
+    codes "x check --static S --content 16777217" ∷
+    codes "x check --static S --session 0" ∷
+    codes "x check --static S --session 281474976710657" ∷
+    codes "x check --static S --session 18446744073709551617" ∷
+    codes "x check --static S --depth 4294967300" ∷
+    codes "x check --static S --depth 04" ∷
+    codes "x check --static S --depth +4" ∷
+    codes "x check --static S --depth=-4" ∷
+    codes "x check --static S --depth 4x" ∷
+    codes "x check --static S --depth 0x8" ∷
+    []
 
-help_alone : IsRefused (codes "nettcp" ∷ codes "--help" ∷ [])
-help_alone = no_command (codes "--help") [] (λ action. elim action as (λ a. bytes_eq (codes "--help") (word_of a) ≡ false) [ Check ↦ refl | Dump ↦ refl ])
+no_good_number_is : AreRefused no_good_number
+unfolding digits
+no_good_number_is = are-refused no_good_number refl
 
-no_words : IsRefused []
-no_words asked request = cc request.command
+-- no mode, or no encoding
+abbrev no_mode_or_encoding : List Text
+no_mode_or_encoding =
+    codes "x check --static S --replies Duplex" ∷
+    codes "x check --static S --replies 2" ∷
+    codes "x check --static S --replies duplexx" ∷
+    codes "x check --static S --replies duplex --encoding 9" ∷
+    codes "x check --static S --replies duplex --encoding 07" ∷
+    codes "x check --static S --encoding 9" ∷
+    codes "x check --static S --encoding 78" ∷
+    []
 
-name_alone : IsRefused (codes "nettcp" ∷ [])
-name_alone asked request = cc request.command
+no_mode_or_encoding_is : AreRefused no_mode_or_encoding
+unfolding digits
+no_mode_or_encoding_is = are-refused no_mode_or_encoding refl

@@ -3,17 +3,17 @@ use Rattle.std.specs.Prelude.{List, [], ◌∷◌, codes}
 use Rattle.command_words.specs.declared.action.Action.{Action}
 use Rattle.command_words.specs.declared.action.Action.TheVariants.{Check, Dump}
 use Rattle.command_words.specs.declared.option_name.OptionName.{OptionName}
-use Rattle.command_words.specs.declared.option_name.OptionName.TheVariants.{Static, Payload, Depth, Dictionary, Content, Session}
+use Rattle.command_words.specs.declared.option_name.OptionName.TheVariants.{Static, Replies, Encoding, Payload, Depth, Dictionary, Content, Session}
 use Rattle.command_words.specs.Options.{Text}
 
 abbrev pub word_of : Action → Text
 word_of Check = codes "check"
 word_of Dump = codes "dump"
 
--- the options of a command that reads a session
-abbrev pub reading_options : List OptionName
-reading_options = Static ∷ Payload ∷ Depth ∷ Dictionary ∷ Content ∷ Session ∷ []
+-- the options of every command
+abbrev pub common_options : List OptionName
+common_options = Static ∷ Payload ∷ Depth ∷ Dictionary ∷ Content ∷ Session ∷ []
 
 abbrev pub options_of : Action → List OptionName
-options_of Check = reading_options
-options_of Dump = reading_options
+options_of Check = Replies ∷ Encoding ∷ common_options
+options_of Dump = Replies ∷ Encoding ∷ common_options

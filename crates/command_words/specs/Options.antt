@@ -1,16 +1,19 @@
 -- The options, the values that they are given, and how they are spelled. A word is the list of its
 -- bytes.
-use Rattle.std.specs.Prelude.{◌≡◌, ◌⊎◌, ℕ, Bool, false, ◌==◌, ⊤, List, [], ◌∷◌, ◌++◌, Option, Some, None, codes, if◌then◌else◌}
+use Rattle.std.specs.Prelude.{◌≡◌, ◌⊎◌, ℕ, Bool, false, true, not, ◌==◌, ⊤, IsTrue, List, [], ◌∷◌, ◌++◌, Option, Some, None, codes, if◌then◌else◌}
+use Rattle.std.specs.List.{list_all}
 use Rattle.std.specs.Str.{bytes_eq}
 use Rattle.command_words.specs.declared.option_name.OptionName.{OptionName}
-use Rattle.command_words.specs.declared.option_name.OptionName.TheVariants.{Static, Payload, Depth, Dictionary, Content, Session}
+use Rattle.command_words.specs.declared.option_name.OptionName.TheVariants.{Static, Replies, Encoding, Payload, Depth, Dictionary, Content, Session}
 
 abbrev pub Text : Type 0
 Text = List ℕ
 
--- what stands behind the two hyphens of each option
+-- what stands after the two hyphens of each option
 abbrev pub option_text : OptionName → Text
 option_text Static = codes "static"
+option_text Replies = codes "replies"
+option_text Encoding = codes "encoding"
 option_text Payload = codes "payload"
 option_text Depth = codes "depth"
 option_text Dictionary = codes "dictionary"
@@ -40,6 +43,14 @@ value_of (given ∷ more) option =
 abbrev pub IsOnce : List Given → Type 0
 IsOnce [] = ⊤
 IsOnce (given ∷ more) = (value_of more given.0 ≡ None) × IsOnce more
+
+abbrev pub is_empty : Text → Bool
+is_empty [] = true
+is_empty (byte ∷ rest) = false
+
+-- no value is empty
+abbrev pub HaveValues : List Given → Type 0
+HaveValues given = IsTrue (list_all (λ one. not (is_empty one.1)) given)
 
 -- ---- how they are spelled
 

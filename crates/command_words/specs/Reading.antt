@@ -9,8 +9,8 @@ use Rattle.clap.specs.declared.parser.matches.ArgMatches.{ArgMatches}
 use Rattle.command_words.specs.declared.action.Action.{Action}
 use Rattle.command_words.specs.declared.option_name.OptionName.{OptionName}
 use Rattle.command_words.specs.Commands.{options_of, word_of}
-use Rattle.command_words.specs.Options.{Given, Text, option_text, value_of}
-use Rattle.command_words.specs.Requests.{GiveOptions}
+use Rattle.command_words.specs.Options.{Given, IsOnce, SpellOptions, Text, option_text, value_of}
+use Rattle.command_words.specs.Requests.{AreOptionsOf, GiveOptions}
 
 -- ---- words that are given to clap
 
@@ -39,7 +39,7 @@ option_rule option = record (new_rule (option_text option)) { long = Some (optio
 abbrev pub with_option : App → OptionName → App
 with_option app option = with_rule app (option_rule option)
 
--- a command without options; it is given the words behind the command, and answers no request for
+-- a command without options; it is given the words after the command, and answers no request for
 -- help
 abbrev pub app_without_options : Text → App
 app_without_options name = on_top (λ shape. record shape {
@@ -55,13 +55,21 @@ app_for action = app_with (word_of action) (options_of action)
 
 -- ---- what clap finds
 
--- the text that may stand behind a reference
+-- the text of a reference that there may be
 abbrev pub text_behind : Option (Bor Text) → Option Text
 text_behind = option_map (λ text. text.now)
 
 -- the value of each option that a parse found
 abbrev pub found_values : ArgMatches → OptionName → Option Text
 found_values matches option = first_value (found_of matches) (option_text option)
+
+-- the words spell options of the command, with the values that a parse found, which may be empty
+pub record HasTaken (action : Action) (words : List Text) (matches : ArgMatches) : Type 0 where
+  pub given : List Given
+  pub spelled : SpellOptions words given
+  pub known : AreOptionsOf action given
+  pub once : IsOnce given
+  pub values : (option : OptionName) → found_values matches option ≡ value_of given option
 
 -- the words give options, with the values that a parse found
 pub record HasFound (action : Action) (words : List Text) (matches : ArgMatches) : Type 0 where

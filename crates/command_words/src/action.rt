@@ -7,13 +7,15 @@ use crate::option_name::OptionName;
 /// A command of the program.
 #[derive(Clone, Copy, Debug, PartialEq, Eq)]
 pub enum Action {
-    /// Reads a session and reports it.
+    /// Reads a stream and reports it.
     Check,
-    /// Reads a session and prints its documents.
+    /// Reads a stream, reports it, and prints its documents.
     Dump,
 }
 
-static READING: [OptionName; 6] = [
+static READING: [OptionName; 8] = [
+    OptionName::Replies,
+    OptionName::Encoding,
     OptionName::Static,
     OptionName::Payload,
     OptionName::Depth,
@@ -27,13 +29,11 @@ pub fn action_of(word: &str) -> Option<Action>
     ensures named { IfSome result (λ action. word.now ≡ word_of action) }
     ensures unknown { IfNone result ((action : Action) → word.now ≢ word_of action) }
 {
-    if word == "check" {
-        return Some(Action::Check);
+    match word {
+        "check" => Some(Action::Check),
+        "dump" => Some(Action::Dump),
+        _ => None,
     }
-    if word == "dump" {
-        return Some(Action::Dump);
-    }
-    None
 }
 
 /// The word of a command.

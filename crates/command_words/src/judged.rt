@@ -1,78 +1,74 @@
 // What the values of options mean.
-ghost use Rattle.std.specs.Prelude.{◌≡◌, ℕ, List, IfNone, IfSome};
+ghost use Rattle.std.specs.Prelude.{◌≡◌, IfNone, IfSome};
 ghost use Rattle.clap.specs.declared.parser.matches.ArgMatches.{ArgMatches};
 ghost use Rattle.nbfx_values.specs.Limits.{IsGood, Limits};
 ghost use Rattle.nbfx_values.specs.QuotasOf.{limits_of};
 ghost use Rattle.command_words.specs.Reading.{found_values, text_behind};
-ghost use Rattle.command_words.specs.Asking.{asked_of};
-ghost use Rattle.command_words.specs.Requests.{AreLimits, AskFor, AskToRead, Asked};
+ghost use Rattle.command_words.specs.Asking.{asked_of, task_of};
+ghost use Rattle.command_words.specs.Requests.{AreLimits, AskFor, AskForTask, AskToReport, Asked, IsOrigin};
+ghost use Rattle.command_words.specs.Tasks.{Task as AskedTask};
 
 use crate::action::Action;
-use crate::number::{number_or, small_or};
-use crate::option_name::{OptionName, option_text};
+use crate::naming::{kind_in, mode_named};
+use crate::option_name::OptionName;
+use crate::parsed::value_of;
+use crate::quotas::quotas_of;
 use crate::request::Request;
+use crate::task::{Detail, Origin, Task};
 use clap::ArgMatches;
-use nbfx_values::Quotas;
+use nbfx_values::Kind;
 
-// The value that an option was given.
-fn value_of<'w>(matches: &ArgMatches<'w>, option: OptionName) -> Option<&'w str>
-    ensures { text_behind result ≡ found_values matches.now option }
+// The end whose stream the values ask for.
+fn origin_in(replies: Option<&str>, kind: Kind) -> Option<Origin>
+    ensures said { IfSome result (IsOrigin (text_behind replies.entry) kind) }
+    ensures none { IfNone result ((origin : Origin)
+        → ¬ IsOrigin (text_behind replies.entry) kind origin) }
 {
-    matches.get_str(option_text(option))
+    let Some(name) = replies else {
+        return Some(Origin::Initiator);
+    };
+    let mode = mode_named(name)?;
+    Some(Origin::Receiver { mode, kind })
 }
 
-// The quotas that the values set, where they are good.
-fn quotas_of(matches: &ArgMatches<'_>) -> Option<Quotas>
-    ensures set { IfSome result
-        (λ quotas. AreLimits (found_values matches.now) (limits_of quotas)) }
-    ensures none { IfNone result ((limits : Limits) → AreLimits (found_values matches.now) limits
-        → ¬ IsGood limits) }
+// The report that the values ask for.
+fn report_in(detail: Detail, matches: &ArgMatches<'_>) -> Option<Task>
+    ensures meant { IfSome result
+        (λ task. AskToReport detail (found_values matches.now) (task_of task)) }
+    ensures none { IfNone result ((task : AskedTask)
+        → ¬ AskToReport detail (found_values matches.now) task) }
 {
-    let usual = Quotas::usual();
-    let payload = small_or(
-        value_of(matches, OptionName::Payload),
-        u64::from(usual.payload),
-    )?;
-    let depth = small_or(value_of(matches, OptionName::Depth), u64::from(usual.depth))?;
-    let dictionary = small_or(
-        value_of(matches, OptionName::Dictionary),
-        u64::from(usual.dictionary),
-    )?;
-    let usual_content = u64::from(usual.content).max(4 * u64::from(payload));
-    let content = small_or(value_of(matches, OptionName::Content), usual_content)?;
-    let session = number_or(value_of(matches, OptionName::Session), usual.session)?;
-    Quotas::of(payload, depth, dictionary, content, usual.via, session)
+    let kind = kind_in(value_of(matches, OptionName::Encoding))?;
+    let origin = origin_in(value_of(matches, OptionName::Replies), kind)?;
+    Some(Task::Report { detail, origin })
 }
 
-// What the values ask of a command that reads a session, where they mean anything.
-fn asked_to_read<'w>(action: Action, matches: &ArgMatches<'w>) -> Option<Request<'w>>
-    ensures action { IfSome result (λ request. request.action ≡ action) }
-    ensures meant { IfSome result (λ request. AskToRead (found_values matches.now)
-        request.statics.now (limits_of request.quotas)) }
-    ensures none { IfNone result ((statics : List ℕ) (limits : Limits)
-        → ¬ AskToRead (found_values matches.now) statics limits) }
+// What the values ask a command to do.
+fn task_in(action: Action, matches: &ArgMatches<'_>) -> Option<Task>
+    ensures meant { IfSome result
+        (λ task. AskForTask action (found_values matches.now) (task_of task)) }
+    ensures none { IfNone result ((task : AskedTask)
+        → ¬ AskForTask action (found_values matches.now) task) }
 {
-    let statics = value_of(matches, OptionName::Static)?;
-    if statics.is_empty() {
-        return None;
+    match action {
+        Action::Check => report_in(Detail::Summary, matches),
+        Action::Dump => report_in(Detail::Whole, matches),
     }
-    let quotas = quotas_of(matches)?;
-    Some(Request {
-        action,
-        statics,
-        quotas,
-    })
 }
 
 /// What the values ask of a command, where they mean anything.
 pub fn judged<'w>(action: Action, matches: &ArgMatches<'w>) -> Option<Request<'w>>
-    ensures action { IfSome result (λ request. request.action ≡ action) }
     ensures meant { IfSome result (λ request.
         AskFor action (found_values matches.now) (asked_of request)) }
     ensures none { IfNone result ((asked : Asked)
         → ¬ AskFor action (found_values matches.now) asked) }
 {
-    match action {
-        Action::Check | Action::Dump => asked_to_read(action, matches),
-    }
+    let statics = value_of(matches, OptionName::Static)?;
+    let quotas = quotas_of(matches)?;
+    let task = task_in(action, matches)?;
+    Some(Request {
+        statics,
+        quotas,
+        task,
+    })
 }

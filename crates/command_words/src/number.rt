@@ -2,7 +2,7 @@
 ghost use Rattle.std.specs.Prelude.{◌≡◌, ◌≢◌, ◌<◌, ◌^◌, ℕ, IfNone, IfSome};
 ghost use Rattle.std.specs.Fmt.{decimal};
 ghost use Rattle.command_words.specs.Reading.{begins_plain, text_behind};
-ghost use Rattle.command_words.specs.Requests.{IsNumber};
+ghost use Rattle.command_words.specs.Values.{IsNumber};
 
 // Whether a text begins as a number does: with a digit, which is the zero only where it is alone.
 fn begins_plain(text: &[u8]) -> bool

@@ -7,6 +7,10 @@ ghost use Rattle.command_words.specs.Options.{option_text};
 pub enum OptionName {
     /// The file of the static strings.
     Static,
+    /// The mode of a session whose replies are read.
+    Replies,
+    /// The encoding of a session's envelopes.
+    Encoding,
     /// The greatest payload.
     Payload,
     /// The greatest depth.
@@ -19,12 +23,14 @@ pub enum OptionName {
     Session,
 }
 
-/// What stands behind the two hyphens of an option.
+/// What stands after the two hyphens of an option.
 pub fn option_text(option: OptionName) -> &'static str
     ensures { result.now ≡ option_text option }
 {
     match option {
         OptionName::Static => "static",
+        OptionName::Replies => "replies",
+        OptionName::Encoding => "encoding",
         OptionName::Payload => "payload",
         OptionName::Depth => "depth",
         OptionName::Dictionary => "dictionary",

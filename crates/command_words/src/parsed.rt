@@ -1,13 +1,15 @@
 // The options of a command, as clap reads them.
-ghost use Rattle.std.specs.Prelude.{◌≡◌, ◌↔◌, All, Any, IfOk, IsErrOf, IsTrue, List, map, string_bytes};
+ghost use Rattle.std.specs.Prelude.{◌≡◌, ◌≢◌, ◌↔◌, All, Any, IfOk, IsErrOf, IsTrue, List, [], map, Some, string_bytes};
 ghost use Rattle.std.specs.Bool.{OnFalse, OnTrue};
 ghost use Rattle.clap.specs.Values.{kind_of};
+ghost use Rattle.command_words.specs.Commands.{options_of};
 ghost use Rattle.command_words.specs.Options.{Given};
-ghost use Rattle.command_words.specs.Reading.{HasFound, IsLoneHyphens, IsReadable};
+ghost use Rattle.command_words.specs.Reading.{HasFound, HasTaken, IsLoneHyphens, IsReadable, found_values, text_behind};
 ghost use Rattle.command_words.specs.Requests.{GiveOptions};
 
-use crate::action::Action;
+use crate::action::{Action, options_of};
 use crate::described::described;
+use crate::option_name::{OptionName, option_text};
 use crate::words::WordsFault;
 use clap::error::ErrorKind;
 use clap::{ArgMatches, Error};
@@ -43,13 +45,20 @@ fn fault_of(error: &Error) -> WordsFault
     }
 }
 
-/// The options of a command, with their values.
-pub fn parsed<'w>(
+/// The value that an option was given.
+pub fn value_of<'w>(matches: &ArgMatches<'w>, option: OptionName) -> Option<&'w str>
+    ensures { text_behind result ≡ found_values matches.now option }
+{
+    matches.get_str(option_text(option))
+}
+
+// What clap takes of the words, whether values are empty or not.
+fn taken<'w>(
     alloc: Global,
     action: Action,
     words: &'w [String],
 ) -> Result<ArgMatches<'w>, WordsFault>
-    ensures found { IfOk result (HasFound action (map string_bytes words.entry.now)) }
+    ensures taken { IfOk result (HasTaken action (map string_bytes words.entry.now)) }
     ensures refused { IsErrOf result WordsFault.NotUnderstood → (given : List Given)
         → ¬ GiveOptions action (map string_bytes words.entry.now) given }
 {
@@ -63,4 +72,46 @@ pub fn parsed<'w>(
         Ok(matches) => Ok(matches),
         Err(error) => Err(fault_of(&error)),
     }
+}
+
+// Whether there is a value, and it is empty.
+fn is_empty(value: Option<&str>) -> bool
+    ensures { IsTrue result ↔ (text_behind value.entry ≡ Some []) }
+{
+    match value {
+        Some(text) => text.is_empty(),
+        None => false,
+    }
+}
+
+// Whether no option of a command was given an empty value.
+fn have_values(action: Action, matches: &ArgMatches<'_>) -> bool
+    ensures full { OnTrue result
+        (All (λ option. found_values matches.now option ≢ Some []) (options_of action)) }
+    ensures empty { OnFalse result
+        (Any (λ option. found_values matches.now option ≡ Some []) (options_of action)) }
+{
+    for option in options_of(action) {
+        if is_empty(value_of(matches, *option)) {
+            return false;
+        }
+    }
+    true
+}
+
+/// The options of a command, with their values.
+pub fn parsed<'w>(
+    alloc: Global,
+    action: Action,
+    words: &'w [String],
+) -> Result<ArgMatches<'w>, WordsFault>
+    ensures found { IfOk result (HasFound action (map string_bytes words.entry.now)) }
+    ensures refused { IsErrOf result WordsFault.NotUnderstood → (given : List Given)
+        → ¬ GiveOptions action (map string_bytes words.entry.now) given }
+{
+    let matches = taken(alloc, action, words)?;
+    if !have_values(action, &matches) {
+        return Err(WordsFault::NotUnderstood);
+    }
+    Ok(matches)
 }

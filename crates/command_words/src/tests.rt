@@ -1,6 +1,6 @@
 // Words of each form and of none, with ample memory.
-use crate::{Action, Request, WordsFault, read};
-use nbfx_values::Quotas;
+use crate::{Detail, Origin, Request, Task, WordsFault, read};
+use nbfx_values::{Kind, Mode, Quotas};
 use std::alloc::{AllocError, Global};
 use std::process::Abort;
 use std::test::Fail;
@@ -14,19 +14,21 @@ fn words_of(alloc: Global, texts: &[&str]) -> Result<Vec<String>, AllocError> {
     Ok(words)
 }
 
-// Whether words ask for these quotas, with the static strings of `texts.csv`.
+// Whether words ask for the report of an initiator's stream within these quotas, with the static
+// strings of `texts.csv`.
 fn asks(
     rt: &impl Abort,
     alloc: Global,
     texts: &[&str],
-    action: Action,
+    detail: Detail,
     quotas: Quotas,
 ) -> Result<(), Fail> {
     let words = words_of(alloc, texts)?;
+    let origin = Origin::Initiator;
     let request = Request {
-        action,
         statics: "texts.csv",
         quotas,
+        task: Task::Report { detail, origin },
     };
     assert!(rt; read(alloc, words.as_slice())? == request);
     Ok(())
@@ -50,14 +52,14 @@ fn commands(rt: HostRuntime) -> Result<(), Fail> {
         &rt,
         alloc,
         &["nettcp", "check", "--static", "texts.csv"],
-        Action::Check,
+        Detail::Summary,
         usual,
     )?;
     asks(
         &rt,
         alloc,
         &["", "dump", "--static=texts.csv"],
-        Action::Dump,
+        Detail::Whole,
         usual,
     )?;
     refused(&rt, alloc, &[])?;
@@ -91,9 +93,55 @@ fn all_options(rt: HostRuntime) -> Result<(), Fail> {
             "--payload",
             "8192",
         ],
-        Action::Dump,
+        Detail::Whole,
         quotas,
     )
+}
+
+// What a `check` with these options is to read.
+fn origin_of(alloc: Global, options: &[&str]) -> Result<Option<Origin>, Fail> {
+    let mut words = words_of(alloc, &["nettcp", "check", "--static", "a"])?;
+    for option in options {
+        words.push(String::from_str(alloc, *option)?)?;
+    }
+    match read(alloc, words.as_slice()) {
+        Ok(request) => {
+            let Task::Report { origin, .. } = request.task;
+            Ok(Some(origin))
+        }
+        Err(WordsFault::NotUnderstood) => Ok(None),
+        Err(fault) => Err(Fail::from(fault)),
+    }
+}
+
+fn receiver(mode: Mode, kind: Kind) -> Option<Origin> {
+    Some(Origin::Receiver { mode, kind })
+}
+
+#[test]
+fn origins(rt: HostRuntime) -> Result<(), Fail> {
+    let alloc = rt.alloc();
+    for (options, origin) in [
+        (
+            ["--replies", "duplex"],
+            receiver(Mode::Duplex, Kind::Session),
+        ),
+        (
+            ["--replies=simplex", "--encoding=7"],
+            receiver(Mode::Simplex, Kind::Plain),
+        ),
+        (
+            ["--encoding=8", "--replies=singleton"],
+            receiver(Mode::Singleton, Kind::Session),
+        ),
+        (["--encoding", "7"], Some(Origin::Initiator)),
+        (["--encoding", "9"], None),
+        (["--replies", "streamed"], None),
+        (["--replies=duplex", "--encoding=07"], None),
+    ] {
+        assert_eq!(rt; origin_of(alloc, options.as_slice())?, origin);
+    }
+    Ok(())
 }
 
 #[test]

@@ -19,6 +19,8 @@ pub enum WordsFault {
 }
 
 /// What the words ask for, of which the first is the program's name.
+///
+/// `NotUnderstood` comes where they are no request, `Memory` where memory ran out.
 pub fn read<'w>(alloc: Global, words: &'w [String]) -> Result<Request<'w>, WordsFault>
     ensures understood { IfOk result (λ request.
         IsRequest (map string_bytes words.entry.now) (asked_of request)) }

@@ -8,8 +8,7 @@ use Rattle.io_edges.specs.Puts.{PutsAll}
 use Rattle.io_edges.specs.declared.SinkFault.{SinkFault}
 use Rattle.io_edges.specs.declared.SinkFault.TheVariants as faults
 use Rattle.dump_replay.specs.Reading.{NotesText}
-use Rattle.dump_replay.proofs.ReportSteps.{after_flush, told_as}
-use Rattle.dump_replay.proofs.Writing.{put_either}
+use Rattle.stream_loop.proofs.Writing.{after_flush, put_either, told_as}
 
 -- a put that failed
 pub note_cut : {text : List ℕ} (fault : SinkFault) {w w' : Option (List ℕ)} {h h' : List ℕ} {f f' : ℕ} {m m' : Bool} → PutsAll text (Err fault) w w' h h' f f' m m' → NotesText text w w' h f f' m

@@ -1,124 +1,111 @@
--- What the parts of a run answer, of any end that reads a stream. Public contracts cite none of
--- this.
-use Rattle.std.specs.Prelude.{◌≡◌, ◌≤◌, ◌⊎◌, ⊤, ℕ, List, [], ◌++◌, Bool, false, Option, Some, Result, Ok, Err}
-use Rattle.io_edges.specs.Faults.{CountsFaults, Rose}
+-- How events are said, what is written of them so, and what the parts of a run answer. Public
+-- contracts cite none of this.
+use Rattle.std.specs.Prelude.{◌≡◌, ◌≤◌, ◌⊎◌, ⊤, ℕ, List, [], ◌∷◌, ◌++◌, length, Bool, false, Option, Some, None, Result, Ok, Err, OnOk, IfOk, IfErr, codes}
+use Rattle.std.specs.Fmt.{decimal}
+use Rattle.io_edges.specs.Faults.{Rose}
 use Rattle.io_edges.specs.Flow.{GrowsByPrefix, Told}
 use Rattle.io_edges.specs.Store.{Store}
-use Rattle.io_edges.specs.declared.SinkFault.{SinkFault}
-use Rattle.io_edges.specs.declared.SinkFault.TheVariants as faults
+use Rattle.line_notation.specs.Lines.{items_text}
 use Rattle.static_dictionary.specs.declared.fault.TableFault.{TableFault}
 use Rattle.static_dictionary.specs.declared.fault.TableFault.TheVariants as tables
-use Rattle.unit_streams.specs.Going.{IsPending, IsOpenAt}
-use Rattle.unit_streams.specs.Tellers.{AreDue as DueBy}
+use Rattle.unit_streams.specs.Judging.{event_at}
+use Rattle.unit_streams.specs.Tellers.{Teller}
+use Rattle.nbfx_values.specs.Measures.{content_of}
 use Rattle.nbfx_values.specs.declared.refusals.Offence.{Offence}
-use Rattle.stream_reader.specs.Judging.{offence}
-use Rattle.stream_reader.specs.Stream.{Settings, stream}
+use Rattle.string_tables.specs.SessionStrings.{used_cost}
+use Rattle.stream_loop.specs.declared.reporting.Ending.{Ending}
+use Rattle.stream_loop.specs.declared.reporting.Ending.TheVariants as endings
+use Rattle.stream_reader.specs.Saying.{step_for}
+use Rattle.stream_reader.specs.Standing.{StandsFor, settings_of}
+use Rattle.stream_reader.specs.Stream.{StreamEvent, opened, accepted, message, ended, peer_fault, stream}
+use Rattle.stream_reader.specs.declared.reader.StreamReader.{StreamReader}
+use Rattle.stream_reader.specs.declared.reader.StreamStep.{StreamStep}
+use Rattle.stream_reader.specs.declared.reader.StreamStep.TheVariants.{More}
+use Rattle.command_words.specs.declared.task.Detail.{Detail}
+use Rattle.command_words.specs.declared.task.Detail.TheVariants.{Summary, Whole}
 use Rattle.command_words.specs.declared.words.WordsFault.{WordsFault}
 use Rattle.command_words.specs.declared.words.WordsFault.TheVariants as words
-use Rattle.dump_replay.specs.declared.report.Detail.{Detail}
-use Rattle.dump_replay.specs.declared.reporting.Progress.{Progress}
-use Rattle.dump_replay.specs.declared.reporting.Progress.TheVariants.{Going, Judged, Starved}
-use Rattle.dump_replay.specs.declared.reporting.Ending.{Ending}
-use Rattle.dump_replay.specs.declared.reporting.Ending.TheVariants as endings
+use Rattle.dump_replay.specs.declared.reading.Event.{Event}
+use Rattle.dump_replay.specs.declared.reading.Event.TheVariants as events
+use Rattle.dump_replay.specs.declared.reading.Received.{Received}
+use Rattle.dump_replay.specs.declared.reporting.Outcome.{Outcome}
+use Rattle.dump_replay.specs.declared.reporting.Outcome.TheVariants.{Open, Ended, Faulted}
 use Rattle.dump_replay.specs.declared.statics.FileFault.{FileFault}
 use Rattle.dump_replay.specs.declared.statics.FileFault.TheVariants as file_faults
-use Rattle.dump_replay.specs.Reporting.{Breaks, Decides, Reaches}
-use Rattle.dump_replay.specs.Report.{report, event_lines, lines_of}
+use Rattle.dump_replay.specs.Report.{accepted_line, ended_line, fault_line, last_line, line, measure_words, open_line, string_words}
 use Rattle.dump_replay.specs.Running.{file_note, note_of, status_of}
 use Rattle.dump_replay.specs.Statics.{Has, bad, missing}
 
--- an end that stands for such bytes has read p, of which no shorter prefix is refused or ends the
--- session
-pub record HasRead (stands : List ℕ → Type 0) (x : Settings) (p : List ℕ) : Type 0 where
-  pub stands_for : stands p
-  pub on : IsOpenAt (stream x) p
+-- the value that an event is said with
+abbrev pub event_for : StreamEvent → Event
+event_for (opened mode kind via) = events.Opened mode kind via
+event_for accepted = events.Accepted
+event_for (message e) = events.Message (record {
+  number = e.number;
+  size = e.size;
+  content = content_of e.items;
+  strings = length e.strings;
+  used = used_cost e.strings;
+  doc = e.items;
+})
+event_for (ended n) = events.Ended n
+event_for (peer_fault n text) = events.PeerFault n text
 
--- an answer that brings something, as one that brings nothing
-abbrev pub done : {A : Type 0} → Result A SinkFault → Result ⊤ SinkFault
-done (Ok a) = Ok tt
-done (Err fault) = Err fault
+-- a step that a reader has just made says this, whatever it stands for
+abbrev pub SaysStep : StreamReader → StreamStep → Option Event → Type 0
+SaysStep reader step said = ((step ≡ More) → said ≡ None)
+    × ((p : List ℕ) (event : StreamEvent) → StandsFor reader p
+    → event_at (stream (settings_of reader)) p ≡ Some event → step ≡ step_for event
+    → said ≡ Some (event_for event))
 
--- with these lines the report of a stream goes on at whose front these bytes stand, behind others
-abbrev pub AreDue : Detail → Settings → (bytes before lines : List ℕ) → Type 0
-AreDue d x bytes before lines = DueBy (stream x) (lines_of d) bytes before lines
+-- ---- lines
 
--- what is said of a stream of which p is read, when the bytes y came, and which lines are put then
-abbrev pub ReadsOf : Detail → (List ℕ → Type 0) → Settings → List ℕ → List ℕ
-    → Result Progress SinkFault → List ℕ → Type 0
-ReadsOf d stands x p y (Ok Going) lines = stands (p ++ y) × IsPending (stream x) (p ++ y)
-    × (event_lines d x (p ++ y) ≡ event_lines d x p ++ lines)
-ReadsOf d stands x p y (Ok (Judged o)) lines =
-    (more : List ℕ) → (offence x ((p ++ y) ++ more) ≡ o)
-    × (report d x ((p ++ y) ++ more) ≡ event_lines d x p ++ lines)
-ReadsOf d stands x p y (Ok Starved) lines = AreDue d x (p ++ y) (event_lines d x p) lines
-ReadsOf d stands x p y (Err fault) lines = AreDue d x (p ++ y) (event_lines d x p) lines
+-- the line of an envelope as it is said
+abbrev pub received_line : Received → List ℕ
+received_line r = line (codes "message") (decimal r.number ∷ codes "payload" ∷ decimal r.size
+    ∷ measure_words r.doc r.content ++ string_words r.strings r.used)
 
--- all of the stream was read before, and its report are the lines
-abbrev pub IsAllRead : Detail → Settings → (before piece : List ℕ) → (left left' : Option (List ℕ))
-    → List ℕ → Type 0
-IsAllRead d x before piece left left' lines = (piece ≡ []) × (report d x before ≡ lines)
-    × Told left left' (λ all rest. rest ≡ [])
+-- the line of an event as it is said
+abbrev pub said_line : Event → List ℕ
+said_line (events.Opened mode kind via) = open_line mode kind via
+said_line events.Accepted = accepted_line
+said_line (events.Message received) = received_line received
+said_line (events.Ended n) = ended_line n
+said_line (events.PeerFault n text) = fault_line n text
 
--- what lines are a stream's, of which bytes were read before, and then a piece, how that ended, and
--- what the output holds then
-abbrev pub ReportsAs : Detail → Settings → (before piece : List ℕ) → (left left' : Option (List ℕ))
-    → (held : List ℕ) → Result Ending SinkFault → List ℕ → Type 0
-ReportsAs d x before piece left left' held (Ok (endings.Judged o)) lines =
-    (IsAllRead d x before piece left left' lines × (offence x before ≡ o))
-    ⊎ ((more : List ℕ) → (offence x ((before ++ piece) ++ more) ≡ o)
-    × (report d x ((before ++ piece) ++ more) ≡ lines))
-ReportsAs d x before piece left left' held (Ok endings.ReadFault) lines =
-    (piece ≡ []) × (lines ≡ event_lines d x before) × (held ≡ [])
-ReportsAs d x before piece left left' held (Ok endings.WriteFault) lines = ⊥
-ReportsAs d x before piece left left' held (Ok endings.Memory) lines =
-    AreDue d x (before ++ piece) [] lines
-ReportsAs d x before piece left left' held (Err fault) lines =
-    IsAllRead d x before piece left left' lines ⊎ AreDue d x (before ++ piece) [] lines
+-- the lines of the document that it brings
+abbrev pub said_document : Event → List ℕ
+said_document (events.Message received) = items_text received.doc
+said_document _ = []
 
--- what was read of a stream, what was written then, and which lines were put for it, by an output
--- that held bytes at first, and holds others now
-pub record HasReported (d : Detail) (x : Settings)
-    (left left' taken taken' written written' : Option (List ℕ))
-    (held held' : List ℕ) (result : Result Ending SinkFault) (lines : List ℕ) : Type 0 where
-  pub reached : Reaches d x left left' taken taken' written written' held
-  pub ends : ReportsAs d x reached.before reached.piece left left' held' result lines
+-- its lines
+abbrev pub said_lines : Detail → Event → List ℕ
+said_lines Summary event = said_line event
+said_lines Whole event = said_line event ++ said_document event
 
--- what a fault of the output ends the reporting of a stream with
-abbrev pub ended_by : SinkFault → Ending
-ended_by faults.Failed = endings.WriteFault
-ended_by faults.Memory = endings.Memory
+-- how the session has ended after it
+abbrev pub said_outcome : Outcome → Event → Outcome
+said_outcome outcome (events.Ended n) = Ended
+said_outcome outcome (events.PeerFault n text) = Faulted
+said_outcome outcome event = outcome
 
--- a judgement is the stream's offence
-abbrev pub Judges : Settings → List ℕ → Ending → Type 0
-Judges x bytes (endings.Judged o) = offence x bytes ≡ o
-Judges x bytes _ = Unit {0}
+-- what is written of events as they are said
+abbrev pub said_by : Detail → Teller Outcome Event Offence
+said_by d = record {
+  start = Open;
+  told = λ outcome event. said_lines d event;
+  next = said_outcome;
+  ends = last_line;
+}
 
--- what is written of the stream behind what was held: its report, or the first bytes of both
-abbrev pub Reports : Detail → Settings → List ℕ → (w held w' : List ℕ) → Ending → Type 0
-Reports d x bytes w held w' (endings.Judged o) = w' ≡ w ++ held ++ report d x bytes
-Reports d x bytes w held w' _ = GrowsByPrefix w w' (held ++ report d x bytes)
+-- ---- statuses
 
--- what is known of a stream's reporting, which ends so: what was read and written, and what the
--- calls that failed by the outside left of the counts of the input and of the output
-pub record EndsAs (d : Detail) (x : Settings)
-    (left left' taken taken' written written' : Option (List ℕ))
-    (held : List ℕ) (reads reads' writes writes' : ℕ) (ending : Ending) : Type 0 where
-  pub judges : (bytes : List ℕ) → left ≡ Some bytes → Judges x bytes ending
-  pub reports : (bytes w : List ℕ) → left ≡ Some bytes → written ≡ Some w
-      → (w' : List ℕ) × (written' ≡ Some w') × Reports d x bytes w held w' ending
-  pub decides : (o : Option Offence) → ending ≡ endings.Judged o
-      → Decides d x o left left' taken taken' written written' held
-  pub breaks : ending ≡ endings.ReadFault → Breaks d x left left' taken taken' written written' held
-  pub reaches : Reaches d x left left' taken taken' written written' held
-  pub reads_counted : CountsFaults reads reads' (ending ≡ endings.ReadFault)
-  pub writes_counted : CountsFaults writes writes' (ending ≡ endings.WriteFault)
-
--- the status of an ending
-abbrev pub status_at : Ending → ℕ
-status_at (endings.Judged o) = status_of o
-status_at endings.ReadFault = 3
-status_at endings.WriteFault = 4
-status_at endings.Memory = 5
+-- the status of an ending, by how the session has ended
+abbrev pub status_at : Ending Offence → Outcome → ℕ
+status_at (endings.Judged o) outcome = status_of o outcome
+status_at endings.ReadFault outcome = 3
+status_at endings.WriteFault outcome = 4
+status_at endings.Memory outcome = 5
 
 -- a fault of a file's rows
 abbrev pub file_fault : TableFault → FileFault

@@ -1,58 +1,75 @@
--- What was read and written where a stream is reported, however that ends. The output may have held
--- bytes before, which are written before what is put.
-use Rattle.std.specs.Prelude.{◌≡◌, ℕ, ◌≤◌, ◌⊎◌, List, [], ◌++◌, length, Option}
-use Rattle.io_edges.specs.Flow.{Told, GrowsByPrefix}
-use Rattle.unit_streams.specs.Going.{IsPending}
+-- What a command that reports a stream leaves, by its status. The output may have held bytes
+-- before, which are written before what is put.
+use Rattle.std.specs.Prelude.{◌≡◌, ℕ, ◌⊎◌, List, ◌++◌, Bool, true, false, Option, Some, if◌then◌else◌}
+use Rattle.io_edges.specs.Faults.{CountsFaults, Rose, one_more}
+use Rattle.io_edges.specs.Flow.{GrowsByPrefix}
 use Rattle.nbfx_values.specs.declared.refusals.Offence.{Offence}
-use Rattle.dump_replay.specs.declared.report.Detail.{Detail}
-use Rattle.dump_replay.specs.Report.{report, event_lines}
+use Rattle.command_words.specs.declared.task.Detail.{Detail}
+use Rattle.stream_loop.specs.Edges.{Input, Output}
+use Rattle.stream_loop.specs.Reported.{Breaks, Decides, Reaches}
 use Rattle.stream_reader.specs.Judging.{offence}
+use Rattle.stream_reader.specs.Sessions.{IsClosed, Parts, broken_off, turned_down}
 use Rattle.stream_reader.specs.Stream.{Settings, stream}
+use Rattle.dump_replay.specs.declared.reporting.Outcome.{Outcome}
+use Rattle.dump_replay.specs.Report.{lines_of, outcome, report}
+use Rattle.dump_replay.specs.Running.{IsJudged, is_session_too_long, status_of}
 
--- what was read and written where reading failed: bytes of which no prefix is refused or ends the
--- session, and the lines of their events
-pub record Breaks (d : Detail) (x : Settings)
-    (left left' taken taken' written written' : Option (List ℕ))
-    (held : List ℕ) : Type 0 where
-  pub bytes : List ℕ
-  pub pending : IsPending (stream x) bytes
-  pub stream : Told left left' (λ all rest. all ≡ bytes ++ rest)
-  pub took : Told taken taken' (λ t t'. t' ≡ t ++ bytes)
-  pub wrote : Told written written' (λ w w'. w' ≡ w ++ held ++ event_lines d x bytes)
+-- a session of these parts ends with a receiver's Fault
+abbrev pub ends_by_fault : Parts → Bool
+ends_by_fault (broken_off carried text) = true
+ends_by_fault (turned_down text) = true
+ends_by_fault parts = false
 
--- more is written behind what was
-pub record Grows (w w' : List ℕ) : Type 0 where
-  pub more : List ℕ
-  pub grown : w' ≡ w ++ more
+-- the status of a stream that such a session closes
+abbrev pub closing_status : Parts → ℕ
+closing_status parts = if ends_by_fault parts then 9 else 0
 
--- the lines of these bytes' events are written, and maybe more; or already of what the output held
--- before only a part is, and there are no such bytes
-abbrev pub Writes : Detail → Settings → List ℕ → List ℕ → List ℕ → List ℕ → Type 0
-Writes d x held bytes w w' =
-    Grows (w ++ held ++ event_lines d x bytes) w' ⊎ ((bytes ≡ []) × GrowsByPrefix w w' held)
+-- a session closes the stream, and doesn't end with a Fault
+abbrev pub IsEnded : Settings → List ℕ → Type 0
+IsEnded x bytes = (closed : IsClosed x bytes) × (ends_by_fault closed.parts ≡ false)
 
--- what was read and written however it ends: such bytes, and at most one piece behind them; the
--- lines of the events of the bytes, and maybe more
-pub record Reaches (d : Detail) (x : Settings)
-    (left left' taken taken' written written' : Option (List ℕ))
-    (held : List ℕ) : Type 0 where
-  pub before : List ℕ
-  pub piece : List ℕ
-  pub pending : IsPending (stream x) before
-  pub short : length piece ≤ 65536
-  pub stream : Told left left' (λ all rest. all ≡ before ++ piece ++ rest)
-  pub took : Told taken taken' (λ t t'. t' ≡ t ++ before ++ piece)
-  pub wrote : Told written written' (Writes d x held before)
+-- a session closes the stream, and ends with a Fault
+abbrev pub IsFaulted : Settings → List ℕ → Type 0
+IsFaulted x bytes = (closed : IsClosed x bytes) × (ends_by_fault closed.parts ≡ true)
 
--- What was read and written of a stream that is judged: bytes that have this offence themselves,
--- and decide it however they go on, unless they are all and only their end does; and their report.
-pub record Decides (d : Detail) (x : Settings) (judged : Option Offence)
-    (left left' taken taken' written written' : Option (List ℕ)) (held : List ℕ) : Type 0 where
-  pub bytes : List ℕ
-  pub offence_is : offence x bytes ≡ judged
-  pub settled : IsPending (stream x) bytes
-      ⊎ ((more : List ℕ) → offence x (bytes ++ more) ≡ judged)
-  pub stream : Told left left' (λ all rest. (all ≡ bytes ++ rest)
-      × ((rest ≡ []) ⊎ ((more : List ℕ) → offence x (bytes ++ more) ≡ judged)))
-  pub took : Told taken taken' (λ t t'. t' ≡ t ++ bytes)
-  pub wrote : Told written written' (λ w w'. w' ≡ w ++ held ++ report d x bytes)
+-- the stream has an offence, which is or isn't that it is too long
+abbrev pub IsOffended : Settings → List ℕ → Bool → Type 0
+IsOffended x bytes long =
+    (o : Offence) × (offence x bytes ≡ Some o) × (is_session_too_long o.reason ≡ long)
+
+-- the status is of a stream that is judged, of a fault of the outside, or of want of memory
+abbrev pub IsReportStatus : ℕ → Type 0
+IsReportStatus n = IsJudged n ⊎ (n ≡ 3) ⊎ (n ≡ 4) ⊎ (n ≡ 5)
+
+-- what is known of a stream that is reported in this detail, and read so, where the run ends with
+-- this status: of all that the input gives, where it tells that; what was read and written; how
+-- often the input was asked at its end; and what the calls that failed by the outside left of the
+-- counts
+pub record Reports (d : Detail) (x : Settings) (i i' : Input) (o o' : Output) (status : ℕ)
+    : Type 0 where
+  pub is_status : IsReportStatus status
+  pub ended : status ≡ 0 → (stream : List ℕ) → i.left ≡ Some stream → IsEnded x stream
+  pub faulted : status ≡ 9 → (stream : List ℕ) → i.left ≡ Some stream → IsFaulted x stream
+  pub offended : status ≡ 1 → (stream : List ℕ) → i.left ≡ Some stream
+      → IsOffended x stream false
+  pub too_long : status ≡ 10 → (stream : List ℕ) → i.left ≡ Some stream
+      → IsOffended x stream true
+  pub complete : (stream : List ℕ) → i.left ≡ Some stream
+      → (status ≡ status_of (offence x stream) (outcome d x stream))
+      ⊎ (status ≡ 3) ⊎ (status ≡ 4) ⊎ (status ≡ 5)
+  pub closed : (stream : List ℕ) → i.left ≡ Some stream → (closed : IsClosed x stream)
+      → (Rose i.faults i'.faults → ⊥) → (Rose o.faults o'.faults → ⊥)
+      → (status ≡ closing_status closed.parts) ⊎ (status ≡ 5)
+  pub reported : IsJudged status → (stream w : List ℕ)
+      → i.left ≡ Some stream → o.written ≡ Some w
+      → o'.written ≡ Some (w ++ o.held ++ report d x stream)
+  pub decided : IsJudged status → (judged : Option Offence) × (end : Outcome)
+      × (status_of judged end ≡ status) × Decides (stream x) (lines_of d) i i' o o' judged end
+  pub broken : status ≡ 3 → Breaks (stream x) (lines_of d) i i' o o'
+  pub cut : (stream w : List ℕ) → i.left ≡ Some stream → o.written ≡ Some w
+      → (w' : List ℕ) × (o'.written ≡ Some w') × GrowsByPrefix w w' (o.held ++ report d x stream)
+  pub reaches : Reaches (stream x) (lines_of d) i i' o o'
+  pub asked_once : (i'.empty_takes ≡ i.empty_takes)
+      ⊎ ((i'.empty_takes ≡ one_more i.empty_takes) × (status ≡ 3 → ⊥))
+  pub reads_counted : CountsFaults i.faults i'.faults (status ≡ 3)
+  pub writes_counted : CountsFaults o.faults o'.faults (status ≡ 4)

@@ -1,41 +1,53 @@
 -- The statuses and notes of a run.
 use Rattle.std.specs.Prelude.{◌≡◌, ◌≢◌, ℕ, ◌⊎◌, List, [], ◌++◌, Bool, true, false, Option, Some, None, ◌==◌, if◌then◌else◌, codes}
 use Rattle.std.specs.Fmt.{decimal}
+use Rattle.io_edges.specs.Faults.{Rose}
 use Rattle.io_edges.specs.Store.{Store}
 use Rattle.nbfx_values.specs.declared.refusals.Offence.{Offence}
 use Rattle.nbfx_values.specs.declared.refusals.Reason.{Reason}
 use Rattle.nbfx_values.specs.declared.refusals.Reason.TheVariants.{SessionTooLong}
-use Rattle.command_words.specs.declared.action.Action.{Action}
-use Rattle.command_words.specs.declared.action.Action.TheVariants.{Check, Dump}
 use Rattle.command_words.specs.Requests.{Asked, IsRequest}
-use Rattle.dump_replay.specs.declared.report.Detail.{Detail}
-use Rattle.dump_replay.specs.declared.report.Detail.TheVariants.{Summary, Whole}
+use Rattle.command_words.specs.Tasks.{report}
+use Rattle.command_words.specs.declared.task.Detail.{Detail}
+use Rattle.command_words.specs.declared.task.Origin.{Origin}
+use Rattle.dump_replay.specs.declared.reporting.Outcome.{Outcome}
+use Rattle.dump_replay.specs.declared.reporting.Outcome.TheVariants.{Faulted}
 use Rattle.dump_replay.specs.Statics.{Has, StaticFile, bad, kind_name, missing, table}
 
 -- this holds of what the words ask for, if they are a request
 abbrev pub WhereAsked : List (List ℕ) → (Asked → Type 0) → Type 0
 WhereAsked words Holds = (asked : Asked) → IsRequest words asked → Holds asked
 
--- how much of documents a command's report shows
-abbrev pub detail_of : Action → Detail
-detail_of Check = Summary
-detail_of Dump = Whole
+-- this holds of the report that the words ask for, if they ask for one
+abbrev pub WhereReported : List (List ℕ) → (Asked → Detail → Origin → Type 0) → Type 0
+WhereReported words Holds = WhereAsked words (λ asked. (detail : Detail) (origin : Origin)
+    → asked.task ≡ report detail origin → Holds asked detail origin)
 
 abbrev pub is_session_too_long : Reason → Bool
 is_session_too_long SessionTooLong = true
 is_session_too_long _ = false
 
-abbrev pub status_of : Option Offence → ℕ
-status_of None = 0
-status_of (Some o) = if is_session_too_long o.reason then 10 else 1
+abbrev pub offence_status : Offence → ℕ
+offence_status o = if is_session_too_long o.reason then 10 else 1
 
--- the status tells of a stream that was read to its end, or to what decides it
+-- the status of a stream with this offence, or without one, by how its session has ended
+abbrev pub status_of : Option Offence → Outcome → ℕ
+status_of (Some o) outcome = offence_status o
+status_of None Faulted = 9
+status_of None outcome = 0
+
+-- the status is of a stream that was read to its end, or as far as it is judged
 abbrev pub IsJudged : ℕ → Type 0
-IsJudged n = (n ≡ 0) ⊎ (n ≡ 1) ⊎ (n ≡ 10)
+IsJudged n = (n ≡ 0) ⊎ (n ≡ 1) ⊎ (n ≡ 9) ⊎ (n ≡ 10)
 
 -- the statuses that there are
 abbrev pub IsStatus : ℕ → Type 0
 IsStatus n = IsJudged n ⊎ (n ≡ 2) ⊎ (n ≡ 3) ⊎ (n ≡ 4) ⊎ (n ≡ 5) ⊎ (n ≡ 6)
+
+-- those of a run that hasn't begun to read the input: the shelf failed, memory ran out, or there is
+-- no such file or a bad one
+abbrev pub IsUnread : (faults faults' : ℕ) → ℕ → Type 0
+IsUnread faults faults' n = ((n ≡ 3) × Rose faults faults') ⊎ (n ≡ 5) ⊎ (n ≡ 6)
 
 -- the note that goes with a status by itself
 abbrev pub note_of : ℕ → List ℕ

@@ -3,10 +3,13 @@ use Rattle.std.specs.Prelude.{◌≡◌, ℕ, List, Option, Some, None, IfSome, 
 use Rattle.std.specs.FinMap as finite
 use Rattle.io_edges.specs.Store.{Store}
 use Rattle.command_words.specs.Requests.{Asked}
+use Rattle.command_words.specs.declared.task.Origin.{Origin}
+use Rattle.command_words.specs.declared.task.Origin.TheVariants.{Initiator, Receiver}
+use Rattle.nbfx_values.specs.Limits.{Limits}
 use Rattle.static_dictionary.specs.Rows.{Fault, fault_of, rows_of, table_of}
 use Rattle.static_dictionary.specs.declared.fault.TableKind.{TableKind}
 use Rattle.static_dictionary.specs.declared.fault.TableKind.TheVariants as kinds
-use Rattle.stream_reader.specs.Stream.{Settings, initiators}
+use Rattle.stream_reader.specs.Stream.{Settings, Side, initiators, receivers}
 use Rattle.string_tables.specs.StaticStrings.{Entry}
 
 -- what a file says, or that there is none
@@ -32,19 +35,23 @@ static_file store name = file_of (finite.get store name)
 abbrev pub Has : Option Store → List ℕ → StaticFile → Type 0
 Has files name file = IfSome files (λ store. static_file store name ≡ file)
 
--- this holds of an initiator's stream in duplex mode, within the quotas that are asked for and with
--- the static strings of the file
-pub record UnderFile (files : Option Store) (asked : Asked) (Holds : Settings → Type 0)
-    : Type 0 where
+-- whose stream is read: an initiator's, to any Via, or a receiver's
+abbrev pub side_for : Origin → Side
+side_for Initiator = initiators None
+side_for (Receiver mode kind) = receivers mode kind
+
+-- how it is read, with these static strings
+abbrev pub settings_for : Origin → List Entry → Limits → Settings
+settings_for origin statics limits =
+    record { side = side_for origin; statics = statics; limits = limits }
+
+-- this holds of such a stream, with the static strings of the file that is asked for and within the
+-- quotas
+pub record UnderFile (files : Option Store) (asked : Asked) (origin : Origin)
+    (Holds : Settings → Type 0) : Type 0 where
   pub entries : List Entry
   pub has : Has files asked.statics (table entries)
-  pub holds : Holds (initiators entries asked.limits)
-
--- this holds of such a stream, if the shelf tells its files and that one gives a table
-abbrev pub UnderTold : Option Store → Asked → (Settings → Type 0) → Type 0
-UnderTold files asked Holds =
-    (store : Store) (entries : List Entry) → files ≡ Some store
-    → static_file store asked.statics ≡ table entries → Holds (initiators entries asked.limits)
+  pub holds : Holds (settings_for origin entries asked.limits)
 
 abbrev pub kind_name : TableKind → List ℕ
 kind_name kinds.Header = codes "Header"

@@ -4,14 +4,14 @@
 
 ghost use Rattle.dump_replay.specs.Laws.{ReportsEvents, ReportsSessions};
 
-/// A stream's report is a line for each of its events, in their order, and then the line of its
+/// A stream's report is the lines of each of its events, in their order, and then the line of its
 /// offence where it has one.
 pub fn reports()
     ensures { ReportsEvents }
 {}
 
-/// The report of a stream at the front of which a session stands is the session's open line, a line
-/// for each of its documents and its ended line, whatever follows.
+/// The report of a stream that a session closes is the session's: a line for its preamble or its
+/// Ack, the lines of each of its documents, and a line that says how long it was, whatever follows.
 pub fn session_reports()
     ensures { ReportsSessions }
 {}

@@ -1,17 +1,18 @@
 //! All that the program does, in one call that is proved: [`run::run`]. Its commands `check` and
-//! `dump` read an initiator's net.tcp stream (MC-NMF, duplex mode) with the documents that its
-//! envelopes carry, and print what comes in it, and what refuses the stream or that the session
-//! ended: `check` a line for each event, `dump` the lines of each document too.
+//! `dump` read a net.tcp stream (MC-NMF) of either end of a session, in each mode, with the
+//! documents that its envelopes carry, and print what comes in it, and what refuses the stream or
+//! how the session ended: `check` a line for each event, `dump` the lines of each document too.
 //!
-//! The one idea: what a stream is judged by are its prefixes, which `stream_reader` defines and a
-//! `Receiver` answers by. Here are the lines for that (`report`), the loop that feeds a reading end
-//! and writes what is told before it reads more (`reporting`), and the file of static strings, the
-//! statuses and the notes of a run; the words are read by `command_words`. The main contract is the
-//! one of `run`: what each status means, when it comes, and what the output holds then.
+//! The one idea: a command reads a stream by a reading end and writes about it by a reporter, and
+//! the loop over both is `stream_loop`'s, so that what is written is a function of the bytes. Here
+//! are the end that reads a stream and owns the texts of its events (`reading`), the reporter that
+//! writes lines (`reporting`, `report`), and the file of static strings, the statuses and the notes
+//! of a run; the words are read by `command_words`. The main contract is the one of `run`: what each
+//! status means, when it comes, and what the output holds then.
 //!
 //! The definitions are in `specs/`: `Report` has the lines, `Statics` what the file gives,
-//! `Running` the statuses and notes, `Reporting` what the reporting of a stream leaves, `Laws` what
-//! holds of reports alone.
+//! `Running` the statuses and notes, `Reporting` what a command that reports leaves, by its status,
+//! `Laws` what holds of reports alone.
 #![tactic(auto)]
 
 ghost use Rattle.std.specs.Prelude.{◌≡◌, ◌≢◌, [], IfOk, IfErr, IsErr, IsOkAnd};
@@ -21,8 +22,8 @@ ghost use Rattle.std.specs.Vec.Iter.{into_iter_items};
 
 pub mod laws;
 mod notes;
-pub mod reading;
-pub mod report;
+mod reading;
+mod report;
 mod reporting;
 pub mod run;
 mod statics;

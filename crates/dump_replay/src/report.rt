@@ -1,36 +1,16 @@
 //! The lines of a report, put to a sink.
 
-ghost use Rattle.std.specs.Prelude.{◌≡◌, ℕ, ◌<◌, ◌^◌, List};
+ghost use Rattle.std.specs.Prelude.{◌≡◌, ℕ, List};
 ghost use Rattle.io_edges.specs.Puts.{Puts};
-ghost use Rattle.nbfx_values.specs.Measures.{content_of};
-ghost use Rattle.dump_replay.specs.Running.{detail_of};
-ghost use Rattle.dump_replay.specs.Report.{mode_name, open_line, measure_words, message_line, string_words, ended_line, offence_line};
+ghost use Rattle.command_words.specs.Values.{mode_name};
+ghost use Rattle.dump_replay.specs.Report.{accepted_line, ended_line, fault_line, measure_words, offence_line, open_line, string_words};
+ghost use Rattle.dump_replay.specs.Reading.{received_line};
 ghost use Rattle.line_notation.specs.Words.{behind_spaces};
 
-use command_words::Action;
+use crate::reading::Received;
 use io_edges::{Sink, SinkFault};
 use line_notation::{Word, put_labelled, put_plain, put_words};
-use nbfx_values::{Doc, Kind, Mode, Offence, Place};
-use session_dictionary::SessionTable;
-
-/// What a report tells of a document.
-#[derive(Clone, Copy, Debug, PartialEq, Eq)]
-pub enum Detail {
-    /// A line of what it measures.
-    Summary,
-    /// Its items too.
-    Whole,
-}
-
-/// What the report of a command tells of a document.
-pub fn detail_of(action: Action) -> Detail
-    ensures { result ≡ detail_of action }
-{
-    match action {
-        Action::Check => Detail::Summary,
-        Action::Dump => Detail::Whole,
-    }
-}
+use nbfx_values::{Kind, Mode, Offence, Place};
 
 fn mode_name(mode: Mode) -> &'static str
     ensures { result.now ≡ mode_name mode }
@@ -55,64 +35,62 @@ pub fn put_open<K: Sink>(mode: Mode, kind: Kind, via: &str, output: &mut K) -> R
     put_words("open", &words, output)
 }
 
-/// A document that an envelope brought, and what its line tells beside.
-#[derive(Clone, Copy)]
-pub struct ReceivedDoc<'a> {
-    pub number: u64,
-    /// Bytes of its payload.
-    pub size: u32,
-    pub doc: &'a Doc,
-    /// The strings of the direction behind it.
-    pub table: &'a SessionTable,
-}
-
-// Puts the words of what a document measures.
-#[inline(always)]
-fn put_measures<K: Sink>(doc: &Doc, output: &mut K) -> Result<(), SinkFault>
-    ensures { content_of doc.now < 2 ^ 64
-        → Puts K.written K.held K.faults K.may_want output.old output.new
-        (behind_spaces (measure_words doc.now)) result }
+/// Puts the line of an Ack.
+pub fn put_accepted<K: Sink>(output: &mut K) -> Result<(), SinkFault>
+    ensures { Puts K.written K.held K.faults K.may_want output.old output.new accepted_line
+        result }
 {
-    put_labelled(" items ", doc.items().len() as u64, output)?;
-    put_labelled(" depth ", doc.depth(), output)?;
-    put_labelled(" content ", doc.content(), output)
+    put_plain("accepted\n", output)
 }
 
-// Puts the words of how many strings there are, and of what they cost.
+// Puts the words of what an envelope's document measures.
 #[inline(always)]
-fn put_strings<K: Sink>(table: &SessionTable, output: &mut K) -> Result<(), SinkFault>
+fn put_measures<K: Sink>(received: &Received, output: &mut K) -> Result<(), SinkFault>
     ensures { Puts K.written K.held K.faults K.may_want output.old output.new
-        (behind_spaces (string_words table.now.strings)) result }
+        (behind_spaces (measure_words received.now.doc received.now.content)) result }
 {
-    put_labelled(" strings ", u64::from(table.len()), output)?;
-    put_labelled(" used ", u64::from(table.used()), output)
+    put_labelled(" items ", received.doc.items().len() as u64, output)?;
+    put_labelled(" depth ", received.doc.depth(), output)?;
+    put_labelled(" content ", received.content, output)
+}
+
+// Puts the words of how many strings there are after an envelope, and of what they cost.
+#[inline(always)]
+fn put_strings<K: Sink>(received: &Received, output: &mut K) -> Result<(), SinkFault>
+    ensures { Puts K.written K.held K.faults K.may_want output.old output.new
+        (behind_spaces (string_words received.now.strings received.now.used)) result }
+{
+    put_labelled(" strings ", u64::from(received.strings), output)?;
+    put_labelled(" used ", u64::from(received.used), output)
 }
 
 /// Puts the line of an envelope.
-pub fn put_message<K: Sink>(received: ReceivedDoc, output: &mut K) -> Result<(), SinkFault>
-    ensures { content_of received.entry.doc.now < 2 ^ 64
-        → Puts K.written K.held K.faults K.may_want output.old output.new
-        (message_line (record {
-          number = received.entry.number;
-          size = received.entry.size;
-          items = received.entry.doc.now;
-          strings = received.entry.table.now.strings;
-        }))
-        result }
+pub fn put_message<K: Sink>(received: &Received, output: &mut K) -> Result<(), SinkFault>
+    ensures { Puts K.written K.held K.faults K.may_want output.old output.new
+        (received_line received.now) result }
 {
     put_labelled("message ", received.number, output)?;
     put_labelled(" payload ", u64::from(received.size), output)?;
-    put_measures(received.doc, output)?;
-    put_strings(received.table, output)?;
+    put_measures(received, output)?;
+    put_strings(received, output)?;
     put_plain("\n", output)
 }
 
-/// Puts the line of the end behind this many bytes.
+/// Puts the line of a session's end, after so many bytes.
 pub fn put_ended<K: Sink>(taken: u64, output: &mut K) -> Result<(), SinkFault>
     ensures { Puts K.written K.held K.faults K.may_want output.old output.new
         (ended_line taken) result }
 {
     put_words("ended", &[Word::Natural(u128::from(taken))], output)
+}
+
+/// Puts the line of a receiver's Fault, after so many bytes.
+pub fn put_fault<K: Sink>(taken: u64, text: &str, output: &mut K) -> Result<(), SinkFault>
+    ensures { Puts K.written K.held K.faults K.may_want output.old output.new
+        (fault_line taken text.now) result }
+{
+    let words = [Word::Natural(u128::from(taken)), Word::Quoted(text)];
+    put_words("fault", &words, output)
 }
 
 /// Puts the line of a refusal.

@@ -1,232 +1,198 @@
-//! The loop of the commands that report a stream.
+//! The commands that report a stream.
 
-ghost use Rattle.std.specs.Prelude.{◌≡◌, ⊤, Result, ℕ, ◌≤◌, ◌<◌, List, [], ◌++◌, Option, Some, None, Err, IfOk, IfErr, OnOk, OnErr, IsErrOf};
-ghost use Rattle.io_edges.specs.Faults.{CountsFaults};
+ghost use Rattle.std.specs.Prelude.{◌≡◌, None};
 ghost use Rattle.io_edges.specs.Puts.{Puts};
-ghost use Rattle.io_edges.specs.declared.SinkFault.{SinkFault as Fault};
-ghost use Rattle.unit_streams.specs.Going.{IsPending};
-ghost use Rattle.unit_streams.specs.Judging.{event_at};
-ghost use Rattle.nbfx_values.specs.declared.refusals.Offence.{Offence as Refusal};
-ghost use Rattle.stream_reader.specs.Judging.{offence};
-ghost use Rattle.receiver_machine.specs.Saying.{step_for};
-ghost use Rattle.stream_reader.specs.Stream.{StreamEvent, initiators, stream};
-ghost use Rattle.dump_replay.specs.Reporting.{Decides, Breaks, Reaches};
-ghost use Rattle.dump_replay.specs.Reading.{EndsAs, HasRead, ReadsOf, HasReported, done, ended_by};
-ghost use Rattle.dump_replay.specs.Report.{document_lines, event_lines, report, told_of};
-ghost use Rattle.dump_replay.specs.Running.{detail_of};
 ghost use Rattle.nbfx_values.specs.QuotasOf.{limits_of};
-ghost use Rattle.dump_replay.specs.declared.report.Detail.{Detail as Shown};
+ghost use Rattle.stream_loop.specs.Edges.{input_at, output_at};
+ghost use Rattle.stream_reader.specs.Sides.{side_of};
+ghost use Rattle.dump_replay.specs.Reading.{said_by, said_document, said_line, said_outcome, status_at};
+ghost use Rattle.dump_replay.specs.Report.{last_line};
+ghost use Rattle.dump_replay.specs.Reporting.{Reports};
+ghost use Rattle.dump_replay.specs.Running.{offence_status};
+ghost use Rattle.dump_replay.specs.Statics.{settings_for, side_for};
 
-use crate::reading::ReadingEnd;
-use crate::report::{self, Detail};
-use command_words::Request;
-use io_edges::{Sink, SinkFault, Source};
+use crate::reading::{Event, StreamEnd};
+use crate::report;
+use command_words::{Detail, Origin};
+use io_edges::{GatheringSink, Sink, SinkFault, Source, gathering_room};
 use line_notation::print;
-use nbfx_values::Offence;
-use receiver_machine::{ReadRefusal, Receiver, Step};
+use nbfx_values::{Offence, Quotas, Reason};
 use static_dictionary::StaticTable;
 use std::alloc::Global;
+use stream_loop::{Ending, Reporter, report_stream};
+use stream_reader::{Endpoint, Side};
 
-/// How many bytes are taken at most at a time.
-const MOST_TAKEN: usize = 65_536;
-
-/// How the reading of a stream ended.
-#[derive(Clone, Copy, Debug)]
-pub enum Ending {
-    /// The session ended, or the stream is refused so.
-    Judged(Option<Offence>),
-    ReadFault,
-    WriteFault,
-    Memory,
+/// How a session has ended by its events.
+#[derive(Clone, Copy, Debug, PartialEq, Eq)]
+pub enum Outcome {
+    /// It hasn't.
+    Open,
+    /// With End.
+    Ended,
+    /// With a receiver's Fault.
+    Faulted,
 }
 
-/// Whether a stream is read on.
-#[derive(Clone, Copy, Debug)]
-enum Progress {
-    Going,
-    /// The session ended, or the stream is refused so.
-    Judged(Option<Offence>),
-    /// There was no memory to read on.
-    Starved,
-}
+/// The bytes of a receiver's Ack.
+const ACK_LENGTH: u64 = 1;
 
-// Puts the lines of the document that an event has brought.
-fn put_document<O: Sink>(step: &Step, output: &mut O) -> Result<(), SinkFault>
-    ensures { (event : StreamEvent) → step.now ≡ step_for event
-        → Puts O.written O.held O.faults O.may_want output.old output.new (document_lines event)
-        result }
+// How the session has ended after an event.
+fn outcome_after(outcome: Outcome, event: &Event) -> Outcome
+    ensures { result ≡ said_outcome outcome event.now }
 {
-    match step {
-        Step::Message { doc, .. } => print(doc, output),
+    match event {
+        Event::Ended { .. } => Outcome::Ended,
+        Event::PeerFault { .. } => Outcome::Faulted,
+        Event::Opened { .. } | Event::Accepted | Event::Message(_) => outcome,
+    }
+}
+
+// Puts the line of an event.
+fn put_line<K: Sink>(event: &Event, output: &mut K) -> Result<(), SinkFault>
+    ensures { Puts K.written K.held K.faults K.may_want output.old output.new
+        (said_line event.now) result }
+{
+    match event {
+        Event::Opened { mode, kind, via } => report::put_open(*mode, *kind, via.as_str(), output),
+        Event::Accepted => report::put_accepted(output),
+        Event::Message(received) => report::put_message(received, output),
+        Event::Ended { bytes } => report::put_ended(*bytes, output),
+        Event::PeerFault { bytes, text } => report::put_fault(*bytes, text.as_str(), output),
+    }
+}
+
+// Puts the lines of the document that an event brings.
+fn put_document<K: Sink>(event: &Event, output: &mut K) -> Result<(), SinkFault>
+    ensures { Puts K.written K.held K.faults K.may_want output.old output.new
+        (said_document event.now) result }
+{
+    match event {
+        Event::Message(received) => print(&received.doc, output),
         _ => Ok(()),
     }
 }
 
-// Puts what is told of an event that the bytes used have just completed.
-fn put_event<E: ReadingEnd, O: Sink>(
+// Puts the line at the end of a stream that isn't refused. Where no event has ended it, it is the
+// receiver's Ack alone.
+fn put_last<K: Sink>(outcome: Outcome, output: &mut K) -> Result<(), SinkFault>
+    ensures { Puts K.written K.held K.faults K.may_want output.old output.new
+        (last_line outcome None) result }
+{
+    match outcome {
+        Outcome::Open => report::put_ended(ACK_LENGTH, output),
+        Outcome::Ended | Outcome::Faulted => Ok(()),
+    }
+}
+
+/// Writes the lines of a stream, and keeps how its session has ended.
+#[derive(Debug, Drop)]
+pub struct LineReporter {
     detail: Detail,
-    end: &E,
-    step: &Step,
-    output: &mut O,
-) -> Result<(), SinkFault>
-    ensures { (p : List ℕ) (event : StreamEvent) → E.stands end.now p
-        → event_at (stream (E.settings end.now)) p ≡ Some event → step.now ≡ step_for event
-        → Puts O.written O.held O.faults O.may_want output.old output.new (told_of detail event)
-        result }
-{
-    end.put_line(step, output)?;
-    match detail {
-        Detail::Summary => Ok(()),
-        Detail::Whole => put_document(step, output),
-    }
+    outcome: Outcome,
 }
 
-// Reads a piece, and puts what is told of each event, and the line of an offence.
-fn read<E: ReadingEnd, O: Sink>(
-    detail: Detail,
-    end: &mut E,
-    piece: &[u8],
-    output: &mut O,
-) -> Result<Progress, SinkFault>
-    requires going { (p : List ℕ) × HasRead (E.stands end.old) (E.settings end.old) p }
-    ensures reads { (p : List ℕ) → HasRead (E.stands end.old) (E.settings end.old) p
-        → (lines : List ℕ)
-        × Puts O.written O.held O.faults O.may_want output.old output.new lines (done result)
-        × ReadsOf detail (E.stands end.new) (E.settings end.old) p piece.now result lines }
-    ensures settings { E.settings end.new ≡ E.settings end.old }
-{
-    let mut used = 0;
-    loop {
-        let (n, step) = match end.feed(&piece[used..]) {
-            Ok(answer) => answer,
-            Err(ReadRefusal::Memory) => return Ok(Progress::Starved),
-            Err(ReadRefusal::Offence(offence)) => {
-                report::put_offence(offence, output)?;
-                return Ok(Progress::Judged(Some(offence)));
-            }
-        };
-        match step {
-            Step::More => return Ok(Progress::Going),
-            Step::Ended => {
-                put_event(detail, end, &step, output)?;
-                return Ok(Progress::Judged(None));
-            }
-            _ => {
-                put_event(detail, end, &step, output)?;
-                end.hand_back(step);
-                used += n;
-            }
+impl LineReporter {
+    /// Before the first event.
+    pub fn new(detail: Detail) -> LineReporter
+        ensures { result ≡ record { detail = detail; outcome = Outcome.Open } }
+    {
+        LineReporter {
+            detail,
+            outcome: Outcome::Open,
         }
     }
 }
 
-// Says that the input is over, and puts the line of what was cut off.
-fn finish<E: ReadingEnd, O: Sink>(end: &mut E, output: &mut O) -> Result<Option<Offence>, SinkFault>
-    requires going { (p : List ℕ) × HasRead (E.stands end.old) (E.settings end.old) p }
-    ensures { (d : Shown) (p : List ℕ) → HasRead (E.stands end.old) (E.settings end.old) p
-        → IsPending (stream (E.settings end.old)) p
-        → (lines : List ℕ)
-        × Puts O.written O.held O.faults O.may_want output.old output.new lines (done result)
-        × (report d (E.settings end.old) p ≡ event_lines d (E.settings end.old) p ++ lines)
-        × IfOk result (λ o. offence (E.settings end.old) p ≡ o) }
-{
-    match end.end_of_input() {
-        Ok(()) => Ok(None),
-        Err(offence) => {
-            report::put_offence(offence, output)?;
-            Ok(Some(offence))
+impl Reporter<Event, Offence> for LineReporter {
+    ghost use Rattle.dump_replay.specs.Reading.{said_by};
+    ghost use Rattle.dump_replay.specs.declared.reporting.Outcome.{Outcome as Reached};
+
+    ghost State = { Reached };
+
+    ghost rules = { λ reporter. said_by reporter.detail };
+
+    ghost state = { λ reporter. reporter.outcome };
+
+    fn put_event<K: Sink>(&mut self, event: &Event, output: &mut K) -> Result<(), SinkFault> {
+        self.outcome = outcome_after(self.outcome, event);
+        put_line(event, output)?;
+        match self.detail {
+            Detail::Summary => Ok(()),
+            Detail::Whole => put_document(event, output),
+        }
+    }
+
+    fn put_ending<K: Sink>(
+        &mut self,
+        refusal: &Option<Offence>,
+        output: &mut K,
+    ) -> Result<(), SinkFault> {
+        match refusal {
+            Some(offence) => report::put_offence(*offence, output),
+            None => put_last(self.outcome, output),
         }
     }
 }
 
-// Reads the stream that the input gives by an end that has read nothing of it, and puts its report.
-// The lines of what came are written before more is taken.
-fn put_report<I: Source, O: Sink, E: ReadingEnd + Drop>(
-    alloc: Global,
-    detail: Detail,
-    end: E,
-    input: &mut I,
-    output: &mut O,
-) -> Result<Ending, SinkFault>
-    requires fresh { E.stands end [] }
-    requires room { 0 < (E.settings end).limits.session }
-    ensures reports { (lines : List ℕ)
-        × Puts O.written O.held O.faults O.may_want output.old output.new lines (done result)
-        × HasReported detail (E.settings end) (I.left input.old) (I.left input.new)
-        (I.taken input.old) (I.taken input.new) (O.written output.old) (O.written output.new)
-        (O.held output.old) (O.held output.new) result lines }
-    ensures counted { CountsFaults (I.faults input.old) (I.faults input.new)
-        (result ≡ Ok Ending.ReadFault) }
+// Whose stream is read. Where it is an initiator's, any Via is served.
+fn side_of(origin: Origin) -> Side
+    ensures { side_of result ≡ side_for origin }
 {
-    let Ok(mut room) = vec![in alloc; 0u8; MOST_TAKEN] else {
-        return Ok(Ending::Memory);
-    };
-    let mut end = end;
-    loop {
-        output.flush()?;
-        let Ok(n) = input.take(&mut room) else {
-            return Ok(Ending::ReadFault);
-        };
-        if n == 0 {
-            return Ok(Ending::Judged(finish(&mut end, output)?));
-        }
-        match read(detail, &mut end, &room[..n], output)? {
-            Progress::Going => {}
-            Progress::Judged(offence) => return Ok(Ending::Judged(offence)),
-            Progress::Starved => return Ok(Ending::Memory),
-        }
+    match origin {
+        Origin::Initiator => Side::Initiator(Endpoint::Any),
+        Origin::Receiver { mode, kind } => Side::Receiver { mode, kind },
     }
 }
 
-// Writes what the output holds, unless it has failed. Where a read failed it holds nothing.
-fn written<O: Sink>(ending: Result<Ending, SinkFault>, output: &mut O) -> Ending
-    ensures kept { ending ≡ Ok Ending.ReadFault → (result ≡ Ending.ReadFault)
-        × (output.new ≡ output.old) }
-    ensures failed { IfErr ending (λ fault. (result ≡ ended_by fault)
-        × (output.new ≡ output.old)) }
-    ensures flushed { IfOk ending (λ e. (e ≡ Ending.ReadFault → ⊥) → (flush : Result ⊤ Fault)
-        × Puts O.written O.held O.faults O.may_want output.old output.new [] flush
-        × OnOk flush ((result ≡ e) × (O.held output.new ≡ []))
-        × IfErr flush (λ fault. result ≡ ended_by fault)) }
+fn offence_status(offence: Offence) -> u8
+    ensures { result ≡ offence_status offence }
+{
+    match offence.reason {
+        Reason::SessionTooLong => 10,
+        _ => 1,
+    }
+}
+
+fn status(ending: Ending<Offence>, outcome: Outcome) -> u8
+    ensures { result ≡ status_at ending outcome }
 {
     match ending {
-        Err(fault) => stopped(fault),
-        Ok(Ending::ReadFault) => Ending::ReadFault,
-        Ok(ending) => match output.flush() {
-            Ok(()) => ending,
-            Err(fault) => stopped(fault),
+        Ending::Judged(Some(offence)) => offence_status(offence),
+        Ending::Judged(None) => match outcome {
+            Outcome::Faulted => 9,
+            Outcome::Open | Outcome::Ended => 0,
         },
+        Ending::ReadFault => 3,
+        Ending::WriteFault => 4,
+        Ending::Memory => 5,
     }
 }
 
-/// Reads the initiator's stream that the input gives, with these static strings and as is asked
-/// for, and writes its report.
-pub fn report_stream<I: Source, O: Sink>(
+/// Reads the stream that the input gives, of the end of a session that is named, and writes its
+/// report. Answers the status with the output.
+pub fn report_input<I: Source, O: Sink>(
     alloc: Global,
-    request: &Request,
+    detail: Detail,
+    origin: Origin,
     statics: &StaticTable,
+    quotas: Quotas,
     input: &mut I,
-    output: &mut O,
-) -> Ending
-    ensures { EndsAs (detail_of request.now.action)
-        (initiators statics.now (limits_of request.now.quotas))
-        (I.left input.old) (I.left input.new)
-        (I.taken input.old) (I.taken input.new) (O.written output.old) (O.written output.new)
-        (O.held output.old) (I.faults input.old) (I.faults input.new)
-        (O.faults output.old) (O.faults output.new) result }
+    output: O,
+) -> (u8, O)
+    ensures { Reports detail (settings_for origin statics.now (limits_of quotas))
+        (input_at I.left I.taken I.faults I.empty_takes input.old)
+        (input_at I.left I.taken I.faults I.empty_takes input.new)
+        (output_at O.written O.held O.faults output)
+        (output_at O.written O.held O.faults result.1) result.0 }
 {
-    let Ok(receiver) = Receiver::new(alloc, statics, request.quotas) else {
-        return Ending::Memory;
+    let Ok(mut end) = StreamEnd::new(alloc, statics, quotas, side_of(origin)) else {
+        return (5, output);
     };
-    let detail = report::detail_of(request.action);
-    written(put_report(alloc, detail, receiver, input, output), output)
-}
-
-fn stopped(fault: SinkFault) -> Ending
-    ensures { result ≡ ended_by fault }
-{
-    match fault {
-        SinkFault::Failed => Ending::WriteFault,
-        SinkFault::Memory => Ending::Memory,
-    }
+    let Ok(room) = gathering_room(alloc) else {
+        return (5, output);
+    };
+    let mut reporter = LineReporter::new(detail);
+    let mut gathered = GatheringSink::new(room, output);
+    let ending = report_stream(alloc, &mut end, &mut reporter, input, &mut gathered);
+    (status(ending, reporter.outcome), gathered.into_sink())
 }

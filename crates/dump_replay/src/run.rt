@@ -1,29 +1,21 @@
 //! The top call.
 
-ghost use Rattle.std.specs.Prelude.{◌≡◌, ◌≤◌, ◌↔◌, ◌⊎◌, ◌++◌, ℕ, List, [], map, true, false, Option, Some};
+ghost use Rattle.std.specs.Prelude.{◌≡◌, ◌≤◌, ◌⊎◌, ◌++◌, ℕ, List, [], map, false, Some};
 ghost use Rattle.std.specs.String.{string_bytes};
-ghost use Rattle.io_edges.specs.Faults.{Rose};
+ghost use Rattle.io_edges.specs.Faults.{Rose, one_more};
 ghost use Rattle.io_edges.specs.Flow.{Told, GrowsByPrefix};
 ghost use Rattle.io_edges.specs.Store.{Store};
-ghost use Rattle.nbfx_values.specs.declared.refusals.Offence.{Offence as Refusal};
-ghost use Rattle.stream_reader.specs.Judging.{offence};
-ghost use Rattle.stream_reader.specs.Sessions.{IsClosed};
-ghost use Rattle.stream_reader.specs.Stream.{initiators};
-ghost use Rattle.nbfx_values.specs.QuotasOf.{limits_of};
+ghost use Rattle.stream_loop.specs.Edges.{input_at, output_at};
 ghost use Rattle.command_words.specs.Requests.{Asked, IsRequest};
-ghost use Rattle.dump_replay.specs.Reporting.{Decides, Breaks, Reaches};
-ghost use Rattle.dump_replay.specs.Reading.{EndsAs, status_at, status_of_fault, status_of_words};
-ghost use Rattle.dump_replay.specs.Report.{report};
-ghost use Rattle.dump_replay.specs.Running.{IsJudged, IsNoTable, IsNote, IsStatus, WhereAsked, detail_of, status_of, is_session_too_long};
-ghost use Rattle.dump_replay.specs.Statics.{Has, StaticFile, UnderFile, UnderTold, static_file};
+ghost use Rattle.dump_replay.specs.Reading.{status_of_fault, status_of_words};
+ghost use Rattle.dump_replay.specs.Reporting.{Reports};
+ghost use Rattle.dump_replay.specs.Running.{IsJudged, IsNoTable, IsNote, IsStatus, IsUnread, WhereAsked, WhereReported};
+ghost use Rattle.dump_replay.specs.Statics.{Has, StaticFile, UnderFile, static_file};
 
-use crate::notes;
-use crate::reporting::{self, Ending};
 use crate::statics::{FileFault, read_statics};
-use command_words::{Request, WordsFault};
-use io_edges::{GatheringSink, Shelf, Sink, Source, gathering_room};
-use nbfx_values::{Offence, Reason};
-use static_dictionary::StaticTable;
+use crate::{notes, reporting};
+use command_words::{Task, WordsFault};
+use io_edges::{Shelf, Sink, Source};
 use std::alloc::Global;
 
 /// What a run of the program leaves.
@@ -37,13 +29,15 @@ pub struct Ran<I, O> {
 
 /// Does all that the program does for these words, the first of which is its name.
 ///
-/// `check` reads an initiator's stream from the input, with the static strings of the shelf's file
-/// that `--static` names and within the quotas that the other options set, and writes its report to
-/// the output; `dump` does too, with the lines of each document behind its envelope's. The status
-/// is 0 where the session ended, 1 where the stream is refused, and 10 where its bytes reach the
-/// session quota first. It is 2 where the words are none of the program's, 3 where a read failed, 4
-/// where a write failed, 5 where memory ran out, and 6 where the shelf has no such file, or one
-/// with a bad row. With 2 to 6 a note says so; that a note can't be put changes nothing else.
+/// `check` reads a stream from the input, an initiator's or with `--replies` a receiver's, with the
+/// static strings of the shelf's file that `--static` names and within the quotas that the other
+/// options set, and writes its report to the output; `dump` does too, with the lines of each
+/// document after its envelope's. The status is 0 where the session ended, 1 where the stream is
+/// refused, 9 where the receiver's Fault ended the session, and 10 where the stream's bytes reach
+/// the session quota first. It is 2 where the words are none of the program's, 3 where a read
+/// failed, 4 where a write failed, 5 where memory ran out, and 6 where the shelf has no such file,
+/// or one with a bad row. With 2 to 6 a note says so; that a note can't be put changes nothing
+/// else.
 pub fn run<F: Shelf, I: Source, O: Sink + Send, N: Sink>(
     alloc: Global,
     words: &[String],
@@ -56,11 +50,15 @@ pub fn run<F: Shelf, I: Source, O: Sink + Send, N: Sink>(
     ensures statuses { IsStatus result.status }
     ensures words { result.status ≡ 2 → WhereAsked (map string_bytes words.now) (λ asked. ⊥) }
     ensures no_request { WhereAsked (map string_bytes words.now) (λ asked. ⊥)
-        → ((result.status ≡ 2) ⊎ (result.status ≡ 5))
+        → ((result.status ≡ 2) ⊎ (result.status ≡ 5)) × (shelf.new ≡ shelf.old)
         × (result.input ≡ input) × (result.output ≡ output) }
     ensures no_file { result.status ≡ 6 → (asked : Asked) × (file : StaticFile)
         × IsRequest (map string_bytes words.now) asked
         × Has (F.files shelf.old) asked.statics file × IsNoTable file }
+    ensures fetched_once { (F.fetches shelf.new ≡ F.fetches shelf.old)
+        ⊎ (F.fetches shelf.new ≡ one_more (F.fetches shelf.old)) }
+    ensures asked_once { (I.empty_takes result.input ≡ I.empty_takes input)
+        ⊎ (I.empty_takes result.input ≡ one_more (I.empty_takes input)) }
     ensures untouched { (result.status ≡ 2) ⊎ (result.status ≡ 6)
         → (result.input ≡ input) × (result.output ≡ output) }
     ensures read_fault { result.status ≡ 3
@@ -95,61 +93,15 @@ pub fn run<F: Shelf, I: Source, O: Sink + Send, N: Sink>(
         → F.files shelf.old ≡ Some files → IsNoTable (static_file files asked.statics)
         → (result.input ≡ input) × (result.output ≡ output)) }
 
-    // When each status comes.
-    ensures ended { WhereAsked (map string_bytes words.now) (λ asked.
-        result.status ≡ 0 → UnderFile (F.files shelf.old) asked (λ x. (stream : List ℕ)
-        → I.left input ≡ Some stream → IsClosed x stream)) }
-    ensures offended { WhereAsked (map string_bytes words.now) (λ asked.
-        result.status ≡ 1 → UnderFile (F.files shelf.old) asked (λ x. (stream : List ℕ)
-        → I.left input ≡ Some stream
-        → (o : Refusal) × (offence x stream ≡ Some o) × (is_session_too_long o.reason ≡ false))) }
-    ensures too_long { WhereAsked (map string_bytes words.now) (λ asked.
-        result.status ≡ 10 → UnderFile (F.files shelf.old) asked (λ x. (stream : List ℕ)
-        → I.left input ≡ Some stream
-        → (o : Refusal) × (offence x stream ≡ Some o) × (is_session_too_long o.reason ≡ true))) }
-    ensures complete { WhereAsked (map string_bytes words.now) (λ asked.
-        UnderTold (F.files shelf.old) asked (λ x. (stream : List ℕ) → I.left input ≡ Some stream
-        → (result.status ≡ status_of (offence x stream))
-        ⊎ (result.status ≡ 3) ⊎ (result.status ≡ 4) ⊎ (result.status ≡ 5))) }
-    ensures closed { WhereAsked (map string_bytes words.now) (λ asked.
-        UnderTold (F.files shelf.old) asked (λ x. (stream : List ℕ) → I.left input ≡ Some stream
-        → IsClosed x stream
-        → (Rose (F.faults shelf.old) (F.faults shelf.new) → ⊥)
-        → (Rose (I.faults input) (I.faults result.input) → ⊥)
-        → (Rose (O.faults output) (O.faults result.output) → ⊥)
-        → (result.status ≡ 0) ⊎ (result.status ≡ 5))) }
-
-    // What each leaves.
-    ensures reported { WhereAsked (map string_bytes words.now) (λ asked. IsJudged result.status
-        → UnderFile (F.files shelf.old) asked (λ x. (stream w : List ℕ)
-        → I.left input ≡ Some stream → O.written output ≡ Some w
-        → O.written result.output
-        ≡ Some (w ++ O.held output ++ report (detail_of asked.action) x stream))) }
-    ensures decided { WhereAsked (map string_bytes words.now) (λ asked. IsJudged result.status
-        → UnderFile (F.files shelf.old) asked (λ x.
-        (o : Option Refusal) × (status_of o ≡ result.status)
-        × Decides (detail_of asked.action) x o (I.left input) (I.left result.input)
-        (I.taken input) (I.taken result.input)
-        (O.written output) (O.written result.output) (O.held output))) }
-    ensures broken { WhereAsked (map string_bytes words.now) (λ asked. result.status ≡ 3
-        → ((result.input ≡ input) × (result.output ≡ output)
-        × Rose (F.faults shelf.old) (F.faults shelf.new))
-        ⊎ (Rose (I.faults input) (I.faults result.input)
-        × UnderFile (F.files shelf.old) asked (λ x.
-        Breaks (detail_of asked.action) x (I.left input) (I.left result.input)
-        (I.taken input) (I.taken result.input)
-        (O.written output) (O.written result.output) (O.held output)))) }
-    ensures cut { WhereAsked (map string_bytes words.now) (λ asked.
-        UnderTold (F.files shelf.old) asked (λ x. (stream w : List ℕ)
-        → I.left input ≡ Some stream → O.written output ≡ Some w
-        → (w' : List ℕ) × (O.written result.output ≡ Some w')
-        × GrowsByPrefix w w' (O.held output ++ report (detail_of asked.action) x stream))) }
-    ensures reaches { WhereAsked (map string_bytes words.now) (λ asked.
-        ((result.input ≡ input) × (result.output ≡ output))
-        ⊎ UnderFile (F.files shelf.old) asked (λ x.
-        Reaches (detail_of asked.action) x (I.left input) (I.left result.input)
-        (I.taken input) (I.taken result.input)
-        (O.written output) (O.written result.output) (O.held output))) }
+    // Where they ask for a report.
+    ensures reports { WhereReported (map string_bytes words.now) (λ asked detail origin.
+        (IsUnread (F.faults shelf.old) (F.faults shelf.new) result.status
+        × (result.input ≡ input) × (result.output ≡ output))
+        ⊎ UnderFile (F.files shelf.old) asked origin (λ x. Reports detail x
+        (input_at I.left I.taken I.faults I.empty_takes input)
+        (input_at I.left I.taken I.faults I.empty_takes result.input)
+        (output_at O.written O.held O.faults output)
+        (output_at O.written O.held O.faults result.output) result.status)) }
 {
     let request = match command_words::read(alloc, words) {
         Ok(request) => request,
@@ -175,37 +127,18 @@ pub fn run<F: Shelf, I: Source, O: Sink + Send, N: Sink>(
         }
     };
     let mut input = input;
-    let (ending, output) = report_gathered(alloc, &request, &table, &mut input, output);
-    let status = status(ending);
+    let (status, output) = match request.task {
+        Task::Report { detail, origin } => {
+            let quotas = request.quotas;
+            reporting::report_input(alloc, detail, origin, &table, quotas, &mut input, output)
+        }
+    };
     notes::note_status(status, notes);
     Ran {
         status,
         input,
         output,
     }
-}
-
-// Reports the stream that the input gives, with what is put gathered on its way.
-fn report_gathered<I: Source, O: Sink>(
-    alloc: Global,
-    request: &Request,
-    statics: &StaticTable,
-    input: &mut I,
-    output: O,
-) -> (Ending, O)
-    ensures { EndsAs (detail_of request.now.action)
-        (initiators statics.now (limits_of request.now.quotas))
-        (I.left input.old) (I.left input.new)
-        (I.taken input.old) (I.taken input.new) (O.written output) (O.written result.1)
-        (O.held output) (I.faults input.old) (I.faults input.new)
-        (O.faults output) (O.faults result.1) result.0 }
-{
-    let Ok(room) = gathering_room(alloc) else {
-        return (Ending::Memory, output);
-    };
-    let mut gathered = GatheringSink::new(room, output);
-    let ending = reporting::report_stream(alloc, request, statics, input, &mut gathered);
-    (ending, gathered.into_sink())
 }
 
 fn words_status(fault: WordsFault) -> u8
@@ -224,26 +157,5 @@ fn file_status(fault: FileFault) -> u8
         FileFault::Missing | FileFault::Bad { .. } => 6,
         FileFault::Failed => 3,
         FileFault::Memory => 5,
-    }
-}
-
-fn status(ending: Ending) -> u8
-    ensures { result ≡ status_at ending }
-{
-    match ending {
-        Ending::Judged(None) => 0,
-        Ending::Judged(Some(offence)) => offence_status(offence),
-        Ending::ReadFault => 3,
-        Ending::WriteFault => 4,
-        Ending::Memory => 5,
-    }
-}
-
-fn offence_status(offence: Offence) -> u8
-    ensures { result ≡ status_of (Some offence) }
-{
-    match offence.reason {
-        Reason::SessionTooLong => 10,
-        _ => 1,
     }
 }

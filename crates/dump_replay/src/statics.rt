@@ -1,7 +1,7 @@
 //! The static strings that a file on the shelf gives.
 
 ghost use Rattle.std.specs.Prelude.{◌≡◌, ℕ, ◌≤◌, IfOk, IfErr, IsErrOf};
-ghost use Rattle.io_edges.specs.Faults.{CountsFaults};
+ghost use Rattle.io_edges.specs.Faults.{CountsFaults, one_more};
 ghost use Rattle.dump_replay.specs.Statics.{Has, table, kind_name};
 ghost use Rattle.dump_replay.specs.Reading.{TellsFile};
 
@@ -43,6 +43,7 @@ pub fn read_statics<F: Shelf>(
     ensures table { IfOk result (λ entries. Has (F.files shelf.old) name.now (table entries)) }
     ensures fault { IfErr result (TellsFile (F.files shelf.old) name.now) }
     ensures kept { F.files shelf.new ≡ F.files shelf.old }
+    ensures fetched { F.fetches shelf.new ≡ one_more (F.fetches shelf.old) }
     ensures counted { CountsFaults (F.faults shelf.old) (F.faults shelf.new)
         (IsErrOf result FileFault.Failed) }
 {

@@ -7,7 +7,10 @@ use std::process::Abort;
 use std::test::Fail;
 
 mod captures;
+mod modes;
 mod read_back;
+mod records;
+mod replies;
 mod words;
 mod worked_streams;
 
@@ -21,7 +24,7 @@ const ONE_ENVELOPE: &[u8] =
 
 const TOO_LARGE: &[u8] = b"\x00\x01\x00\x01\x02\x02\x0Dnet.tcp://h/e\x03\x08\x0C\x06\x81\x80\x04";
 
-const SIMPLEX: &[u8] = b"\x00\x01\x00\x01\x03";
+const BAD_MODE: &[u8] = b"\x00\x01\x00\x01\x04";
 
 const OPEN: &str = "open duplex 8 \"net.tcp://h/e\"\n";
 
@@ -282,7 +285,7 @@ fn streams_are_reported_in_any_pieces(rt: HostRuntime) -> Result<(), Fail> {
             1,
             "open duplex 8 \"net.tcp://h/e\"\noffence frame 23 11 MessageTooLarge\n",
         ),
-        (SIMPLEX, 1, "offence frame 3 0 Unbuilt\n"),
+        (BAD_MODE, 1, "offence frame 3 5 BadMode\n"),
         (
             PREAMBLE,
             1,
@@ -347,7 +350,7 @@ fn a_take_that_fails_leaves_the_lines_before(rt: HostRuntime) -> Result<(), Fail
 
 #[test]
 fn a_take_that_fails_is_no_end_of_input(rt: HostRuntime) -> Result<(), Fail> {
-    let unbuilt = "offence frame 3 0 Unbuilt\n";
+    let refused = "offence frame 3 5 BadMode\n";
     // Behind a preamble, in large pieces and in small ones; first; within a record; behind a
     // refusal.
     let table: [(&[u8], usize, &'static [u64], u8, &str, &[u8]); 5] = [
@@ -355,7 +358,7 @@ fn a_take_that_fails_is_no_end_of_input(rt: HostRuntime) -> Result<(), Fail> {
         (PREAMBLE, 1, &[23], 3, OPEN, b""),
         (b"", 65_536, &[0], 3, "", b""),
         (SESSION, 10, &[1], 3, "", b".tcp://h/e\x03\x08\x0C\x07"),
-        (SIMPLEX, 65_536, &[1], 1, unbuilt, b""),
+        (BAD_MODE, 65_536, &[1], 1, refused, b""),
     ];
     for (stream, most, takes, status, want, rest) in table {
         let outside = Outside {
@@ -365,6 +368,21 @@ fn a_take_that_fails_is_no_end_of_input(rt: HostRuntime) -> Result<(), Fail> {
         };
         assert_left(&rt, stream, outside, status, want, rest)?;
     }
+    Ok(())
+}
+
+// A second take at the end would fail, and so would a second fetch of the file.
+#[test]
+fn the_outside_is_asked_once(rt: HostRuntime) -> Result<(), Fail> {
+    let outside = Outside {
+        takes: &[2],
+        ..SURE
+    };
+    let cut = "open duplex 8 \"net.tcp://h/e\"\noffence frame 23 24 Truncated\n";
+    assert_left(&rt, PREAMBLE, outside, 1, cut, b"")?;
+    let mut notes = sure_sink(rt.alloc());
+    let ran = run_with_file(rt.alloc(), "S", STATICS, &[1], &mut notes)?;
+    assert_eq!(rt; ran.status, 0);
     Ok(())
 }
 

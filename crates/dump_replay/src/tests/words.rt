@@ -200,11 +200,9 @@ fn names_that_are_cut_or_go_on(rt: HostRuntime) -> Result<(), Fail> {
 }
 
 // What other commands are told, none of which is built yet.
-const OTHERS: [(&str, &str); 12] = [
+const OTHERS: [(&str, &str); 10] = [
     ("--via", "net.tcp://h/e"),
     ("--mode", "duplex"),
-    ("--encoding", "8"),
-    ("--replies", "duplex"),
     ("--endpoint", "net.tcp://h/e"),
     ("--actions", "S"),
     ("--listen", "127.0.0.1:1"),
@@ -228,7 +226,9 @@ fn options_of_other_commands(rt: HostRuntime) -> Result<(), Fail> {
 }
 
 // Each option with a value, as two words and as one.
-const OPTIONS: [(&str, &str, &str); 6] = [
+const OPTIONS: [(&str, &str, &str); 8] = [
+    ("--replies", "duplex", "--replies=duplex"),
+    ("--encoding", "8", "--encoding=8"),
     ("--payload", "65536", "--payload=65536"),
     ("--depth", "8", "--depth=8"),
     ("--dictionary", "8", "--dictionary=8"),
@@ -368,6 +368,36 @@ fn quotas_that_may_not_be_together(rt: HostRuntime) -> Result<(), Fail> {
         } else {
             assert_refused(&rt, &words)?;
         }
+    }
+    Ok(())
+}
+
+// An initiator's stream names its own encoding.
+#[test]
+fn an_encoding_has_no_effect_on_an_initiators_stream(rt: HostRuntime) -> Result<(), Fail> {
+    for word in ["--encoding=7", "--encoding=8"] {
+        assert_taken(&rt, &["nettcp", "check", word, "--static=S"])?;
+        assert_taken(&rt, &["nettcp", "dump", "--static", "S", word])?;
+    }
+    Ok(())
+}
+
+#[test]
+fn modes_and_encodings_of_other_names(rt: HostRuntime) -> Result<(), Fail> {
+    for mode in ["Duplex", "dup", "request", "2", "", "duplex "] {
+        assert_refused(&rt, &["nettcp", "check", "--static=S", "--replies", mode])?;
+    }
+    for kind in ["6", "9", "08", "binary", "", "+8"] {
+        assert_refused(&rt, &["nettcp", "dump", "--static=S", "--encoding", kind])?;
+        let words = [
+            "nettcp",
+            "dump",
+            "--static=S",
+            "--replies=duplex",
+            "--encoding",
+            kind,
+        ];
+        assert_refused(&rt, &words)?;
     }
     Ok(())
 }

@@ -1,0 +1,239 @@
+-- What values ask for, computed.
+use Rattle.std.proofs.Common.{◌≡◌, ◌∙◌, ℕ, Bool, true, ◌&&◌, Option, Some, None, refl, sym, ap, subst, inl, inr, arith}
+use Rattle.std.specs.Prelude.{if◌then◌else◌, nat_le, option_and_then, option_map}
+use Rattle.std.proofs.lemmas.Bool.{cases_Bool, le-leb, leb-true}
+use Rattle.std.proofs.lemmas.Option.{option_and_then_some}
+use Rattle.clap.proofs.WalkLemmas.{both}
+use Rattle.nbfx_values.specs.Limits.{IsGood, Limits, limits, usual_limits}
+use Rattle.nbfx_values.specs.declared.session.Kind.{Kind}
+use Rattle.nbfx_values.specs.declared.session.Kind.TheVariants as kinds
+use Rattle.command_words.specs.declared.action.Action.{Action}
+use Rattle.command_words.specs.declared.action.Action.TheVariants.{Check, Dump}
+use Rattle.command_words.specs.declared.option_name.OptionName.TheVariants.{Static, Replies, Encoding, Payload, Depth, Dictionary, Content, Session}
+use Rattle.command_words.specs.declared.task.Detail.{Detail}
+use Rattle.command_words.specs.declared.task.Detail.TheVariants.{Summary, Whole}
+use Rattle.command_words.specs.declared.task.Origin.{Origin}
+use Rattle.command_words.specs.declared.task.Origin.TheVariants.{Initiator, Receiver}
+use Rattle.command_words.specs.Options.{Text}
+use Rattle.command_words.specs.Requests.{AreLimits, AskFor, AskForTask, AskToReport, Asked, IsOrigin, Values, usual_content}
+use Rattle.command_words.specs.Tasks.{Task, report}
+use Rattle.command_words.proofs.ValueFacts.{kind_in, kinds_read, mode_in, modes, number_in, numbers, read_or, read_or-complete, read_or-sound}
+
+-- ---- limits
+
+abbrev is_good : Limits → Bool
+is_good l = nat_le 4096 l.payload && (nat_le l.payload 1048576 && (nat_le 4 l.depth
+    && (nat_le l.depth 128 && (nat_le l.dictionary l.payload && (nat_le l.payload l.content
+    && (nat_le l.content 16777216 && (nat_le 16 l.via && (nat_le l.via 2048
+    && (nat_le 1 l.session && nat_le l.session 281474976710656)))))))))
+
+good-passes : (l : Limits) → IsGood l → is_good l ≡ true
+good-passes l g =
+    rw (
+      le-leb 4096 l.payload g.payload_least,
+      le-leb l.payload 1048576 g.payload_most,
+      le-leb 4 l.depth g.depth_least,
+      le-leb l.depth 128 g.depth_most,
+      le-leb l.dictionary l.payload g.dictionary_most,
+      le-leb l.payload l.content g.content_least,
+      le-leb l.content 16777216 g.content_most,
+      le-leb 16 l.via g.via_least,
+      le-leb l.via 2048 g.via_most,
+      le-leb 1 l.session g.session_least,
+      le-leb l.session 281474976710656 g.session_most,
+    ) refl
+
+passes-good : (l : Limits) → is_good l ≡ true → IsGood l
+passes-good l e =
+    let a = both _ _ e in
+    let b = both _ _ a.1 in
+    let c = both _ _ b.1 in
+    let d = both _ _ c.1 in
+    let f = both _ _ d.1 in
+    let g = both _ _ f.1 in
+    let h = both _ _ g.1 in
+    let i = both _ _ h.1 in
+    let j = both _ _ i.1 in
+    let k = both _ _ j.1 in
+    record {
+      payload_least = leb-true _ _ a.0;
+      payload_most = leb-true _ _ b.0;
+      depth_least = leb-true _ _ c.0;
+      depth_most = leb-true _ _ d.0;
+      dictionary_most = leb-true _ _ f.0;
+      content_least = leb-true _ _ g.0;
+      content_most = leb-true _ _ h.0;
+      via_least = leb-true _ _ i.0;
+      via_most = leb-true _ _ j.0;
+      session_least = leb-true _ _ k.0;
+      session_most = leb-true _ _ k.1;
+    }
+
+abbrev good_alone : Limits → Option Limits
+good_alone l = if is_good l then Some l else None
+
+good-alone : (read l : Limits) → good_alone read ≡ Some l → IsGood read × (read ≡ l)
+good-alone read l e =
+    elim (cases_Bool (is_good read)) [
+      | inl passes ↦ (passes-good read passes, cc (rw passes at e))
+      | inr fails ↦ cc (rw fails at e)
+    ]
+
+abbrev number_or : ℕ → Option Text → Option ℕ
+number_or usual value = read_or number_in usual value
+
+abbrev limits_in : Values → Option Limits
+limits_in value =
+    option_and_then (λ payload.
+    option_and_then (λ depth.
+    option_and_then (λ dictionary.
+    option_and_then (λ content.
+    option_and_then (λ session.
+    good_alone (limits payload depth dictionary content usual_limits.via session))
+    (number_or usual_limits.session (value Session)))
+    (number_or (usual_content payload) (value Content)))
+    (number_or usual_limits.dictionary (value Dictionary)))
+    (number_or usual_limits.depth (value Depth)))
+    (number_or usual_limits.payload (value Payload))
+
+limits-sound : (value : Values) (l : Limits) → limits_in value ≡ Some l
+    → AreLimits value l × IsGood l
+limits-sound value l e =
+    option_and_then_some _ _ l e (λ payload is_payload e.
+    option_and_then_some _ _ l e (λ depth is_depth e.
+    option_and_then_some _ _ l e (λ dictionary is_dictionary e.
+    option_and_then_some _ _ l e (λ content is_content e.
+    option_and_then_some _ _ l e (λ session is_session e.
+    let read = limits payload depth dictionary content usual_limits.via session in
+    let good = good-alone read l e in
+    let are : AreLimits value read = record {
+      payload = read_or-sound numbers usual_limits.payload (value Payload) payload is_payload;
+      depth = read_or-sound numbers usual_limits.depth (value Depth) depth is_depth;
+      dictionary =
+          read_or-sound numbers usual_limits.dictionary (value Dictionary) dictionary is_dictionary;
+      content =
+          read_or-sound numbers (usual_content payload) (value Content) content is_content;
+      via = refl;
+      session = read_or-sound numbers usual_limits.session (value Session) session is_session;
+    } in
+    subst (λ l. AreLimits value l × IsGood l) good.1 (are, good.0))))))
+
+limits-complete : (value : Values) (l : Limits) → AreLimits value l → IsGood l
+    → limits_in value ≡ Some l
+limits-complete value l are good =
+    let g = good in
+    let payload = read_or-complete numbers usual_limits.payload (value Payload) l.payload
+    (omega (arith, g.payload_most)) are.payload in
+    let depth = read_or-complete numbers usual_limits.depth (value Depth) l.depth
+    (omega (arith, g.depth_most)) are.depth in
+    let dictionary = read_or-complete numbers usual_limits.dictionary (value Dictionary)
+    l.dictionary (omega (arith, g.dictionary_most, g.payload_most)) are.dictionary in
+    let content = read_or-complete numbers (usual_content l.payload) (value Content) l.content
+    (omega (arith, g.content_most)) are.content in
+    let session = read_or-complete numbers usual_limits.session (value Session) l.session
+    (omega (arith, g.session_most)) are.session in
+    rw (payload, depth, dictionary, content, session)
+    (ap (λ via. good_alone (limits l.payload l.depth l.dictionary l.content via l.session))
+    (sym are.via) ∙ rw (good-passes l good) refl)
+
+-- ---- tasks
+
+abbrev origin_in : Option Text → Kind → Option Origin
+origin_in None kind = Some Initiator
+origin_in (Some text) kind = option_map (λ mode. Receiver mode kind) (mode_in text)
+
+abbrev report_in : Detail → Values → Option Task
+report_in detail value =
+    option_and_then (λ kind. option_map (report detail) (origin_in (value Replies) kind))
+    (read_or kind_in kinds.Session (value Encoding))
+
+abbrev task_in : Action → Values → Option Task
+task_in Check value = report_in Summary value
+task_in Dump value = report_in Whole value
+
+-- what an option holds is of a value that there is
+map-some : {A B : Type 0} (f : A → B) (o : Option A) (y : B) → option_map f o ≡ Some y
+    → (x : A) × (o ≡ Some x) × (f x ≡ y)
+map-some f None y e = cc e
+map-some f (Some x) y e = (x, refl, cc e)
+
+origin-sound : (value : Option Text) (kind : Kind) (origin : Origin)
+    → origin_in value kind ≡ Some origin → IsOrigin value kind origin
+origin-sound None kind origin e = let is : Initiator ≡ origin = cc e in sym is
+origin-sound (Some text) kind origin e =
+    let mode = map-some (λ mode. Receiver mode kind) (mode_in text) origin e in
+    (mode.0, modes.sound text mode.0 mode.1, sym mode.2)
+
+origin-complete : (value : Option Text) (kind : Kind) (origin : Origin)
+    → IsOrigin value kind origin → origin_in value kind ≡ Some origin
+origin-complete None kind origin is = ap Some (sym is)
+origin-complete (Some text) kind origin (mode, named, is) =
+    ap (λ t. option_map (λ m. Receiver m kind) (mode_in t)) named
+    ∙ ap (option_map (λ m. Receiver m kind)) (modes.complete mode tt) ∙ ap Some (sym is)
+
+report-sound : (detail : Detail) (value : Values) (task : Task) → report_in detail value ≡ Some task
+    → AskToReport detail value task
+report-sound detail value task e =
+    option_and_then_some _ _ task e (λ kind is_kind e.
+    let origin = map-some (report detail) (origin_in (value Replies) kind) task e in
+    record {
+      origin = origin.0;
+      kind = kind;
+      encoding = read_or-sound kinds_read kinds.Session (value Encoding) kind is_kind;
+      replies = origin-sound (value Replies) kind origin.0 origin.1;
+      is = sym origin.2;
+    })
+
+report-complete : (detail : Detail) (value : Values) (task : Task) → AskToReport detail value task
+    → report_in detail value ≡ Some task
+report-complete detail value task asks =
+    let kind =
+    read_or-complete kinds_read kinds.Session (value Encoding) asks.kind tt asks.encoding in
+    let origin = origin-complete (value Replies) asks.kind asks.origin asks.replies in
+    rw (kind, origin) (ap Some (sym asks.is))
+
+task-sound : (action : Action) (value : Values) (task : Task) → task_in action value ≡ Some task
+    → AskForTask action value task
+task-sound Check value task e = report-sound Summary value task e
+task-sound Dump value task e = report-sound Whole value task e
+
+task-complete : (action : Action) (value : Values) (task : Task) → AskForTask action value task
+    → task_in action value ≡ Some task
+task-complete Check value task asks = report-complete Summary value task asks
+task-complete Dump value task asks = report-complete Whole value task asks
+
+-- ---- requests
+
+abbrev asked : Text → Limits → Task → Asked
+asked statics limits task = record { statics = statics; limits = limits; task = task }
+
+abbrev pub asked_in : Action → Values → Option Asked
+asked_in action value =
+    option_and_then (λ statics.
+    option_and_then (λ limits. option_map (asked statics limits) (task_in action value))
+    (limits_in value))
+    (value Static)
+
+pub asked-sound : (action : Action) (value : Values) (asks : Asked)
+    → asked_in action value ≡ Some asks → AskFor action value asks
+asked-sound action value asks e =
+    option_and_then_some _ _ asks e (λ statics is_statics e.
+    option_and_then_some _ _ asks e (λ limits is_limits e.
+    let task = map-some (asked statics limits) (task_in action value) asks e in
+    let set = limits-sound value limits is_limits in
+    let asks_for : AskFor action value (asked statics limits task.0) = record {
+      named = is_statics;
+      numbers = set.0;
+      good = set.1;
+      task = task-sound action value task.0 task.1;
+    } in
+    subst (AskFor action value) task.2 asks_for))
+
+pub asked-complete : (action : Action) (value : Values) (asks : Asked) → AskFor action value asks
+    → asked_in action value ≡ Some asks
+asked-complete action value asks is =
+    rw (
+      is.named,
+      limits-complete value asks.limits is.numbers is.good,
+      task-complete action value asks.task is.task,
+    ) refl

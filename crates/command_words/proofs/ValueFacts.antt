@@ -1,0 +1,127 @@
+-- What values write, computed: what a value may mean is guessed, and then compared with how that is
+-- written.
+use Rattle.std.proofs.Common.{◌≡◌, ◌∙◌, ℕ, ◌<◌, ◌^◌, Option, Some, None, refl, sym, ap, inl, inr, codes}
+use Rattle.std.specs.Prelude.{if◌then◌else◌, nat_lt}
+use Rattle.std.specs.Fmt.{decimal, digits}
+use Rattle.std.specs.Str.{bytes_eq}
+use Rattle.std.specs.Str.Parse.{digits_value}
+use Rattle.std.proofs.lemmas.Bool.{cases_Bool, lt-ltb}
+use Rattle.std.proofs.lemmas.Fmt.{decimal_is_IsNumeral}
+use Rattle.std.proofs.lemmas.Slice.Eq.{bytes_eq-Decides}
+use Rattle.nbfx_values.specs.declared.session.Kind.{Kind}
+use Rattle.nbfx_values.specs.declared.session.Kind.TheVariants as kinds
+use Rattle.nbfx_values.specs.declared.session.Mode.{Mode}
+use Rattle.nbfx_values.specs.declared.session.Mode.TheVariants.{Singleton, Duplex, Simplex}
+use Rattle.command_words.specs.Options.{Text}
+use Rattle.command_words.specs.Values.{IsKind, IsWritten, kind_text, mode_name}
+use Rattle.command_words.proofs.OptionFacts.{bytes_eq-same}
+
+-- what is guessed, where a text writes it
+abbrev checked : {A : Type 0} → (A → Text) → Text → A → Option A
+checked written text guess = if bytes_eq (written guess) text then Some guess else None
+
+checked-sound : {A : Type 0} (written : A → Text) (text : Text) (guess x : A)
+    → checked written text guess ≡ Some x → text ≡ written x
+checked-sound written text guess x e =
+    elim (cases_Bool (bytes_eq (written guess) text)) [
+      | inl same ↦
+          let is : guess ≡ x = cc (rw same at e) in
+          sym (ap written (sym is) ∙ (bytes_eq-Decides (written guess) text).0 same)
+      | inr other ↦ cc (rw other at e)
+    ]
+
+checked-complete : {A : Type 0} (written : A → Text) (guess x : A) → guess ≡ x
+    → checked written (written x) guess ≡ Some x
+checked-complete written guess x is =
+    ap (checked written (written x)) is ∙ rw (bytes_eq-same (written x)) refl
+
+-- what is read is what is written, and each of P is read so
+pub record Reads (A : Type 0) (P : A → Type 0) (written : A → Text) (read : Text → Option A)
+    : Type 0 where
+  pub sound : (text : Text) (x : A) → read text ≡ Some x → text ≡ written x
+  pub complete : (x : A) → P x → read (written x) ≡ Some x
+
+-- ---- numbers, modes and encodings
+
+abbrev pub number_in : Text → Option ℕ
+number_in text =
+    if nat_lt (digits_value 10 text) (2 ^ 64) then checked decimal text (digits_value 10 text)
+    else None
+
+number_in-sound : (text : Text) (n : ℕ) → number_in text ≡ Some n → text ≡ decimal n
+number_in-sound text n e =
+    elim (cases_Bool (nat_lt (digits_value 10 text) (2 ^ 64))) [
+      | inl small ↦ checked-sound decimal text (digits_value 10 text) n (rw small at e)
+      | inr great ↦ cc (rw great at e)
+    ]
+
+number_in-complete : (n : ℕ) → n < 2 ^ 64 → number_in (decimal n) ≡ Some n
+number_in-complete n small =
+    let is = (decimal_is_IsNumeral n small).1 in
+    ap (λ m. if nat_lt m (2 ^ 64) then checked decimal (decimal n) m else None) is
+    ∙ rw (lt-ltb n (2 ^ 64) small) (checked-complete decimal n n refl)
+
+pub numbers : Reads ℕ (λ n. n < 2 ^ 64) decimal number_in
+numbers = record { sound = number_in-sound; complete = number_in-complete }
+
+abbrev guessed_mode : Text → Mode
+guessed_mode text =
+    if bytes_eq text (codes "duplex") then Duplex
+    else if bytes_eq text (codes "simplex") then Simplex else Singleton
+
+abbrev pub mode_in : Text → Option Mode
+mode_in text = checked mode_name text (guessed_mode text)
+
+mode_in-complete : (mode : Mode) → Unit {0} → mode_in (mode_name mode) ≡ Some mode
+mode_in-complete Duplex _ = refl
+mode_in-complete Simplex _ = refl
+mode_in-complete Singleton _ = refl
+
+pub modes : Reads Mode (λ _. Unit {0}) mode_name mode_in
+modes = record {
+  sound = λ text mode e. checked-sound mode_name text (guessed_mode text) mode e;
+  complete = mode_in-complete;
+}
+
+abbrev guessed_kind : Text → Kind
+guessed_kind text = if bytes_eq text (codes "7") then kinds.Plain else kinds.Session
+
+abbrev pub kind_in : Text → Option Kind
+kind_in text = checked kind_text text (guessed_kind text)
+
+kind_in-complete : (kind : Kind) → Unit {0} → kind_in (kind_text kind) ≡ Some kind
+unfolding digits
+kind_in-complete kinds.Plain _ = refl
+kind_in-complete kinds.Session _ = refl
+
+pub kinds_read : Reads Kind (λ _. Unit {0}) kind_text kind_in
+kinds_read = record {
+  sound = λ text kind e. checked-sound kind_text text (guessed_kind text) kind e;
+  complete = kind_in-complete;
+}
+
+-- ---- values that there may be
+
+abbrev pub read_or : {A : Type 0} → (Text → Option A) → A → Option Text → Option A
+read_or read usual None = Some usual
+read_or read usual (Some text) = read text
+
+module _ {A : Type 0} {P : A → Type 0} {written : A → Text} {read : Text → Option A}
+    (reads : Reads A P written read) (usual : A) where
+  pub read_or-sound : (value : Option Text) (x : A) → read_or read usual value ≡ Some x
+      → IsWritten written usual value x
+  read_or-sound None x e = let is : usual ≡ x = cc e in sym is
+  read_or-sound (Some text) x e = reads.sound text x e
+
+  pub read_or-complete : (value : Option Text) (x : A) → P x → IsWritten written usual value x
+      → read_or read usual value ≡ Some x
+  read_or-complete None x p is = ap Some (sym is)
+  read_or-complete (Some text) x p is = ap read is ∙ reads.complete x p
+
+pub kind-one : (value : Option Text) (one other : Kind) → IsKind value one → IsKind value other
+    → one ≡ other
+kind-one value one other is is_other =
+    let same : Some one ≡ Some other =
+    sym (read_or-complete kinds_read kinds.Session value one tt is)
+    ∙ read_or-complete kinds_read kinds.Session value other tt is_other in
+    cc same

@@ -1,0 +1,31 @@
+-- What values write: numbers, and the names of modes and encodings.
+use Rattle.std.specs.Prelude.{◌≡◌, ℕ, Option, Some, None, codes}
+use Rattle.std.specs.Fmt.{decimal}
+use Rattle.nbfx_values.specs.Session.{kind_number}
+use Rattle.nbfx_values.specs.declared.session.Kind.{Kind}
+use Rattle.nbfx_values.specs.declared.session.Kind.TheVariants as kinds
+use Rattle.nbfx_values.specs.declared.session.Mode.{Mode}
+use Rattle.nbfx_values.specs.declared.session.Mode.TheVariants.{Singleton, Duplex, Simplex}
+use Rattle.command_words.specs.Options.{Text}
+
+-- the value is this, written so, or there is no value and this is usual
+abbrev pub IsWritten : {A : Type 0} → (A → Text) → A → Option Text → A → Type 0
+IsWritten written usual None meant = meant ≡ usual
+IsWritten written usual (Some text) meant = text ≡ written meant
+
+-- n is the number that a value writes in decimal digits, or the usual one where there is no value
+abbrev pub IsNumber : Option Text → ℕ → ℕ → Type 0
+IsNumber value usual n = IsWritten decimal usual value n
+
+abbrev pub mode_name : Mode → Text
+mode_name Duplex = codes "duplex"
+mode_name Simplex = codes "simplex"
+mode_name Singleton = codes "singleton"
+
+-- the number of an encoding
+abbrev pub kind_text : Kind → Text
+kind_text kind = decimal (kind_number kind)
+
+-- the encoding that a value names, or the one with a session dictionary where there is no value
+abbrev pub IsKind : Option Text → Kind → Type 0
+IsKind value kind = IsWritten kind_text kinds.Session value kind

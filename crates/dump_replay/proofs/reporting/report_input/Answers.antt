@@ -1,0 +1,78 @@
+use Rattle.std.proofs.Common.{◌≡◌, ap, sym, ◌∙◌, subst}
+use Rattle.nbfx_values.specs.QuotasOf.{limits_of}
+use Rattle.nbfx_values.specs.declared.refusals.Offence.{Offence}
+use Rattle.unit_streams.specs.Tellers.{Teller}
+use Rattle.stream_loop.specs.Answers.{written_by}
+use Rattle.stream_loop.specs.Edges.{Input, Output, input_at, output_at}
+use Rattle.stream_loop.specs.Reported.{EndsAs}
+use Rattle.stream_loop.specs.declared.reporting.Ending.TheVariants as endings
+use Rattle.stream_reader.specs.Standing.{settings_of}
+use Rattle.stream_reader.specs.Stream.{Settings, Side, StreamEvent, ends, stream}
+use Rattle.dump_replay.specs.declared.reporting.LineReporter.{LineReporter}
+use Rattle.dump_replay.specs.declared.reporting.Outcome.{Outcome}
+use Rattle.dump_replay.specs.declared.reporting.Outcome.TheVariants.{Open}
+use Rattle.dump_replay.specs.Reading.{event_for, said_by}
+use Rattle.dump_replay.specs.Report.{lines_of}
+use Rattle.dump_replay.specs.Statics.{settings_for}
+use Rattle.dump_replay.proofs.Beginnings.{ends_under, not_begun}
+use Rattle.dump_replay.proofs.Saying.{lines_are}
+use Rattle.dump_replay.proofs.Statuses.{reports_by}
+use Rattle.dump_replay.proofs.Streams.{ends_within}
+use Rattle.dump_replay.proofs.reporting.report_input.Goals as goal
+
+pub returns-in_default : goal.returns-in_default
+returns-in_default g c =
+    let x = settings_for c.args.origin c.args.statics.now (limits_of c.args.quotas) in
+    let i = input_at g.I.Source.left g.I.Source.taken g.I.Source.faults g.I.Source.empty_takes
+    c.args.input.now in
+    let o = output_at g.O.Sink.written g.O.Sink.held g.O.Sink.faults c.args.output in
+    reports_by c.args.detail x c.args.quotas.good i i o o Open endings.Memory
+    (not_begun (stream x) (lines_of c.args.detail) i o ends x.limits.session
+    (ends_within x c.args.quotas.good) Open)
+
+pub returns-in_default-gathering_room : goal.returns-in_default-gathering_room
+returns-in_default-gathering_room g c =
+    let x = settings_for c.args.origin c.args.statics.now (limits_of c.args.quotas) in
+    let i = input_at g.I.Source.left g.I.Source.taken g.I.Source.faults g.I.Source.empty_takes
+    c.args.input.now in
+    let o = output_at g.O.Sink.written g.O.Sink.held g.O.Sink.faults c.args.output in
+    reports_by c.args.detail x c.args.quotas.good i i o o Open endings.Memory
+    (not_begun (stream x) (lines_of c.args.detail) i o ends x.limits.session
+    (ends_within x c.args.quotas.good) Open)
+
+pub report_stream-ending-requires-clause-ends : goal.report_stream-ending-requires-clause-ends
+report_stream-ending-requires-clause-ends g c =
+    ends_within (settings_of c.in-Ok.end.reader) c.in-Ok.end.good
+
+pub returns : goal.returns
+returns g c =
+    let x = settings_for c.args.origin c.args.statics.now (limits_of c.args.quotas) in
+    let i = input_at g.I.Source.left g.I.Source.taken g.I.Source.faults g.I.Source.empty_takes
+    c.args.input.now in
+    let i' = input_at g.I.Source.left g.I.Source.taken g.I.Source.faults g.I.Source.empty_takes
+    c.report_stream-ending.new.input in
+    let o = output_at g.O.Sink.written g.O.Sink.held g.O.Sink.faults c.args.output in
+    let o' = output_at g.O.Sink.written g.O.Sink.held g.O.Sink.faults c.into_sink.result in
+    let ending = c.report_stream-ending.result in
+    let end = c.report_stream-ending.new.reporter.outcome in
+    let set = c.in-Ok.ensures.settings
+    ∙ ap (λ (s : Side). record {
+      side = s;
+      statics = c.args.statics.now;
+      limits = limits_of
+          c.args.quotas;
+    }) c.side_of.ensures in
+    let written = ap (λ (r : LineReporter). written_by event_for
+    (said_by r.detail)) c.new-reporter.ensures
+    ∙ lines_are c.args.detail in
+    let beneath = ends_under _ _ g.O.Sink.written g.O.Sink.held g.O.Sink.faults i i' end ending
+    c.args.output c.new-gathered.result.sink c.report_stream-ending.new.output.sink
+    c.into_sink.result
+    c.new-gathered.result.gathered _ c.new-gathered.ensures.sink c.new-gathered.ensures.nothing
+    c.into_sink.ensures c.report_stream-ending.ensures.reported in
+    let by_settings = subst (λ (s : Settings). EndsAs (stream s) (written_by event_for
+    (said_by c.new-reporter.result.detail)) i i' o o' end ending) set beneath in
+    let by_lines = subst (λ (t : Teller Outcome StreamEvent Offence). EndsAs
+    (stream x) t i i' o o' end ending) written by_settings in
+    rw c.status.ensures
+    (reports_by c.args.detail x c.args.quotas.good i i' o o' end ending by_lines)

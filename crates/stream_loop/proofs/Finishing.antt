@@ -1,0 +1,469 @@
+-- How the reporting of a stream ended, by what was put for the bytes that were read, and what was
+-- then written.
+use Rattle.std.proofs.Common.{IsErrOf, Bool, ◌≡◌, ℕ, ◌-◌, ◌+◌, ◌⊎◌, inl, inr, List, [], ◌++◌, length, take, Option, Some, None, Result, Ok, Err, IfOk, IfErr, OnOk, OnErr, ◌↔◌, refl, sym, ap, ◌∙◌, subst, arith, append_assoc}
+use Rattle.std.specs.Prelude.{⊤}
+use Rattle.std.proofs.Math.Seq.{take-append-add}
+use Rattle.std.proofs.lemmas.Bool.{cases_lt}
+use Rattle.std.proofs.lemmas.List.{append-nil, take-append-le}
+use Rattle.io_edges.specs.Faults.{CountsFaults}
+use Rattle.io_edges.specs.Flow.{Told, GrowsByPrefix, Passes}
+use Rattle.io_edges.specs.Puts.{PutsAll}
+use Rattle.io_edges.proofs.Putting.{PutsAll-then}
+use Rattle.io_edges.specs.declared.SinkFault.{SinkFault}
+use Rattle.io_edges.specs.declared.SinkFault.TheVariants as faults
+use Rattle.unit_streams.specs.Grammar.{Grammar}
+use Rattle.unit_streams.specs.Tellers.{Teller, AreDue, report, told_so_far}
+use Rattle.unit_streams.proofs.Telling.{told_nothing}
+use Rattle.stream_loop.specs.Edges.{Input, Output}
+use Rattle.stream_loop.specs.Reported.{AsksOnce, Breaks, Decides, EndsAs, Grows, IsJudged, Judges, Reaches, Reports, Writes}
+use Rattle.stream_loop.specs.Reading.{HasReported, IsAllRead, ReportsAs, done, ended_by}
+use Rattle.stream_loop.specs.declared.reporting.Ending.{Ending}
+use Rattle.stream_loop.specs.declared.reporting.Ending.TheVariants as endings
+use Rattle.stream_loop.proofs.Writing.{told_some, known_told, told_as, grown_within, put_either, counted_with, puts_grow}
+use Rattle.stream_loop.proofs.LoopSteps.{lines_due}
+
+-- what was put and then written, of what was reported so, and how that ends
+pub record Finished (R : Type 0) (r : Result (Ending R) SinkFault) (lines : List ℕ)
+    (o o1 o2 : Output) (m m2 : Bool) (e : Ending R) : Type 0 where
+  pub put : Result ⊤ SinkFault
+  pub puts : PutsAll lines put o.written o2.written o.held o2.held o.faults o2.faults m m2
+  pub grew : Told o1.written o2.written Grows
+  pub whole : OnOk put ((r ≡ Ok e) × (o2.held ≡ []))
+  pub stopped : IfErr put (λ fault. e ≡ ended_by fault)
+  pub kept : r ≡ Ok endings.ReadFault → e ≡ endings.ReadFault
+
+-- nothing more is written
+grows_not : (w : Option (List ℕ)) → Told w w Grows
+grows_not None = tt
+grows_not (Some w) = record { more = []; grown = sym (append-nil w) }
+
+module _ {Z U E R V : Type 0} (g : Grammar Z U E R) (t : Teller V E R) (S : Type 0) (seen : S
+    → Output) (mw : S → Bool) (first old new : S) (i i' : Input) (lines : List ℕ) (e : Ending R)
+  where
+    -- it ends so, of what was reported so
+    abbrev pub Finishes : Result (Ending R) SinkFault → Type 0
+    Finishes r = Finished R r lines (seen first) (seen old) (seen new) (mw first) (mw new) e
+
+    abbrev Flushes : Ending R → Type 0
+    Flushes k = (flush : Result ⊤ SinkFault)
+        × PutsAll [] flush (seen old).written (seen new).written (seen old).held (seen new).held
+        (seen old).faults (seen new).faults (mw old) (mw new)
+        × OnOk flush ((e ≡ k) × ((seen new).held ≡ [])) × IfErr flush (λ fault. e ≡ ended_by fault)
+
+    flushed_whole : (k : Ending R) (r : Result (Ending R) SinkFault) → r ≡ Ok k
+        → (flush : Result ⊤ SinkFault) → OnOk flush ((e ≡ k) × ((seen new).held ≡ []))
+        → OnOk flush ((r ≡ Ok e) × ((seen new).held ≡ []))
+    flushed_whole k r is (Ok u) h = (is ∙ ap Ok (sym h.0), h.1)
+    flushed_whole k r is (Err fault) h = tt
+
+    -- what was put before
+    abbrev PutBefore : Result ⊤ SinkFault → Type 0
+    PutBefore r = PutsAll lines r (seen first).written (seen old).written (seen first).held
+        (seen old).held (seen first).faults (seen old).faults (mw first) (mw old)
+
+    -- where the output is flushed
+    by_flush : (k : Ending R) → PutBefore (Ok tt) → (k ≡ endings.ReadFault → ⊥) → Flushes k
+        → Finishes (Ok k)
+    by_flush k puts not_read z = record {
+      put = z.0;
+      puts = rw append-nil at (PutsAll-then z.0 puts z.1);
+      grew = puts_grow z.0 z.1;
+      whole = flushed_whole k (Ok k) refl z.0 z.2;
+      stopped = z.3;
+      kept = λ is. absurd (not_read cc);
+    }
+
+    pub finished_by : (state : V) (r : Result (Ending R) SinkFault) → PutBefore (done r)
+        → HasReported g t i i' (seen first) (seen old) state r lines
+        → (r ≡ Ok endings.ReadFault → (e ≡ endings.ReadFault) × (new ≡ old))
+        → IfErr r (λ fault. (e ≡ ended_by fault) × (new ≡ old))
+        → IfOk r (λ k. (k ≡ endings.ReadFault → ⊥) → Flushes k)
+        → Finishes r
+    finished_by state (Err fault) puts b kept failed flushed = rw failed.1
+        (record {
+          put = Err fault;
+          puts = puts;
+          grew = grows_not (seen old).written;
+          whole = tt;
+          stopped = failed.0;
+          kept = λ is. cc;
+        })
+    finished_by state (Ok endings.ReadFault) puts b kept failed flushed =
+        let k = kept refl in
+        rw k.1 (record {
+          put = Ok tt;
+          puts = puts;
+          grew = grows_not (seen old).written;
+          whole = (ap Ok (sym k.0), b.ends.2);
+          stopped = tt;
+          kept = λ is. k.0;
+        })
+    finished_by state (Ok (endings.Judged o)) puts b kept failed flushed =
+        by_flush (endings.Judged o) puts (λ no. cc) (flushed (λ no. cc))
+    finished_by state (Ok endings.WriteFault) puts b kept failed flushed = absurd b.ends
+    finished_by state (Ok endings.Memory) puts b kept failed flushed = by_flush endings.Memory puts
+        (λ no. cc) (flushed (λ no. cc))
+
+module _ {R : Type 0} where
+  -- a stop by the output is none of these
+  never_judged : (fault : SinkFault) (judged : Option R) → endings.Judged judged ≡ ended_by fault
+      → ⊥
+  never_judged faults.Failed judged e = cc
+  never_judged faults.Memory judged e = cc
+
+  never_read : (fault : SinkFault) → ◌≡◌ {A = Ending R} endings.ReadFault (ended_by fault) → ⊥
+  never_read faults.Failed e = cc
+  never_read faults.Memory e = cc
+
+  stopped_failed : (fault : SinkFault) → ◌≡◌ {A = Ending R} (ended_by fault) endings.WriteFault
+      → fault ≡ faults.Failed
+  stopped_failed faults.Failed e = refl
+  stopped_failed faults.Memory e = cc
+
+module _ {Z U E R S : Type 0} (g : Grammar Z U E R) (t : Teller S E R) where
+  -- the first bytes of what was held and of lines
+  prefix_writes : (h lines w w' : List ℕ) → GrowsByPrefix w w' (h ++ lines) → Writes g t h [] w w'
+  prefix_writes h lines w w' p =
+      elim (cases_lt (length h) p.kept) [
+        | inl lt ↦
+            let n : ℕ = p.kept - length h in
+            let e : p.kept ≡ length h + n = omega arith in
+            let shape : take p.kept (h ++ lines) ≡ h ++ take n lines = ap (λ k. take k (h ++ lines))
+            e ∙ take-append-add h lines n in
+            let none : w ++ h ++ told_so_far g t [] ≡ w ++ h = ap (λ l. w ++ h ++ l)
+            (told_nothing g t) ∙ append-nil (w ++ h) in
+            inl (record {
+              more = take n lines;
+              grown = p.grown ∙ ap (λ l. w ++ l) shape
+                  ∙ sym (append_assoc w h (take n lines)) ∙ ap (λ l. l ++ take n lines) (sym none);
+            })
+        | inr ge ↦ inr (
+          refl,
+          record {
+            kept = p.kept;
+            grown = p.grown
+                ∙ ap (λ l. w ++ l) (take-append-le p.kept h lines ge);
+          },
+        )
+      ]
+
+  -- what is written after what was, where more comes
+  writes_on : (h before lines : List ℕ) (w w1 w2 : Option (List ℕ))
+      → Told w w1 (Writes g t h before) → Told w1 w2 Grows
+      → Told w w2 (λ w w'. GrowsByPrefix w w' (h ++ lines)) → Told w w2 (Writes g t h before)
+  writes_on h before lines None w1 w2 wrote grew all = tt
+  writes_on h before lines (Some w) None w2 wrote grew all = absurd wrote
+  writes_on h before lines (Some w) (Some w1) None wrote grew all = absurd grew
+  writes_on h before lines (Some w) (Some w1) (Some w2) (inl wrote) grew all = inl
+      (record {
+        more = wrote.more ++ grew.more;
+        grown = grew.grown
+            ∙ ap (λ l. l ++ grew.more) wrote.grown ∙ append_assoc (w ++ h ++ told_so_far g t before)
+            wrote.more grew.more;
+      })
+  writes_on h before lines (Some w) (Some w1) (Some w2) (inr none) grew all = rw none.0
+      (prefix_writes h lines w w2 all)
+
+module _ {Z U E R S : Type 0} (g : Grammar Z U E R) (t : Teller S E R) (i i' : Input)
+    (o o1 o2 : Output) (m m2 : Bool) (state : S) (r : Result (Ending R) SinkFault) (lines : List ℕ)
+    (e : Ending R)
+    (b : HasReported g t i i' o o1 state r lines) (z : Finished R r lines o o1 o2 m m2 e) where
+  abbrev reached : Reaches g t i i' o o1
+  reached = b.reached
+
+  -- what was reported so ends so
+  abbrev ReportsSo : Result (Ending R) SinkFault → Type 0
+  ReportsSo v = ReportsAs g t i i' o o1 reached.before reached.piece state v lines
+
+  abbrev AllRead : Type 0
+  AllRead = IsAllRead g t i i' o o1 reached.before reached.piece lines
+
+  -- the lines begin the stream's report
+  due : AllRead ⊎ AreDue g t (reached.before ++ reached.piece) [] lines
+  due = go r b.ends where
+    go : (v : Result (Ending R) SinkFault) → ReportsSo v → AllRead
+        ⊎ AreDue g t (reached.before ++ reached.piece) [] lines
+    go (Ok (endings.Judged judged)) (inl all) = inl all.0
+    go (Ok (endings.Judged judged)) (inr known) = inr (λ more. (
+      [],
+      (known.0 more).1
+          ∙ sym (append-nil lines),
+    ))
+    go (Ok endings.ReadFault) ends =
+        inr (subst (λ (y : List ℕ). AreDue g t (reached.before ++ y) [] lines) (sym ends.0)
+        (subst (λ (l : List ℕ). AreDue g t (reached.before ++ []) [] l) (sym ends.1)
+        (lines_due g t reached.before reached.pending)))
+    go (Ok endings.WriteFault) ends = absurd ends
+    go (Ok endings.Memory) ends = inr ends.0
+    go (Err fault) (inl all) = inl all
+    go (Err fault) (inr known) = inr known.0
+
+  -- as one that ends so
+  as_ended : (put : Result ⊤ SinkFault) → OnOk put ((r ≡ Ok e) × (o2.held ≡ []))
+      → OnOk put (ReportsSo (Ok e))
+  as_ended (Ok u) whole = subst ReportsSo whole.0 b.ends
+  as_ended (Err fault) whole = tt
+
+  -- all was written
+  all_written : Told o.written o2.written (λ w w'. Passes w w' o.held o2.held lines) → o2.held ≡ []
+      → Told o.written o2.written (λ w w'. w' ≡ w ++ o.held ++ lines)
+  all_written told none = told_as (λ l l'. Passes l l' o.held o2.held lines)
+      (λ l l'. l' ≡ l ++ o.held ++ lines) o.written o2.written told (λ l l' p.
+      let put : p.put ≡ o.held ++ lines = sym (append-nil p.put) ∙ ap (λ k. p.put ++ k) (sym none)
+      ∙ sym p.split in
+      p.grown ∙ ap (λ k. l ++ k) put ∙ sym (append_assoc l o.held lines))
+
+  -- where it isn't stopped by the output
+  whole_end : ((fault : SinkFault) → e ≡ ended_by fault → ⊥) → ReportsSo (Ok e)
+      × Told o.written o2.written (λ w w'. w' ≡ w ++ o.held ++ lines)
+  whole_end never = go z.put z.puts.written z.whole z.stopped where
+    go : (put : Result ⊤ SinkFault)
+        → OnOk put (Told o.written o2.written (λ w w'. Passes w w' o.held o2.held lines))
+        → OnOk put ((r ≡ Ok e) × (o2.held ≡ [])) → IfErr put (λ fault. e ≡ ended_by fault)
+        → ReportsSo (Ok e) × Told o.written o2.written (λ w w'. w' ≡ w ++ o.held ++ lines)
+    go (Ok u) written whole stopped = (as_ended (Ok u) whole, all_written written whole.1)
+    go (Err fault) written whole stopped = absurd (never fault stopped)
+
+  judged_end : (judged : Option R) → e ≡ endings.Judged judged
+      → ReportsSo (Ok (endings.Judged judged)) × Told o.written o2.written (λ w w'. w' ≡ w ++ o.held
+      ++ lines)
+  judged_end judged is =
+      let k = whole_end (λ fault by. never_judged fault judged (sym is ∙ by)) in
+      (subst (λ (v : Ending R). ReportsSo (Ok v)) is k.0, k.1)
+
+  -- the first bytes of the lines are written, or all
+  written_front : Told o.written o2.written (λ w w'. GrowsByPrefix w w' (o.held ++ lines))
+  written_front = go z.put z.puts.written z.puts.refused z.whole where
+    go : (put : Result ⊤ SinkFault)
+        → OnOk put (Told o.written o2.written (λ w w'. Passes w w' o.held o2.held lines))
+        → OnErr put (Told o.written o2.written (λ w w'. GrowsByPrefix w w' (o.held ++ lines)))
+        → OnOk put ((r ≡ Ok e) × (o2.held ≡ []))
+        → Told o.written o2.written (λ w w'. GrowsByPrefix w w' (o.held ++ lines))
+    go (Ok u) written refused whole =
+        put_either (Ok u) o.written o2.written (o.held ++ lines)
+        (told_as (λ l l'. l' ≡ l ++ o.held ++ lines) (λ l l'. l' ≡ l ++ (o.held ++ lines))
+        o.written o2.written (all_written written whole.1) (λ l l' k. k
+        ∙ append_assoc l o.held lines)) tt
+    go (Err fault) written refused whole = refused
+
+  module _ (bytes : List ℕ) (is : i.left ≡ Some bytes) where
+    rest : (rest : List ℕ) × (i'.left ≡ Some rest)
+        × (bytes ≡ reached.before ++ reached.piece ++ rest)
+    rest = told_some (λ all rest. all ≡ reached.before ++ reached.piece ++ rest) i.left i'.left
+        bytes is reached.stream
+
+    -- where all was read
+    all_read : AllRead → bytes ≡ reached.before
+    all_read all =
+        let over = told_some (λ all rest. rest ≡ []) i.left i'.left bytes is all.2 in
+        let same : rest.0 ≡ [] = (let one = rest.1 in let other = over.1 in cc) ∙ over.2 in
+        rest.2 ∙ ap (λ l. reached.before ++ l ++ rest.0) all.0 ∙ ap (λ l. reached.before ++ [] ++ l)
+        same ∙ append-nil (reached.before ++ []) ∙ append-nil reached.before
+
+    -- the report begins with the lines
+    report_front : (more : List ℕ) × (report g t bytes ≡ lines ++ more)
+    report_front =
+        elim due [
+          | inl all ↦ ([], ap (report g t) (all_read all) ∙ all.1 ∙ sym (append-nil lines))
+          | inr known ↦ let k = known rest.0 in (k.0, ap (report g t) rest.2 ∙ k.1)
+        ]
+
+    report_is : (judged : Option R) → e ≡ endings.Judged judged → (report g t bytes ≡ lines)
+        × IsJudged g t judged state bytes
+    report_is judged ended =
+        elim (judged_end judged ended).0 [
+          | inl all ↦ (
+            ap (report g t) (all_read all.0) ∙ all.0.1,
+            subst (IsJudged g t judged state)
+                (sym (all_read all.0)) all.1,
+          )
+          | inr known ↦ let k = known.0 rest.0 in (
+            ap (report g t) rest.2
+                ∙ k.1,
+            subst (IsJudged g t judged state) (sym rest.2) k.0,
+          )
+        ]
+
+    pub judges : Judges g t i i' o o2 bytes state e
+    judges = go e refl where
+      go : (v : Ending R) → e ≡ v → Judges g t i i' o o2 bytes state v
+      go (endings.Judged judged) ended = (report_is judged ended).1
+      go endings.ReadFault ended = tt
+      go endings.WriteFault ended = tt
+      go endings.Memory ended = tt
+
+    module _ (l : List ℕ) (before : o.written ≡ Some l) where
+      front : (l' : List ℕ) × (o2.written ≡ Some l')
+          × GrowsByPrefix l l' (o.held ++ report g t bytes)
+      front =
+          let k = told_some (λ l l'. GrowsByPrefix l l' (o.held ++ lines)) o.written o2.written l
+          before written_front in
+          let more = report_front in (
+            k.0,
+            k.1,
+            subst (GrowsByPrefix l k.0) (append_assoc o.held lines more.0
+                ∙ ap (λ s. o.held ++ s) (sym more.1)) (grown_within l k.0 (o.held ++ lines) more.0
+                k.2),
+          )
+
+      pub reports : (l' : List ℕ) × (o2.written ≡ Some l') × Reports g t i i' o o2 bytes l l' e
+      reports = go e refl where
+        go : (v : Ending R) → e ≡ v → (l' : List ℕ) × (o2.written ≡ Some l')
+            × Reports g t i i' o o2 bytes l l' v
+        go (endings.Judged judged) ended =
+            let k = told_some (λ l l'. l' ≡ l ++ o.held ++ lines) o.written o2.written l before
+            (judged_end judged ended).1 in
+            (k.0, k.1, k.2 ∙ ap (λ s. l ++ o.held ++ s) (sym (report_is judged ended).0))
+        go endings.ReadFault ended = front
+        go endings.WriteFault ended = front
+        go endings.Memory ended = front
+
+  pub decides : (judged : Option R) → e ≡ endings.Judged judged → Decides g t i i' o o2 judged state
+  decides judged ended =
+      let k = judged_end judged ended in
+      elim k.0 [
+        | inl all ↦ record {
+          bytes = reached.before;
+          judged_so = all.1;
+          settled = inl (reached.pending, all.0.3);
+          stream = known_told (λ all rest. (all ≡ reached.before ++ rest)
+              × ((rest ≡ []) ⊎ ((more : List ℕ)
+              → IsJudged g t judged state (reached.before ++ more)))) i.left i'.left (λ bytes is.
+              let over = told_some (λ all rest. rest ≡ []) i.left i'.left bytes is all.0.2 in (
+                over.0,
+                over.1,
+                (
+                  all_read bytes is all.0 ∙ sym (append-nil reached.before)
+                      ∙ ap (λ l. reached.before ++ l) (sym over.2),
+                  inl over.2,
+                ),
+              ));
+          took = told_as (λ t t'. t' ≡ t ++ reached.before ++ reached.piece)
+              (λ t t'. t' ≡ t ++ reached.before) i.taken i'.taken reached.took (λ t t' s. s
+              ∙ ap (λ l. t ++ reached.before ++ l) all.0.0 ∙ append-nil (t ++ reached.before));
+          wrote = told_as (λ l l'. l' ≡ l ++ o.held ++ lines) (λ l l'. l' ≡ l ++ o.held ++ report g
+              t reached.before) o.written o2.written k.1 (λ l l' s. s ∙ ap (λ q. l ++ o.held ++ q)
+              (sym all.0.1));
+        }
+        | inr known ↦ record {
+          bytes = reached.before ++ reached.piece;
+          judged_so = subst (IsJudged g t judged state)
+              (append-nil (reached.before ++ reached.piece)) (known.0 []).0;
+          settled = inr (λ more. (known.0 more).0, known.1);
+          stream = told_as (λ all rest. all ≡ reached.before ++ reached.piece ++ rest)
+              (λ all rest. (all ≡ reached.before ++ reached.piece ++ rest)
+              × ((rest ≡ []) ⊎ ((more : List ℕ)
+              → IsJudged g t judged state (reached.before ++ reached.piece ++ more)))) i.left
+              i'.left reached.stream
+              (λ all rest s. (s, inr (λ more. (known.0 more).0)));
+          took = told_as (λ t t'. t' ≡ t ++ reached.before ++ reached.piece)
+              (λ t t'. t' ≡ t ++ (reached.before ++ reached.piece)) i.taken i'.taken reached.took
+              (λ t t' s. s ∙ append_assoc t reached.before reached.piece);
+          wrote = told_as (λ l l'. l' ≡ l ++ o.held ++ lines) (λ l l'. l' ≡ l ++ o.held ++ report g
+              t (reached.before ++ reached.piece)) o.written o2.written k.1
+              (λ l l' s. s ∙ ap (λ q. l ++ o.held ++ q)
+              (sym (ap (report g t) (sym (append-nil (reached.before ++ reached.piece)))
+              ∙ (known.0 []).1)));
+        }
+      ]
+
+  -- where a read failed
+  read_end : e ≡ endings.ReadFault → ReportsSo (Ok endings.ReadFault)
+      × Told o.written o2.written (λ w w'. w' ≡ w ++ o.held ++ lines)
+  read_end ended =
+      let k = whole_end (λ fault by. never_read fault (sym ended ∙ by)) in
+      (subst (λ (v : Ending R). ReportsSo (Ok v)) ended k.0, k.1)
+
+  pub breaks : e ≡ endings.ReadFault → Breaks g t i i' o o2
+  breaks ended =
+      let k = read_end ended in
+      let ends : ReportsSo (Ok endings.ReadFault) = k.0 in
+      record {
+        bytes = reached.before;
+        pending = reached.pending;
+        stream = told_as (λ all rest. all ≡ reached.before ++ reached.piece ++ rest)
+            (λ all rest. all ≡ reached.before ++ rest) i.left i'.left reached.stream
+            (λ all rest s. s ∙ ap (λ l. reached.before ++ l ++ rest) ends.0
+            ∙ ap (λ l. l ++ rest) (append-nil reached.before));
+        took = told_as (λ t t'. t' ≡ t ++ reached.before ++ reached.piece)
+            (λ t t'. t' ≡ t ++ reached.before) i.taken i'.taken reached.took (λ t t' s. s
+            ∙ ap (λ l. t ++ reached.before ++ l) ends.0 ∙ append-nil (t ++ reached.before));
+        wrote = told_as (λ l l'. l' ≡ l ++ o.held ++ lines) (λ l l'. l' ≡ l ++ o.held ++ told_so_far
+            g t reached.before) o.written o2.written k.1 (λ l l' s. s ∙ ap (λ q. l ++ o.held ++ q)
+            ends.1);
+        unasked = ends.3;
+      }
+
+  pub reaches : Reaches g t i i' o o2
+  reaches = record {
+    before = reached.before;
+    piece = reached.piece;
+    pending = reached.pending;
+    short = reached.short;
+    stream = reached.stream;
+    took = reached.took;
+    wrote = writes_on g t o.held reached.before lines o.written o1.written o2.written reached.wrote
+        z.grew written_front;
+  }
+
+  -- a read did where reading did
+  read_as : (put : Result ⊤ SinkFault) → OnOk put ((r ≡ Ok e) × (o2.held ≡ []))
+      → IfErr put (λ fault. e ≡ ended_by fault) → e ≡ endings.ReadFault → r ≡ Ok endings.ReadFault
+  read_as (Ok u) whole stopped ended = whole.0 ∙ ap Ok ended
+  read_as (Err fault) whole stopped ended = absurd (never_read fault (sym ended ∙ stopped))
+
+  -- how often the input was asked at its end
+  pub asks_once : AsksOnce g t i i' o o2 e
+  asks_once = go r b.ends (read_as z.put z.whole z.stopped) where
+    go : (v : Result (Ending R) SinkFault) → ReportsSo v → (e ≡ endings.ReadFault
+        → v ≡ Ok endings.ReadFault) → AsksOnce g t i i' o o2 e
+    go (Ok (endings.Judged judged)) (inl all) read = inr (
+      all.0.3,
+      λ ended. let no = read ended in
+          cc,
+    )
+    go (Ok (endings.Judged judged)) (inr known) read = inl known.1
+    go (Ok endings.ReadFault) ends read = inl ends.3
+    go (Ok endings.WriteFault) ends read = absurd ends
+    go (Ok endings.Memory) ends read = inl ends.1
+    go (Err fault) (inl all) read = inr (all.3, λ ended. let no = read ended in cc)
+    go (Err fault) (inr known) read = inl known.1
+
+  -- a write failed where the output did
+  failed_as : (put : Result ⊤ SinkFault) → OnOk put ((r ≡ Ok e) × (o2.held ≡ []))
+      → IfErr put (λ fault. e ≡ ended_by fault) → (e ≡ endings.WriteFault) ↔ IsErrOf put
+      faults.Failed
+  failed_as (Ok u) whole stopped = (
+    λ ended. absurd (subst (λ (v : Ending R). ReportsSo (Ok v))
+        ended (as_ended (Ok u) whole)),
+    λ no. cc,
+  )
+  failed_as (Err fault) whole stopped = (
+    λ ended. ap Err (stopped_failed fault (sym stopped
+        ∙ ended)),
+    λ failed. let same : fault ≡ faults.Failed = cc in stopped ∙ ap ended_by same,
+  )
+
+  pub writes_counted : CountsFaults o.faults o2.faults (e ≡ endings.WriteFault)
+  writes_counted =
+      let same = failed_as z.put z.whole z.stopped in
+      counted_with _ _ _ _ _ refl z.puts.counted same.0 same.1
+
+  pub reads_counted : CountsFaults i.faults i'.faults (r ≡ Ok endings.ReadFault)
+      → CountsFaults i.faults i'.faults (e ≡ endings.ReadFault)
+  reads_counted counted = counted_with _ _ _ _ _ refl counted (read_as z.put z.whole z.stopped)
+      z.kept
+
+  -- all of it
+  pub ends_so : CountsFaults i.faults i'.faults (r ≡ Ok endings.ReadFault)
+      → EndsAs g t i i' o o2 state e
+  ends_so counted = record {
+    judges = judges;
+    reports = λ bytes w left before. reports bytes left w before;
+    decides = decides;
+    breaks = breaks;
+    reaches = reaches;
+    asks_once = asks_once;
+    reads_counted = reads_counted counted;
+    writes_counted = writes_counted;
+  }

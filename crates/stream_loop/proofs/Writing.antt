@@ -1,0 +1,110 @@
+-- What is told before and afterwards, what counts say, and what is written after what was.
+use Rattle.std.proofs.Common.{IsErrOf, ◌≡◌, ℕ, inl, inr, List, [], ◌++◌, length, take, Bool, true, Option, Some, None, Result, Ok, Err, OnOk, OnErr, refl, sym, ap, ◌∙◌, subst, arith}
+use Rattle.std.proofs.lemmas.Bool.{cases_lt}
+use Rattle.std.proofs.lemmas.List.{append-nil, take_all, take-append-le}
+use Rattle.std.specs.Prelude.{⊤}
+use Rattle.io_edges.specs.Faults.{CountsFaults}
+use Rattle.io_edges.specs.Flow.{Told, GrowsByPrefix, Passes}
+use Rattle.io_edges.specs.Puts.{PutsAll}
+use Rattle.io_edges.specs.declared.SinkFault.{SinkFault}
+use Rattle.io_edges.specs.declared.SinkFault.TheVariants as faults
+use Rattle.io_edges.proofs.Putting.{PutsAll-then, flush_puts}
+use Rattle.stream_loop.specs.Reported.{Grows}
+
+-- what was told before, and what it became
+pub told_some : (P : List ℕ → List ℕ → Type 0) (old new : Option (List ℕ)) (w : List ℕ)
+    → old ≡ Some w → Told old new P → (w' : List ℕ) × (new ≡ Some w') × P w w'
+told_some P None new w e h = cc
+told_some P (Some v) None w e h = absurd h
+told_some P (Some v) (Some v') w e h = let same : v ≡ w = cc in (v', refl, rw same at h)
+
+-- what is told afterwards wherever it was told before
+pub known_told : (P : List ℕ → List ℕ → Type 0) (old new : Option (List ℕ))
+    → ((l : List ℕ) → old ≡ Some l → (l' : List ℕ) × (new ≡ Some l') × P l l') → Told old new P
+known_told P None new known = tt
+known_told P (Some old) new known = let k = known old refl in rw k.1 k.2
+
+-- what is told says what follows from it
+pub told_as : (P Q : List ℕ → List ℕ → Type 0) (old new : Option (List ℕ)) → Told old new P
+    → ((l l' : List ℕ) → P l l' → Q l l') → Told old new Q
+told_as P Q None new told weaker = tt
+told_as P Q (Some l) None told weaker = absurd told
+told_as P Q (Some l) (Some l') told weaker = weaker l l' told
+
+-- a count that stood still, and what a call left of it then
+counted_later : (a b c : ℕ) (failed : Type 0) → b ≡ a → CountsFaults b c failed
+    → CountsFaults a c failed
+counted_later a b c failed still h = subst (λ (n : ℕ). CountsFaults n c failed) still h
+
+-- the same of a call that fails where another does
+pub counted_with : (a b c : ℕ) (failed other : Type 0) → b ≡ a → CountsFaults b c other
+    → (failed → other) → (other → failed) → CountsFaults a c failed
+counted_with a b c failed other still h to back =
+    counted_later a b c failed still (record {
+      rose = λ f. h.rose (to f);
+      same = λ none. h.same
+          (λ o. none (back o));
+      grows = h.grows;
+    })
+
+-- a count that stood still where nothing failed
+pub counted_none : (a b : ℕ) (failed : Type 0) → b ≡ a → (failed → ⊥) → CountsFaults a b failed
+counted_none a b failed still never = record {
+  rose = λ f. absurd (never f);
+  same = λ none. still;
+  grows = omega (arith, still);
+}
+
+-- the first bytes of what is to come, and of more
+pub grown_within : (w w' b c : List ℕ) → GrowsByPrefix w w' b → GrowsByPrefix w w' (b ++ c)
+grown_within w w' b c h =
+    elim (cases_lt (length b) h.kept) [
+      | inl lt ↦
+          let all : take h.kept b ≡ b = take_all h.kept b (omega arith) in
+          let front : take (length b) (b ++ c) ≡ b = take-append-le (length b) b c (omega arith)
+          ∙ take_all (length b) b (omega arith) in
+          record { kept = length b; grown = h.grown ∙ ap (λ l. w ++ l) (all ∙ sym front) }
+      | inr ge ↦ record {
+        kept = h.kept;
+        grown = h.grown
+            ∙ ap (λ l. w ++ l) (sym (take-append-le h.kept b c ge));
+      }
+    ]
+
+-- what a put leaves, whether it is refused or not
+pub put_either : (answer : Result ⊤ SinkFault) (old new : Option (List ℕ)) (b : List ℕ)
+    → OnOk answer (Told old new (λ w w'. w' ≡ w ++ b))
+    → OnErr answer (Told old new (λ w w'. GrowsByPrefix w w' b))
+    → Told old new (λ w w'. GrowsByPrefix w w' b)
+put_either (Ok u) None new b h k = tt
+put_either (Ok u) (Some w) None b h k = absurd h
+put_either (Ok u) (Some w) (Some w') b h k = record {
+  kept = length b;
+  grown = h
+      ∙ ap (λ l. w ++ l) (sym (take_all (length b) b (omega arith)));
+}
+put_either (Err fault) old new b h k = k
+
+-- what a put adds to what is written
+pub prefix_grows : (b : List ℕ) (w w' : Option (List ℕ)) → Told w w' (λ w w'. GrowsByPrefix w w' b)
+    → Told w w' Grows
+prefix_grows b w w' h = told_as (λ l l'. GrowsByPrefix l l' b) Grows w w' h
+    (λ l l' k. record { more = take k.kept b; grown = k.grown })
+
+pub puts_grow : {lines : List ℕ} (r : Result ⊤ SinkFault) {w w' : Option (List ℕ)} {h h' : List ℕ}
+    {f f' : ℕ} {m m' : Bool} → PutsAll lines r w w' h h' f f' m m' → Told w w' Grows
+puts_grow {lines = lines} (Ok u) {w = w} {w' = w'} {h = h} {h' = h'} p = told_as
+    (λ l l'. Passes l l' h h' lines) Grows w w' p.written
+    (λ l l' k. record { more = k.put; grown = k.grown })
+puts_grow {lines = lines} (Err fault) {w = w} {w' = w'} {h = h} p = prefix_grows (h ++ lines) w w'
+    p.refused
+
+-- what was put, and then written
+pub after_flush : {lines : List ℕ} (r : Result ⊤ SinkFault) {w w1 w2 : Option (List ℕ)}
+    {h h1 h2 : List ℕ} {f f1 f2 : ℕ} {m m1 m2 : Bool} → PutsAll lines (Ok tt) w w1 h h1 f f1 m m1
+    → OnOk r (Told w1 w2 (λ w w'. w' ≡ w ++ h1))
+    → OnErr r (Told w1 w2 (λ w w'. GrowsByPrefix w w' h1)) → h2 ≡ []
+    → CountsFaults f1 f2 (IsErrOf r faults.Failed) → (IsErrOf r faults.Memory → m1 ≡ true) → m2 ≡ m1
+    → PutsAll lines r w w2 h h2 f f2 m m2
+after_flush r p written refused emptied counted wanted settled = rw append-nil at
+    (PutsAll-then r p (flush_puts r written refused emptied counted wanted settled))

@@ -1,0 +1,37 @@
+use Rattle.std.proofs.Common.{◌≡◌, ℕ, ◌-◌, List, ◌++◌, length, Some, Ok}
+use Rattle.io_edges.specs.Puts.{PutsAll}
+use Rattle.unit_streams.specs.Going.{IsPending}
+use Rattle.unit_streams.specs.Tellers.{told_so_far}
+use Rattle.stream_loop.specs.Answers.{written_by}
+use Rattle.stream_loop.specs.Reading.{HasRead}
+use Rattle.stream_loop.proofs.LoopSteps.{WritesSoFar}
+use Rattle.stream_loop.proofs.reporting.put_report.Given as goal
+
+abbrev pub invariant-loop-room : goal.invariant-loop-room
+invariant-loop-room g l = record {
+  room : length l.room.items ≡ 65536;
+  grammar : g.E.ReadingEnd.grammar l.end ≡ g.E.ReadingEnd.grammar l.initial.end;
+  rules : g.T.Reporter.rules l.reporter ≡ g.T.Reporter.rules l.initial.reporter;
+  input_faults : g.I.Source.faults l.input ≡ g.I.Source.faults l.initial.input;
+  empty_takes : g.I.Source.empty_takes l.input ≡ g.I.Source.empty_takes l.initial.input;
+  reads : (p : List ℕ) × HasRead (g.E.ReadingEnd.grammar l.initial.end)
+      (written_by g.E.ReadingEnd.event_for (g.T.Reporter.rules l.initial.reporter))
+      (g.E.ReadingEnd.stands l.end) (g.T.Reporter.state l.reporter) p
+      × IsPending (g.E.ReadingEnd.grammar l.initial.end) p
+      × ((bytes : List ℕ) → g.I.Source.left l.initial.input ≡ Some bytes → (rest : List ℕ)
+      × (g.I.Source.left l.input ≡ Some rest) × (bytes ≡ p ++ rest))
+      × ((t : List ℕ) → g.I.Source.taken l.initial.input ≡ Some t → g.I.Source.taken l.input
+      ≡ Some (t ++ p))
+      × PutsAll (told_so_far (g.E.ReadingEnd.grammar l.initial.end)
+      (written_by g.E.ReadingEnd.event_for (g.T.Reporter.rules l.initial.reporter)) p) (Ok tt)
+      (g.O.Sink.written l.initial.output) (g.O.Sink.written l.output)
+      (g.O.Sink.held l.initial.output) (g.O.Sink.held l.output)
+      (g.O.Sink.faults l.initial.output) (g.O.Sink.faults l.output)
+      (g.O.Sink.may_want l.initial.output) (g.O.Sink.may_want l.output)
+      × WritesSoFar (g.E.ReadingEnd.grammar l.initial.end) (written_by g.E.ReadingEnd.event_for
+      (g.T.Reporter.rules l.initial.reporter)) (g.O.Sink.written l.initial.output)
+      (g.O.Sink.written l.output) (g.O.Sink.held l.initial.output) (g.O.Sink.held l.output) p;
+}
+
+abbrev pub decreases-loop-room : goal.decreases-loop-room
+decreases-loop-room g l = g.E.ReadingEnd.most l.initial.end - g.E.ReadingEnd.taken l.end

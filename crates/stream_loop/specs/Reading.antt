@@ -1,0 +1,84 @@
+-- What the parts of the loop answer.
+use Rattle.std.specs.Prelude.{◌≡◌, ◌⊎◌, ⊤, ℕ, List, [], ◌++◌, Option, Result, Ok, Err}
+use Rattle.io_edges.specs.Faults.{one_more}
+use Rattle.io_edges.specs.Flow.{Told}
+use Rattle.io_edges.specs.declared.SinkFault.{SinkFault}
+use Rattle.io_edges.specs.declared.SinkFault.TheVariants as faults
+use Rattle.unit_streams.specs.Grammar.{Grammar}
+use Rattle.unit_streams.specs.Going.{IsPending, IsOpenAt}
+use Rattle.unit_streams.specs.Tellers.{Teller, AreDue, report, told_so_far, state_at}
+use Rattle.stream_loop.specs.Edges.{Input, Output}
+use Rattle.stream_loop.specs.Reported.{IsJudged, Reaches}
+use Rattle.stream_loop.specs.declared.pieces.Progress.{Progress}
+use Rattle.stream_loop.specs.declared.pieces.Progress.TheVariants.{Going, Judged, Starved}
+use Rattle.stream_loop.specs.declared.reporting.Ending.{Ending}
+use Rattle.stream_loop.specs.declared.reporting.Ending.TheVariants as endings
+
+-- an answer that brings something, as one that brings nothing
+abbrev pub done : {A : Type 0} → Result A SinkFault → Result ⊤ SinkFault
+done (Ok a) = Ok tt
+done (Err fault) = Err fault
+
+-- what a fault of the output ends the reporting of a stream with
+abbrev pub ended_by : {R : Type 0} → SinkFault → Ending R
+ended_by faults.Failed = endings.WriteFault
+ended_by faults.Memory = endings.Memory
+
+module _ {Z U E R S : Type 0} (g : Grammar Z U E R) (t : Teller S E R) where
+  -- an end that stands so has read p, of which no shorter prefix is refused or ends the stream, and
+  -- a reporter in such a state has put what is written of its events
+  pub record HasRead (stands : List ℕ → Type 0) (state : S) (p : List ℕ) : Type 0 where
+    pub stands_for : stands p
+    pub on : IsOpenAt g p
+    pub state_is : state ≡ state_at g t p
+
+  -- what is known of a stream of which p is read, when the bytes y came, and what is put then
+  abbrev pub ReadsOf : (stands : List ℕ → Type 0) (state : S) (p y : List ℕ)
+      → Result (Progress R) SinkFault → List ℕ → Type 0
+  ReadsOf stands state p y (Ok Going) lines =
+      HasRead stands state (p ++ y) × IsPending g (p ++ y)
+      × (told_so_far g t (p ++ y) ≡ told_so_far g t p ++ lines)
+  ReadsOf stands state p y (Ok (Judged judged)) lines =
+      (more : List ℕ) → IsJudged g t judged state ((p ++ y) ++ more)
+      × (report g t ((p ++ y) ++ more) ≡ told_so_far g t p ++ lines)
+  ReadsOf stands state p y (Ok Starved) lines = AreDue g t (p ++ y) (told_so_far g t p) lines
+  ReadsOf stands state p y (Err fault) lines = AreDue g t (p ++ y) (told_so_far g t p) lines
+
+  -- what is known where the input is over after p, and what is put then
+  abbrev pub EndsOf : (state : S) (p : List ℕ) → Result (Option R) SinkFault → List ℕ → Type 0
+  EndsOf state p (Ok judged) lines =
+      IsJudged g t judged state p × (report g t p ≡ told_so_far g t p ++ lines)
+  EndsOf state p (Err fault) lines = report g t p ≡ told_so_far g t p ++ lines
+
+  module _ (i i' : Input) (o o' : Output) where
+    -- all of the stream was read before, one take gave nothing, and its report are the lines
+    abbrev pub IsAllRead : (before piece lines : List ℕ) → Type 0
+    IsAllRead before piece lines = (piece ≡ []) × (report g t before ≡ lines)
+        × Told i.left i'.left (λ all rest. rest ≡ [])
+        × (i'.empty_takes ≡ one_more i.empty_takes)
+
+    -- no take gave nothing
+    abbrev pub IsUnasked : Type 0
+    IsUnasked = i'.empty_takes ≡ i.empty_takes
+
+    -- what lines are a stream's, of which bytes were read before, and then a piece, how that ended,
+    -- and what the output holds then
+    abbrev pub ReportsAs : (before piece : List ℕ) (state : S) → Result (Ending R) SinkFault
+        → List ℕ → Type 0
+    ReportsAs before piece state (Ok (endings.Judged judged)) lines =
+        (IsAllRead before piece lines × IsJudged g t judged state before)
+        ⊎ (((more : List ℕ) → IsJudged g t judged state ((before ++ piece) ++ more)
+        × (report g t ((before ++ piece) ++ more) ≡ lines)) × IsUnasked)
+    ReportsAs before piece state (Ok endings.ReadFault) lines =
+        (piece ≡ []) × (lines ≡ told_so_far g t before) × (o'.held ≡ []) × IsUnasked
+    ReportsAs before piece state (Ok endings.WriteFault) lines = ⊥
+    ReportsAs before piece state (Ok endings.Memory) lines =
+        AreDue g t (before ++ piece) [] lines × IsUnasked
+    ReportsAs before piece state (Err fault) lines =
+        IsAllRead before piece lines ⊎ (AreDue g t (before ++ piece) [] lines × IsUnasked)
+
+    -- what was read of a stream, what was written then, and which lines were put for it
+    pub record HasReported (state : S) (result : Result (Ending R) SinkFault) (lines : List ℕ)
+        : Type 0 where
+      pub reached : Reaches g t i i' o o'
+      pub ends : ReportsAs reached.before reached.piece state result lines
