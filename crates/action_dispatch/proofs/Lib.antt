@@ -1,0 +1,10 @@
+-- the texts of a file, one row more; the blocks that are understood; what may stand in a Body
+pub mod TextFacts
+pub mod RowFacts
+pub mod BlockFacts
+pub mod Replies
+pub mod AnswerFacts
+-- worked cases
+mod Requests
+mod Worked
+mod WorkedFiles

@@ -1,0 +1,153 @@
+-- Worked cases: the answers to literal requests.
+use Rattle.std.proofs.Common.{◌≡◌, List, [], ◌∷◌, ◌++◌, codes, map, refl}
+use Rattle.nbfx_values.specs.declared.content.Item.{Item}
+use Rattle.nbfx_values.specs.declared.content.Item.TheVariants.{Start, Xmlns, Close}
+use Rattle.soap_envelope.proofs.Documents.{action, attribute, echo, enveloped, message, role, s, words}
+use Rattle.soap_envelope.proofs.OnLiterals.{envelopes_on_literals}
+use Rattle.action_dispatch.specs.declared.answers.Answer.{Answer}
+use Rattle.action_dispatch.specs.declared.answers.Answer.TheVariants.{Reply, Nothing}
+use Rattle.action_dispatch.specs.declared.service.Served.TheVariants as said
+use Rattle.action_dispatch.specs.Actions.{text_for}
+use Rattle.action_dispatch.specs.Answers.{Serves, answered}
+use Rattle.action_dispatch.specs.Refusals.{unfit_fault}
+use Rattle.action_dispatch.specs.Services.{echoed, reply_with}
+use Rattle.action_dispatch.proofs.Requests.{acting, addressing_action, fault, hi, identified, related, reply, reply_to, request, secured, soap_action, subcode}
+
+abbrev Row : Type 0
+Row = List Item × Answer
+
+abbrev AllAnswered : Serves → List Row → Type 0
+AllAnswered serves rows = map (λ (r : Row). answered serves r.0) rows ≡ map (λ (r : Row). r.1) rows
+
+-- a request that is served is echoed under its action, and relates to its identifier
+echoes : AllAnswered echoed (
+    (echo, Reply (reply (codes "urn:echoResponse") hi) identified)
+    ∷ (
+      request action,
+      Reply (enveloped (s (codes "Header") (acting (codes "urn:echoResponse"))
+          ++ s (codes "Body") hi)) [],
+    )
+    ∷ (
+      request (action ++ message
+          ++ reply_to (codes "http://www.w3.org/2005/08/addressing/anonymous")),
+      Reply (reply (codes "urn:echoResponse") hi) identified,
+    )
+    ∷ (
+      request (secured (role (codes "http://www.w3.org/2003/05/soap-envelope/role/none") ∷ [])
+          ++ action ++ message),
+      Reply (reply (codes "urn:echoResponse") hi) identified,
+    )
+    ∷ [])
+unfolding envelopes_on_literals
+echoes = refl
+
+-- what isn't served has its fault, and none goes to nobody
+not_understood : List Item
+not_understood =
+    fault soap_action
+    (related ++ s (codes "NotUnderstood")
+    (Xmlns (codes "n") (codes "urn:t") ∷ attribute [] (codes "qname") (codes "n:Sec") ∷ []))
+    (codes "s:MustUnderstand") [] (codes "A header block was not understood.")
+
+no_action : List Item
+no_action =
+    fault addressing_action related (codes "s:Sender")
+    (subcode (codes "a:MessageAddressingHeaderRequired") [])
+    (codes "The Action header is required.")
+
+elsewhere : List Item
+elsewhere =
+    fault addressing_action related (codes "s:Sender")
+    (subcode (codes "a:InvalidAddressingHeader")
+    (subcode (codes "a:OnlyAnonymousAddressSupported") []))
+    (codes "Only the anonymous reply address is supported.")
+
+nobody : List Item
+nobody = reply_to (codes "http://www.w3.org/2005/08/addressing/none")
+
+other : List Item
+other = reply_to (codes "urn:other")
+
+refusals : AllAnswered echoed (
+    (request (secured [] ++ action ++ message), Reply not_understood identified)
+    ∷ (request (secured [] ++ message ++ other), Reply not_understood identified)
+    ∷ (request message, Reply no_action identified)
+    ∷ (request (message ++ other), Reply no_action identified)
+    ∷ (request (action ++ message ++ other), Reply elsewhere identified)
+    ∷ (request (action ++ message ++ nobody), Nothing)
+    ∷ (request (secured [] ++ nobody), Nothing)
+    ∷ [])
+unfolding envelopes_on_literals not_understood no_action elsewhere nobody other
+refusals = refl
+
+-- a document that is no envelope has a fault that relates to nothing
+no_envelope : List Item
+no_envelope =
+    fault soap_action [] (codes "s:VersionMismatch") []
+    (codes "The root is not a SOAP 1.2 envelope.")
+
+ill_formed : List Item
+ill_formed =
+    fault soap_action [] (codes "s:Sender") [] (codes "The message is not a well-formed envelope.")
+
+documents : AllAnswered echoed ((
+  s (codes "Other") (Xmlns (codes "s") (codes "http://www.w3.org/2003/05/soap-envelope") ∷ []),
+  Reply no_envelope [],
+)
+    ∷ (s (codes "Envelope") (Xmlns (codes "s") (codes "urn:s") ∷ []), Reply no_envelope [])
+    ∷ (
+      request (action ++ action ++ message),
+      Reply (
+          fault addressing_action [] (codes "s:Sender")
+          (subcode (codes "a:InvalidAddressingHeader") (subcode (codes "a:InvalidCardinality") []))
+          (codes "An addressing header is repeated.")
+          ) [],
+    )
+    ∷ (enveloped (s (codes "Header") (action ++ nobody)), Reply ill_formed [])
+    ∷ (request (words (codes "a") ∷ nobody), Reply ill_formed [])
+    ∷ (s (codes "Envelope") [], Reply ill_formed [])
+    ∷ [])
+unfolding envelopes_on_literals no_envelope ill_formed nobody
+documents = refl
+
+-- what other services say
+texts : Serves
+texts asked body =
+    reply_with (text_for ((codes "urn:a", codes "no") ∷ (codes "urn:echo", codes "ok") ∷ []) asked)
+
+of_texts : AllAnswered texts ((
+  echo,
+  Reply (reply (codes "urn:echoResponse")
+      (Start [] (codes "reply") ∷ words (codes "ok") ∷ Close ∷ [])) identified,
+)
+    ∷ (
+      request (acting (codes "urn:other") ++ message),
+      Reply (fault addressing_action related (codes "s:Sender")
+          (subcode (codes "a:ActionNotSupported") []) (codes "The action is not supported."))
+          identified,
+    )
+    ∷ [])
+unfolding envelopes_on_literals texts
+of_texts = refl
+
+silent : Serves
+silent asked body = said.Nothing
+
+of_silent : AllAnswered silent ((echo, Nothing) ∷ [])
+unfolding envelopes_on_literals silent
+of_silent = refl
+
+unwilling : Serves
+unwilling asked body = said.Refuse (codes "Closed.")
+
+of_unwilling : AllAnswered unwilling
+    ((echo, Reply (fault soap_action related (codes "s:Receiver") [] (codes "Closed.")) identified)
+    ∷ [])
+unfolding envelopes_on_literals unwilling
+of_unwilling = refl
+
+-- the fault in place of a reply that doesn't fit
+unfit : unfit_fault identified
+    ≡ fault soap_action related (codes "s:Receiver") [] (codes "The reply does not fit.")
+unfolding envelopes_on_literals
+unfit = refl

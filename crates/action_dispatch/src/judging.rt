@@ -1,0 +1,103 @@
+//! What becomes of a request before its service is asked.
+
+ghost use Rattle.std.specs.Prelude.{◌≡◌, IfOk};
+ghost use Rattle.std.specs.Option.{option_copied};
+ghost use Rattle.soap_envelope.specs.Making.{AreTexts};
+ghost use Rattle.action_dispatch.specs.Answers as spec;
+
+use crate::refusals::Refusal;
+use crate::understanding::foreign_names;
+use nbfx_values::{Items, Txt};
+use soap_envelope::Envelope;
+use soap_envelope::namespaces::{ANONYMOUS_ADDRESS, NO_ADDRESS};
+use std::alloc::Global;
+use unit_streams::Memory;
+
+// Where a request wants its answer.
+#[derive(Clone, Copy)]
+pub(crate) enum Destination {
+    Sender,
+    Nobody,
+    Elsewhere,
+}
+
+impl Destination {
+    // By the address of the request's ReplyTo, if it has one.
+    #[tactic(auto, unfolding(soap_envelope::specs::Names::no_address, soap_envelope::specs::Names::anonymous_address))]
+    fn of(address: Option<&str>) -> Destination
+        ensures { result ≡ spec.destination (option_copied address.entry) }
+    {
+        let Some(address) = address else {
+            return Destination::Sender;
+        };
+        if address == NO_ADDRESS {
+            Destination::Nobody
+        } else if address == ANONYMOUS_ADDRESS {
+            Destination::Sender
+        } else {
+            Destination::Elsewhere
+        }
+    }
+}
+
+// What becomes of a request.
+#[derive(Drop)]
+pub(crate) enum Judged {
+    Unanswered,
+    Refused(Refusal),
+    // The service is asked for this action.
+    Asked(Txt),
+}
+
+// What becomes of a request with this action, if it has one, whose answer isn't for nobody.
+fn by_action(alloc: Global, action: Option<&str>, to: Destination) -> Result<Judged, Memory>
+    ensures { IfOk result (λ judged. judged ≡ spec.by_action (option_copied action.entry) to) }
+{
+    let Some(action) = action else {
+        return Ok(Judged::Refused(Refusal::NoAction));
+    };
+    match to {
+        Destination::Elsewhere => Ok(Judged::Refused(Refusal::OtherReplyAddress)),
+        _ => Ok(Judged::Asked(Txt::of(alloc, action)?)),
+    }
+}
+
+// What becomes of a request with this view.
+fn judge(alloc: Global, envelope: &Envelope<'_>) -> Result<Judged, Memory>
+    ensures { IfOk result (λ judged. judged ≡ spec.judged envelope.now) }
+{
+    let to = Destination::of(envelope.reply_address());
+    if matches!(to, Destination::Nobody) {
+        return Ok(Judged::Unanswered);
+    }
+    let foreign = foreign_names(alloc, envelope)?;
+    if foreign.len() > 0 {
+        return Ok(Judged::Refused(Refusal::NotUnderstood(foreign)));
+    }
+    by_action(alloc, envelope.action(), to)
+}
+
+/// What is kept of a request's view: what becomes of it, the texts that an answer relates to, and
+/// the place of its Body.
+#[derive(Drop)]
+pub(crate) struct Request {
+    pub(crate) judged: Judged,
+    pub(crate) relates: Items,
+    pub(crate) body_at: usize,
+}
+
+impl Request {
+    /// Of the request with this view.
+    pub(crate) fn of(alloc: Global, envelope: &Envelope<'_>) -> Result<Request, Memory>
+        ensures judged { IfOk result (λ request. request.judged ≡ spec.judged envelope.now) }
+        ensures relates { IfOk result (λ request. request.relates ≡ envelope.now.message_id) }
+        ensures texts { IfOk result (λ request. AreTexts request.relates) }
+        ensures body { IfOk result (λ request. request.body_at ≡ envelope.now.body_at) }
+    {
+        Ok(Request {
+            judged: judge(alloc, envelope)?,
+            relates: envelope.message_id(alloc)?,
+            body_at: envelope.body_at(),
+        })
+    }
+}

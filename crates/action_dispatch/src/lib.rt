@@ -1,0 +1,33 @@
+//! Services, and what a server answers a request with.
+//!
+//! The one idea: a service is a function of a request's action and the content of its Body, and an
+//! answer is a function of the request's document and that function. `answered` of
+//! `specs/Answers.antt` has its cases in the order in which a request is judged by SOAP 1.2 and
+//! WS-Addressing 1.0, and `specs/Refusals.antt` has the fault of each reason not to serve one.
+//! `answer` and `answer_owned` are proved to give it.
+//!
+//! There are two services: `EchoService` gives the content of Body back, and `TableService` gives
+//! the text that a file has for the action (`specs/Actions.antt`).
+#![tactic(auto)]
+
+mod actions;
+mod answers;
+mod dispatch;
+mod echo;
+mod fault;
+mod judging;
+mod refusals;
+mod service;
+mod table;
+mod understanding;
+
+pub use answers::Answer;
+pub use dispatch::{answer, answer_owned};
+pub use echo::EchoService;
+pub use fault::{ActionFault, ActionKind};
+pub use refusals::unfit_doc;
+pub use service::{Served, Service};
+pub use table::TableService;
+
+#[cfg(test)]
+mod tests;

@@ -1,0 +1,130 @@
+//! Why a request isn't served.
+
+ghost use Rattle.std.specs.Prelude.{◌≡◌, IfOk};
+ghost use Rattle.soap_envelope.specs.Making.{AreTexts};
+ghost use Rattle.action_dispatch.specs.Refusals as spec;
+ghost use Rattle.action_dispatch.specs.Refusals.{fault_of, report_of, unfit_fault};
+
+use nbfx_values::{Doc, Items, Txt};
+use soap_envelope::{Code, FaultReport, Names, SoapFault, Sub, fault_doc};
+use std::alloc::Global;
+use unit_streams::Memory;
+
+/// Why a request isn't served, or its reply not sent. Each has its fault.
+#[derive(Debug, Drop)]
+pub enum Refusal {
+    /// The root isn't a SOAP 1.2 Envelope.
+    NoEnvelope,
+    /// A header that may stand once stands twice.
+    RepeatedHeader,
+    /// The document isn't an envelope for another reason.
+    IllFormed,
+    /// Blocks of these names must be understood and aren't.
+    NotUnderstood(Names),
+    /// There is no Action.
+    NoAction,
+    /// The answer is to go to another address than the sender's.
+    OtherReplyAddress,
+    /// The service has no such action.
+    UnknownAction,
+    /// The service won't, for this reason in English.
+    ByService(Txt),
+    /// The reply is larger than may be sent.
+    Unfit,
+}
+
+impl Refusal {
+    /// The refusal of a document without a view.
+    pub(crate) fn of(fault: SoapFault) -> Refusal
+        ensures { result ≡ spec.refusal_of fault }
+    {
+        match fault {
+            SoapFault::NotAnEnvelope | SoapFault::VersionMismatch => Refusal::NoEnvelope,
+            SoapFault::RepeatedHeader { .. } => Refusal::RepeatedHeader,
+            _ => Refusal::IllFormed,
+        }
+    }
+
+    fn code(&self) -> Code
+        ensures { result ≡ spec.code_of self.now }
+    {
+        match self {
+            Refusal::NoEnvelope => Code::VersionMismatch,
+            Refusal::NotUnderstood(_) => Code::MustUnderstand,
+            Refusal::ByService(_) | Refusal::Unfit => Code::Receiver,
+            _ => Code::Sender,
+        }
+    }
+
+    fn sub(&self) -> Sub
+        ensures { result ≡ spec.sub_of self.now }
+    {
+        match self {
+            Refusal::RepeatedHeader => Sub::InvalidCardinality,
+            Refusal::NoAction => Sub::HeaderRequired,
+            Refusal::OtherReplyAddress => Sub::OnlyAnonymous,
+            Refusal::UnknownAction => Sub::ActionNotSupported,
+            _ => Sub::None,
+        }
+    }
+
+    // The reason in English.
+    fn reason(&self) -> &str
+        ensures { result.now ≡ spec.reason_of self.now }
+    {
+        match self {
+            Refusal::NoEnvelope => "The root is not a SOAP 1.2 envelope.",
+            Refusal::RepeatedHeader => "An addressing header is repeated.",
+            Refusal::IllFormed => "The message is not a well-formed envelope.",
+            Refusal::NotUnderstood(_) => "A header block was not understood.",
+            Refusal::NoAction => "The Action header is required.",
+            Refusal::OtherReplyAddress => "Only the anonymous reply address is supported.",
+            Refusal::UnknownAction => "The action is not supported.",
+            Refusal::ByService(reason) => reason.as_str(),
+            Refusal::Unfit => "The reply does not fit.",
+        }
+    }
+
+    // The names of the blocks that weren't understood.
+    fn into_names(self, alloc: Global) -> Names
+        ensures { result ≡ spec.names_of self }
+    {
+        match self {
+            Refusal::NotUnderstood(names) => names,
+            _ => Names::new(alloc),
+        }
+    }
+
+    // What the fault reports.
+    fn report(self, alloc: Global) -> Result<FaultReport, Memory>
+        ensures { IfOk result (λ report. report ≡ report_of self) }
+    {
+        let code = self.code();
+        let sub = self.sub();
+        let reason = Txt::of(alloc, self.reason())?;
+        Ok(FaultReport {
+            code,
+            sub,
+            reason,
+            names: self.into_names(alloc),
+        })
+    }
+
+    /// The fault, which relates to the request with this identifier.
+    pub(crate) fn doc(self, alloc: Global, relates: &Items) -> Result<Doc, Memory>
+        requires { AreTexts relates.now }
+        ensures { IfOk result (λ doc. doc ≡ fault_of self relates.now) }
+    {
+        let report = self.report(alloc)?;
+        fault_doc(alloc, &report, relates)
+    }
+}
+
+/// The fault that a server sends in place of an answer that is larger than it may send: its code is
+/// Receiver, and it relates to the same request as the answer.
+pub fn unfit_doc(alloc: Global, relates: &Items) -> Result<Doc, Memory>
+    requires { AreTexts relates.now }
+    ensures { IfOk result (λ doc. doc ≡ unfit_fault relates.now) }
+{
+    Refusal::Unfit.doc(alloc, relates)
+}
