@@ -1,0 +1,120 @@
+-- Input of a few lines: what is written of it, and why it is refused, by computation alone.
+use Rattle.std.proofs.Common.{◌≡◌, ℕ, List, [], ◌∷◌, ◌++◌, map, Option, Some, None, refl}
+use Rattle.std.specs.Prelude.{⊤, codes}
+use Rattle.std.specs.Char.{encode_utf8}
+use Rattle.multibyte_ints.specs.Integer.{shortest, shortest_within}
+use Rattle.multibyte_ints.specs.Text.{string_bytes_of}
+use Rattle.unit_streams.specs.Grammar.{standing, peel, peeled}
+use Rattle.unit_streams.specs.Judging.{offence, history, history_from, event_at, refusal_at, ending_at}
+use Rattle.unit_streams.specs.Tellers.{report, told_along, state_behind}
+use Rattle.nbfx_values.specs.Limits.{Limits, limits, usual_limits}
+use Rattle.nbfx_values.specs.declared.session.Kind.{Kind}
+use Rattle.nbfx_values.specs.declared.session.Kind.TheVariants.{Plain, Session}
+use Rattle.nbfx_values.specs.declared.session.Mode.{Mode}
+use Rattle.nbfx_values.specs.declared.session.Mode.TheVariants.{Singleton, Duplex, Simplex}
+use Rattle.line_notation.specs.declared.reader.LineKind.TheVariants.{NotALine, OutOfPlace, Cut, WrongCount}
+use Rattle.line_notation.proofs.OnLiterals.{lines_on_literals}
+use Rattle.nbfx_encoder.specs.declared.faults.EncodeFault.TheVariants.{TooDeep}
+use Rattle.document_lines.specs.Input.{Settings, lines_of_documents, envelopes_and_end}
+use Rattle.document_lines.specs.declared.InputFault.{InputFault}
+use Rattle.document_lines.specs.declared.InputFault.TheVariants.{Line, Unfit, TooLong}
+
+-- the input, what is written of it, and why it is refused
+abbrev Row : Type 0
+Row = List ℕ × (List ℕ × Option InputFault)
+
+abbrev AreWritten : Limits → Kind → Mode → List Row → Type 0
+AreWritten q kind mode rows =
+    let x : Settings = record { limits = q; kind = kind; mode = mode; statics = [] } in
+    map (λ (r : Row). (
+      report (lines_of_documents x) envelopes_and_end r.0,
+      offence (lines_of_documents x) r.0,
+    )) rows ≡ map (λ (r : Row). r.1) rows
+
+-- what a proof unfolds to compute input
+unfoldable pub input_on_literals : ⊤
+unfolding lines_on_literals encode_utf8 shortest shortest_within string_bytes_of report told_along
+    state_behind offence history history_from event_at refusal_at ending_at standing peel peeled
+input_on_literals = tt
+
+-- an element `x`
+abbrev one : List ℕ
+one = codes "start \"\" \"x\"\nclose\n"
+
+-- nothing, an element, the same twice, of which the first brings its name, and with empty lines
+in_sessions : AreWritten usual_limits Session Duplex (
+    ([], (7 ∷ [], None)) ∷
+    (one, (6 ∷ 6 ∷ 2 ∷ 1 ∷ 0x78 ∷ 0x42 ∷ 1 ∷ 1 ∷ 7 ∷ [], None)) ∷
+    (one ++ one, (6 ∷ 6 ∷ 2 ∷ 1 ∷ 0x78 ∷ 0x42 ∷ 1 ∷ 1 ∷ 6 ∷ 4 ∷ 0 ∷ 0x42 ∷ 1 ∷ 1 ∷ 7 ∷ [], None)) ∷
+    (codes "\n\n" ++ one ++ codes "\n", (6 ∷ 6 ∷ 2 ∷ 1 ∷ 0x78 ∷ 0x42 ∷ 1 ∷ 1 ∷ 7 ∷ [], None)) ∷
+    [])
+unfolding input_on_literals
+in_sessions = refl
+
+-- without strings of a session
+under_encoding_7 : AreWritten usual_limits Plain Simplex (
+    (one, (6 ∷ 4 ∷ 0x40 ∷ 1 ∷ 0x78 ∷ 1 ∷ 7 ∷ [], None)) ∷
+    [])
+unfolding input_on_literals
+under_encoding_7 = refl
+
+-- one document alone: a second is refused at its first line, and none at the line after the last
+in_singleton_mode : AreWritten usual_limits Session Singleton (
+    (one, (5 ∷ 6 ∷ 2 ∷ 1 ∷ 0x78 ∷ 0x42 ∷ 1 ∷ 1 ∷ 0 ∷ 7 ∷ [], None)) ∷
+    (one ++ codes "\n", (5 ∷ 6 ∷ 2 ∷ 1 ∷ 0x78 ∷ 0x42 ∷ 1 ∷ 1 ∷ 0 ∷ 7 ∷ [], None)) ∷
+    (one ++ one, (5 ∷ 6 ∷ 2 ∷ 1 ∷ 0x78 ∷ 0x42 ∷ 1 ∷ 1 ∷ 0 ∷ [], Some (Line 3 WrongCount))) ∷ (
+      one ++ codes "start \"\" x\n",
+      (
+        5 ∷ 6 ∷ 2 ∷ 1 ∷ 0x78 ∷ 0x42 ∷ 1 ∷ 1 ∷ 0 ∷ [],
+        Some (Line 3 NotALine),
+      ),
+    ) ∷ (
+      one ++ codes "close\n",
+      (
+        5 ∷ 6 ∷ 2 ∷ 1 ∷ 0x78 ∷ 0x42 ∷ 1 ∷ 1 ∷ 0 ∷ [],
+        Some (Line 3 OutOfPlace),
+      ),
+    ) ∷
+    (one ++ codes "s", (5 ∷ 6 ∷ 2 ∷ 1 ∷ 0x78 ∷ 0x42 ∷ 1 ∷ 1 ∷ 0 ∷ [], Some (Line 3 Cut))) ∷
+    ([], ([], Some (Line 1 WrongCount))) ∷
+    (codes "\n", ([], Some (Line 2 WrongCount))) ∷
+    [])
+unfolding input_on_literals
+in_singleton_mode = refl
+
+-- lines that are none, and input that ends within a document or within a line
+lines_refused : AreWritten usual_limits Session Duplex (
+    (codes "start \"\" x\n", ([], Some (Line 1 NotALine))) ∷
+    (one ++ codes "close\n", (6 ∷ 6 ∷ 2 ∷ 1 ∷ 0x78 ∷ 0x42 ∷ 1 ∷ 1 ∷ [], Some (Line 3 OutOfPlace))) ∷
+    (codes "start \"\" \"x\"\n", ([], Some (Line 2 Cut))) ∷
+    (codes "start \"\" \"x\"\n\n", ([], Some (Line 2 NotALine))) ∷
+    (codes "start \"\" \"x\"", ([], Some (Line 1 Cut))) ∷
+    (one ++ codes "start", (6 ∷ 6 ∷ 2 ∷ 1 ∷ 0x78 ∷ 0x42 ∷ 1 ∷ 1 ∷ [], Some (Line 3 Cut))) ∷
+    [])
+unfolding input_on_literals
+lines_refused = refl
+
+-- the second document isn't within the quotas; so is the first where its last byte reaches the
+-- session quota
+documents_refused : AreWritten (limits 65536 1 2048 262144 2048 100) Session Duplex ((
+  one ++ codes "start \"\" \"x\"\nstart \"\" \"x\"\nclose\nclose\n",
+  (6 ∷ 6 ∷ 2 ∷ 1 ∷ 0x78 ∷ 0x42 ∷ 1 ∷ 1 ∷ [], Some (Unfit 1 (TooDeep 2))),
+) ∷
+    [])
+unfolding input_on_literals
+documents_refused = refl
+
+refused_at_the_quota : AreWritten (limits 65536 0 2048 262144 2048 19) Session Duplex (
+    (one, ([], Some (Unfit 0 (TooDeep 1)))) ∷
+    [])
+unfolding input_on_literals
+refused_at_the_quota = refl
+
+-- as many bytes as the session quota, whose last completes a document
+too_long : AreWritten (limits 65536 4 2048 262144 2048 19) Session Duplex (
+    (one, (6 ∷ 6 ∷ 2 ∷ 1 ∷ 0x78 ∷ 0x42 ∷ 1 ∷ 1 ∷ [], Some TooLong)) ∷
+    (codes "\n\n\n\n\n\n\n\n\n\n\n\n\n\n\n\n\n\n", (7 ∷ [], None)) ∷
+    (codes "\n\n\n\n\n\n\n\n\n\n\n\n\n\n\n\n\n\n\n", ([], Some TooLong)) ∷
+    [])
+unfolding input_on_literals
+too_long = refl

@@ -1,0 +1,3 @@
+-- cited by whoever reads documents in lines to write them
+pub mod Input
+pub mod Laws
