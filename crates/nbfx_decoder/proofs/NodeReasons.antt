@@ -10,14 +10,18 @@ use Rattle.nbfx_decoder.specs.Payload.{Settings, Situation}
 use Rattle.nbfx_decoder.specs.Reasons.{IsCaused, ShowsAtNode, node_place}
 
 module _ (x : Settings) (z : Situation) (bytes : List ℕ) where
-  module _ (fault : RecordFault) (no_text : fault ≢ faults.BadUtf8) (no_value : fault ≢ faults.BadValue) where
-    part_shows : (n : ℕ) → node_at (node_place x z) bytes ≡ wrong fault n → IsCaused (node_place x z) bytes fault
+  module _ (fault : RecordFault) (no_text : fault ≢ faults.BadUtf8)
+      (no_value : fault ≢ faults.BadValue) where
+    part_shows : (n : ℕ) → node_at (node_place x z) bytes ≡ wrong fault n
+        → IsCaused (node_place x z) bytes fault
     part_shows n e = (n, (wrong_by_part (node_place x z) bytes fault n no_text no_value).0 e)
 
-    pub part_wrong : IsCaused (node_place x z) bytes fault → (n : ℕ) × (node_at (node_place x z) bytes ≡ wrong fault n)
+    pub part_wrong : IsCaused (node_place x z) bytes fault → (n : ℕ)
+        × (node_at (node_place x z) bytes ≡ wrong fault n)
     part_wrong (n, h) = (n, (wrong_by_part (node_place x z) bytes fault n no_text no_value).1 h)
 
-  pub node_shows : (fault : RecordFault) (n : ℕ) → node_at (node_place x z) bytes ≡ wrong fault n → ShowsAtNode x z bytes (reason_of fault)
+  pub node_shows : (fault : RecordFault) (n : ℕ) → node_at (node_place x z) bytes ≡ wrong fault n
+      → ShowsAtNode x z bytes (reason_of fault)
   node_shows faults.UnknownNode n e = part_shows faults.UnknownNode (λ h. cc h) (λ h. cc h) n e
   node_shows faults.OutOfPlace n e = part_shows faults.OutOfPlace (λ h. cc h) (λ h. cc h) n e
   node_shows faults.TrailingBytes n e = part_shows faults.TrailingBytes (λ h. cc h) (λ h. cc h) n e

@@ -53,16 +53,20 @@ shape_of_nothing : (place : NodePlace) → shape_at place [] ≡ begun
 unfolding shape_at parts.◌>>=◌
 shape_of_nothing place = refl
 
-pub shape_size : (place : NodePlace) (bytes : List ℕ) (shape : Shape) (used : ℕ) → IsWhole (shape_at place) bytes 0 shape used → (0 < used) × (used ≤ length bytes)
+pub shape_size : (place : NodePlace) (bytes : List ℕ) (shape : Shape) (used : ℕ)
+    → IsWhole (shape_at place) bytes 0 shape used → (0 < used) × (used ≤ length bytes)
 shape_size place bytes shape used h =
     let w = further_whole 0 (shape_at place (bytes ++ [])) shape used (h.stands []) in
-    let here : shape_at place bytes ≡ whole shape w.0 = subst (λ (b : List ℕ). shape_at place b ≡ whole shape w.0) (append-nil bytes) w.1 in
-    let size = whole_some (shape_at place) (reads_shape place) (shape_of_nothing place) bytes shape w.0 here in
+    let here : shape_at place bytes ≡ whole shape w.0 = subst (λ (b : List ℕ). shape_at place b
+    ≡ whole shape w.0) (append-nil bytes) w.1 in
+    let size = whole_some (shape_at place) (reads_shape place) (shape_of_nothing place) bytes shape
+    w.0 here in
     let same = w.2 in
     (omega (arith, size.0, same), omega (arith, size.1, same))
 
 -- behind a whole record its bytes are few enough to count
-pub record_few : (r : UnitReader) (shape : Shape) (used : ℕ) → StandsAt r shape used → r.from + used < 2 ^ 32
+pub record_few : (r : UnitReader) (shape : Shape) (used : ℕ) → StandsAt r shape used → r.from + used
+    < 2 ^ 32
 record_few r shape used it =
     let size = shape_size (place_in r) it.bytes shape used it.has.whole in
     let few = it.few in
@@ -73,7 +77,8 @@ pub end_made : Makes (Ok EndElement) (contents ends_element)
 unfolding contents
 end_made = record { made = refl }
 
-module _ (place : NodePlace) (bytes : List ℕ) (shape : Shape) (used : ℕ) (has : HasShape place shape used bytes) where
+module _ (place : NodePlace) (bytes : List ℕ) (shape : Shape) (used : ℕ)
+    (has : HasShape place shape used bytes) where
   pub shape_answers : (n : Node) → contents shape ≡ Ok n → node_at place bytes ≡ whole n used
   shape_answers n e = whole_node place bytes shape used n has.whole e
 
@@ -88,45 +93,60 @@ module _ (place : NodePlace) (bytes : List ℕ) (shape : Shape) (used : ℕ) (ha
   shape_stands n e = node_stands place bytes n used (shape_answers n e)
 
 -- why it is refused by what it says
-module _ (r : UnitReader) (x : Settings) (z : Situation) (from : ℕ) (at : IsAt r x z from) (here : r.section ≡ Nodes) (bytes : List ℕ) (shape : Shape) (used : ℕ)
+module _ (r : UnitReader) (x : Settings) (z : Situation) (from : ℕ) (at : IsAt r x z from)
+    (here : r.section ≡ Nodes) (bytes : List ℕ) (shape : Shape) (used : ℕ)
     (has : HasShape (place_in r) shape used bytes) where
   said_whole : (n : Node) → contents shape ≡ Ok n → unit_in x z from bytes ≡ whole (node n) used
-  said_whole n e = node_whole r x z from at here bytes n used (shape_answers (place_in r) bytes shape used has n e)
+  said_whole n e = node_whole r x z from at here bytes n used
+      (shape_answers (place_in r) bytes shape used has n e)
 
-  refused_at : (n : Node) → contents shape ≡ Ok n → (reason : Reason) (k : ℕ) → k ≡ used → refused x z (node n) ≡ Some reason → UnitAnswers x z from bytes r (Err (Refused reason k))
-  refused_at n e reason k same is = (inr (node n, said_whole n e ∙ ap (whole (node n)) (sym same), is), at.set)
+  refused_at : (n : Node) → contents shape ≡ Ok n → (reason : Reason) (k : ℕ) → k ≡ used
+      → refused x z (node n) ≡ Some reason → UnitAnswers x z from bytes r (Err (Refused reason k))
+  refused_at n e reason k same is =
+      (inr (node n, said_whole n e ∙ ap (whole (node n)) (sym same), is), at.set)
 
-  refused_said : (reason : Reason) (k : ℕ) → k ≡ used → RefusedAs r shape reason → UnitAnswers x z from bytes r (Err (Refused reason k))
+  refused_said : (reason : Reason) (k : ℕ) → k ≡ used → RefusedAs r shape reason → UnitAnswers x z
+      from bytes r (Err (Refused reason k))
   refused_said reason k same (unfit fault e is) =
       subst (λ (m : ℕ). UnitAnswers x z from bytes r (Err (Refused reason m))) (sym same)
       (subst (λ (other : Reason). UnitAnswers x z from bytes r (Err (Refused other used))) (sym is)
-      (node_unread r x z from at here bytes fault used (shape_refused (place_in r) bytes shape used has fault e)))
-  refused_said reason k same (unnamed_in n e none is) = refused_at n e reason k same (unnamed r x z from at n None none refl ∙ ap Some (sym is))
+      (node_unread r x z from at here bytes fault used
+      (shape_refused (place_in r) bytes shape used has fault e)))
+  refused_said reason k same (unnamed_in n e none is) = refused_at n e reason k same
+      (unnamed r x z from at n None none refl ∙ ap Some (sym is))
   refused_said reason k same (too_much_in n more e found above is) =
       refused_at n e reason k same
-      (too_much r x z from at n (Some more) found more refl (r.document ++ more) refl (capped (content_of (r.document ++ more))) refl
+      (too_much r x z from at n (Some more) found more refl (r.document ++ more) refl
+      (capped (content_of (r.document ++ more))) refl
       (let small = r.quotas.good.content_most in omega (arith, above, small)) ∙ ap Some (sym is))
 
-  pub judged_said : (fault : UnitFault) → Judged r shape used (Err fault) → UnitAnswers x z from bytes r (Err fault)
+  pub judged_said : (fault : UnitFault) → Judged r shape used (Err fault) → UnitAnswers x z from
+      bytes r (Err fault)
   judged_said (Refused reason k) h = refused_said reason k h.0 h.1
   judged_said Memory h = at.set
 
   -- what it means stands behind the items
-  pub added_said : (n : Node) → contents shape ≡ Ok n → (new : UnitReader) → IsAdded x z from n new → SayAnswers x z from bytes used new
+  pub added_said : (n : Node) → contents shape ≡ Ok n → (new : UnitReader) → IsAdded x z from n new
+      → SayAnswers x z from bytes used new
   added_said n e new is = (n, said_whole n e, is.unrefused, is.at)
 
 -- the node that is made is the one that was judged
-pub made_fits : (r : UnitReader) (shape : Shape) (n : Node) → contents shape ≡ Ok n → MayMake r shape → MayAdd r n
-made_fits r shape n e (other, is, may) = let same : other ≡ n = (let ends : Ok other ≡ Ok n = sym is ∙ e in cc) in subst (MayAdd r) same may
+pub made_fits : (r : UnitReader) (shape : Shape) (n : Node) → contents shape ≡ Ok n
+    → MayMake r shape → MayAdd r n
+made_fits r shape n e (other, is, may) = let same : other
+    ≡ n = (let ends : Ok other ≡ Ok n = sym is ∙ e in cc) in subst (MayAdd r) same may
 
 -- a node that counts so much may be added where there is room for it
 module _ (r : UnitReader) (table : StringTable) (same : table ≡ names_in r) where
-  meant_so : (n : Node) (size : ℕ) → weigh_node table n ≡ Some size → (more : List Item) × (items_of (names_in r) n ≡ Some more) × (size ≡ capped (content_of more))
+  meant_so : (n : Node) (size : ℕ) → weigh_node table n ≡ Some size → (more : List Item)
+      × (items_of (names_in r) n ≡ Some more) × (size ≡ capped (content_of more))
   meant_so n size e =
-      let it = mapped_some (λ (items : List Item). capped (content_of items)) (items_of table n) size e in
+      let it = mapped_some (λ (items : List Item). capped (content_of items)) (items_of table n)
+      size e in
       (it.0, ap (λ t. items_of t n) (sym same) ∙ it.1, sym it.2)
 
-  pub room_for_node : (n : Node) (size : ℕ) → weigh_node table n ≡ Some size → ((m : ℕ) → size ≡ capped m → content_of r.document + m ≤ r.quotas.content) → MayAdd r n
+  pub room_for_node : (n : Node) (size : ℕ) → weigh_node table n ≡ Some size
+      → ((m : ℕ) → size ≡ capped m → content_of r.document + m ≤ r.quotas.content) → MayAdd r n
   room_for_node n size e room =
       let it = meant_so n size e in
       let fits = room (content_of it.0) it.2 in
@@ -138,18 +158,31 @@ module _ (r : UnitReader) (table : StringTable) (same : table ≡ names_in r) wh
   unweighed (Some items) e = cc
 
   module _ (shape : Shape) (used : ℕ) where
-    pub judged_unfit : (why : NodeFault) → Measured (contents shape) (weigh_node table) (Err why) → Judges r shape used (Err (unmade why used))
+    pub judged_unfit : (why : NodeFault) → Measured (contents shape) (weigh_node table) (Err why)
+        → Judges r shape used (Err (unmade why used))
     judged_unfit (node_faults.Record fault) e = record { judged = (refl, unfit fault e refl) }
     judged_unfit node_faults.Memory e = record { judged = tt }
 
-    pub judged_unnamed : (size : Option ℕ) → size ≡ None → Measured (contents shape) (weigh_node table) (Ok size) → Judges r shape used (Err (Refused UnknownString used))
+    pub judged_unnamed : (size : Option ℕ) → size ≡ None → Measured (contents shape)
+        (weigh_node table) (Ok size) → Judges r shape used (Err (Refused UnknownString used))
     judged_unnamed size none (n, e, counts) =
-        record { judged = (refl, unnamed_in n e (ap (λ t. items_of t n) (sym same) ∙ unweighed (items_of table n) (sym counts ∙ none)) refl) }
+        record {
+          judged = (
+            refl,
+            unnamed_in n e (ap (λ t. items_of t n) (sym same) ∙ unweighed (items_of table n)
+                (sym counts ∙ none)) refl,
+          );
+        }
 
-    pub judged_room : (size : Option ℕ) (k : ℕ) → size ≡ Some k → Measured (contents shape) (weigh_node table) (Ok size) → ((m : ℕ) → k ≡ capped m → content_of r.document + m ≤ r.quotas.content) → Judges r shape used (Ok tt)
-    judged_room size k some (n, e, counts) room = record { judged = (n, e, room_for_node n k (sym counts ∙ some) room) }
+    pub judged_room : (size : Option ℕ) (k : ℕ) → size ≡ Some k → Measured (contents shape)
+        (weigh_node table) (Ok size) → ((m : ℕ) → k ≡ capped m → content_of r.document + m
+        ≤ r.quotas.content) → Judges r shape used (Ok tt)
+    judged_room size k some (n, e, counts) room = record
+        { judged = (n, e, room_for_node n k (sym counts ∙ some) room) }
 
-    pub judged_too_much : (size : Option ℕ) (k : ℕ) → size ≡ Some k → Measured (contents shape) (weigh_node table) (Ok size) → ((m : ℕ) → k ≡ capped m → r.quotas.content < content_of r.document + m)
+    pub judged_too_much : (size : Option ℕ) (k : ℕ) → size ≡ Some k → Measured (contents shape)
+        (weigh_node table) (Ok size)
+        → ((m : ℕ) → k ≡ capped m → r.quotas.content < content_of r.document + m)
         → Judges r shape used (Err (Refused TooMuchContent used))
     judged_too_much size k some (n, e, counts) no_room =
         let it = meant_so n k (sym counts ∙ some) in
@@ -157,14 +190,17 @@ module _ (r : UnitReader) (table : StringTable) (same : table ≡ names_in r) wh
         let sum = sum_by-append item_content r.document it.0 in
         record { judged = (refl, too_much_in n it.0 e it.1 (omega (arith, above, sum)) refl) }
 
-pub never_too_much : (r : UnitReader) (n : Node) (items : List Item) → MayAdd r n → items_of (names_in r) n ≡ Some items → r.quotas.content < capped (content_of (r.document ++ items)) → ⊥
+pub never_too_much : (r : UnitReader) (n : Node) (items : List Item) → MayAdd r n
+    → items_of (names_in r) n ≡ Some items → r.quotas.content
+    < capped (content_of (r.document ++ items)) → ⊥
 never_too_much r n items (more, is, fits) found above =
     let same : more ≡ items = (let both : Some more ≡ Some items = sym is ∙ found in cc) in
     let size = ap (λ (i : List Item). content_of (r.document ++ i)) same in
     absurd (omega (arith, fits, size, above))
 
 -- what is answered where it isn't whole
-module _ (place at : NodePlace) (bytes : List ℕ) (stop : Stop) (same : at ≡ place) (told : Stops (shape_at at) (asked.shape_at at) bytes 0 stop) where
+module _ (place at : NodePlace) (bytes : List ℕ) (stop : Stop) (same : at ≡ place)
+    (told : Stops (shape_at at) (asked.shape_at at) bytes 0 stop) where
   there : Stops (shape_at place) (asked.shape_at place) bytes 0 stop
   there = subst (λ (p : NodePlace). Stops (shape_at p) (asked.shape_at p) bytes 0 stop) same told
 
@@ -195,24 +231,40 @@ reads_stopped r bytes here place same (stops.Fault fault shown_by) told = record
 }
 
 -- what a reader leaves that hands a fault on
-pub reads_fault : (r new : UnitReader) (bytes : List ℕ) (fault : UnitFault) (res : Result UnitRead UnitFault) → IsErrAnd res (λ y. y ≡ fault)
-    → ((x : Settings) (z : Situation) (from : ℕ) → IsAt r x z from → UnitAnswers x z from bytes new (Err fault)) → KeepsSettings r new → Reads r new bytes res
+pub reads_fault : (r new : UnitReader) (bytes : List ℕ) (fault : UnitFault)
+    (res : Result UnitRead UnitFault) → IsErrAnd res (λ y. y ≡ fault)
+    → ((x : Settings) (z : Situation) (from : ℕ) → IsAt r x z from → UnitAnswers x z from bytes new
+    (Err fault)) → KeepsSettings r new → Reads r new bytes res
 reads_fault r new bytes fault res e said kept = by res (err_from_is_err_and res e)
   where
-    by : (res : Result UnitRead UnitFault) → (f : UnitFault) × (res ≡ Err f) × (f ≡ fault) → Reads r new bytes res
+    by : (res : Result UnitRead UnitFault) → (f : UnitFault) × (res ≡ Err f) × (f ≡ fault)
+        → Reads r new bytes res
     by res p =
         subst (λ (q : Result UnitRead UnitFault). Reads r new bytes q) (ap Err (sym p.2) ∙ sym p.1)
         (record { answers = said; counts = tt; goes_on = tt; kept = kept })
 
 -- and one that goes behind a whole unit
-pub reads_done : (r put new : UnitReader) (bytes : List ℕ) (used : ℕ) → ((x : Settings) (z : Situation) (from : ℕ) → IsAt r x z from → SayAnswers x z from bytes used put)
-    → (0 < used) × (used ≤ length bytes) → KeepsSettings r put → put.from ≡ r.from → Keeps put new → new.from ≡ put.from + used → new.section ≡ put.section → new.document ≡ put.document
+pub reads_done : (r put new : UnitReader) (bytes : List ℕ) (used : ℕ)
+    → ((x : Settings) (z : Situation) (from : ℕ) → IsAt r x z from → SayAnswers x z from bytes used
+    put)
+    → (0 < used) × (used ≤ length bytes) → KeepsSettings r put → put.from ≡ r.from → Keeps put new
+    → new.from ≡ put.from + used → new.section ≡ put.section → new.document ≡ put.document
     → Reads r new bytes (Ok (units_read.Done used))
 reads_done r put new bytes used said size kept same keeps from section items =
     record {
       answers = λ x z from_is at.
-          let s = said x z from_is at in (node s.0, s.1, s.2, passed put x _ from_is used s.3 new keeps from section items);
+          let s = said x z from_is at in (
+            node s.0,
+            s.1,
+            s.2,
+            passed put x _ from_is used s.3 new
+                keeps from section items,
+          );
       counts = size;
       goes_on = from ∙ ap (λ n. n + used) same;
-      kept = record { statics = keeps.statics ∙ kept.statics; quotas = keeps.quotas ∙ kept.quotas; kind = keeps.kind ∙ kept.kind };
+      kept = record {
+        statics = keeps.statics ∙ kept.statics;
+        quotas = keeps.quotas ∙ kept.quotas;
+        kind = keeps.kind ∙ kept.kind;
+      };
     }

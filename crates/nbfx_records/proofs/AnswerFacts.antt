@@ -21,15 +21,18 @@ module _ (place : NodePlace) (bytes : List ℕ) where
   here : {A : Type 0} (front : List ℕ → Front A RecordFault) → front (bytes ++ []) ≡ front bytes
   here front = ap front (append-nil bytes)
 
-  whole_here : (shape : Shape) (used : ℕ) → IsWhole (shape_at place) bytes 0 shape used → node_at place bytes ≡ judged_whole (contents shape) used
+  whole_here : (shape : Shape) (used : ℕ) → IsWhole (shape_at place) bytes 0 shape used
+      → node_at place bytes ≡ judged_whole (contents shape) used
   unfolding node_at
   whole_here shape used h =
       let w = further_whole 0 (shape_at place (bytes ++ [])) shape used (h.stands []) in
       let size : w.0 ≡ used = omega (arith, w.2) in
-      ap (judged contents) (sym (here (shape_at place)) ∙ w.1) ∙ ap (judged_whole (contents shape)) size
+      ap (judged contents) (sym (here (shape_at place)) ∙ w.1) ∙ ap (judged_whole (contents shape))
+      size
 
   -- a whole record, by what it says
-  pub whole_node : (shape : Shape) (used : ℕ) (node : Node) → IsWhole (shape_at place) bytes 0 shape used
+  pub whole_node : (shape : Shape) (used : ℕ) (node : Node) → IsWhole (shape_at place) bytes 0 shape
+      used
       → contents shape ≡ Ok node → node_at place bytes ≡ whole node used
   whole_node shape used node h e = whole_here shape used h ∙ ap (λ v. judged_whole v used) e
 
@@ -39,11 +42,13 @@ module _ (place : NodePlace) (bytes : List ℕ) where
   whole_wrong shape used fault h e = whole_here shape used h ∙ ap (λ v. judged_whole v used) e
 
   -- one that isn't whole
-  begun_at : (next : List ℕ) → further 0 (shape_at place (bytes ++ next)) ≡ begun → node_at place (bytes ++ next) ≡ begun
+  begun_at : (next : List ℕ) → further 0 (shape_at place (bytes ++ next)) ≡ begun
+      → node_at place (bytes ++ next) ≡ begun
   unfolding node_at
   begun_at next e = ap (judged contents) (further_begun 0 (shape_at place (bytes ++ next)) e)
 
-  wrong_here : (fault : RecordFault) (n : ℕ) → further 0 (shape_at place (bytes ++ [])) ≡ wrong fault n → node_at place bytes ≡ wrong fault n
+  wrong_here : (fault : RecordFault) (n : ℕ) → further 0 (shape_at place (bytes ++ []))
+      ≡ wrong fault n → node_at place bytes ≡ wrong fault n
   unfolding node_at
   wrong_here fault n e =
       let w = further_wrong 0 (shape_at place (bytes ++ [])) fault n e in

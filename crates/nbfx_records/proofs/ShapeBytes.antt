@@ -32,29 +32,42 @@ use Rattle.nbfx_records.specs.Shapes.{ScalarShape, bytes_of, named_by, qualified
 use Rattle.nbfx_records.proofs.ShapeFronts.{reads_list_turn, reads_array_turn}
 
 -- the same bytes, said otherwise
-pub just_as : {A R : Type 0} (f : Reader A R) (P Q : A → List ℕ → Type 0) → ReadsJust f P → ((a : A) (b : List ℕ) → P a b → Q a b) → ((a : A) (b : List ℕ) → Q a b → P a b) → ReadsJust f Q
-just_as f P Q just there back b a n = (λ e. let h = (just b a n).0 e in (h.0, there a (take n b) h.1), λ h. (just b a n).1 (h.0, back a (take n b) h.1))
+pub just_as : {A R : Type 0} (f : Reader A R) (P Q : A → List ℕ → Type 0) → ReadsJust f P
+    → ((a : A) (b : List ℕ) → P a b → Q a b) → ((a : A) (b : List ℕ) → Q a b → P a b)
+    → ReadsJust f Q
+just_as f P Q just there back b a n = (
+  λ e. let h = (just b a n).0 e in (h.0, there a (take n b) h.1),
+  λ h. (just b a n).1
+      (h.0, back a (take n b) h.1),
+)
 
 -- a thing seen otherwise, by what it is seen as
-module _ {A B R S : Type 0} (see : A → B) (tell : R → S) (f : Reader A R) (P : A → List ℕ → Type 0) (Q : B → List ℕ → Type 0) where
-  just_seen_as : ReadsJust f P → ((a : A) (b : List ℕ) → P a b → Q (see a) b) → ((y : B) (b : List ℕ) → Q y b → (a : A) × P a b × (see a ≡ y)) → ReadsJust (λ b. seen see tell (f b)) Q
+module _ {A B R S : Type 0} (see : A → B) (tell : R → S) (f : Reader A R) (P : A → List ℕ → Type 0)
+    (Q : B → List ℕ → Type 0) where
+  just_seen_as : ReadsJust f P → ((a : A) (b : List ℕ) → P a b → Q (see a) b)
+      → ((y : B) (b : List ℕ) → Q y b → (a : A) × P a b × (see a ≡ y))
+      → ReadsJust (λ b. seen see tell (f b)) Q
   just_seen_as just there back =
-      just_as (λ b. seen see tell (f b)) (λ y b. (a : A) × P a b × (see a ≡ y)) Q (just_seen see tell f P just)
+      just_as (λ b. seen see tell (f b)) (λ y b. (a : A) × P a b × (see a ≡ y)) Q
+      (just_seen see tell f P just)
       (λ y b h. subst (λ (z : B). Q z b) h.2 (there h.0 b h.1)) back
 
 -- a part and another behind it, by what they are together
-module _ {A B R : Type 0} (f : Reader A R) (next : A → Reader B R) (P : A → List ℕ → Type 0) (Q : A → B → List ℕ → Type 0) (J : B → List ℕ → Type 0) where
+module _ {A B R : Type 0} (f : Reader A R) (next : A → Reader B R) (P : A → List ℕ → Type 0)
+    (Q : A → B → List ℕ → Type 0) (J : B → List ℕ → Type 0) where
   just_then_as : ReadsJust f P → ((a : A) → ReadsJust (next a) (Q a))
       → ((a : A) (b : B) (front rest : List ℕ) → P a front → Q a b rest → J b (front ++ rest))
       → ((b : B) (bytes : List ℕ) → J b bytes → Joined P Q b bytes) → ReadsJust (f >>= next) J
   just_then_as first rest there back =
       just_as (f >>= next) (Joined P Q) J (just_then f next P Q first rest)
-      (λ b bytes j. subst (λ (c : List ℕ). J b c) (sym j.joined) (there j.part b j.front j.rest j.first j.next)) back
+      (λ b bytes j. subst (λ (c : List ℕ). J b c) (sym j.joined)
+      (there j.part b j.front j.rest j.first j.next)) back
 
 -- an integer
 pub just_integer : ReadsJust an_integer Spells
 just_integer =
-    just_seen_as (λ n. n) (λ _. faults.BadInt) int_at Spells Spells (λ b n k. (spells_from_whole b n k, λ h. whole_from_spells b n k h.0 h.1))
+    just_seen_as (λ n. n) (λ _. faults.BadInt) int_at Spells Spells
+    (λ b n k. (spells_from_whole b n k, λ h. whole_from_spells b n k h.0 h.1))
     (λ n b h. h) (λ n b h. (n, h, refl))
 
 -- an integer, and as many bytes as it says
@@ -65,9 +78,23 @@ pub record IsRawString (content bytes : List ℕ) : Type 0 where
 
 pub just_string : ReadsJust a_string IsRawString
 just_string =
-    just_then_as an_integer some_bytes Spells (λ n s b. (b ≡ s) × (length b ≡ n)) IsRawString just_integer (λ n. just_bytes n)
-    (λ n s front rest p q. record { spelling = front; spelled = subst (λ (m : ℕ). Spells m front) (sym q.1 ∙ ap length q.0) p; joined = ap (λ c. front ++ c) q.0 })
-    (λ s b h. record { part = length s; front = h.spelling; rest = s; joined = h.joined; first = h.spelled; next = (refl, refl) })
+    just_then_as an_integer some_bytes Spells (λ n s b. (b ≡ s) × (length b ≡ n)) IsRawString
+    just_integer (λ n. just_bytes n)
+    (λ n s front rest p q. record {
+      spelling = front;
+      spelled = subst (λ (m : ℕ). Spells m front)
+          (sym q.1 ∙ ap length q.0) p;
+      joined = ap (λ c. front ++ c) q.0;
+    })
+    (λ s b h. record {
+      part = length s;
+      front = h.spelling;
+      rest = s;
+      joined = h.joined;
+      first =
+          h.spelled;
+      next = (refl, refl);
+    })
 
 abbrev pub PrefixIs : PrefixForm → List ℕ → List ℕ → Type 0
 PrefixIs Unprefixed p b = (p ≡ []) × (b ≡ [])
@@ -85,12 +112,15 @@ NameIs Identified (Id id) b = Spells id b
 NameIs _ _ b = ⊥
 
 pub just_name : (form : NameForm) → ReadsJust (name_at form) (NameIs form)
-just_name Inlined = just_seen_as Inline (λ fault. fault) a_string IsRawString (NameIs Inlined) just_string (λ s b h. h) back
+just_name Inlined = just_seen_as Inline (λ fault. fault) a_string IsRawString (NameIs Inlined)
+    just_string (λ s b h. h) back
   where
-    back : (y : NameRef) (b : List ℕ) → NameIs Inlined y b → (s : List ℕ) × IsRawString s b × (Inline s ≡ y)
+    back : (y : NameRef) (b : List ℕ) → NameIs Inlined y b → (s : List ℕ) × IsRawString s b
+        × (Inline s ≡ y)
     back (Inline s) b h = (s, h, refl)
     back (Id id) b h = absurd h
-just_name Identified = just_seen_as Id (λ fault. fault) an_integer Spells (NameIs Identified) just_integer (λ n b h. h) back
+just_name Identified = just_seen_as Id (λ fault. fault) an_integer Spells (NameIs Identified)
+    just_integer (λ n b h. h) back
   where
     back : (y : NameRef) (b : List ℕ) → NameIs Identified y b → (id : ℕ) × Spells id b × (Id id ≡ y)
     back (Inline s) b h = absurd h
@@ -103,24 +133,35 @@ record IsLength (form : LengthForm) (n : ℕ) (said : List ℕ) : Type 0 where
   positive : is_negative form n ≡ false
 
 -- a thing that is there, of no bytes
-just_given_or : {A : Type 0} (fault : RecordFault) (o : Option A) → ReadsJust (given_or fault o) (λ a b. (o ≡ Some a) × (b ≡ []))
-just_given_or fault None = just_as (refuse fault) (λ a b. ⊥) (λ a b. (None ≡ Some a) × (b ≡ [])) (just_refuse fault) (λ a b h. absurd h) (λ a b h. cc h.0)
-just_given_or fault (Some x) = just_as (given x) (λ a b. (a ≡ x) × (b ≡ [])) (λ a b. (Some x ≡ Some a) × (b ≡ [])) (just_given x) (λ a b h. (ap Some (sym h.0), h.1)) (λ a b h. (cc h.0, h.1))
+just_given_or : {A : Type 0} (fault : RecordFault) (o : Option A) → ReadsJust (given_or fault o)
+    (λ a b. (o ≡ Some a) × (b ≡ []))
+just_given_or fault None = just_as (refuse fault) (λ a b. ⊥) (λ a b. (None ≡ Some a) × (b ≡ []))
+    (just_refuse fault) (λ a b h. absurd h) (λ a b h. cc h.0)
+just_given_or fault (Some x) = just_as (given x) (λ a b. (a ≡ x) × (b ≡ []))
+    (λ a b. (Some x ≡ Some a) × (b ≡ [])) (just_given x) (λ a b h. (ap Some (sym h.0), h.1))
+    (λ a b h. (cc h.0, h.1))
 
-said_parts : (form : LengthForm) (said : List ℕ) (n : ℕ) → said_length form said ≡ Some n → (is_negative form (length_of form said) ≡ false) × (length_of form said ≡ n)
+said_parts : (form : LengthForm) (said : List ℕ) (n : ℕ) → said_length form said ≡ Some n
+    → (is_negative form (length_of form said) ≡ false) × (length_of form said ≡ n)
 said_parts form said n e = by (is_negative form (length_of form said)) refl e
   where
-    by : (negative : Bool) → is_negative form (length_of form said) ≡ negative → (if negative then None else Some (length_of form said)) ≡ Some n → (is_negative form (length_of form said) ≡ false) × (length_of form said ≡ n)
+    by : (negative : Bool) → is_negative form (length_of form said) ≡ negative
+        → (if negative then None else Some (length_of form said)) ≡ Some n
+        → (is_negative form (length_of form said) ≡ false) × (length_of form said ≡ n)
     by true is e = cc
     by false is e = (is, cc)
 
-said_from : (form : LengthForm) (said : List ℕ) (n : ℕ) → is_negative form n ≡ false → length_of form said ≡ n → said_length form said ≡ Some n
+said_from : (form : LengthForm) (said : List ℕ) (n : ℕ) → is_negative form n ≡ false
+    → length_of form said ≡ n → said_length form said ≡ Some n
 said_from form said n positive e = rw (e, positive) refl
 
 just_length : (form : LengthForm) → ReadsJust (a_length form) (IsLength form)
 just_length form =
-    just_then_as (some_bytes (byte_len (width_in form))) _ (λ s b. (b ≡ s) × (length b ≡ byte_len (width_in form))) (λ said n b. (said_length form said ≡ Some n) × (b ≡ [])) (IsLength form)
-    (just_bytes (byte_len (width_in form))) (λ said. just_given_or faults.BadInt (said_length form said))
+    just_then_as (some_bytes (byte_len (width_in form))) _
+    (λ s b. (b ≡ s) × (length b ≡ byte_len (width_in form)))
+    (λ said n b. (said_length form said ≡ Some n) × (b ≡ [])) (IsLength form)
+    (just_bytes (byte_len (width_in form)))
+    (λ said. just_given_or faults.BadInt (said_length form said))
     (λ said n front rest p q.
     let parts = said_parts form said n q.0 in
     subst (IsLength form n) (sym (ap (λ c. front ++ c) q.1 ∙ append-nil front)) (record {
@@ -147,7 +188,8 @@ pub record IsLengthAnd (form : LengthForm) (content bytes : List ℕ) : Type 0 w
 
 just_counted : (form : LengthForm) → ReadsJust (counted_bytes form) (IsLengthAnd form)
 just_counted form =
-    just_then_as (a_length form) some_bytes (IsLength form) (λ n s b. (b ≡ s) × (length b ≡ n)) (IsLengthAnd form) (just_length form) (λ n. just_bytes n)
+    just_then_as (a_length form) some_bytes (IsLength form) (λ n s b. (b ≡ s) × (length b ≡ n))
+    (IsLengthAnd form) (just_length form) (λ n. just_bytes n)
     (λ n s front rest p q.
     let count : n ≡ length s = sym q.1 ∙ ap length q.0 in
     record {
@@ -171,7 +213,8 @@ abbrev pub BodyIs : TextKind → Body → ScalarShape → List ℕ → Type 0
 BodyIs kind (Fixed n) (bytes_of k s) b = (k ≡ kind) × (b ≡ s) × (length b ≡ n)
 BodyIs kind (Counted form) (bytes_of k s) b = (k ≡ kind) × IsLengthAnd form s b
 BodyIs kind Named (named_by id) b = Spells id b
-BodyIs kind Qualified (qualified_by letter id) b = (spelling : List ℕ) × Spells id spelling × (b ≡ letter ∷ spelling)
+BodyIs kind Qualified (qualified_by letter id) b = (spelling : List ℕ) × Spells id spelling
+    × (b ≡ letter ∷ spelling)
 BodyIs _ _ _ b = ⊥
 
 abbrev pub ScalarIs : TextKind → ScalarShape → List ℕ → Type 0
@@ -179,29 +222,37 @@ ScalarIs kind scalar b = BodyIs kind (body_of kind) scalar b
 
 pub just_body : (kind : TextKind) (body : Body) → ReadsJust (body_at kind body) (BodyIs kind body)
 just_body kind (Fixed n) =
-    just_seen_as (bytes_of kind) (λ fault. fault) (some_bytes n) (λ s b. (b ≡ s) × (length b ≡ n)) (BodyIs kind (Fixed n)) (just_bytes n) (λ s b h. (refl, h.0, h.1)) back
+    just_seen_as (bytes_of kind) (λ fault. fault) (some_bytes n) (λ s b. (b ≡ s) × (length b ≡ n))
+    (BodyIs kind (Fixed n)) (just_bytes n) (λ s b h. (refl, h.0, h.1)) back
   where
-    back : (y : ScalarShape) (b : List ℕ) → BodyIs kind (Fixed n) y b → (s : List ℕ) × ((b ≡ s) × (length b ≡ n)) × (bytes_of kind s ≡ y)
+    back : (y : ScalarShape) (b : List ℕ) → BodyIs kind (Fixed n) y b → (s : List ℕ)
+        × ((b ≡ s) × (length b ≡ n)) × (bytes_of kind s ≡ y)
     back (bytes_of k s) b h = (s, (h.1, h.2), ap (λ j. bytes_of j s) (sym h.0))
     back (named_by id) b h = absurd h
     back (qualified_by letter id) b h = absurd h
 just_body kind (Counted form) =
-    just_seen_as (bytes_of kind) (λ fault. fault) (counted_bytes form) (IsLengthAnd form) (BodyIs kind (Counted form)) (just_counted form) (λ s b h. (refl, h)) back
+    just_seen_as (bytes_of kind) (λ fault. fault) (counted_bytes form) (IsLengthAnd form)
+    (BodyIs kind (Counted form)) (just_counted form) (λ s b h. (refl, h)) back
   where
-    back : (y : ScalarShape) (b : List ℕ) → BodyIs kind (Counted form) y b → (s : List ℕ) × IsLengthAnd form s b × (bytes_of kind s ≡ y)
+    back : (y : ScalarShape) (b : List ℕ) → BodyIs kind (Counted form) y b → (s : List ℕ)
+        × IsLengthAnd form s b × (bytes_of kind s ≡ y)
     back (bytes_of k s) b h = (s, h.1, ap (λ j. bytes_of j s) (sym h.0))
     back (named_by id) b h = absurd h
     back (qualified_by letter id) b h = absurd h
 just_body kind Named =
-    just_seen_as named_by (λ fault. fault) an_integer Spells (BodyIs kind Named) just_integer (λ n b h. h) back
+    just_seen_as named_by (λ fault. fault) an_integer Spells (BodyIs kind Named) just_integer
+    (λ n b h. h) back
   where
-    back : (y : ScalarShape) (b : List ℕ) → BodyIs kind Named y b → (n : ℕ) × Spells n b × (named_by n ≡ y)
+    back : (y : ScalarShape) (b : List ℕ) → BodyIs kind Named y b → (n : ℕ) × Spells n b
+        × (named_by n ≡ y)
     back (named_by id) b h = (id, h, refl)
     back (bytes_of k s) b h = absurd h
     back (qualified_by letter id) b h = absurd h
 just_body kind Qualified =
-    just_then_as a_byte (λ letter bytes. seen (qualified_by letter) (λ fault. fault) (an_integer bytes)) (λ x b. b ≡ x ∷ []) LetterIs (BodyIs kind Qualified) just_byte
-    (λ letter. just_seen_as (qualified_by letter) (λ fault. fault) an_integer Spells (LetterIs letter) just_integer (λ n b h. (refl, h)) (back letter))
+    just_then_as a_byte (λ letter bytes. seen (qualified_by letter) (λ fault. fault)
+    (an_integer bytes)) (λ x b. b ≡ x ∷ []) LetterIs (BodyIs kind Qualified) just_byte
+    (λ letter. just_seen_as (qualified_by letter) (λ fault. fault) an_integer Spells
+    (LetterIs letter) just_integer (λ n b h. (refl, h)) (back letter))
     there joined
   where
     LetterIs : ℕ → ScalarShape → List ℕ → Type 0
@@ -209,27 +260,40 @@ just_body kind Qualified =
     LetterIs letter (bytes_of k s) b = ⊥
     LetterIs letter (named_by id) b = ⊥
 
-    back : (letter : ℕ) (y : ScalarShape) (b : List ℕ) → LetterIs letter y b → (n : ℕ) × Spells n b × (qualified_by letter n ≡ y)
+    back : (letter : ℕ) (y : ScalarShape) (b : List ℕ) → LetterIs letter y b → (n : ℕ) × Spells n b
+        × (qualified_by letter n ≡ y)
     back letter (qualified_by l id) b h = (id, h.1, ap (λ m. qualified_by m id) (sym h.0))
     back letter (bytes_of k s) b h = absurd h
     back letter (named_by id) b h = absurd h
 
-    there : (x : ℕ) (y : ScalarShape) (front rest : List ℕ) → front ≡ x ∷ [] → LetterIs x y rest → BodyIs kind Qualified y (front ++ rest)
-    there x (qualified_by l id) front rest e h = (rest, h.1, ap (λ c. c ++ rest) e ∙ ap (λ m. m ∷ rest) (sym h.0))
+    there : (x : ℕ) (y : ScalarShape) (front rest : List ℕ) → front ≡ x ∷ [] → LetterIs x y rest
+        → BodyIs kind Qualified y (front ++ rest)
+    there x (qualified_by l id) front rest e h =
+        (rest, h.1, ap (λ c. c ++ rest) e ∙ ap (λ m. m ∷ rest) (sym h.0))
     there x (bytes_of k s) front rest e h = absurd h
     there x (named_by id) front rest e h = absurd h
 
-    joined : (y : ScalarShape) (b : List ℕ) → BodyIs kind Qualified y b → Joined (λ (x : ℕ) b. b ≡ x ∷ []) LetterIs y b
-    joined (qualified_by l id) b h = record { part = l; front = l ∷ []; rest = h.0; joined = h.2; first = refl; next = (refl, h.1) }
+    joined : (y : ScalarShape) (b : List ℕ) → BodyIs kind Qualified y b
+        → Joined (λ (x : ℕ) b. b ≡ x ∷ []) LetterIs y b
+    joined (qualified_by l id) b h = record {
+      part = l;
+      front = l ∷ [];
+      rest = h.0;
+      joined = h.2;
+      first = refl;
+      next = (refl, h.1);
+    }
     joined (bytes_of k s) b h = absurd h
     joined (named_by id) b h = absurd h
-just_body kind Listed = just_as (refuse faults.OutOfPlace) (λ s b. ⊥) (BodyIs kind Listed) (just_refuse faults.OutOfPlace) (λ s b h. absurd h) none
+just_body kind Listed = just_as (refuse faults.OutOfPlace) (λ s b. ⊥) (BodyIs kind Listed)
+    (just_refuse faults.OutOfPlace) (λ s b h. absurd h) none
   where
     none : (y : ScalarShape) (b : List ℕ) → BodyIs kind Listed y b → ⊥
     none (bytes_of k s) b h = h
     none (named_by id) b h = h
     none (qualified_by letter id) b h = h
-just_body kind Ending = just_as (refuse faults.OutOfPlace) (λ s b. ⊥) (BodyIs kind Ending) (just_refuse faults.OutOfPlace) (λ s b h. absurd h) none
+just_body kind Ending = just_as (refuse faults.OutOfPlace) (λ s b. ⊥) (BodyIs kind Ending)
+    (just_refuse faults.OutOfPlace) (λ s b h. absurd h) none
   where
     none : (y : ScalarShape) (b : List ℕ) → BodyIs kind Ending y b → ⊥
     none (bytes_of k s) b h = h
@@ -240,36 +304,58 @@ pub just_scalar : (kind : TextKind) → ReadsJust (scalar_at kind) (ScalarIs kin
 just_scalar kind = just_body kind (body_of kind)
 
 -- what begins with a type byte, by the kind of record that the byte begins
-module _ {A : Type 0} (next : Option RecordKind → Reader A RecordFault) (P : Option RecordKind → A → List ℕ → Type 0) where
+module _ {A : Type 0} (next : Option RecordKind → Reader A RecordFault)
+    (P : Option RecordKind → A → List ℕ → Type 0) where
   pub record Typed (a : A) (bytes : List ℕ) : Type 0 where
     pub byte : ℕ
     pub rest : List ℕ
     pub joined : bytes ≡ byte ∷ rest
     pub behind : P (record_kind byte) a rest
 
-  pub just_typed : ((kind : Option RecordKind) → ReadsJust (next kind) (P kind)) → ReadsJust (a_byte >>= λ byte. next (record_kind byte)) Typed
+  pub just_typed : ((kind : Option RecordKind) → ReadsJust (next kind) (P kind))
+      → ReadsJust (a_byte >>= λ byte. next (record_kind byte)) Typed
   just_typed just =
-      just_then_as a_byte (λ byte. next (record_kind byte)) (λ x b. b ≡ x ∷ []) (λ byte. P (record_kind byte)) Typed just_byte (λ byte. just (record_kind byte))
-      (λ x a front rest e h. record { byte = x; rest = rest; joined = ap (λ c. c ++ rest) e; behind = h })
-      (λ a b h. record { part = h.byte; front = h.byte ∷ []; rest = h.rest; joined = h.joined; first = refl; next = h.behind })
+      just_then_as a_byte (λ byte. next (record_kind byte)) (λ x b. b ≡ x ∷ [])
+      (λ byte. P (record_kind byte)) Typed just_byte (λ byte. just (record_kind byte))
+      (λ x a front rest e h. record {
+        byte = x;
+        rest = rest;
+        joined = ap (λ c. c ++ rest) e;
+        behind = h;
+      })
+      (λ a b h. record {
+        part = h.byte;
+        front = h.byte ∷ [];
+        rest = h.rest;
+        joined = h.joined;
+        first = refl;
+        next = h.behind;
+      })
 
 -- one thing of a list, or its end
 abbrev pub TurnIs : Bool → Option RecordKind → Turn ScalarShape Bool → List ℕ → Type 0
 TurnIs may_close (Some (records.Text texts.EndList false)) turn b = (turn ≡ stop false) × (b ≡ [])
-TurnIs may_close (Some (records.Text texts.EndList true)) turn b = (may_close ≡ true) × (turn ≡ stop true) × (b ≡ [])
-TurnIs may_close (Some (records.Text kind false)) turn b = (scalar : ScalarShape) × ScalarIs kind scalar b × (more scalar ≡ turn)
+TurnIs may_close (Some (records.Text texts.EndList true)) turn b = (may_close ≡ true)
+    × (turn ≡ stop true) × (b ≡ [])
+TurnIs may_close (Some (records.Text kind false)) turn b = (scalar : ScalarShape)
+    × ScalarIs kind scalar b × (more scalar ≡ turn)
 TurnIs may_close _ turn b = ⊥
 
-just_turn_of : (may_close : Bool) (kind : Option RecordKind) → ReadsJust (turn_of may_close kind) (TurnIs may_close kind)
+just_turn_of : (may_close : Bool) (kind : Option RecordKind) → ReadsJust (turn_of may_close kind)
+    (TurnIs may_close kind)
 just_turn_of may_close None = just_refuse faults.UnknownNode
 just_turn_of may_close (Some (records.Text texts.EndList false)) = just_given (stop false)
 just_turn_of true (Some (records.Text texts.EndList true)) =
-    just_as (turn_of true (Some (records.Text texts.EndList true))) (λ turn b. (turn ≡ stop true) × (b ≡ [])) (TurnIs true (Some (records.Text texts.EndList true))) (just_given (stop true))
+    just_as (turn_of true (Some (records.Text texts.EndList true)))
+    (λ turn b. (turn ≡ stop true) × (b ≡ [])) (TurnIs true (Some (records.Text texts.EndList true)))
+    (just_given (stop true))
     (λ turn b h. (refl, h.0, h.1)) (λ turn b h. (h.1, h.2))
 just_turn_of false (Some (records.Text texts.EndList true)) =
-    just_as (turn_of false (Some (records.Text texts.EndList true))) (λ turn b. ⊥) (TurnIs false (Some (records.Text texts.EndList true))) (just_refuse faults.OutOfPlace)
+    just_as (turn_of false (Some (records.Text texts.EndList true))) (λ turn b. ⊥)
+    (TurnIs false (Some (records.Text texts.EndList true))) (just_refuse faults.OutOfPlace)
     (λ turn b h. absurd h) (λ turn b h. cc h.0)
-just_turn_of may_close (Some (records.Text kind false)) = just_seen more (λ fault. fault) (scalar_at kind) (ScalarIs kind) (just_scalar kind)
+just_turn_of may_close (Some (records.Text kind false)) = just_seen more (λ fault. fault)
+    (scalar_at kind) (ScalarIs kind) (just_scalar kind)
 just_turn_of may_close (Some _) = just_refuse faults.OutOfPlace
 
 -- with its type byte
@@ -284,18 +370,23 @@ abbrev pub ListIs : Bool → Many ScalarShape Bool → List ℕ → Type 0
 ListIs may_close list b = AreMany (IsTurn may_close) list.items list.last b
 
 pub just_list : (may_close : Bool) → ReadsJust (list_at may_close) (ListIs may_close)
-just_list may_close = just_many (list_turn may_close) (reads_list_turn may_close) (then_begun a_byte _ [] refl) (IsTurn may_close) (just_turn may_close)
+just_list may_close = just_many (list_turn may_close) (reads_list_turn may_close)
+    (then_begun a_byte _ [] refl) (IsTurn may_close) (just_turn may_close)
 
 -- the value of an attribute
 abbrev pub ValueIs : Option RecordKind → ValueShape → List ℕ → Type 0
-ValueIs (Some (records.Text texts.StartList false)) value b = (list : Many ScalarShape Bool) × ListIs false list b × (several list.items ≡ value)
-ValueIs (Some (records.Text kind false)) value b = (scalar : ScalarShape) × ScalarIs kind scalar b × (one scalar ≡ value)
+ValueIs (Some (records.Text texts.StartList false)) value b = (list : Many ScalarShape Bool)
+    × ListIs false list b × (several list.items ≡ value)
+ValueIs (Some (records.Text kind false)) value b = (scalar : ScalarShape) × ScalarIs kind scalar b
+    × (one scalar ≡ value)
 ValueIs _ value b = ⊥
 
 just_value_of : (kind : Option RecordKind) → ReadsJust (value_of_kind kind) (ValueIs kind)
 just_value_of None = just_refuse faults.UnknownNode
-just_value_of (Some (records.Text texts.StartList false)) = just_seen (λ list. several list.items) (λ fault. fault) (list_at false) (ListIs false) (just_list false)
-just_value_of (Some (records.Text kind false)) = just_seen one (λ fault. fault) (scalar_at kind) (ScalarIs kind) (just_scalar kind)
+just_value_of (Some (records.Text texts.StartList false)) = just_seen (λ list. several list.items)
+    (λ fault. fault) (list_at false) (ListIs false) (just_list false)
+just_value_of (Some (records.Text kind false)) = just_seen one (λ fault. fault) (scalar_at kind)
+    (ScalarIs kind) (just_scalar kind)
 just_value_of (Some _) = just_refuse faults.OutOfPlace
 
 abbrev pub IsValue : ValueShape → List ℕ → Type 0
@@ -305,7 +396,8 @@ just_value : ReadsJust value_at IsValue
 just_value = just_typed value_of_kind ValueIs just_value_of
 
 -- a prefix, a name and a value
-pub record AttributeIs (prefix_form : PrefixForm) (name_form : NameForm) (shape : AttributeShape) (bytes : List ℕ) : Type 0 where
+pub record AttributeIs (prefix_form : PrefixForm) (name_form : NameForm) (shape : AttributeShape)
+    (bytes : List ℕ) : Type 0 where
   pub prefix : List ℕ
   pub name : NameRef
   pub value : ValueShape
@@ -318,11 +410,15 @@ pub record AttributeIs (prefix_form : PrefixForm) (name_form : NameForm) (shape 
   pub joined : bytes ≡ prefix_bytes ++ (name_bytes ++ value_bytes)
   pub shape_is : attributes prefix name value ≡ shape
 
-just_attribute : (prefix : PrefixForm) (name : NameForm) → ReadsJust (attribute_at prefix name) (AttributeIs prefix name)
+just_attribute : (prefix : PrefixForm) (name : NameForm) → ReadsJust (attribute_at prefix name)
+    (AttributeIs prefix name)
 just_attribute prefix name =
-    just_then_as (prefix_at prefix) _ (PrefixIs prefix) (λ p. Joined (NameIs name) (λ n shape b. (value : ValueShape) × IsValue value b × (attributes p n value ≡ shape))) (AttributeIs prefix name)
+    just_then_as (prefix_at prefix) _ (PrefixIs prefix)
+    (λ p. Joined (NameIs name) (λ n shape b. (value : ValueShape) × IsValue value b
+    × (attributes p n value ≡ shape))) (AttributeIs prefix name)
     (just_prefix prefix)
-    (λ p. just_then (name_at name) _ (NameIs name) (λ n shape b. (value : ValueShape) × IsValue value b × (attributes p n value ≡ shape)) (just_name name)
+    (λ p. just_then (name_at name) _ (NameIs name) (λ n shape b. (value : ValueShape)
+    × IsValue value b × (attributes p n value ≡ shape)) (just_name name)
     (λ n. just_seen (attributes p n) (λ fault. fault) value_at IsValue just_value))
     (λ p shape front rest h j. record {
       prefix = p;
@@ -343,11 +439,19 @@ just_attribute prefix name =
       rest = a.name_bytes ++ a.value_bytes;
       joined = a.joined;
       first = a.is_prefix;
-      next = record { part = a.name; front = a.name_bytes; rest = a.value_bytes; joined = refl; first = a.is_name; next = (a.value, a.is_value, a.shape_is) };
+      next = record {
+        part = a.name;
+        front = a.name_bytes;
+        rest = a.value_bytes;
+        joined = refl;
+        first = a.is_name;
+        next = (a.value, a.is_value, a.shape_is);
+      };
     })
 
 -- a prefix and a name
-pub record NamedIs {A : Type 0} (make : List ℕ → NameRef → A) (prefix_form : PrefixForm) (name_form : NameForm) (shape : A) (bytes : List ℕ) : Type 0 where
+pub record NamedIs {A : Type 0} (make : List ℕ → NameRef → A) (prefix_form : PrefixForm)
+    (name_form : NameForm) (shape : A) (bytes : List ℕ) : Type 0 where
   pub prefix : List ℕ
   pub name : NameRef
   pub prefix_bytes : List ℕ
@@ -358,10 +462,13 @@ pub record NamedIs {A : Type 0} (make : List ℕ → NameRef → A) (prefix_form
   pub shape_is : make prefix name ≡ shape
 
 just_named : {A : Type 0} (make : List ℕ → NameRef → A) (prefix : PrefixForm) (name : NameForm)
-    → ReadsJust (prefix_at prefix >>= λ p bytes. seen (make p) (λ fault. fault) (name_at name bytes)) (NamedIs make prefix name)
+    → ReadsJust (prefix_at prefix >>= λ p bytes. seen (make p) (λ fault. fault)
+    (name_at name bytes)) (NamedIs make prefix name)
 just_named make prefix name =
-    just_then_as (prefix_at prefix) _ (PrefixIs prefix) (λ p shape b. (n : NameRef) × NameIs name n b × (make p n ≡ shape)) (NamedIs make prefix name)
-    (just_prefix prefix) (λ p. just_seen (make p) (λ fault. fault) (name_at name) (NameIs name) (just_name name))
+    just_then_as (prefix_at prefix) _ (PrefixIs prefix)
+    (λ p shape b. (n : NameRef) × NameIs name n b × (make p n ≡ shape)) (NamedIs make prefix name)
+    (just_prefix prefix) (λ p. just_seen (make p) (λ fault. fault) (name_at name) (NameIs name)
+    (just_name name))
     (λ p shape front rest h n. record {
       prefix = p;
       name = n.0;
@@ -372,7 +479,15 @@ just_named make prefix name =
       joined = refl;
       shape_is = n.2;
     })
-    (λ shape b a. record { part = a.prefix; front = a.prefix_bytes; rest = a.name_bytes; joined = a.joined; first = a.is_prefix; next = (a.name, a.is_name, a.shape_is) })
+    (λ shape b a. record {
+      part = a.prefix;
+      front = a.prefix_bytes;
+      rest = a.name_bytes;
+      joined =
+          a.joined;
+      first = a.is_prefix;
+      next = (a.name, a.is_name, a.shape_is);
+    })
 
 abbrev pub DeclarationIs : PrefixForm → NameForm → AttributeShape → List ℕ → Type 0
 DeclarationIs = NamedIs declares
@@ -382,15 +497,19 @@ ElementIs = NamedIs named_shape
 
 -- a declaration or an attribute of an array's element, or the end of these
 abbrev pub ArrayPartIs : Option RecordKind → Turn AttributeShape (Unit {0}) → List ℕ → Type 0
-ArrayPartIs (Some (records.Attribute prefix name)) turn b = (shape : AttributeShape) × AttributeIs prefix name shape b × (more shape ≡ turn)
-ArrayPartIs (Some (records.Declaration prefix uri)) turn b = (shape : AttributeShape) × DeclarationIs prefix uri shape b × (more shape ≡ turn)
+ArrayPartIs (Some (records.Attribute prefix name)) turn b = (shape : AttributeShape)
+    × AttributeIs prefix name shape b × (more shape ≡ turn)
+ArrayPartIs (Some (records.Declaration prefix uri)) turn b = (shape : AttributeShape)
+    × DeclarationIs prefix uri shape b × (more shape ≡ turn)
 ArrayPartIs (Some records.EndElement) turn b = (turn ≡ stop tt) × (b ≡ [])
 ArrayPartIs _ turn b = ⊥
 
 just_array_part : (kind : Option RecordKind) → ReadsJust (array_part kind) (ArrayPartIs kind)
 just_array_part None = just_refuse faults.UnknownNode
-just_array_part (Some (records.Attribute prefix name)) = just_seen more (λ fault. fault) (attribute_at prefix name) (AttributeIs prefix name) (just_attribute prefix name)
-just_array_part (Some (records.Declaration prefix uri)) = just_seen more (λ fault. fault) (declaration_at prefix uri) (DeclarationIs prefix uri) (just_named declares prefix uri)
+just_array_part (Some (records.Attribute prefix name)) = just_seen more (λ fault. fault)
+    (attribute_at prefix name) (AttributeIs prefix name) (just_attribute prefix name)
+just_array_part (Some (records.Declaration prefix uri)) = just_seen more (λ fault. fault)
+    (declaration_at prefix uri) (DeclarationIs prefix uri) (just_named declares prefix uri)
 just_array_part (Some records.EndElement) = just_given (stop tt)
 just_array_part (Some _) = just_refuse faults.BadArray
 
@@ -404,7 +523,8 @@ abbrev pub PartsAre : Many AttributeShape (Unit {0}) → List ℕ → Type 0
 PartsAre parts b = AreMany IsArrayTurn parts.items parts.last b
 
 just_parts : ReadsJust array_parts PartsAre
-just_parts = just_many array_turn reads_array_turn (then_begun a_byte _ [] refl) IsArrayTurn just_array_turn
+just_parts = just_many array_turn reads_array_turn (then_begun a_byte _ [] refl) IsArrayTurn
+    just_array_turn
 
 -- the element that an array repeats
 abbrev pub ElementOf : Option RecordKind → NamedShape → List ℕ → Type 0
@@ -433,13 +553,20 @@ pub record CellsAre (kind : ArrayKind) (shape : CellsShape) (bytes : List ℕ) :
 abbrev ValuesAre : ArrayKind → ℕ → List ℕ → List ℕ → Type 0
 ValuesAre kind count s b = ((count == 0) ≡ false) × (b ≡ s) × (length b ≡ count * width_of kind)
 
-just_array_values : (kind : ArrayKind) (count : ℕ) → ReadsJust (array_values kind count) (ValuesAre kind count)
+just_array_values : (kind : ArrayKind) (count : ℕ) → ReadsJust (array_values kind count)
+    (ValuesAre kind count)
 just_array_values kind count = by (count == 0)
   where
-    by : (none : Bool) → ReadsJust (if none then refuse faults.BadArray else some_bytes (count * width_of kind)) (λ s b. (none ≡ false) × (b ≡ s) × (length b ≡ count * width_of kind))
-    by true = just_as (refuse faults.BadArray) (λ s b. ⊥) (λ s b. (true ≡ false) × (b ≡ s) × (length b ≡ count * width_of kind)) (just_refuse faults.BadArray) (λ s b h. absurd h) (λ s b h. cc h.0)
+    by : (none : Bool)
+        → ReadsJust (if none then refuse faults.BadArray else some_bytes (count * width_of kind))
+        (λ s b. (none ≡ false) × (b ≡ s) × (length b ≡ count * width_of kind))
+    by true = just_as (refuse faults.BadArray) (λ s b. ⊥) (λ s b. (true ≡ false) × (b ≡ s)
+        × (length b ≡ count * width_of kind)) (just_refuse faults.BadArray) (λ s b h. absurd h)
+        (λ s b h. cc h.0)
     by false =
-        just_as (some_bytes (count * width_of kind)) (λ s b. (b ≡ s) × (length b ≡ count * width_of kind)) (λ s b. (false ≡ false) × (b ≡ s) × (length b ≡ count * width_of kind))
+        just_as (some_bytes (count * width_of kind))
+        (λ s b. (b ≡ s) × (length b ≡ count * width_of kind)) (λ s b. (false ≡ false) × (b ≡ s)
+        × (length b ≡ count * width_of kind))
         (just_bytes (count * width_of kind)) (λ s b h. (refl, h.0, h.1)) (λ s b h. (h.1, h.2))
 
 -- by the kind that comes before them
@@ -450,8 +577,10 @@ CellsOf (Some kind) shape b = CellsAre kind shape b
 just_cells_of : (kind : Option ArrayKind) → ReadsJust (cells_of kind) (CellsOf kind)
 just_cells_of None = just_refuse faults.BadArray
 just_cells_of (Some kind) =
-    just_then_as an_integer _ Spells (λ count shape b. (s : List ℕ) × ValuesAre kind count s b × (cells_shape kind count s ≡ shape)) (CellsAre kind) just_integer
-    (λ count. just_seen (cells_shape kind count) (λ fault. fault) (array_values kind count) (ValuesAre kind count) (just_array_values kind count))
+    just_then_as an_integer _ Spells (λ count shape b. (s : List ℕ) × ValuesAre kind count s b
+    × (cells_shape kind count s ≡ shape)) (CellsAre kind) just_integer
+    (λ count. just_seen (cells_shape kind count) (λ fault. fault) (array_values kind count)
+    (ValuesAre kind count) (just_array_values kind count))
     (λ count shape front rest h c. record {
       count = count;
       count_bytes = front;
@@ -462,7 +591,15 @@ just_cells_of (Some kind) =
       joined = ap (λ s. front ++ s) c.1.1;
       shape_is = c.2;
     })
-    (λ shape b c. record { part = c.count; front = c.count_bytes; rest = c.values; joined = c.joined; first = c.is_count; next = (c.values, (c.some, refl, c.size), c.shape_is) })
+    (λ shape b c. record {
+      part = c.count;
+      front = c.count_bytes;
+      rest = c.values;
+      joined =
+          c.joined;
+      first = c.is_count;
+      next = (c.values, (c.some, refl, c.size), c.shape_is);
+    })
 
 pub record AreCellsOf (shape : CellsShape) (bytes : List ℕ) : Type 0 where
   pub byte : ℕ
@@ -472,9 +609,18 @@ pub record AreCellsOf (shape : CellsShape) (bytes : List ℕ) : Type 0 where
 
 just_cells : ReadsJust array_cells AreCellsOf
 just_cells =
-    just_then_as a_byte _ (λ x b. b ≡ x ∷ []) (λ byte. CellsOf (array_kind byte)) AreCellsOf just_byte (λ byte. just_cells_of (array_kind byte))
-    (λ x shape front rest e h. record { byte = x; rest = rest; behind = h; joined = ap (λ c. c ++ rest) e })
-    (λ shape b h. record { part = h.byte; front = h.byte ∷ []; rest = h.rest; joined = h.joined; first = refl; next = h.behind })
+    just_then_as a_byte _ (λ x b. b ≡ x ∷ []) (λ byte. CellsOf (array_kind byte)) AreCellsOf
+    just_byte (λ byte. just_cells_of (array_kind byte))
+    (λ x shape front rest e h. record
+    { byte = x; rest = rest; behind = h; joined = ap (λ c. c ++ rest) e })
+    (λ shape b h. record {
+      part = h.byte;
+      front = h.byte ∷ [];
+      rest = h.rest;
+      joined = h.joined;
+      first = refl;
+      next = h.behind;
+    })
 
 -- what follows an array's type byte
 pub record ArrayIs (shape : ArrayShape) (bytes : List ℕ) : Type 0 where
@@ -491,13 +637,17 @@ pub record ArrayIs (shape : ArrayShape) (bytes : List ℕ) : Type 0 where
   pub shape_is : array_shape it parts.items cells ≡ shape
 
 abbrev CellsBehind : NamedShape → Many AttributeShape (Unit {0}) → ArrayShape → List ℕ → Type 0
-CellsBehind it parts shape b = (cells : CellsShape) × AreCellsOf cells b × (array_shape it parts.items cells ≡ shape)
+CellsBehind it parts shape b = (cells : CellsShape) × AreCellsOf cells b
+    × (array_shape it parts.items cells ≡ shape)
 
 pub just_array : ReadsJust array_at ArrayIs
 unfolding array_at
 just_array =
-    just_then_as array_element _ IsArrayElement (λ it. Joined PartsAre (CellsBehind it)) ArrayIs (just_typed element_of ElementOf just_element_of)
-    (λ it. just_then array_parts _ PartsAre (CellsBehind it) just_parts (λ parts. just_seen (array_shape it parts.items) (λ fault. fault) array_cells AreCellsOf just_cells))
+    just_then_as array_element _ IsArrayElement (λ it. Joined PartsAre (CellsBehind it)) ArrayIs
+    (just_typed element_of ElementOf just_element_of)
+    (λ it. just_then array_parts _ PartsAre (CellsBehind it) just_parts
+    (λ parts. just_seen (array_shape it parts.items) (λ fault. fault) array_cells AreCellsOf
+    just_cells))
     (λ it shape front rest h j. record {
       it = it;
       parts = j.part;
@@ -517,26 +667,40 @@ just_array =
       rest = a.part_bytes ++ a.cell_bytes;
       joined = a.joined;
       first = a.is_element;
-      next = record { part = a.parts; front = a.part_bytes; rest = a.cell_bytes; joined = refl; first = a.are_parts; next = (a.cells, a.are_cells, a.shape_is) };
+      next = record {
+        part = a.parts;
+        front = a.part_bytes;
+        rest = a.cell_bytes;
+        joined = refl;
+        first = a.are_parts;
+        next = (a.cells, a.are_cells, a.shape_is);
+      };
     })
 
 -- what follows the type byte of a text
 abbrev pub TextIs : TextKind → Bool → Shape → List ℕ → Type 0
-TextIs texts.StartList ends shape b = (list : Many ScalarShape Bool) × ListIs true list b × (has_text (several list.items) list.last ≡ shape)
-TextIs kind ends shape b = (scalar : ScalarShape) × ScalarIs kind scalar b × (has_text (one scalar) ends ≡ shape)
+TextIs texts.StartList ends shape b = (list : Many ScalarShape Bool) × ListIs true list b
+    × (has_text (several list.items) list.last ≡ shape)
+TextIs kind ends shape b = (scalar : ScalarShape) × ScalarIs kind scalar b
+    × (has_text (one scalar) ends ≡ shape)
 
 just_text : (kind : TextKind) (ends : Bool) → ReadsJust (text_at kind ends) (TextIs kind ends)
-just_text texts.StartList ends = just_seen (λ list. has_text (several list.items) list.last) (λ fault. fault) (list_at true) (ListIs true) (just_list true)
-just_text kind ends = just_seen (λ scalar. has_text (one scalar) ends) (λ fault. fault) (scalar_at kind) (ScalarIs kind) (just_scalar kind)
+just_text texts.StartList ends = just_seen (λ list. has_text (several list.items) list.last)
+    (λ fault. fault) (list_at true) (ListIs true) (just_list true)
+just_text kind ends = just_seen (λ scalar. has_text (one scalar) ends) (λ fault. fault)
+    (scalar_at kind) (ScalarIs kind) (just_scalar kind)
 
 -- what follows the type byte of a record
 abbrev pub RecordIs : RecordKind → Shape → List ℕ → Type 0
 RecordIs records.EndElement shape b = (shape ≡ ends_element) × (b ≡ [])
 RecordIs records.Comment shape b = (s : List ℕ) × IsRawString s b × (comments s ≡ shape)
 RecordIs records.Array shape b = (a : ArrayShape) × ArrayIs a b × (repeats a ≡ shape)
-RecordIs (records.Attribute prefix name) shape b = (a : AttributeShape) × AttributeIs prefix name a b × (adds a ≡ shape)
-RecordIs (records.Declaration prefix uri) shape b = (a : AttributeShape) × DeclarationIs prefix uri a b × (adds a ≡ shape)
-RecordIs (records.Element prefix name) shape b = (it : NamedShape) × ElementIs prefix name it b × (begins_element it.prefix it.name ≡ shape)
+RecordIs (records.Attribute prefix name) shape b = (a : AttributeShape) × AttributeIs prefix name a
+    b × (adds a ≡ shape)
+RecordIs (records.Declaration prefix uri) shape b = (a : AttributeShape) × DeclarationIs prefix uri
+    a b × (adds a ≡ shape)
+RecordIs (records.Element prefix name) shape b = (it : NamedShape) × ElementIs prefix name it b
+    × (begins_element it.prefix it.name ≡ shape)
 RecordIs (records.Text kind ends) shape b = TextIs kind ends shape b
 
 just_record : (kind : RecordKind) → ReadsJust (record_at kind) (RecordIs kind)
@@ -544,27 +708,36 @@ unfolding record_at
 just_record records.EndElement = just_given ends_element
 just_record records.Comment = just_seen comments (λ fault. fault) a_string IsRawString just_string
 just_record records.Array = just_seen repeats (λ fault. fault) array_at ArrayIs just_array
-just_record (records.Attribute prefix name) = just_seen adds (λ fault. fault) (attribute_at prefix name) (AttributeIs prefix name) (just_attribute prefix name)
-just_record (records.Declaration prefix uri) = just_seen adds (λ fault. fault) (declaration_at prefix uri) (DeclarationIs prefix uri) (just_named declares prefix uri)
+just_record (records.Attribute prefix name) = just_seen adds (λ fault. fault)
+    (attribute_at prefix name) (AttributeIs prefix name) (just_attribute prefix name)
+just_record (records.Declaration prefix uri) = just_seen adds (λ fault. fault)
+    (declaration_at prefix uri) (DeclarationIs prefix uri) (just_named declares prefix uri)
 just_record (records.Element prefix name) =
-    just_seen (λ (it : NamedShape). begins_element it.prefix it.name) (λ fault. fault) (element_at prefix name) (ElementIs prefix name) (just_named named_shape prefix name)
+    just_seen (λ (it : NamedShape). begins_element it.prefix it.name) (λ fault. fault)
+    (element_at prefix name) (ElementIs prefix name) (just_named named_shape prefix name)
 just_record (records.Text kind ends) = just_text kind ends
 
 abbrev UnlessIs : Option RecordFault → RecordKind → Shape → List ℕ → Type 0
 UnlessIs fault kind shape b = (fault ≡ None) × RecordIs kind shape b
 
-just_unless : (fault : Option RecordFault) (kind : RecordKind) → ReadsJust (unless_misplaced fault kind) (UnlessIs fault kind)
-just_unless None kind = just_as (record_at kind) (RecordIs kind) (UnlessIs None kind) (just_record kind) (λ shape b h. (refl, h)) (λ shape b h. h.1)
-just_unless (Some fault) kind = just_as (refuse fault) (λ shape b. ⊥) (UnlessIs (Some fault) kind) (just_refuse fault) (λ shape b h. absurd h) (λ shape b h. cc h.0)
+just_unless : (fault : Option RecordFault) (kind : RecordKind)
+    → ReadsJust (unless_misplaced fault kind) (UnlessIs fault kind)
+just_unless None kind = just_as (record_at kind) (RecordIs kind) (UnlessIs None kind)
+    (just_record kind) (λ shape b h. (refl, h)) (λ shape b h. h.1)
+just_unless (Some fault) kind = just_as (refuse fault) (λ shape b. ⊥) (UnlessIs (Some fault) kind)
+    (just_refuse fault) (λ shape b h. absurd h) (λ shape b h. cc h.0)
 
 -- where a record of the kind may come
 abbrev pub PlacedIs : NodePlace → Option RecordKind → Shape → List ℕ → Type 0
 PlacedIs place None shape b = ⊥
 PlacedIs place (Some kind) shape b = (misplaced place kind ≡ None) × RecordIs kind shape b
 
-just_placed : (place : NodePlace) (kind : Option RecordKind) → ReadsJust (placed place kind) (PlacedIs place kind)
+just_placed : (place : NodePlace) (kind : Option RecordKind) → ReadsJust (placed place kind)
+    (PlacedIs place kind)
 just_placed AfterRoot None = just_refuse faults.TrailingBytes
-just_placed AfterRoot (Some kind) = just_as (refuse faults.TrailingBytes) (λ shape b. ⊥) (PlacedIs AfterRoot (Some kind)) (just_refuse faults.TrailingBytes) (λ shape b h. absurd h) (λ shape b h. cc h.0)
+just_placed AfterRoot (Some kind) = just_as (refuse faults.TrailingBytes) (λ shape b. ⊥)
+    (PlacedIs AfterRoot (Some kind)) (just_refuse faults.TrailingBytes) (λ shape b h. absurd h)
+    (λ shape b h. cc h.0)
 just_placed BeforeRoot None = just_refuse faults.UnknownNode
 just_placed BeforeRoot (Some kind) = just_unless (misplaced BeforeRoot kind) kind
 just_placed (Within may deeper) None = just_refuse faults.UnknownNode

@@ -1,10 +1,9 @@
 -- The number and the name of each reason for refusing a stream.
 use Rattle.std.specs.Prelude.{ℕ, List, codes}
 use Rattle.nbfx_values.specs.declared.refusals.Reason.{Reason}
-use Rattle.nbfx_values.specs.declared.refusals.Reason.TheVariants.{Unbuilt, BadInt, UnknownRecord, OutOfOrder, BadVersion, BadMode, TextTooLong, TextNotUtf8, EndpointNotFound, BadEncoding, UpgradeRefused, MessageTooLarge, TableCut, BadUtf8, DictionaryFull, UnknownNode, NodeOutOfPlace, UnknownString, BadValue, BadArray, TooDeep, TooMuchContent, DocumentCut, TrailingBytes, Truncated, SessionTooLong}
+use Rattle.nbfx_values.specs.declared.refusals.Reason.TheVariants.{BadInt, UnknownRecord, OutOfOrder, BadVersion, BadMode, TextTooLong, TextNotUtf8, EndpointNotFound, BadEncoding, UpgradeRefused, MessageTooLarge, TableCut, BadUtf8, DictionaryFull, UnknownNode, NodeOutOfPlace, UnknownString, BadValue, BadArray, TooDeep, TooMuchContent, DocumentCut, TrailingBytes, Truncated, SessionTooLong}
 
 abbrev pub reason_number : Reason → ℕ
-reason_number Unbuilt = 0
 reason_number BadInt = 1
 reason_number UnknownRecord = 2
 reason_number OutOfOrder = 3
@@ -32,7 +31,6 @@ reason_number Truncated = 24
 reason_number SessionTooLong = 25
 
 abbrev pub reason_name : Reason → List ℕ
-reason_name Unbuilt = codes "Unbuilt"
 reason_name BadInt = codes "BadInt"
 reason_name UnknownRecord = codes "UnknownRecord"
 reason_name OutOfOrder = codes "OutOfOrder"

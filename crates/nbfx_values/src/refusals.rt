@@ -6,8 +6,6 @@ ghost use Rattle.nbfx_values.specs.Refusals.{reason_name, reason_number};
 /// Why a stream was refused.
 #[derive(Clone, Copy, Debug, PartialEq, Eq)]
 pub enum Reason {
-    /// What this version doesn't read yet.
-    Unbuilt,
     /// An integer's fifth byte is above 07, or a four-byte length is negative.
     BadInt,
     /// The type byte of a framing record is above 0C.
@@ -16,7 +14,7 @@ pub enum Reason {
     OutOfOrder,
     /// The version isn't 1.0.
     BadVersion,
-    /// The mode isn't one that is read: 2 alone today, 1, 2 and 3 later.
+    /// The mode isn't 1, 2 or 3.
     BadMode,
     /// The length of a Via or a Fault's text is above the via quota.
     TextTooLong,
@@ -66,7 +64,6 @@ impl Reason {
         ensures { result ≡ reason_number self.now }
     {
         match self {
-            Reason::Unbuilt => 0,
             Reason::BadInt => 1,
             Reason::UnknownRecord => 2,
             Reason::OutOfOrder => 3,
@@ -100,7 +97,6 @@ impl Reason {
         ensures { result.now ≡ reason_name self.now }
     {
         match self {
-            Reason::Unbuilt => "Unbuilt",
             Reason::BadInt => "BadInt",
             Reason::UnknownRecord => "UnknownRecord",
             Reason::OutOfOrder => "OutOfOrder",

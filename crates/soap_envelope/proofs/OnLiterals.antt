@@ -4,5 +4,6 @@ use Rattle.nbfx_values.proofs.OnLiterals.{values_on_literals}
 use Rattle.soap_envelope.specs.Names.{soap, addressing, xml_namespace, role_next, role_ultimate_receiver, no_address, anonymous_address, addressing_fault, soap_fault}
 
 unfoldable pub envelopes_on_literals : ⊤
-unfolding values_on_literals soap addressing xml_namespace role_next role_ultimate_receiver no_address anonymous_address addressing_fault soap_fault
+unfolding values_on_literals soap addressing xml_namespace role_next role_ultimate_receiver
+    no_address anonymous_address addressing_fault soap_fault
 envelopes_on_literals = tt

@@ -46,7 +46,8 @@ pub record IsAs (mid r : StreamReader) : Type 0 where
   pub taken : mid.taken ≡ r.taken
   pub decoder : mid.decoder ≡ r.decoder
 
-module _ (r : StreamReader) (x : Settings) (z : Situation) (f : Frame) (text : List ℕ) (h : IsDue r x z f text) (from to : ℕ) where
+module _ (r : StreamReader) (x : Settings) (z : Situation) (f : Frame) (text : List ℕ)
+    (h : IsDue r x z f text) (from to : ℕ) where
   abbrev d : Direction
   d = direction_of x.side
 
@@ -107,7 +108,8 @@ module _ (r : StreamReader) (x : Settings) (z : Situation) (f : Frame) (text : L
             KeepsAll (on_payload v (behind_payload x z) (after_bare x z (frames.Chunk size) text)))
             (sym none) (refl, ap (strings_at z) at)
         | reads_size o at same ↦
-            let made : payload_by x z from (frames.Chunk size) ≡ Some (with_chunk o size) = rw at refl in
+            let made : payload_by x z from (frames.Chunk size) ≡ Some (with_chunk o size) = rw at
+            refl in
             let part = (subst (ReadsPayload r.decoder x z) at h.at.payload).1 in
             let large = size_large x (o.size + size) why (rw at at e) in
             subst (λ (v : Option OpenPayload).
@@ -264,7 +266,8 @@ module _ (r : StreamReader) (x : Settings) (z : Situation) (f : Frame) (text : L
       → reason_in x z.stage f text ≡ None → x.limits.payload < 2 ^ 32 → IsMade q
   made_some q makes good low = made_by r.awaited z.stage q h.at.awaits refl makes good low
 
-  none_head : (g : Frame) (stage : Stage) (due : Due) → stage ≡ record_due due → None ≡ begun_by from g
+  none_head : (g : Frame) (stage : Stage) (due : Due) → stage ≡ record_due due → None
+      ≡ begun_by from g
       → payload_by x (record z { stage = stage }) from g ≡ None
   none_head (frames.SizedEnvelope size) stage due at makes = cc
   none_head frames.UnsizedEnvelope stage due at makes = cc
@@ -279,7 +282,8 @@ module _ (r : StreamReader) (x : Settings) (z : Situation) (f : Frame) (text : L
         | reads_record e ↦ let two = sym at ∙ e in cc
         | reads_size other e same ↦
             let size = size_there same in
-            let bad = subst (λ (g : Frame). MakesPayload (awaits.Chunk p) from g None) size.1 makes in
+            let bad = subst (λ (g : Frame). MakesPayload (awaits.Chunk p) from g None) size.1 makes
+            in
             absurd (let never = bad.1 in cc)
       ]
   none_by (awaits.Record due) (chunk_due o) is at makes = absurd is
@@ -321,7 +325,8 @@ module _ (r : StreamReader) (x : Settings) (z : Situation) (f : Frame) (text : L
 
   -- a record of no payload leads to where another is due
   bare_stage : (g : Frame)
-      → (after_bare x z g text).stage ≡ record_due (leads (direction_of x.side) z.mode (due_in z.stage) g)
+      → (after_bare x z g text).stage
+      ≡ record_due (leads (direction_of x.side) z.mode (due_in z.stage) g)
   bare_stage frames.Via = refl
   bare_stage frames.Fault = refl
   bare_stage (frames.Mode byte) = refl
@@ -342,9 +347,17 @@ module _ (r : StreamReader) (x : Settings) (z : Situation) (f : Frame) (text : L
   bare_messages (frames.KnownEncoding encoding) = refl
   bare_messages g = refl
 
-  module _ (mid : StreamReader) (same_as : IsAs mid r) (side : side_of r.side ≡ x.side) (to_is : to ≡ r.taken) (sets : (kind : Kind) → record { statics = mid.statics.now; kind = kind; limits = limits_of mid.quotas } ≡ payloads x kind) (at : z.stage ≡ record_due h.due) where
+  module _ (mid : StreamReader) (same_as : IsAs mid r) (side : side_of r.side ≡ x.side)
+      (to_is : to ≡ r.taken)
+      (sets : (kind : Kind) → record {
+        statics = mid.statics.now;
+        kind = kind;
+        limits = limits_of
+            mid.quotas;
+      } ≡ payloads x kind) (at : z.stage ≡ record_due h.due) where
     decoder_there : DecoderStandsFor mid.decoder z.strings []
-    decoder_there = subst (λ (s : Decoder). DecoderStandsFor s z.strings []) (sym same_as.decoder) (decoder_now at)
+    decoder_there = subst (λ (s : Decoder). DecoderStandsFor s z.strings []) (sym same_as.decoder)
+        (decoder_now at)
 
     -- the decoder is that of the situation
     record ReadsBare (new : StreamReader) (s : Situation) : Type 0 where
@@ -357,7 +370,8 @@ module _ (r : StreamReader) (x : Settings) (z : Situation) (f : Frame) (text : L
     same_bare new s kind strings same = record {
       kind = same.0 ∙ same_as.kind ∙ h.at.kind ∙ sym kind;
       decodes =
-          ap decoder_settings (same.1 ∙ same_as.decoder) ∙ h.at.decodes ∙ ap (payloads x) (sym kind);
+          ap decoder_settings (same.1 ∙ same_as.decoder) ∙ h.at.decodes ∙ ap (payloads x)
+          (sym kind);
       stands =
           subst (λ (e : Decoder). DecoderStandsFor e s.strings []) (sym same.1)
           (subst (λ (t : List (List ℕ)). DecoderStandsFor mid.decoder t []) (sym strings)
@@ -423,17 +437,20 @@ module _ (r : StreamReader) (x : Settings) (z : Situation) (f : Frame) (text : L
         → IsIn new x (after_bare x z f text)
     bare_in new step m =
         let reads = reads_bare f new m.decodes in
-        let awaited : new.awaited ≡ awaits.Record (leads (direction_of x.side) z.mode (due_in z.stage) f)
+        let awaited : new.awaited
+        ≡ awaits.Record (leads (direction_of x.side) z.mode (due_in z.stage) f)
         = m.awaited
         ∙ ap (λ (s : Side). awaited_after (direction_of s) mid.mode mid.awaited f)
         (ap side_of same_as.side ∙ side)
-        ∙ ap (λ a. awaited_after (direction_of x.side) mid.mode a f) (same_as.awaited ∙ awaited_here)
+        ∙ ap (λ a. awaited_after (direction_of x.side) mid.mode a f)
+        (same_as.awaited ∙ awaited_here)
         ∙ ap (λ n. awaits.Record (leads (direction_of x.side) n h.due f)) (same_as.mode ∙ h.at.mode)
         ∙ ap (λ n. awaits.Record (leads (direction_of x.side) z.mode n f)) (sym (ap due_in at)) in
         record {
           awaits =
               subst (λ (a : Awaited). Awaits a (after_bare x z f text).stage) (sym awaited)
-              (subst (Awaits (awaits.Record (leads (direction_of x.side) z.mode (due_in z.stage) f)))
+              (subst (Awaits
+              (awaits.Record (leads (direction_of x.side) z.mode (due_in z.stage) f)))
               (sym (bare_stage f)) refl);
           mode = m.mode ∙ ap (λ n. mode_after n f) (same_as.mode ∙ h.at.mode) ∙ bare_mode f;
           kind = reads.kind;

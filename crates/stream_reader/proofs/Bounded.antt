@@ -16,23 +16,36 @@ use Rattle.nmf_records.specs.declared.script.Due.{Due}
 use Rattle.stream_reader.specs.Bounds.{HasFailed, HasRoom, IsBounded, size_of, to_come}
 
 -- what a decoder that has failed answers
-pub failure_behind : (d : Decoder) (fault : DecodeFault) (strings : List (List ℕ)) (p : List ℕ) → FailedBehind d fault strings p → failure_of d ≡ Some fault
+pub failure_behind : (d : Decoder) (fault : DecodeFault) (strings : List (List ℕ)) (p : List ℕ)
+    → FailedBehind d fault strings p → failure_of d ≡ Some fault
 unfolding FailedBehind failure_of
 failure_behind d fault strings p h = h.failure
 
 -- where a call succeeds
-on_ok : {A : Type 0} (P : Type 0) (r : Result A DecodeFault) → ((fault : DecodeFault) → r ≡ Err fault → ⊥) → OnOk r P → P
+on_ok : {A : Type 0} (P : Type 0) (r : Result A DecodeFault)
+    → ((fault : DecodeFault) → r ≡ Err fault → ⊥) → OnOk r P → P
 on_ok P (Ok done) never h = h
 on_ok P (Err fault) never h = absurd (never fault refl)
 
 -- where it fails
-pub failed_within : {A : Type 0} (d : Decoder) (strings : List (List ℕ)) (p y : List ℕ) (r : Result A DecodeFault) (fault : DecodeFault) → r ≡ Err fault → IfErr r (λ f. FailedWithin d f strings p y) → HasFailed d
+pub failed_within : {A : Type 0} (d : Decoder) (strings : List (List ℕ)) (p y : List ℕ)
+    (r : Result A DecodeFault) (fault : DecodeFault) → r ≡ Err fault
+    → IfErr r (λ f. FailedWithin d f strings p y) → HasFailed d
 failed_within d strings p y r fault is h =
-    let within : FailedWithin d fault strings p y = subst (λ (t : Result _ DecodeFault). IfErr t (λ f. FailedWithin d f strings p y)) is h in
+    let within : FailedWithin d fault strings p y = subst
+    (λ (t : Result _ DecodeFault). IfErr t (λ f. FailedWithin d f strings p y)) is h in
     (fault, strings, p ++ take within.count y, within.behind)
 
-pub failed_behind : {A : Type 0} (d : Decoder) (strings : List (List ℕ)) (p : List ℕ) (r : Result A DecodeFault) (fault : DecodeFault) → r ≡ Err fault → IfErr r (λ f. FailedBehind d f strings p) → HasFailed d
-failed_behind d strings p r fault is h = (fault, strings, p, subst (λ (t : Result _ DecodeFault). IfErr t (λ f. FailedBehind d f strings p)) is h)
+pub failed_behind : {A : Type 0} (d : Decoder) (strings : List (List ℕ)) (p : List ℕ)
+    (r : Result A DecodeFault) (fault : DecodeFault) → r ≡ Err fault
+    → IfErr r (λ f. FailedBehind d f strings p) → HasFailed d
+failed_behind d strings p r fault is h = (
+  fault,
+  strings,
+  p,
+  subst
+      (λ (t : Result _ DecodeFault). IfErr t (λ f. FailedBehind d f strings p)) is h,
+)
 
 module _ (quotas : Quotas) where
   abbrev Has : Decoder → Awaited → Type 0
@@ -43,13 +56,25 @@ module _ (quotas : Quotas) where
       → StandsFor d [] [] → size_of awaited ≤ quotas.payload → to_come awaited ≤ size_of awaited
       → IsBounded d quotas awaited
   bounded_new d awaited limits stands few le =
-      record { limits = limits; few = few; ordered = le; room = inl ([], [], stands, omega (arith, le)) }
+      record {
+        limits = limits;
+        few = few;
+        ordered = le;
+        room = inl
+            ([], [], stands, omega (arith, le));
+      }
 
   -- the payload gets more bytes, or a record is due behind none
   pub bounded_at : (d : Decoder) (old new : Awaited) → size_of new ≤ quotas.payload
       → to_come new + size_of old ≤ size_of new + to_come old → IsBounded d quotas old
       → IsBounded d quotas new
-  bounded_at d old new few le b = record { limits = b.limits; few = few; ordered = (let o = b.ordered in omega (arith, o, le)); room = by_room b.room } where
+  bounded_at d old new few le b = record {
+    limits = b.limits;
+    few = few;
+    ordered = (let o = b.ordered in omega (arith, o, le));
+    room =
+        by_room b.room;
+  } where
     by_room : Has d old → Has d new
     by_room (inl room) = let fits = room.3 in inl (room.0, room.1, room.2, omega (arith, le, fits))
     by_room (inr failed) = inr failed
@@ -80,7 +105,8 @@ module _ (quotas : Quotas) where
           let some = failure_behind d failed.0 failed.1 failed.2 failed.3 in
           let bad = sym none ∙ some in cc
 
-  module _ (old new : Decoder) (awaited : Awaited) (same : settings_of new ≡ settings_of old) (b : IsBounded old quotas awaited) where
+  module _ (old new : Decoder) (awaited : Awaited) (same : settings_of new ≡ settings_of old)
+      (b : IsBounded old quotas awaited) where
     limits_are : (settings_of new).limits ≡ limits_of quotas
     limits_are = ap (λ (x : Settings). x.limits) same ∙ b.limits
 
@@ -95,7 +121,9 @@ module _ (quotas : Quotas) where
         by_room (inr behind) =
             inr (behind.0, behind.1, behind.2, failed behind.0 behind.1 behind.2 behind.3)
 
-    module _ {A : Type 0} (result : Result A DecodeFault) (repeated : (fault : DecodeFault) → failure_of old ≡ Some fault → result ≡ Err fault) (unchanged : (fault : DecodeFault) → failure_of old ≡ Some fault → new ≡ old) where
+    module _ {A : Type 0} (result : Result A DecodeFault) (repeated : (fault : DecodeFault)
+        → failure_of old ≡ Some fault → result ≡ Err fault) (unchanged : (fault : DecodeFault)
+        → failure_of old ≡ Some fault → new ≡ old) where
       never_failed : HasFailed old → ((fault : DecodeFault) → result ≡ Err fault → ⊥) → ⊥
       never_failed behind never =
           never behind.0
@@ -130,7 +158,13 @@ module _ (quotas : Quotas) where
           (StandsFor new (situation_of (settings_of old) strings p).strings []))
           → IsBounded new quotas (awaits.Record due)
       bounded_finished due never anew =
-          record { limits = limits_are; few = omega arith; ordered = omega arith; room = by_room b.room }
+          record {
+            limits = limits_are;
+            few = omega arith;
+            ordered = omega arith;
+            room = by_room
+                b.room;
+          }
         where
           by_room : Has old awaited → Has new (awaits.Record due)
           by_room (inl room) =
@@ -157,5 +191,6 @@ module _ (quotas : Quotas) where
                 behind.0,
                 behind.1,
                 behind.2,
-                subst (λ (d : Decoder). FailedBehind d behind.0 behind.1 behind.2) (sym kept) behind.3,
+                subst (λ (d : Decoder). FailedBehind d behind.0 behind.1 behind.2) (sym kept)
+                    behind.3,
               )

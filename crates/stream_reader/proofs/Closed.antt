@@ -45,7 +45,8 @@ module _ (x : Settings) (good : IsGood x.limits) (Stop : Type 0) where
 
   -- a chunk's size, with the payload that it resumes
   size_first : (z : Situation) (from : ℕ) (o : OpenPayload) (t c : List ℕ) (read : Frame)
-      (text : List ℕ) → z.stage ≡ chunk_due o → IsSound x z from → ProperAt (direction_of x.side) z.mode (chunk_due o)
+      (text : List ℕ) → z.stage ≡ chunk_due o → IsSound x z from → ProperAt (direction_of x.side)
+      z.mode (chunk_due o)
       → IsOpenAt x z (chunk_due o)
       → MayCome (may_come (direction_of x.side) dues.Chunk) read → IsRecordOf read text t
       → refused_record x z from read text ≡ None
@@ -61,11 +62,13 @@ module _ (x : Settings) (good : IsGood x.limits) (Stop : Type 0) where
       let h' : IsFrom x Stop (behind_payload x z p) (behind_payload x z p).stage c =
       subst (λ (v : Option OpenPayload).
       IsFrom x Stop (on_payload v (behind_payload x z) (after_bare x z (frames.Chunk size) text))
-      (on_payload v (behind_payload x z) (after_bare x z (frames.Chunk size) text)).stage c) made h in
+      (on_payload v (behind_payload x z) (after_bare x z (frames.Chunk size) text)).stage c) made h
+      in
       let left = open_at.none_left in
       let r = rest_behind x Stop z p q c (chunk_behind x z o q size left behind) none h' in
       let low : o.size + size ≤ x.limits.payload =
-      right_size x (o.size + size) (ap (λ (s : Stage). reason_in x s (frames.Chunk size) text) (sym at) ∙ w.0) in
+      right_size x (o.size + size) (ap (λ (s : Stage). reason_in x s (frames.Chunk size) text)
+      (sym at) ∙ w.0) in
       chunk_first x good Stop z from sound.dictionary dues.Over tt t c size o q (refl, is.1) low
       (let n = behind.counted in omega (arith, n, left)) (size == 0) refl r
   size_first z from o t c read text at sound proper open_at may is ok h q behind = cc
@@ -81,14 +84,17 @@ module _ (x : Settings) (good : IsGood x.limits) (Stop : Type 0) where
       let none : refused_record x z from r.0.frame r.0.text ≡ None =
       ap (refused x z from) (sym r.1) ∙ ok in
       let w = both z from r.0.frame r.0.text none in
-      record_first x good Stop z from sound.dictionary due proper (take n bytes) c r.0.frame r.0.text
+      record_first x good Stop z from sound.dictionary due proper (take n bytes) c r.0.frame
+      r.0.text
       r.2.may r.2.bytes_are r.2.low w.0 w.1
-      (subst (λ (v : StreamUnit). IsFrom x Stop (after x z from v) (after x z from v).stage c) r.1 h)
+      (subst (λ (v : StreamUnit). IsFrom x Stop (after x z from v) (after x z from v).stage c) r.1
+      h)
   unit_first (chunk_due o) z from bytes u n c at sound open_at proper e ok h =
       let r = unit_of_chunk x from bytes u n o e in
       size_first z from o (take n bytes) c r.0.frame r.0.text at sound proper open_at r.2.may
       r.2.bytes_are (ap (refused x z from) (sym r.1) ∙ ok)
-      (subst (λ (v : StreamUnit). IsFrom x Stop (after x z from v) (after x z from v).stage c) r.1 h)
+      (subst (λ (v : StreamUnit). IsFrom x Stop (after x z from v) (after x z from v).stage c) r.1
+      h)
   unit_first (payload_open o) z from bytes u n c at sound open_at proper e ok h =
       let r = unit_of_payload x from bytes u n o e in
       let y : ℕ = r.0 in
@@ -102,7 +108,8 @@ module _ (x : Settings) (good : IsGood x.limits) (Stop : Type 0) where
       subst (λ (s : Stage).
       IsFrom x Stop (on_open s (λ p. behind_payload x z (with_byte x z p y)) z)
       (on_open s (λ p. behind_payload x z (with_byte x z p y)) z).stage c) at
-      (subst (λ (v : StreamUnit). IsFrom x Stop (after x z from v) (after x z from v).stage c) r.3 h) in
+      (subst (λ (v : StreamUnit). IsFrom x Stop (after x z from v) (after x z from v).stage c) r.3
+      h) in
       subst (λ (b : List ℕ). IsFrom x Stop z (payload_open o) (b ++ c)) (sym front)
       (λ q behind. byte_first x Stop z o y q c open_at.more behind fine
       (rest_behind x Stop z (with_byte x z o y) (q ++ y ∷ []) c
@@ -158,7 +165,8 @@ module _ (x : Settings) (good : IsGood x.limits) (Stop : Type 0) where
     rw l.0 (ended_here z' z'.stage (from + 0) n refl may stop),
   )
   units_first (one ∷ units) z from bytes z' rest n sound proper l may stop =
-      let place : from + (one.size + size_of units) ≡ from + one.size + size_of units = omega arith in
+      let place : from + (one.size + size_of units) ≡ from + one.size + size_of units = omega arith
+      in
       let behind = units_first units (after x z from one.unit) (from + one.size)
       (drop one.size bytes) z' rest n (still_sound z from bytes one.unit one.size l.0 sound)
       (unit_proper x z.stage z from bytes one.unit one.size refl proper l.0) l.2
@@ -184,13 +192,34 @@ module _ (endpoint : Option (List ℕ)) (statics : List Entry) (l : Limits) (Sto
 
   initiators_parts : (c : List ℕ) → IsFromDue x Stop (beginning x) dues.Version c
       → (parts : Parts) × HasParts x (initiators endpoint) parts c × (parts ≡ lone_ack → Stop)
-  initiators_parts c (b1, r1, version, j1, (mode, (b2, r2, mode_is, j2, (via, low, served, (b3, r3, via_is, j3, (kind, (b4, r4, encoding, j4, (b5, r5, end, j5, rest)))))))) =
+  initiators_parts c (
+    b1,
+    r1,
+    version,
+    j1,
+    (
+      mode,
+      (
+        b2,
+        r2,
+        mode_is,
+        j2,
+        (
+          via,
+          low,
+          served,
+          (b3, r3, via_is, j3, (kind, (b4, r4, encoding, j4, (b5, r5, end, j5, rest)))),
+        ),
+      ),
+    ),
+  ) =
       by_closing rest.closing rest.closes
     where
       preamble : List ℕ
       preamble = b1 ++ b2 ++ b3 ++ b4 ++ b5
 
-      is_preamble : IsPreamble (record { side = initiators endpoint; statics = statics; limits = l })
+      is_preamble : IsPreamble
+          (record { side = initiators endpoint; statics = statics; limits = l })
           mode kind via (b1 ++ b2 ++ b3 ++ b4 ++ b5)
       is_preamble = record {
         version = b1;
@@ -252,7 +281,8 @@ module _ (mode : Mode) (kind : Kind) (statics : List Entry) (l : Limits) (Stop :
   answer_carries Simplex carried may = may
 
   abbrev HasSome : List ℕ → Type 0
-  HasSome c = (parts : Parts) × HasParts reads (receivers mode kind) parts c × (parts ≡ lone_ack → Stop)
+  HasSome c = (parts : Parts) × HasParts reads (receivers mode kind) parts c
+      × (parts ≡ lone_ack → Stop)
 
   -- the Ack alone
   alone : (m : Mode) → m ≡ Simplex → (ack r c last envelopes : List ℕ) (carried : List Carried)
@@ -332,7 +362,8 @@ parts_of : (side : Side) (statics : List Entry) (l : Limits) (Stop : Type 0) (c 
     → IsFrom (record { side = side; statics = statics; limits = l }) Stop
     (beginning (record { side = side; statics = statics; limits = l }))
     (beginning (record { side = side; statics = statics; limits = l })).stage c
-    → (parts : Parts) × HasParts (record { side = side; statics = statics; limits = l }) side parts c
+    → (parts : Parts) × HasParts (record { side = side; statics = statics; limits = l }) side parts
+    c
     × (parts ≡ lone_ack → Stop)
 parts_of (initiators endpoint) statics l Stop c h = initiators_parts endpoint statics l Stop c h
 parts_of (receivers mode kind) statics l Stop c h = receivers_parts mode kind statics l Stop c h
@@ -367,7 +398,8 @@ module _ (x : Settings) (good : IsGood x.limits) where
       let below = within_quota x z.stage from last
       (unit_going z.stage from bytes one.unit one.size l.0)
       (short.0 last (omega (arith, some)) (omega (arith, some))) in
-      let more = units_within units (after x z from one.unit) (from + one.size) (drop one.size bytes)
+      let more = units_within units (after x z from one.unit) (from + one.size)
+      (drop one.size bytes)
       z' rest (omega (arith, some, below)) l.2 short.1 in
       omega (arith, more)
 
@@ -403,7 +435,8 @@ module _ (x : Settings) (good : IsGood x.limits) where
 
   pub accepted_closed : (bytes : List ℕ) → IsAccepted (stream x) bytes → IsClosed x bytes
   accepted_closed bytes a =
-      let size = leads_length (stream x) (readable x) a.units (beginning x) 0 bytes a.situation a.rest a.lead in
+      let size = leads_length (stream x) (readable x) a.units (beginning x) 0 bytes a.situation
+      a.rest a.lead in
       let low = units_within a.units (beginning x) 0 bytes a.situation a.rest (omega arith) a.lead
       a.units_short in
       let may = may_end_of_none a.situation.mode a.situation.stage (size_of a.units) (length bytes)
@@ -439,6 +472,7 @@ module _ (x : Settings) (good : IsGood x.limits) where
 
 pub closed_or_refused : ClosedOrRefused
 closed_or_refused x good bytes = (
-  (λ none. accepted_closed x good bytes ((accepted_or_offended (stream x) (readable x) bytes).0 none)),
+  (λ none. accepted_closed x good bytes ((accepted_or_offended (stream x) (readable x) bytes).0
+      none)),
   closed_offence x good bytes,
 )

@@ -21,12 +21,16 @@ pub record Comes (x : Settings) (due : Due) (bytes : List ℕ) (read : Read) (n 
   pub low : length read.text ≤ x.limits.via
 
 module _ (x : Settings) (from : ℕ) (bytes : List ℕ) (u : StreamUnit) (n : ℕ) where
-  seen_whole : (due : Due) (v : Front Read FrameFault) → seen frame (λ fault. offence_at from (reason_of due fault)) v ≡ whole u n → (read : Read) × (v ≡ whole read n) × (u ≡ frame read)
+  seen_whole : (due : Due) (v : Front Read FrameFault)
+      → seen frame (λ fault. offence_at from (reason_of due fault)) v ≡ whole u n → (read : Read)
+      × (v ≡ whole read n) × (u ≡ frame read)
   seen_whole due begun e = cc
-  seen_whole due (whole read k) e = let size : k ≡ n = cc in let same : frame read ≡ u = cc in (read, ap (whole read) size, sym same)
+  seen_whole due (whole read k) e = let size : k ≡ n = cc in let same : frame read
+      ≡ u = cc in (read, ap (whole read) size, sym same)
   seen_whole due (wrong fault k) e = cc
 
-  due_comes : (due : Due) → seen frame (λ fault. offence_at from (reason_of due fault)) (frame_at x.limits.via (may_come (direction_of x.side) due) bytes) ≡ whole u n
+  due_comes : (due : Due) → seen frame (λ fault. offence_at from (reason_of due fault))
+      (frame_at x.limits.via (may_come (direction_of x.side) due) bytes) ≡ whole u n
       → (read : Read) × (u ≡ frame read) × Comes x due bytes read n
   due_comes due e =
       let w = seen_whole due (frame_at x.limits.via (may_come (direction_of x.side) due) bytes) e in
@@ -37,31 +41,38 @@ module _ (x : Settings) (from : ℕ) (bytes : List ℕ) (u : StreamUnit) (n : �
           front = w.1;
           bytes_are = r.0;
           may = r.1;
-          within = (frames_front x.limits.via (may_come (direction_of x.side) due)).whole_within bytes w.0 n w.1;
+          within = (frames_front x.limits.via (may_come (direction_of x.side) due)).whole_within
+              bytes w.0 n w.1;
           low = r.2;
         },
       )
 
   -- where a record is due a record comes
-  pub record_comes : (due : Due) → record_at x due from bytes ≡ whole u n → (read : Read) × (u ≡ frame read) × Comes x due bytes read n
+  pub record_comes : (due : Due) → record_at x due from bytes ≡ whole u n → (read : Read)
+      × (u ≡ frame read) × Comes x due bytes read n
   record_comes dues.Over e = cc
   record_comes due e = due_comes due e
 
-  pub unit_of_record : (due : Due) → unit_in x (record_due due) from bytes ≡ whole u n → (read : Read) × (u ≡ frame read) × Comes x due bytes read n
+  pub unit_of_record : (due : Due) → unit_in x (record_due due) from bytes ≡ whole u n
+      → (read : Read) × (u ≡ frame read) × Comes x due bytes read n
   unfolding unit_in
   unit_of_record due e = record_comes due e
 
   -- where a chunk's size is, such a size comes
-  pub unit_of_chunk : (p : OpenPayload) → unit_in x (chunk_due p) from bytes ≡ whole u n → (read : Read) × (u ≡ frame read) × Comes x dues.Chunk bytes read n
+  pub unit_of_chunk : (p : OpenPayload) → unit_in x (chunk_due p) from bytes ≡ whole u n
+      → (read : Read) × (u ≡ frame read) × Comes x dues.Chunk bytes read n
   unfolding unit_in
   unit_of_chunk p e = record_comes dues.Chunk e
 
 -- at a payload a byte comes
-pub byte_comes : (bytes : List ℕ) (u : StreamUnit) (n : ℕ) → payload_at bytes ≡ whole u n → (byte : ℕ) × (rest : List ℕ) × (bytes ≡ byte ∷ rest) × (u ≡ payload_byte byte) × (n ≡ 1)
+pub byte_comes : (bytes : List ℕ) (u : StreamUnit) (n : ℕ) → payload_at bytes ≡ whole u n
+    → (byte : ℕ) × (rest : List ℕ) × (bytes ≡ byte ∷ rest) × (u ≡ payload_byte byte) × (n ≡ 1)
 byte_comes [] u n e = cc
-byte_comes (y ∷ rest) u n e = let same : payload_byte y ≡ u = cc in let one : 1 ≡ n = cc in (y, rest, refl, sym same, sym one)
+byte_comes (y ∷ rest) u n e = let same : payload_byte y ≡ u = cc in let one : 1
+    ≡ n = cc in (y, rest, refl, sym same, sym one)
 
-pub unit_of_payload : (x : Settings) (from : ℕ) (bytes : List ℕ) (u : StreamUnit) (n : ℕ) (p : OpenPayload) → unit_in x (payload_open p) from bytes ≡ whole u n
+pub unit_of_payload : (x : Settings) (from : ℕ) (bytes : List ℕ) (u : StreamUnit) (n : ℕ)
+    (p : OpenPayload) → unit_in x (payload_open p) from bytes ≡ whole u n
     → (byte : ℕ) × (rest : List ℕ) × (bytes ≡ byte ∷ rest) × (u ≡ payload_byte byte) × (n ≡ 1)
 unfolding unit_in
 unit_of_payload x from bytes u n p e = byte_comes bytes u n e

@@ -16,42 +16,50 @@ use Rattle.nmf_records.proofs.Records.{record_read}
 use Rattle.stream_reader.specs.Stream.{Settings, direction_of, record_due, frame, reason_of, offence_at, record_at, unit_in, is_over_in}
 
 -- which record is due where one of these types may come
-pub version_due : (direction : Direction) (due : Due) (major minor : ℕ) → MayCome (may_come direction due) (frames.Version major minor) → due ≡ dues.Version
+pub version_due : (direction : Direction) (due : Due) (major minor : ℕ)
+    → MayCome (may_come direction due) (frames.Version major minor) → due ≡ dues.Version
 version_due direction dues.Version major minor e = refl
 version_due FromInitiator _ major minor e = cc
 version_due FromReceiver _ major minor e = cc
 
-pub mode_due : (direction : Direction) (due : Due) (mode : ℕ) → MayCome (may_come direction due) (frames.Mode mode) → due ≡ dues.Mode
+pub mode_due : (direction : Direction) (due : Due) (mode : ℕ) → MayCome (may_come direction due)
+    (frames.Mode mode) → due ≡ dues.Mode
 mode_due direction dues.Mode mode e = refl
 mode_due FromInitiator _ mode e = cc
 mode_due FromReceiver _ mode e = cc
 
-pub via_due : (direction : Direction) (due : Due) → MayCome (may_come direction due) frames.Via → due ≡ dues.Via
+pub via_due : (direction : Direction) (due : Due) → MayCome (may_come direction due) frames.Via
+    → due ≡ dues.Via
 via_due direction dues.Via e = refl
 via_due FromInitiator _ e = cc
 via_due FromReceiver _ e = cc
 
-pub encoding_due : (direction : Direction) (due : Due) (encoding : ℕ) → MayCome (may_come direction due) (frames.KnownEncoding encoding) → due ≡ dues.Encoding
+pub encoding_due : (direction : Direction) (due : Due) (encoding : ℕ)
+    → MayCome (may_come direction due) (frames.KnownEncoding encoding) → due ≡ dues.Encoding
 encoding_due direction dues.Encoding encoding e = refl
 encoding_due FromInitiator _ encoding e = cc
 encoding_due FromReceiver _ encoding e = cc
 
-pub envelope_due : (direction : Direction) (due : Due) (size : ℕ) → MayCome (may_come direction due) (frames.SizedEnvelope size) → due ≡ dues.Messages
+pub envelope_due : (direction : Direction) (due : Due) (size : ℕ) → MayCome (may_come direction due)
+    (frames.SizedEnvelope size) → due ≡ dues.Messages
 envelope_due direction dues.Messages size e = refl
 envelope_due FromInitiator _ size e = cc
 envelope_due FromReceiver _ size e = cc
 
-pub chunk_due : (direction : Direction) (due : Due) (size : ℕ) → MayCome (may_come direction due) (frames.Chunk size) → due ≡ dues.Chunk
+pub chunk_due : (direction : Direction) (due : Due) (size : ℕ) → MayCome (may_come direction due)
+    (frames.Chunk size) → due ≡ dues.Chunk
 chunk_due direction dues.Chunk size e = refl
 chunk_due FromInitiator _ size e = cc
 chunk_due FromReceiver _ size e = cc
 
 -- and where it is due it may come
-pub version_comes : (direction : Direction) (major minor : ℕ) → MayCome (may_come direction dues.Version) (frames.Version major minor)
+pub version_comes : (direction : Direction) (major minor : ℕ)
+    → MayCome (may_come direction dues.Version) (frames.Version major minor)
 version_comes FromInitiator major minor = refl
 version_comes FromReceiver major minor = refl
 
-pub mode_comes : (direction : Direction) (mode : ℕ) → MayCome (may_come direction dues.Mode) (frames.Mode mode)
+pub mode_comes : (direction : Direction) (mode : ℕ) → MayCome (may_come direction dues.Mode)
+    (frames.Mode mode)
 mode_comes FromInitiator mode = refl
 mode_comes FromReceiver mode = refl
 
@@ -59,14 +67,17 @@ pub via_comes : (direction : Direction) → MayCome (may_come direction dues.Via
 via_comes FromInitiator = refl
 via_comes FromReceiver = refl
 
-pub chunk_comes : (direction : Direction) (size : ℕ) → MayCome (may_come direction dues.Chunk) (frames.Chunk size)
+pub chunk_comes : (direction : Direction) (size : ℕ) → MayCome (may_come direction dues.Chunk)
+    (frames.Chunk size)
 chunk_comes direction size = refl
 
-pub encoding_comes : (direction : Direction) (encoding : ℕ) → MayCome (may_come direction dues.Encoding) (frames.KnownEncoding encoding)
+pub encoding_comes : (direction : Direction) (encoding : ℕ)
+    → MayCome (may_come direction dues.Encoding) (frames.KnownEncoding encoding)
 encoding_comes FromInitiator encoding = refl
 encoding_comes FromReceiver encoding = refl
 
-pub envelope_comes : (direction : Direction) (size : ℕ) → MayCome (may_come direction dues.Messages) (frames.SizedEnvelope size)
+pub envelope_comes : (direction : Direction) (size : ℕ) → MayCome (may_come direction dues.Messages)
+    (frames.SizedEnvelope size)
 envelope_comes FromInitiator size = refl
 envelope_comes FromReceiver size = refl
 
@@ -75,17 +86,23 @@ abbrev pub refusing : ℕ → Due → FrameFault → Offence
 refusing from due fault = offence_at from (reason_of due fault)
 
 -- where the session isn't over, what is read at a record is the framing's
-pub read_due : (x : Settings) (due : Due) (from : ℕ) (bytes : List ℕ) → is_over_in (record_due due) ≡ false
-    → record_at x due from bytes ≡ seen frame (refusing from due) (frame_at x.limits.via (may_come (direction_of x.side) due) bytes)
+pub read_due : (x : Settings) (due : Due) (from : ℕ) (bytes : List ℕ) → is_over_in (record_due due)
+    ≡ false
+    → record_at x due from bytes ≡ seen frame (refusing from due)
+    (frame_at x.limits.via (may_come (direction_of x.side) due) bytes)
 read_due x dues.Over from bytes on = cc
 read_due x _ from bytes on = refl
 
 module _ (x : Settings) (due : Due) (bytes : List ℕ) (from : ℕ) where
-  pub reads_due : is_over_in (record_due due) ≡ false → unit_in x (record_due due) from bytes ≡ seen frame (refusing from due) (frame_at x.limits.via (may_come (direction_of x.side) due) bytes)
+  pub reads_due : is_over_in (record_due due) ≡ false → unit_in x (record_due due) from bytes
+      ≡ seen frame (refusing from due) (frame_at x.limits.via (may_come (direction_of x.side) due)
+      bytes)
   unfolding unit_in
   reads_due on = read_due x due from bytes on
 
   -- a record that may come there is a unit
-  pub record_unit : (read : Read) → is_over_in (record_due due) ≡ false → IsRecord read bytes → MayCome (may_come (direction_of x.side) due) read.frame → length read.text ≤ x.limits.via
+  pub record_unit : (read : Read) → is_over_in (record_due due) ≡ false → IsRecord read bytes
+      → MayCome (may_come (direction_of x.side) due) read.frame → length read.text ≤ x.limits.via
       → unit_in x (record_due due) from bytes ≡ whole (frame read) (length bytes)
-  record_unit read on bytes_are may low = reads_due on ∙ ap (seen frame (refusing from due)) (record_read x.limits.via (may_come (direction_of x.side) due) read bytes bytes_are may low)
+  record_unit read on bytes_are may low = reads_due on ∙ ap (seen frame (refusing from due))
+      (record_read x.limits.via (may_come (direction_of x.side) due) read bytes bytes_are may low)

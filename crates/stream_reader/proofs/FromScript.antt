@@ -40,7 +40,8 @@ module _ (x : Settings) where
       ∙ ap (λ c. c ++ h.rest) (append-nil h.head)
 
   -- envelopes before other records
-  record Envelopes (direction : Direction) (mode : Mode) (context : Context) (t : List Frame) (bytes : List ℕ) : Type 0 where
+  record Envelopes (direction : Direction) (mode : Mode) (context : Context) (t : List Frame)
+      (bytes : List ℕ) : Type 0 where
     carried : List Carried
     envelopes : List ℕ
     rest : List ℕ
@@ -51,21 +52,24 @@ module _ (x : Settings) where
     next : HasScript x then_context t rest
 
   -- of one part
-  record SizedOnes (mode : Mode) (context : Context) (t : List Frame) (bytes : List ℕ) : Type 0 where
-    carried : List Carried
-    envelopes : List ℕ
-    rest : List ℕ
-    then_context : Context
-    joined_bytes : bytes ≡ envelopes ++ rest
-    carries_all : CarriesAll x mode context.kind context.strings carried envelopes
-    next : HasScript x then_context t rest
+  record SizedOnes (mode : Mode) (context : Context) (t : List Frame) (bytes : List ℕ) : Type 0
+    where
+      carried : List Carried
+      envelopes : List ℕ
+      rest : List ℕ
+      then_context : Context
+      joined_bytes : bytes ≡ envelopes ++ rest
+      carries_all : CarriesAll x mode context.kind context.strings carried envelopes
+      next : HasScript x then_context t rest
 
   abbrev TakesSized : Mode → Type 0
-  TakesSized mode = (payload bytes : List ℕ) → IsSized payload bytes → IsEnvelopeIn mode payload bytes
+  TakesSized mode = (payload bytes : List ℕ) → IsSized payload bytes → IsEnvelopeIn mode payload
+      bytes
 
   sized_script : (mode : Mode) → TakesSized mode → (sizes : List ℕ) (context : Context)
       (t : List Frame) (bytes : List ℕ)
-      → HasScript x context (map frames.SizedEnvelope sizes ++ t) bytes → SizedOnes mode context t bytes
+      → HasScript x context (map frames.SizedEnvelope sizes ++ t) bytes → SizedOnes mode context t
+      bytes
   sized_script mode takes [] context t bytes h = record {
     carried = [];
     envelopes = [];
@@ -112,7 +116,8 @@ module _ (x : Settings) where
     items : List Item
     joined_bytes : bytes ≡ front ++ rest
     are_chunks : AreChunks chunks front
-    is_whole : IsWholePayload (payloads x context.kind) context.strings own items (context.so_far ++ joined chunks)
+    is_whole : IsWholePayload (payloads x context.kind) context.strings own items
+        (context.so_far ++ joined chunks)
     then_is : then_context ≡ record context { strings = context.strings ++ own; so_far = [] }
     next : HasScript x then_context t rest
 
@@ -138,10 +143,12 @@ module _ (x : Settings) where
         then_is = then_is;
         next = h.next;
       }
-  chunks_script (zero ∷ sizes) context t bytes some h = absurd (let none = All-head (λ size. 0 < size) zero sizes some in omega (arith, none))
+  chunks_script (zero ∷ sizes) context t bytes some h = absurd
+      (let none = All-head (λ size. 0 < size) zero sizes some in omega (arith, none))
   chunks_script (suc size ∷ sizes) context t bytes some h =
       let (sized, then_is) = h.followed in
-      let w = chunks_script sizes h.then_context t h.rest (All-tail (λ size. 0 < size) (suc size) sizes some) h.next in
+      let w = chunks_script sizes h.then_context t h.rest
+      (All-tail (λ size. 0 < size) (suc size) sizes some) h.next in
       let is : IsRecordOf (frames.Chunk (length h.payload)) h.text h.head =
       subst (λ n. IsRecordOf (frames.Chunk n) h.text h.head) (sym sized) h.is_record in
       record {
@@ -169,7 +176,8 @@ module _ (x : Settings) where
   unsized_script : (direction : Direction) (sizes : List ℕ) (context : Context) (t : List Frame)
       (bytes : List ℕ) → ((one : Carried) → MayCarry direction Singleton (one ∷ []))
       → All (λ size. 0 < size) sizes
-      → HasScript x context (frames.UnsizedEnvelope ∷ map frames.Chunk sizes ++ frames.Chunk 0 ∷ t) bytes
+      → HasScript x context (frames.UnsizedEnvelope ∷ map frames.Chunk sizes ++ frames.Chunk 0 ∷ t)
+      bytes
       → Envelopes direction Singleton context t bytes
   unsized_script direction sizes context t bytes may some h =
       let then_is = h.followed.1 in
@@ -219,7 +227,8 @@ module _ (x : Settings) where
         next = w.next;
       }
 
-  one_unsized : (direction : Direction) → ((one : Carried) → MayCarry direction Singleton (one ∷ []))
+  one_unsized : (direction : Direction)
+      → ((one : Carried) → MayCarry direction Singleton (one ∷ []))
       → (envelopes : List Frame) (context : Context) (t : List Frame) (bytes : List ℕ)
       → IsUnsizedScript envelopes → HasScript x context (envelopes ++ t) bytes
       → Envelopes direction Singleton context t bytes
@@ -244,7 +253,8 @@ module _ (x : Settings) where
     next = subst (λ (fs : List Frame). HasScript x context (fs ++ t) bytes) none h;
   }
 
-  envelopes_script : (direction : Direction) (mode : Mode) (envelopes : List Frame) (context : Context)
+  envelopes_script : (direction : Direction) (mode : Mode) (envelopes : List Frame)
+      (context : Context)
       (t : List Frame) (bytes : List ℕ) → AreEnvelopes direction mode envelopes
       → HasScript x context (envelopes ++ t) bytes → Envelopes direction mode context t bytes
   envelopes_script FromInitiator Singleton envelopes context t bytes are h =
@@ -254,11 +264,14 @@ module _ (x : Settings) where
   envelopes_script FromReceiver Singleton envelopes context t bytes (inr are) h =
       one_unsized FromReceiver (λ one. omega arith) envelopes context t bytes are h
   envelopes_script FromInitiator Duplex envelopes context t bytes are h =
-      any_sized FromInitiator Duplex (λ payload bytes is. is) (λ carried. tt) envelopes context t bytes are h
+      any_sized FromInitiator Duplex (λ payload bytes is. is) (λ carried. tt) envelopes context t
+      bytes are h
   envelopes_script FromReceiver Duplex envelopes context t bytes are h =
-      any_sized FromReceiver Duplex (λ payload bytes is. is) (λ carried. tt) envelopes context t bytes are h
+      any_sized FromReceiver Duplex (λ payload bytes is. is) (λ carried. tt) envelopes context t
+      bytes are h
   envelopes_script FromInitiator Simplex envelopes context t bytes are h =
-      any_sized FromInitiator Simplex (λ payload bytes is. is) (λ carried. tt) envelopes context t bytes are h
+      any_sized FromInitiator Simplex (λ payload bytes is. is) (λ carried. tt) envelopes context t
+      bytes are h
   envelopes_script FromReceiver Simplex envelopes context t bytes are h =
       no_envelope FromReceiver Simplex refl envelopes context t bytes are h
 
@@ -271,7 +284,8 @@ module _ (x : Settings) where
         ∙ append-nil h.head ∙ h.is_record.1,
   )
 
-  fault_script : (context : Context) (bytes : List ℕ) → HasScript x context (frames.Fault ∷ []) bytes
+  fault_script : (context : Context) (bytes : List ℕ) → HasScript x context (frames.Fault ∷ [])
+      bytes
       → (text : List ℕ) × IsFault x text bytes
   fault_script context bytes h =
       let all : bytes ≡ h.head =
@@ -280,7 +294,8 @@ module _ (x : Settings) where
       (h.text, (subst (IsRecordOf frames.Fault h.text) (sym all) h.is_record, h.text_within))
 
   carries_then : (direction : Direction) (mode : Mode) (kind : Kind) (context : Context)
-      (t : List Frame) (bytes : List ℕ) (Rest : List ℕ → Type 0) (w : Envelopes direction mode context t bytes)
+      (t : List Frame) (bytes : List ℕ) (Rest : List ℕ → Type 0)
+      (w : Envelopes direction mode context t bytes)
       → context.kind ≡ kind → context.strings ≡ [] → Rest w.rest
       → CarriesThen x direction mode kind w.carried Rest bytes
   carries_then direction mode kind context t bytes Rest w kind_is none rest = (
@@ -298,13 +313,15 @@ module _ (x : Settings) where
   abbrev pub Found : Side → List ℕ → Type 0
   Found side bytes = (parts : Parts) × HasParts x side parts bytes × IsWithin x parts (length bytes)
 
-  initiators_found : (endpoint : Option (List ℕ)) (mode : Mode) (script : List Frame) (bytes : List ℕ)
+  initiators_found : (endpoint : Option (List ℕ)) (mode : Mode) (script : List Frame)
+      (bytes : List ℕ)
       → IsInitiatorsScript mode script
       → HasScript x (first_context (initiators endpoint)) script bytes
       → length bytes ≤ x.limits.session → Found (initiators endpoint) bytes
   initiators_found endpoint mode script bytes r has within =
       by_records r.major r.minor r.encoding r.envelopes r.sent
-      (subst (λ (s : List Frame). HasScript x (first_context (initiators endpoint)) s bytes) r.joined has)
+      (subst (λ (s : List Frame). HasScript x (first_context (initiators endpoint)) s bytes)
+      r.joined has)
     where
       by_records : (major minor encoding : ℕ) (envelopes : List Frame)
           → AreEnvelopes FromInitiator mode envelopes
@@ -377,7 +394,8 @@ module _ (x : Settings) where
       × IsAckThen (CarriesThen x FromReceiver mode kind carried Rest) bytes
   ack_then mode kind envelopes last bytes Rest ends are h =
       let same = h.followed.1 in
-      let m = envelopes_script FromReceiver mode envelopes h.then_context (last ∷ []) h.rest are h.next in (
+      let m = envelopes_script FromReceiver mode envelopes h.then_context (last ∷ []) h.rest are
+      h.next in (
         m.carried,
         (
           h.head,
@@ -396,12 +414,14 @@ module _ (x : Settings) where
       → IsShort x script (length bytes) → Found (receivers mode kind) bytes
   receivers_found mode kind script bytes (inl r) has short =
       let w = ack_then mode kind r.envelopes frames.End bytes (IsBare frames.End) end_script r.sent
-      (subst (λ (s : List Frame). HasScript x (first_context (receivers mode kind)) s bytes) r.joined has)
+      (subst (λ (s : List Frame). HasScript x (first_context (receivers mode kind)) s bytes)
+      r.joined has)
       in (answer w.0, w.1, short.0)
   receivers_found mode kind script bytes (inr (inl (simplex, same))) has short =
       let h : BeginsWith x (first_context (receivers mode kind)) frames.PreambleAck
       (λ then_context rest. rest ≡ []) bytes =
-      subst (λ (s : List Frame). HasScript x (first_context (receivers mode kind)) s bytes) same has in (
+      subst (λ (s : List Frame). HasScript x (first_context (receivers mode kind)) s bytes) same has
+      in (
         lone_ack,
         (
           simplex,
@@ -417,7 +437,8 @@ module _ (x : Settings) where
       )
   receivers_found mode kind script bytes (inr (inr r)) has short =
       by_before r.before r.answer.joined
-      (subst (λ (s : List Frame). HasScript x (first_context (receivers mode kind)) s bytes) r.joined has)
+      (subst (λ (s : List Frame). HasScript x (first_context (receivers mode kind)) s bytes)
+      r.joined has)
     where
       by_before : (before : List Frame)
           → before ++ r.in_place_of ∷ r.after
@@ -436,7 +457,13 @@ module _ (x : Settings) where
           (λ last. (text : List ℕ) × IsFault x text last) fault_script are
           (subst (λ (f : Frame). HasScript x (first_context (receivers mode kind))
           (f ∷ more ++ frames.Fault ∷ []) bytes) is h) in
-          let (ack, last, is_ack, (envelopes, tail, may, all, (text, fault), joined_tail), joined_ack)
+          let (
+            ack,
+            last,
+            is_ack,
+            (envelopes, tail, may, all, (text, fault), joined_tail),
+            joined_ack,
+          )
           = w.1 in (
             broken_off w.0 text,
             (ack, last, is_ack, (envelopes, tail, may, all, fault, joined_tail), joined_ack),

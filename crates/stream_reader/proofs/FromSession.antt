@@ -66,11 +66,13 @@ module _ (x : Settings) (good : IsGood x.limits) (mode : Mode) (kind : Kind) (te
       → IsDecoded (payloads x kind) strings one.payload one.items one.own
       → IsClean x (due_at due messages strings) one.payload
   clean_of one due messages strings d =
-      let clean = no_offence (payload_in x (due_at due messages strings)) one.payload d.offenceless in
+      let clean = no_offence (payload_in x (due_at due messages strings)) one.payload d.offenceless
+      in
       record { along = clean.0; at_end = clean.1 }
 
   -- the events and the situation that a decoded payload brings
-  module _ (one : Carried) (messages : ℕ) (strings : List (List ℕ)) (before next : Due) (from : ℕ) (b : List ℕ) (d : IsDecoded (payloads x kind) strings one.payload one.items one.own) where
+  module _ (one : Carried) (messages : ℕ) (strings : List (List ℕ)) (before next : Due) (from : ℕ)
+      (b : List ℕ) (d : IsDecoded (payloads x kind) strings one.payload one.items one.own) where
     abbrev Brings : List (List ℕ) → List Item → Type 0
     Brings left items =
         Passes (stream x) (due_at before messages strings) from b (due_at next (messages + 1) left)
@@ -103,18 +105,21 @@ module _ (x : Settings) (good : IsGood x.limits) (mode : Mode) (kind : Kind) (te
       let d = decoded one strings cheap whole_one in
       as_carried one messages strings dues.Messages dues.Messages from b d
       (subst (λ (c : List ℕ). Brings one messages strings dues.Messages dues.Messages from c d
-      (standing (payload_in x (due_at dues.Messages messages strings)) one.payload).situation.strings
+      (standing (payload_in x (due_at dues.Messages messages strings))
+      one.payload).situation.strings
       (standing (payload_in x (due_at dues.Messages messages strings)) one.payload).situation.items)
       (sym bytes_are)
       (sized_passes x (due_at dues.Messages messages strings) from head one.payload refl is
       whole_one.within.payload (clean_of one dues.Messages messages strings d)))
 
   unsized_envelope : (one : Carried) (due : Due) (from : ℕ) (b : List ℕ)
-      → MayCome (may_come (direction_of x.side) due) frames.UnsizedEnvelope → IsUnsized one.payload b
+      → MayCome (may_come (direction_of x.side) due) frames.UnsizedEnvelope → IsUnsized one.payload
+      b
       → IsWholePayload (payloads x kind) [] one.own one.items one.payload
       → Passes (stream x) (due_at due 0 []) from b (due_at dues.End 1 one.own)
       (message (envelope_of 0 [] one) ∷ [])
-  unsized_envelope one due from b may (head, chunks, rest, is, are, payload_is, bytes_are) whole_one =
+  unsized_envelope one due from b may (head, chunks, rest, is, are, payload_is, bytes_are)
+      whole_one =
       let d = decoded one [] (omega arith) whole_one in
       let z : Situation = due_at due 0 [] in
       let clean : IsClean x z (joined chunks) =
@@ -141,18 +146,21 @@ module _ (x : Settings) (good : IsGood x.limits) (mode : Mode) (kind : Kind) (te
       (messages from : ℕ) → used_cost strings ≤ x.limits.dictionary
       → number + length carried ≡ messages → CarriesAll x mode kind strings carried b
       → Passes (stream x) (due_at dues.Messages number strings) from b
-      (due_at dues.Messages messages (left_by strings carried)) (message_events number strings carried)
+      (due_at dues.Messages messages (left_by strings carried))
+      (message_events number strings carried)
   unfolding message_events
   sized_envelopes in_part [] b number strings messages from cheap count none =
       let same : number ≡ messages = omega (arith, count) in
       rw (none, same) (passes_none (stream x) (due_at dues.Messages messages strings) from)
-  sized_envelopes in_part (one ∷ carried) b number strings messages from cheap count (envelope, rest, is, whole_one, bytes_are, more) =
+  sized_envelopes in_part (one ∷ carried) b number strings messages from cheap count
+      (envelope, rest, is, whole_one, bytes_are, more) =
       rw bytes_are
       (passes_then (stream x) (due_at dues.Messages number strings) from envelope rest
       (due_at dues.Messages (number + 1) (strings ++ one.own)) _
       (message (envelope_of number strings one) ∷ [])
       (message_events (number + 1) (strings ++ one.own) carried)
-      (sized_envelope one number strings from envelope cheap (in_part one.payload envelope is) whole_one)
+      (sized_envelope one number strings from envelope cheap (in_part one.payload envelope is)
+      whole_one)
       (sized_envelopes in_part carried rest (number + 1) (strings ++ one.own) messages
       (from + length envelope) whole_one.within.admitted.dictionary (omega (arith, count)) more))
 
@@ -168,14 +176,16 @@ module _ (x : Settings) (good : IsGood x.limits) (mode : Mode) (kind : Kind) (te
 
   -- End there, and a Fault
   pub end_passes : (due : Due) (messages from : ℕ) (strings : List (List ℕ)) (b : List ℕ)
-      → is_over_in (record_due due) ≡ false → MayCome (may_come (direction_of x.side) due) frames.End
+      → is_over_in (record_due due) ≡ false → MayCome (may_come (direction_of x.side) due)
+      frames.End
       → IsBare frames.End b
       → Passes (stream x) (due_at due messages strings) from b (due_at dues.Over messages strings)
       (ended (from + length b) ∷ [])
   unfolding after completed refused
   end_passes due messages from strings b going may is =
       passes_unit (stream x) (readable x) (due_at due messages strings) from b
-      (frame (bare frames.End)) (record_unit x due b from (bare frames.End) going is may (omega arith))
+      (frame (bare frames.End)) (record_unit x due b from (bare frames.End) going is may
+      (omega arith))
       refl
 
   pub fault_passes : (due : Due) (messages from : ℕ) (strings : List (List ℕ)) (fault b : List ℕ)
@@ -233,7 +243,8 @@ module _ (endpoint : Option (List ℕ)) (statics : List Entry) (l : Limits) (goo
   abbrev x : Settings
   x = record { side = initiators endpoint; statics = statics; limits = l }
 
-  pub initiator_carries : (mode : Mode) (kind : Kind) (text : List ℕ) (carried : List Carried) (from : ℕ)
+  pub initiator_carries : (mode : Mode) (kind : Kind) (text : List ℕ) (carried : List Carried)
+      (from : ℕ)
       (b : List ℕ) → MayCarry FromInitiator mode carried → CarriesAll x mode kind [] carried b
       → CarriesTo x good mode kind text carried (behind_preamble FromInitiator mode) from b
   initiator_carries Duplex kind text carried from b may all =
@@ -252,7 +263,8 @@ module _ (endpoint : Option (List ℕ)) (statics : List Entry) (l : Limits) (goo
   unfolding after completed refused
   version_passes from b is =
       passes_unit (stream x) (readable x) (beginning x) from b (frame (bare (frames.Version 1 0)))
-      (record_unit x dues.Version b from (bare (frames.Version 1 0)) refl is refl (omega arith)) refl
+      (record_unit x dues.Version b from (bare (frames.Version 1 0)) refl is refl (omega arith))
+      refl
 
   mode_passes : (mode : Mode) (from : ℕ) (b : List ℕ) → IsBare (frames.Mode (mode_number mode)) b
       → Passes (stream x) (at (record_due dues.Mode) Duplex Session [] 0 []) from b
@@ -289,14 +301,18 @@ module _ (endpoint : Option (List ℕ)) (statics : List Entry) (l : Limits) (goo
       (at (record_due dues.PreambleEnd) mode kind via 0 []) []
   unfolding after completed refused
   encoding_passes mode from via Plain b is =
-      passes_unit (stream x) (readable x) (at (record_due dues.Encoding) mode Session via 0 []) from b
+      passes_unit (stream x) (readable x) (at (record_due dues.Encoding) mode Session via 0 []) from
+      b
       (frame (bare (frames.KnownEncoding 7)))
-      (record_unit x dues.Encoding b from (bare (frames.KnownEncoding 7)) refl is refl (omega arith))
+      (record_unit x dues.Encoding b from (bare (frames.KnownEncoding 7)) refl is refl
+      (omega arith))
       refl
   encoding_passes mode from via Session b is =
-      passes_unit (stream x) (readable x) (at (record_due dues.Encoding) mode Session via 0 []) from b
+      passes_unit (stream x) (readable x) (at (record_due dues.Encoding) mode Session via 0 []) from
+      b
       (frame (bare (frames.KnownEncoding 8)))
-      (record_unit x dues.Encoding b from (bare (frames.KnownEncoding 8)) refl is refl (omega arith))
+      (record_unit x dues.Encoding b from (bare (frames.KnownEncoding 8)) refl is refl
+      (omega arith))
       refl
 
   preamble_end_passes : (mode : Mode) (from : ℕ) (via : List ℕ) (kind : Kind) (b : List ℕ)
@@ -306,9 +322,11 @@ module _ (endpoint : Option (List ℕ)) (statics : List Entry) (l : Limits) (goo
       (opened mode kind via ∷ [])
   unfolding after completed refused
   preamble_end_passes mode from via kind b is =
-      passes_unit (stream x) (readable x) (at (record_due dues.PreambleEnd) mode kind via 0 []) from b
+      passes_unit (stream x) (readable x) (at (record_due dues.PreambleEnd) mode kind via 0 []) from
+      b
       (frame (bare frames.PreambleEnd))
-      (record_unit x dues.PreambleEnd b from (bare frames.PreambleEnd) refl is refl (omega arith)) refl
+      (record_unit x dues.PreambleEnd b from (bare frames.PreambleEnd) refl is refl (omega arith))
+      refl
 
   pub preamble_passes : (mode : Mode) (kind : Kind) (via b : List ℕ) → IsPreamble x mode kind via b
       → Passes (stream x) (beginning x) 0 b

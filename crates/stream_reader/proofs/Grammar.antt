@@ -1,4 +1,5 @@
--- The grammar of a stream: each unit is known by its own bytes, and behind the end nothing is judged.
+-- The grammar of a stream: each unit is known by its own bytes, and behind the end nothing is
+-- judged.
 use Rattle.std.proofs.Common.{◌≡◌, ℕ, ◌<◌, inl, List, [], Bool, true, false, Some, None, refl, ap}
 use Rattle.std.specs.Prelude.{nat_le, ◌&&◌, not, if◌then◌else◌}
 use Rattle.std.proofs.lemmas.Bool.{lt-leb, leb-false}
@@ -27,11 +28,17 @@ reads_payload = reads_seen payload_byte (λ o. o) a_byte reads_byte
 
 module _ (x : Settings) where
   -- a record that is due
-  reads_due : (due : Due) (from : ℕ) → ReadsFront (λ bytes. seen frame (λ fault. offence_at from (reason_of due fault)) (frame_at x.limits.via (may_come (direction_of x.side) due) bytes))
-  reads_due due from = reads_seen frame (λ fault. offence_at from (reason_of due fault)) (frame_at x.limits.via (may_come (direction_of x.side) due)) (frames_front x.limits.via (may_come (direction_of x.side) due))
+  reads_due : (due : Due) (from : ℕ)
+      → ReadsFront (λ bytes. seen frame (λ fault. offence_at from (reason_of due fault))
+      (frame_at x.limits.via (may_come (direction_of x.side) due) bytes))
+  reads_due due from = reads_seen frame (λ fault. offence_at from (reason_of due fault))
+      (frame_at x.limits.via (may_come (direction_of x.side) due))
+      (frames_front x.limits.via (may_come (direction_of x.side) due))
 
-  nothing_due : (due : Due) (from : ℕ) → seen frame (λ fault. offence_at from (reason_of due fault)) (frame_at x.limits.via (may_come (direction_of x.side) due) []) ≡ begun
-  nothing_due due from = ap (seen frame (λ fault. offence_at from (reason_of due fault))) (frame_peels x.limits.via (may_come (direction_of x.side) due)).nothing
+  nothing_due : (due : Due) (from : ℕ) → seen frame (λ fault. offence_at from (reason_of due fault))
+      (frame_at x.limits.via (may_come (direction_of x.side) due) []) ≡ begun
+  nothing_due due from = ap (seen frame (λ fault. offence_at from (reason_of due fault)))
+      (frame_peels x.limits.via (may_come (direction_of x.side) due)).nothing
 
   reads_record : (due : Due) (from : ℕ) → ReadsFront (record_at x due from)
   reads_record dues.Over from = reads_nothing
@@ -54,24 +61,32 @@ module _ (x : Settings) where
   nothing_read (payload_open payload) from = refl
 
   pub readable : IsReadable (stream x)
-  readable = record { reads = λ z from. reads_unit z.stage from; nothing = λ z from. nothing_read z.stage from }
+  readable = record {
+    reads = λ z from. reads_unit z.stage from;
+    nothing = λ z from. nothing_read
+        z.stage from;
+  }
 
   -- behind the end
-  unread_over : (stage : Stage) (from : ℕ) (bytes : List ℕ) → is_over_in stage ≡ true → unit_in x stage from bytes ≡ begun
+  unread_over : (stage : Stage) (from : ℕ) (bytes : List ℕ) → is_over_in stage ≡ true
+      → unit_in x stage from bytes ≡ begun
   unfolding unit_in
   unread_over (record_due dues.Over) from bytes e = refl
   unread_over (record_due _) from bytes e = cc
   unread_over (chunk_due p) from bytes e = cc
   unread_over (payload_open p) from bytes e = cc
 
-  any_length_over : (stage : Stage) (from n : ℕ) → is_over_in stage ≡ true → too_long x stage from n ≡ None
+  any_length_over : (stage : Stage) (from n : ℕ) → is_over_in stage ≡ true → too_long x stage from n
+      ≡ None
   unfolding too_long
   any_length_over stage from n e = rw e (no (nat_le x.limits.session n)) where
-    no : (b : Bool) → (if b && not true then Some (offence_at (open_from stage from) SessionTooLong) else None) ≡ None
+    no : (b : Bool) → (if b && not true then Some (offence_at (open_from stage from) SessionTooLong)
+        else None) ≡ None
     no true = refl
     no false = refl
 
-  any_end_over : (mode : Mode) (stage : Stage) (from n : ℕ) → is_over_in stage ≡ true → cut_off x mode stage from n ≡ None
+  any_end_over : (mode : Mode) (stage : Stage) (from n : ℕ) → is_over_in stage ≡ true
+      → cut_off x mode stage from n ≡ None
   unfolding cut_off
   any_end_over mode (record_due dues.Over) from n e = refl
   any_end_over mode (record_due _) from n e = cc
@@ -86,14 +101,19 @@ module _ (x : Settings) where
   }
 
   -- within the session quota no length is too great
-  pub short_enough : (stage : Stage) (from n : ℕ) → n < x.limits.session → too_long x stage from n ≡ None
+  pub short_enough : (stage : Stage) (from n : ℕ) → n < x.limits.session → too_long x stage from n
+      ≡ None
   unfolding too_long
   short_enough stage from n lt = rw (lt-leb x.limits.session n lt) refl
 
   -- where one isn't, of a session that isn't over, it is below the quota
-  pub within_quota : (stage : Stage) (from n : ℕ) → is_over_in stage ≡ false → too_long x stage from n ≡ None → n < x.limits.session
+  pub within_quota : (stage : Stage) (from n : ℕ) → is_over_in stage ≡ false → too_long x stage from
+      n ≡ None → n < x.limits.session
   unfolding too_long
-  within_quota stage from n going none = by_test (nat_le x.limits.session n) refl (rw going at none) where
-    by_test : (b : Bool) → nat_le x.limits.session n ≡ b → (if b && true then Some (offence_at (open_from stage from) SessionTooLong) else None) ≡ None → n < x.limits.session
-    by_test true e h = cc
-    by_test false e h = leb-false x.limits.session n e
+  within_quota stage from n going none = by_test (nat_le x.limits.session n) refl (rw going at none)
+    where
+      by_test : (b : Bool) → nat_le x.limits.session n ≡ b
+          → (if b && true then Some (offence_at (open_from stage from) SessionTooLong) else None)
+          ≡ None → n < x.limits.session
+      by_test true e h = cc
+      by_test false e h = leb-false x.limits.session n e

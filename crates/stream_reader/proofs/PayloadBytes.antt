@@ -1,4 +1,5 @@
--- Bytes of a payload in a stream of either side: where they lead, what they complete and why they are
+-- Bytes of a payload in a stream of either side: where they lead, what they complete and why they
+-- are
 -- refused is said by the payload's own grammar.
 use Rattle.std.proofs.Common.{◌≡◌, ℕ, ◌+◌, ◌-◌, ◌<◌, ◌≤◌, inl, inr, List, [], ◌∷◌, ◌++◌, length, take, zero, suc, Bool, Option, Some, None, false, true, refl, sym, ap, ◌∙◌, subst, arith, append_assoc, length-append}
 use Rattle.std.specs.Prelude.{◌==◌, ◌&&◌, not, if◌then◌else◌}
@@ -62,7 +63,8 @@ module _ (x : Settings) (z : Situation) (o : OpenPayload) where
       ap (λ (s : PayloadStanding). record o { left = o.size - length bytes - 1; standing = s })
       (sym (standing_append (payload_in x z) (payload_readable (payloads x z.kind) z.strings)
       bytes (byte ∷ [])))
-      ∙ ap (λ n. record o { left = n; standing = standing (payload_in x z) (bytes ++ byte ∷ []) }) less
+      ∙ ap (λ n. record o { left = n; standing = standing (payload_in x z) (bytes ++ byte ∷ []) })
+      less
 
   module _ (bytes : List ℕ) where
     abbrev here : OpenPayload
@@ -87,11 +89,13 @@ module _ (x : Settings) (z : Situation) (o : OpenPayload) where
     -- and so where another chunk is
     pub refusal_between : length bytes ≤ o.size → is_chunked o.form ≡ true
         → refusal_in x z (payload_behind x z o bytes) ≡ refusal_at (payload_in x z) bytes
-    refusal_between le chunked = rw (own_refusal le, chunked) (between ((o.size - length bytes) == 0))
+    refusal_between le chunked = rw (own_refusal le, chunked)
+        (between ((o.size - length bytes) == 0))
       where
         between : (b : Bool) → option_or (refusal_at (payload_in x z) bytes)
             (if b && not true then (payload_in x z).at_end
-            (standing (payload_in x z) bytes).situation (standing (payload_in x z) bytes).from o.size
+            (standing (payload_in x z) bytes).situation (standing (payload_in x z) bytes).from
+            o.size
             else None) ≡ refusal_at (payload_in x z) bytes
         between true = alone (refusal_at (payload_in x z) bytes)
         between false = alone (refusal_at (payload_in x z) bytes)
@@ -136,62 +140,81 @@ within_open x p o bytes at h some = record {
 }
 
 -- behind a record that makes or resumes a payload
-module _ (x : Settings) (before bytes : List ℕ) (read : Read) (o : OpenPayload) (units : AreUnits (stream x) before) (reads : unit_in x (standing (stream x) before).situation.stage (standing (stream x) before).from bytes ≡ whole (frame read) (length bytes)) (made : payload_by x (standing (stream x) before).situation (length before) read.frame ≡ Some o) where
-  abbrev by_record : Situation → ℕ → Option OpenPayload → Standing Situation StreamEvent Offence
-  by_record s n v = record {
-    situation = on_payload v (behind_payload x s) (after_bare x s read.frame read.text);
-    from = length (before ++ bytes);
-    begun = [];
-    event = on_payload v (completed_payload x s)
-        (completed_bare s (length (before ++ bytes)) read.frame read.text);
-    refusal = refused_record x s n read.frame read.text;
-  }
+module _ (x : Settings) (before bytes : List ℕ) (read : Read) (o : OpenPayload)
+    (units : AreUnits (stream x) before)
+    (reads : unit_in x (standing (stream x) before).situation.stage
+    (standing (stream x) before).from bytes ≡ whole (frame read) (length bytes))
+    (made : payload_by x (standing (stream x) before).situation (length before) read.frame ≡ Some o)
+  where
+    abbrev by_record : Situation → ℕ → Option OpenPayload → Standing Situation StreamEvent Offence
+    by_record s n v = record {
+      situation = on_payload v (behind_payload x s) (after_bare x s read.frame read.text);
+      from = length (before ++ bytes);
+      begun = [];
+      event = on_payload v (completed_payload x s)
+          (completed_bare s (length (before ++ bytes)) read.frame read.text);
+      refusal = refused_record x s n read.frame read.text;
+    }
 
-  pub made_stands : standing (stream x) (before ++ bytes) ≡ record {
-    situation = behind_payload x (standing (stream x) before).situation o;
-    from = length (before ++ bytes);
-    begun = [];
-    event = completed_payload x (standing (stream x) before).situation o;
-    refusal = refused_record x (standing (stream x) before).situation (length before) read.frame
-        read.text;
-  }
-  unfolding after completed refused
-  made_stands =
-      let s : Situation = (standing (stream x) before).situation in
-      let place : (standing (stream x) before).from ≡ length before = units_place x before units in
-      let all : length before + length bytes ≡ length (before ++ bytes) =
-      sym (length-append before bytes) in
-      unit_standing (stream x) (readable x) before bytes (frame read) units reads
-      ∙ ap (λ n. record {
-        situation = after x s n (frame read);
-        from = n + length bytes;
-        begun = [];
-        event = completed x s n (n + length bytes) (frame read);
-        refusal = refused x s n (frame read);
-      }) place
-      ∙ ap (λ n. record {
-        situation = after x s (length before) (frame read);
-        from = n;
-        begun = [];
-        event = completed x s (length before) n (frame read);
-        refusal = refused x s (length before) (frame read);
-      }) all
-      ∙ ap (by_record s (length before)) made
+    pub made_stands : standing (stream x) (before ++ bytes) ≡ record {
+      situation = behind_payload x (standing (stream x) before).situation o;
+      from = length (before ++ bytes);
+      begun = [];
+      event = completed_payload x (standing (stream x) before).situation o;
+      refusal = refused_record x (standing (stream x) before).situation (length before) read.frame
+          read.text;
+    }
+    unfolding after completed refused
+    made_stands =
+        let s : Situation = (standing (stream x) before).situation in
+        let place : (standing (stream x) before).from ≡ length before = units_place x before units in
+        let all : length before + length bytes ≡ length (before ++ bytes) =
+        sym (length-append before bytes) in
+        unit_standing (stream x) (readable x) before bytes (frame read) units reads
+        ∙ ap (λ n. record {
+          situation = after x s n (frame read);
+          from = n + length bytes;
+          begun = [];
+          event = completed x s n (n + length bytes) (frame read);
+          refusal = refused x s n (frame read);
+        }) place
+        ∙ ap (λ n. record {
+          situation = after x s (length before) (frame read);
+          from = n;
+          begun = [];
+          event = completed x s (length before) n (frame read);
+          refusal = refused x s (length before) (frame read);
+        }) all
+        ∙ ap (by_record s (length before)) made
 
-module _ (x : Settings) (p : List ℕ) (z : Situation) (o : OpenPayload) (bytes : List ℕ) (at : IsWithin x p z o bytes) where
+module _ (x : Settings) (p : List ℕ) (z : Situation) (o : OpenPayload) (bytes : List ℕ)
+    (at : IsWithin x p z o bytes) where
   -- a byte behind a situation
   abbrev by_byte : ℕ → ℕ → Situation → Standing Situation StreamEvent Offence
-  by_byte y n s = record { situation = on_open s.stage (λ q. behind_payload x s (with_byte x s q y)) s; from = n; begun = []; event = on_open s.stage (λ q. completed_payload x s (with_byte x s q y)) None; refusal = on_open s.stage (λ q. refused_payload x s (with_byte x s q y)) None }
+  by_byte y n s = record {
+    situation = on_open s.stage (λ q. behind_payload x s (with_byte x s q y))
+        s;
+    from = n;
+    begun = [];
+    event = on_open s.stage
+        (λ q. completed_payload x s (with_byte x s q y)) None;
+    refusal = on_open s.stage
+        (λ q. refused_payload x s (with_byte x s q y)) None;
+  }
 
   -- one byte more
-  one_stands : (y : ℕ) → standing (stream x) (p ++ y ∷ []) ≡ stands_so x z (payload_behind x z o (bytes ++ y ∷ [])) (length (p ++ y ∷ []))
+  one_stands : (y : ℕ) → standing (stream x) (p ++ y ∷ [])
+      ≡ stands_so x z (payload_behind x z o (bytes ++ y ∷ [])) (length (p ++ y ∷ []))
   unfolding after completed refused unit_in
   one_stands y =
-      let place : (standing (stream x) p).from + 1 ≡ length (p ++ y ∷ []) = let n = units_place x p at.units in let m = length-append p (y ∷ []) in omega (arith, n, m) in
-      let reads : unit_in x (standing (stream x) p).situation.stage (standing (stream x) p).from (y ∷ []) ≡ whole (payload_byte y) 1 = rw at.situation refl in
+      let place : (standing (stream x) p).from + 1 ≡ length (p ++ y ∷ []) = let n = units_place x p
+      at.units in let m = length-append p (y ∷ []) in omega (arith, n, m) in
+      let reads : unit_in x (standing (stream x) p).situation.stage (standing (stream x) p).from
+      (y ∷ []) ≡ whole (payload_byte y) 1 = rw at.situation refl in
       unit_standing (stream x) (readable x) p (y ∷ []) (payload_byte y) at.units reads
       ∙ ap (by_byte y ((standing (stream x) p).from + 1)) at.situation
-      ∙ ap (λ (q : OpenPayload). stands_so x z q ((standing (stream x) p).from + 1)) (with_byte_is x z o bytes y)
+      ∙ ap (λ (q : OpenPayload). stands_so x z q ((standing (stream x) p).from + 1))
+      (with_byte_is x z o bytes y)
       ∙ ap (stands_so x z (payload_behind x z o (bytes ++ y ∷ []))) place
 
   -- and where it isn't the last
@@ -201,48 +224,68 @@ module _ (x : Settings) (p : List ℕ) (z : Situation) (o : OpenPayload) (bytes 
       let longer : length (bytes ++ y ∷ []) ≡ length bytes + 1 = length-append bytes (y ∷ []) in
       record {
         units = ap (λ (t : Standing Situation StreamEvent Offence). t.begun) s;
-        situation = ap (λ (t : Standing Situation StreamEvent Offence). t.situation) s ∙ more_behind x z (payload_behind x z o (bytes ++ y ∷ [])) (omega arith);
+        situation = ap (λ (t : Standing Situation StreamEvent Offence). t.situation) s ∙ more_behind
+            x z (payload_behind x z o (bytes ++ y ∷ [])) (omega arith);
         more = omega (arith, longer, lt);
       }
 
 -- so do more bytes
-pub bytes_stand : (x : Settings) (c p : List ℕ) (z : Situation) (o : OpenPayload) (bytes : List ℕ) → IsWithin x p z o bytes → 0 < length c → length bytes + length c ≤ o.size
-    → standing (stream x) (p ++ c) ≡ stands_so x z (payload_behind x z o (bytes ++ c)) (length (p ++ c))
+pub bytes_stand : (x : Settings) (c p : List ℕ) (z : Situation) (o : OpenPayload) (bytes : List ℕ)
+    → IsWithin x p z o bytes → 0 < length c → length bytes + length c ≤ o.size
+    → standing (stream x) (p ++ c) ≡ stands_so x z (payload_behind x z o (bytes ++ c))
+    (length (p ++ c))
 bytes_stand x [] p z o bytes at some le = absurd (omega arith)
 bytes_stand x (y ∷ []) p z o bytes at some le = one_stands x p z o bytes at y
 bytes_stand x (y ∷ d ∷ c) p z o bytes at some le =
     let longer : length (bytes ++ y ∷ []) ≡ length bytes + 1 = length-append bytes (y ∷ []) in
-    subst (λ (b : List ℕ). standing (stream x) (p ++ y ∷ d ∷ c) ≡ stands_so x z (payload_behind x z o b) (length (p ++ y ∷ d ∷ c))) (append_assoc bytes (y ∷ []) (d ∷ c))
-    (subst (λ (b : List ℕ). standing (stream x) b ≡ stands_so x z (payload_behind x z o ((bytes ++ y ∷ []) ++ d ∷ c)) (length b)) (append_assoc p (y ∷ []) (d ∷ c))
-    (bytes_stand x (d ∷ c) (p ++ y ∷ []) z o (bytes ++ y ∷ []) (one_within x p z o bytes at y (omega (arith, le))) (omega arith) (omega (arith, longer, le))))
+    subst (λ (b : List ℕ). standing (stream x) (p ++ y ∷ d ∷ c)
+    ≡ stands_so x z (payload_behind x z o b) (length (p ++ y ∷ d ∷ c)))
+    (append_assoc bytes (y ∷ []) (d ∷ c))
+    (subst (λ (b : List ℕ). standing (stream x) b
+    ≡ stands_so x z (payload_behind x z o ((bytes ++ y ∷ []) ++ d ∷ c)) (length b))
+    (append_assoc p (y ∷ []) (d ∷ c))
+    (bytes_stand x (d ∷ c) (p ++ y ∷ []) z o (bytes ++ y ∷ [])
+    (one_within x p z o bytes at y (omega (arith, le))) (omega arith) (omega (arith, longer, le))))
 
-module _ (x : Settings) (p : List ℕ) (z : Situation) (o : OpenPayload) (bytes : List ℕ) (at : IsWithin x p z o bytes) (c : List ℕ) (some : 0 < length c) (le : length bytes + length c ≤ o.size) where
+module _ (x : Settings) (p : List ℕ) (z : Situation) (o : OpenPayload) (bytes : List ℕ)
+    (at : IsWithin x p z o bytes) (c : List ℕ) (some : 0 < length c)
+    (le : length bytes + length c ≤ o.size) where
   abbrev there : OpenPayload
   there = payload_behind x z o (bytes ++ c)
 
   -- what the last of them completes, and why they are refused
-  pub bytes_event : event_at (stream x) (p ++ c) ≡ completed_payload x z (payload_behind x z o (bytes ++ c))
+  pub bytes_event : event_at (stream x) (p ++ c) ≡ completed_payload x z
+      (payload_behind x z o (bytes ++ c))
   bytes_event = event_from (stream x) (p ++ c) _ (bytes_stand x c p z o bytes at some le)
 
   -- so that nothing but the length can refuse them that the payload isn't refused by
   abbrev by_length : Option Offence
-  by_length = too_long x (behind_payload x z (payload_behind x z o (bytes ++ c))).stage (length (p ++ c)) (length (p ++ c))
+  by_length = too_long x (behind_payload x z (payload_behind x z o (bytes ++ c))).stage
+      (length (p ++ c)) (length (p ++ c))
 
-  pub bytes_refusal : refusal_at (stream x) (p ++ c) ≡ option_or (refused_payload x z (payload_behind x z o (bytes ++ c))) by_length
+  pub bytes_refusal : refusal_at (stream x) (p ++ c)
+      ≡ option_or (refused_payload x z (payload_behind x z o (bytes ++ c))) by_length
   bytes_refusal =
       refusal_from (stream x) (p ++ c) _ (bytes_stand x c p z o bytes at some le)
-      ∙ ap (λ v. option_or (refused_payload x z there) (option_or (wrong_of v) by_length)) ((readable x).nothing (behind_payload x z there) (length (p ++ c)))
+      ∙ ap (λ v. option_or (refused_payload x z there) (option_or (wrong_of v) by_length))
+      ((readable x).nothing (behind_payload x z there) (length (p ++ c)))
 
-  refused_as : (v : Option Refusal) → refusal_in x z there ≡ v → refusal_at (stream x) (p ++ c) ≡ option_or (option_map (offence_in z.messages) v) by_length
-  refused_as v e = bytes_refusal ∙ ap (λ v. option_or (option_map (offence_in z.messages) v) by_length) e
+  refused_as : (v : Option Refusal) → refusal_in x z there ≡ v → refusal_at (stream x) (p ++ c)
+      ≡ option_or (option_map (offence_in z.messages) v) by_length
+  refused_as v e = bytes_refusal ∙ ap (λ v. option_or (option_map (offence_in z.messages) v)
+      by_length) e
 
-  pub bytes_refused : (r : Refusal) → refusal_in x z (payload_behind x z o (bytes ++ c)) ≡ Some r → refusal_at (stream x) (p ++ c) ≡ Some (offence_in z.messages r)
+  pub bytes_refused : (r : Refusal) → refusal_in x z (payload_behind x z o (bytes ++ c)) ≡ Some r
+      → refusal_at (stream x) (p ++ c) ≡ Some (offence_in z.messages r)
   bytes_refused r e = refused_as (Some r) e
 
-  pub bytes_unrefused : refusal_in x z (payload_behind x z o (bytes ++ c)) ≡ None → length (p ++ c) < x.limits.session → refusal_at (stream x) (p ++ c) ≡ None
-  bytes_unrefused e short = refused_as None e ∙ short_enough x (behind_payload x z there).stage (length (p ++ c)) (length (p ++ c)) short
+  pub bytes_unrefused : refusal_in x z (payload_behind x z o (bytes ++ c)) ≡ None → length (p ++ c)
+      < x.limits.session → refusal_at (stream x) (p ++ c) ≡ None
+  bytes_unrefused e short = refused_as None e ∙ short_enough x (behind_payload x z there).stage
+      (length (p ++ c)) (length (p ++ c)) short
 
-  pub bytes_going : refusal_in x z (payload_behind x z o (bytes ++ c)) ≡ None → IsGoing (stream x) (standing (stream x) (p ++ c))
+  pub bytes_going : refusal_in x z (payload_behind x z o (bytes ++ c)) ≡ None → IsGoing (stream x)
+      (standing (stream x) (p ++ c))
   bytes_going e =
       subst (IsGoing (stream x)) (sym (bytes_stand x c p z o bytes at some le)) (record {
         next = (readable x).nothing (behind_payload x z there) (length (p ++ c));
@@ -250,10 +293,13 @@ module _ (x : Settings) (p : List ℕ) (z : Situation) (o : OpenPayload) (bytes 
       })
 
   pub bytes_units : AreUnits (stream x) (p ++ c)
-  bytes_units = ap (λ (t : Standing Situation StreamEvent Offence). t.begun) (bytes_stand x c p z o bytes at some le)
+  bytes_units = ap (λ (t : Standing Situation StreamEvent Offence). t.begun)
+      (bytes_stand x c p z o bytes at some le)
 
-  bytes_situation : (standing (stream x) (p ++ c)).situation ≡ behind_payload x z (payload_behind x z o (bytes ++ c))
-  bytes_situation = ap (λ (t : Standing Situation StreamEvent Offence). t.situation) (bytes_stand x c p z o bytes at some le)
+  bytes_situation : (standing (stream x) (p ++ c)).situation ≡ behind_payload x z
+      (payload_behind x z o (bytes ++ c))
+  bytes_situation = ap (λ (t : Standing Situation StreamEvent Offence). t.situation)
+      (bytes_stand x c p z o bytes at some le)
 
   longer : length (bytes ++ c) ≡ length bytes + length c
   longer = length-append bytes c
@@ -261,12 +307,18 @@ module _ (x : Settings) (p : List ℕ) (z : Situation) (o : OpenPayload) (bytes 
   -- where they aren't the last of the payload
   module _ (more : length bytes + length c < o.size) where
     pub more_within : IsWithin x (p ++ c) z o (bytes ++ c)
-    more_within = record { units = bytes_units; situation = bytes_situation ∙ more_behind x z there (omega (arith, longer, more)); more = omega (arith, longer, more) }
+    more_within = record {
+      units = bytes_units;
+      situation = bytes_situation ∙ more_behind x z there
+          (omega (arith, longer, more));
+      more = omega (arith, longer, more);
+    }
 
     pub more_eventless : event_at (stream x) (p ++ c) ≡ None
     more_eventless = bytes_event ∙ more_completed x z there (omega (arith, longer, more))
 
-    pub more_refusal : refusal_in x z (payload_behind x z o (bytes ++ c)) ≡ refusal_at (payload_in x z) (bytes ++ c)
+    pub more_refusal : refusal_in x z (payload_behind x z o (bytes ++ c))
+        ≡ refusal_at (payload_in x z) (bytes ++ c)
     more_refusal = refusal_before x z o (bytes ++ c) (omega (arith, longer, more))
 
   -- where they are the last of a chunk, and another one comes
@@ -315,7 +367,9 @@ module _ (x : Settings) (p : List ℕ) (z : Situation) (o : OpenPayload) (bytes 
           (bytes_situation ∙ w.0, bytes_event ∙ w.1)
 
 -- k bytes of a piece behind p
-module _ (x : Settings) (p : List ℕ) (z : Situation) (o : OpenPayload) (bytes : List ℕ) (at : IsWithin x p z o bytes) (y : List ℕ) (k : ℕ) (within : k ≤ length y) (le : length bytes + k ≤ o.size) where
+module _ (x : Settings) (p : List ℕ) (z : Situation) (o : OpenPayload) (bytes : List ℕ)
+    (at : IsWithin x p z o bytes) (y : List ℕ) (k : ℕ) (within : k ≤ length y)
+    (le : length bytes + k ≤ o.size) where
   taken : (i : ℕ) → i ≤ k → length (take i y) ≡ i
   taken i few = length-take-le i y (omega arith)
 
@@ -328,24 +382,38 @@ module _ (x : Settings) (p : List ℕ) (z : Situation) (o : OpenPayload) (bytes 
     few_within = let n = taken i (omega arith) in omega (arith, n, le, lt)
 
     few_eventless : event_at (stream x) (p ++ take i y) ≡ None
-    few_eventless = more_eventless x p z o bytes at (take i y) few_some (omega (arith, few_within)) few_within
+    few_eventless = more_eventless x p z o bytes at (take i y) few_some (omega (arith, few_within))
+        few_within
 
-    few_unrefused : refusal_at (payload_in x z) (bytes ++ take i y) ≡ None → length p + k ≤ x.limits.session → refusal_at (stream x) (p ++ take i y) ≡ None
+    few_unrefused : refusal_at (payload_in x z) (bytes ++ take i y) ≡ None → length p + k
+        ≤ x.limits.session → refusal_at (stream x) (p ++ take i y) ≡ None
     few_unrefused none short =
         bytes_unrefused x p z o bytes at (take i y) few_some (omega (arith, few_within))
-        (more_refusal x p z o bytes at (take i y) few_some (omega (arith, few_within)) few_within ∙ none)
-        (let n = length-append p (take i y) in let m = taken i (omega arith) in omega (arith, n, m, short, lt))
+        (more_refusal x p z o bytes at (take i y) few_some (omega (arith, few_within)) few_within ∙
+        none)
+        (let n = length-append p (take i y) in let m = taken i (omega arith) in omega
+        (arith, n, m, short, lt))
 
   -- decide nothing before the last, where the payload isn't refused before it
-  module _ (short : length p + k ≤ x.limits.session) (going : IsGoing (stream x) (standing (stream x) p)) (none : (i : ℕ) → i < k → refusal_at (payload_in x z) (bytes ++ take i y) ≡ None) where
+  module _ (short : length p + k ≤ x.limits.session)
+      (going : IsGoing (stream x) (standing (stream x) p))
+      (none : (i : ℕ) → i < k → refusal_at (payload_in x z) (bytes ++ take i y) ≡ None) where
     unrefused : (i : ℕ) → i < k → refusal_at (stream x) (p ++ take i y) ≡ None
     unrefused zero lt =
-        ap (refusal_at (stream x)) (append-nil p) ∙ refusal_from (stream x) p (standing (stream x) p) refl ∙ going_refusal (stream x) (standing (stream x) p) (length p) going
-        ∙ short_enough x (standing (stream x) p).situation.stage (standing (stream x) p).from (length p) (omega (arith, short, lt))
+        ap (refusal_at (stream x)) (append-nil p) ∙ refusal_from (stream x) p
+        (standing (stream x) p) refl ∙ going_refusal (stream x) (standing (stream x) p) (length p)
+        going
+        ∙ short_enough x (standing (stream x) p).situation.stage (standing (stream x) p).from
+        (length p) (omega (arith, short, lt))
     unrefused (suc i) lt = few_unrefused (suc i) (omega arith) lt (none (suc i) lt) short
 
     pub payload_quiet_before : IsQuietBefore (stream x) p y k
-    payload_quiet_before = record { within = within; unrefused = unrefused; eventless = few_eventless }
+    payload_quiet_before = record {
+      within = within;
+      unrefused = unrefused;
+      eventless =
+          few_eventless;
+    }
 
     -- nor at it, where that completes nothing
     pub payload_quiet : event_at (stream x) (p ++ take k y) ≡ None → IsQuiet (stream x) p y k

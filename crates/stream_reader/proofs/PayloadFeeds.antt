@@ -37,8 +37,11 @@ use Rattle.stream_reader.proofs.ReaderFacts.{cost_within}
 -- q shows what p does, but for the strings of these bytes of its payload
 pub record StaysWith (r : StreamReader) (x : Settings) (p q bytes : List ℕ) : Type 0 where
   pub text : (standing (stream x) q).situation.text ≡ (standing (stream x) p).situation.text
-  pub messages : (standing (stream x) q).situation.messages ≡ (standing (stream x) p).situation.messages
-  pub strings : strings_in (standing (stream x) q).situation ≡ (situation_of (payloads x (standing (stream x) p).situation.kind) (standing (stream x) p).situation.strings bytes).strings
+  pub messages : (standing (stream x) q).situation.messages
+      ≡ (standing (stream x) p).situation.messages
+  pub strings : strings_in (standing (stream x) q).situation
+      ≡ (situation_of (payloads x (standing (stream x) p).situation.kind)
+      (standing (stream x) p).situation.strings bytes).strings
 
 -- a reader of records that has begun none
 pub none_begun : (direction : Direction) (a : Awaited) (frames : FrameReader)
@@ -47,17 +50,21 @@ none_begun direction (awaits.Record due) frames fresh = fresh _
 none_begun direction (awaits.Chunk p) frames fresh = fresh _
 none_begun direction (awaits.Payload p) frames fresh = fresh
 
-module _ (r : StreamReader) (x : Settings) (p : List ℕ) (h : Reached r x p) (left : PayloadLeft) (is : r.awaited ≡ awaits.Payload left) where
+module _ (r : StreamReader) (x : Settings) (p : List ℕ) (h : Reached r x p) (left : PayloadLeft)
+    (is : r.awaited ≡ awaits.Payload left) where
   abbrev z : Situation
   z = (standing (stream x) p).situation
 
-  find_open : (stage : Stage) → Awaits (awaits.Payload left) stage → (o : OpenPayload) × (stage ≡ payload_open o) × Awaits (awaits.Payload left) (payload_open o)
+  find_open : (stage : Stage) → Awaits (awaits.Payload left) stage → (o : OpenPayload)
+      × (stage ≡ payload_open o) × Awaits (awaits.Payload left) (payload_open o)
   find_open (record_due due) a = absurd a
   find_open (chunk_due o) a = absurd a
   find_open (payload_open o) a = (o, refl, a)
 
-  pub found : (o : OpenPayload) × ((standing (stream x) p).situation.stage ≡ payload_open o) × Awaits (awaits.Payload left) (payload_open o)
-  found = find_open (standing (stream x) p).situation.stage (subst (λ (a : Awaited). Awaits a (standing (stream x) p).situation.stage) is h.at.awaits)
+  pub found : (o : OpenPayload) × ((standing (stream x) p).situation.stage ≡ payload_open o)
+      × Awaits (awaits.Payload left) (payload_open o)
+  found = find_open (standing (stream x) p).situation.stage
+      (subst (λ (a : Awaited). Awaits a (standing (stream x) p).situation.stage) is h.at.awaits)
 
   abbrev o : OpenPayload
   o = found.0
@@ -75,7 +82,8 @@ module _ (r : StreamReader) (x : Settings) (p : List ℕ) (h : Reached r x p) (l
   bytes = own.bytes
 
   at : IsWithin x p z o bytes
-  at = within_open x p o bytes found.1 (record { standing_is = own.standing_is; counted = own.counted }) more_left
+  at = within_open x p o bytes found.1
+      (record { standing_is = own.standing_is; counted = own.counted }) more_left
 
   left_is : left.left ≡ o.left
   left_is = found.2.left
@@ -88,14 +96,17 @@ module _ (r : StreamReader) (x : Settings) (p : List ℕ) (h : Reached r x p) (l
 
   no_record : (next : Expect) → FrameStandsFor r.frames next []
   no_record =
-      subst (λ (a : Awaited). HasBegun (direction_of x.side) a r.frames (standing (stream x) p).begun)
+      subst (λ (a : Awaited). HasBegun (direction_of x.side) a r.frames
+      (standing (stream x) p).begun)
       is h.frames
 
-  same_grammar : (A : PayloadSettings → Type 0) → A (decoder_settings r.decoder) → A (payloads x (standing (stream x) p).situation.kind)
+  same_grammar : (A : PayloadSettings → Type 0) → A (decoder_settings r.decoder)
+      → A (payloads x (standing (stream x) p).situation.kind)
   same_grammar A a = subst A h.at.decodes a
 
   -- some bytes of the piece, of those that are to come
-  module _ (c : List ℕ) (n : ℕ) (within : n ≤ length c) (few : n ≤ left.left) (short : length p + n ≤ x.limits.session) where
+  module _ (c : List ℕ) (n : ℕ) (within : n ≤ length c) (few : n ≤ left.left)
+      (short : length p + n ≤ x.limits.session) where
     abbrev there : ℕ → OpenPayload
     there k = payload_behind x z o (bytes ++ take k c)
 
@@ -109,11 +120,17 @@ module _ (r : StreamReader) (x : Settings) (p : List ℕ) (h : Reached r x p) (l
     further k le = let m = taken k le in length-append p (take k c) ∙ omega (arith, m)
 
     -- the decoder that has taken them
-    pub has_decoded : (mid : StreamReader) (now : PayloadLeft) → now.from ≡ left.from → now.size ≡ left.size → now.left ≡ left.left - n → now.form ≡ left.form → mid.mode ≡ r.mode → mid.kind ≡ r.kind → mid.messages ≡ r.messages → decoder_settings mid.decoder ≡ decoder_settings r.decoder
-        → DecoderStandsFor mid.decoder (standing (stream x) p).situation.strings (own.bytes ++ take n c) → (standing (stream x) p).situation.messages + 1 < 2 ^ 64
-        → HasDecoded mid x (standing (stream x) p).situation now (payload_behind x (standing (stream x) p).situation found.0 (own.bytes ++ take n c))
+    pub has_decoded : (mid : StreamReader) (now : PayloadLeft) → now.from ≡ left.from → now.size
+        ≡ left.size → now.left ≡ left.left - n → now.form ≡ left.form → mid.mode ≡ r.mode → mid.kind
+        ≡ r.kind → mid.messages ≡ r.messages → decoder_settings mid.decoder ≡ decoder_settings
+        r.decoder
+        → DecoderStandsFor mid.decoder (standing (stream x) p).situation.strings
+        (own.bytes ++ take n c) → (standing (stream x) p).situation.messages + 1 < 2 ^ 64
+        → HasDecoded mid x (standing (stream x) p).situation now
+        (payload_behind x (standing (stream x) p).situation found.0 (own.bytes ++ take n c))
     has_decoded mid now from size rest form mode kind messages same stands small =
-        let m : length (bytes ++ take n c) ≡ length bytes + n = let k = taken n (omega arith) in length-append bytes (take n c) ∙ omega (arith, k) in
+        let m : length (bytes ++ take n c) ≡ length bytes + n = let k = taken n (omega arith) in
+        length-append bytes (take n c) ∙ omega (arith, k) in
         record {
           open_so = record {
             from = from ∙ found.2.from;
@@ -136,17 +153,21 @@ module _ (r : StreamReader) (x : Settings) (p : List ℕ) (h : Reached r x p) (l
         }
 
     -- of which none before so many is refused by the payload
-    module _ (k : ℕ) (some : 0 < k) (le : k ≤ n) (none : (i : ℕ) → i < k → refusal_at (payload_in x (standing (stream x) p).situation) (own.bytes ++ take i c) ≡ None) where
+    module _ (k : ℕ) (some : 0 < k) (le : k ≤ n)
+        (none : (i : ℕ) → i < k → refusal_at (payload_in x (standing (stream x) p).situation)
+        (own.bytes ++ take i c) ≡ None) where
       some_taken : 0 < length (take k c)
       some_taken = let m = taken k le in omega (arith, m, some)
 
       fits : length bytes + length (take k c) ≤ o.size
       fits = let m = taken k le in omega (arith, m, le, in_size)
 
-      stands : standing (stream x) (p ++ take k c) ≡ stands_so x z (there k) (length (p ++ take k c))
+      stands : standing (stream x) (p ++ take k c) ≡ stands_so x z (there k)
+          (length (p ++ take k c))
       stands = bytes_stand x (take k c) p z o bytes at some_taken fits
 
-      situation_there : (standing (stream x) (p ++ take k c)).situation ≡ behind_payload x z (there k)
+      situation_there : (standing (stream x) (p ++ take k c)).situation ≡ behind_payload x z
+          (there k)
       situation_there = ap (λ s. s.situation) stands
 
       text_there : (standing (stream x) (p ++ take k c)).situation.text ≡ z.text
@@ -154,22 +175,27 @@ module _ (r : StreamReader) (x : Settings) (p : List ℕ) (h : Reached r x p) (l
 
       still_on : is_over_at (stream x) (p ++ take k c) ≡ false
       unfolding is_over_at
-      still_on = ap (λ (s : Situation). is_over_in s.stage) situation_there ∙ payload_goes_on x z (there k)
+      still_on = ap (λ (s : Situation). is_over_in s.stage) situation_there ∙ payload_goes_on x z
+          (there k)
 
-      strings_there : strings_in (standing (stream x) (p ++ take k c)).situation ≡ (situation_of (payloads x z.kind) z.strings (bytes ++ take k c)).strings
+      strings_there : strings_in (standing (stream x) (p ++ take k c)).situation
+          ≡ (situation_of (payloads x z.kind) z.strings (bytes ++ take k c)).strings
       strings_there = ap strings_in situation_there ∙ strings_behind x z (there k)
 
       event_there : event_at (stream x) (p ++ take k c) ≡ completed_payload x z (there k)
       event_there = bytes_event x p z o bytes at (take k c) some_taken fits
 
       before_there : IsQuietBefore (stream x) p c k
-      before_there = payload_quiet_before x p z o bytes at c k (omega (arith, le, within)) (omega (arith, le, in_size)) (omega (arith, le, short)) h.going none
+      before_there = payload_quiet_before x p z o bytes at c k (omega (arith, le, within))
+          (omega (arith, le, in_size)) (omega (arith, le, short)) h.going none
 
       quiet_there : event_at (stream x) (p ++ take k c) ≡ None → IsQuiet (stream x) p c k
-      quiet_there = payload_quiet x p z o bytes at c k (omega (arith, le, within)) (omega (arith, le, in_size)) (omega (arith, le, short)) h.going none
+      quiet_there = payload_quiet x p z o bytes at c k (omega (arith, le, within))
+          (omega (arith, le, in_size)) (omega (arith, le, short)) h.going none
 
       -- where the payload refuses them
-      refusal_is : (why : Refusal) → refusal_at (payload_in x (standing (stream x) p).situation) (own.bytes ++ take k c) ≡ Some why → refusal_in x z (there k) ≡ Some why
+      refusal_is : (why : Refusal) → refusal_at (payload_in x (standing (stream x) p).situation)
+          (own.bytes ++ take k c) ≡ Some why → refusal_in x z (there k) ≡ Some why
       refusal_is why e =
           let m = taken k le in
           elim (eq-or-lt_of_le fits) [
@@ -186,11 +212,19 @@ module _ (r : StreamReader) (x : Settings) (p : List ℕ) (h : Reached r x p) (l
               ∙ ap (λ v. option_or v (ending_at (payload_in x z) (bytes ++ take k c))) e
 
       -- they bring no document
-      stays_by : (behind_payload x z (there k)).messages ≡ z.messages → StaysWith r x p (p ++ take k c) (bytes ++ take k c)
-      stays_by e = record { text = text_there; messages = ap (λ (s : Situation). s.messages) situation_there ∙ e; strings = strings_there }
+      stays_by : (behind_payload x z (there k)).messages ≡ z.messages → StaysWith r x p
+          (p ++ take k c) (bytes ++ take k c)
+      stays_by e = record {
+        text = text_there;
+        messages = ap (λ (s : Situation). s.messages)
+            situation_there ∙ e;
+        strings = strings_there;
+      }
 
       -- they are refused
-      refused_so : (new : StreamReader) (told : ReadRefusal) (why : Refusal) → refusal_in x z (there k) ≡ Some why → told ≡ Refused (offence_in z.messages why) → Failed new x told (length p + k) (p ++ take k c) → UnitAnswers x p c new (Err told)
+      refused_so : (new : StreamReader) (told : ReadRefusal) (why : Refusal)
+          → refusal_in x z (there k) ≡ Some why → told ≡ Refused (offence_in z.messages why)
+          → Failed new x told (length p + k) (p ++ take k c) → UnitAnswers x p c new (Err told)
       refused_so new told why refuses is failed =
           subst (λ (t : ReadRefusal). UnitAnswers x p c new (Err t)) (sym is) (
             k,
@@ -200,16 +234,26 @@ module _ (r : StreamReader) (x : Settings) (p : List ℕ) (h : Reached r x p) (l
           )
 
       -- or not
-      module _ (new : StreamReader) (refuses : refusal_in x z (there k) ≡ None) (is_in : IsIn new x (behind_payload x z (there k))) (frames : new.frames ≡ r.frames) (taken_is : new.taken ≡ r.taken + k) (unit_from : new.unit_from ≡ r.taken + k) (failure : new.failure ≡ r.failure) where
+      module _ (new : StreamReader) (refuses : refusal_in x z (there k) ≡ None)
+          (is_in : IsIn new x (behind_payload x z (there k))) (frames : new.frames ≡ r.frames)
+          (taken_is : new.taken ≡ r.taken + k) (unit_from : new.unit_from ≡ r.taken + k)
+          (failure : new.failure ≡ r.failure) where
         reached : Reached new x (p ++ take k c)
         reached =
             let long = further k le in
-            let begun_there : (standing (stream x) (p ++ take k c)).begun ≡ [] = ap (λ s. s.begun) stands in
-            let from_there : (standing (stream x) (p ++ take k c)).from ≡ length (p ++ take k c) = ap (λ s. s.from) stands in
+            let begun_there : (standing (stream x) (p ++ take k c)).begun ≡ [] = ap (λ s. s.begun)
+            stands in
+            let from_there : (standing (stream x) (p ++ take k c)).from ≡ length (p ++ take k c) =
+            ap (λ s. s.from) stands in
             record {
               at = subst (IsIn new x) (sym situation_there) is_in;
-              frames = subst (HasBegun (direction_of x.side) new.awaited new.frames) (sym begun_there) (none_begun (direction_of x.side) new.awaited new.frames (λ next. subst (λ (f : FrameReader). FrameStandsFor f next []) (sym frames) (no_record next)));
-              text = subst (λ (f : FrameReader). FramesShowText f (standing (stream x) (p ++ take k c)).situation.text) (sym frames) (subst (FramesShowText r.frames) (sym text_there) h.text);
+              frames = subst (HasBegun (direction_of x.side) new.awaited new.frames)
+                  (sym begun_there) (none_begun (direction_of x.side) new.awaited new.frames
+                  (λ next. subst (λ (f : FrameReader). FrameStandsFor f next []) (sym frames)
+                  (no_record next)));
+              text = subst (λ (f : FrameReader). FramesShowText f
+                  (standing (stream x) (p ++ take k c)).situation.text) (sym frames)
+                  (subst (FramesShowText r.frames) (sym text_there) h.text);
               closing = λ over. let on = still_on in let bad = sym on ∙ over in cc;
               unit_from = omega (arith, unit_from, h.taken, from_there, long);
               taken = omega (arith, taken_is, h.taken, long);
@@ -218,22 +262,48 @@ module _ (r : StreamReader) (x : Settings) (p : List ℕ) (h : Reached r x p) (l
               unfailed = failure ∙ h.unfailed;
             }
 
-        by_event : (v : Option StreamEvent) → completed_payload x z (there k) ≡ v → UnitAnswers x p c new (Ok (k, step_of v))
+        by_event : (v : Option StreamEvent) → completed_payload x z (there k) ≡ v → UnitAnswers x p
+            c new (Ok (k, step_of v))
         by_event None e = (some, quiet_there (event_there ∙ e), reached, λ payloads. has_payloads)
-        by_event (Some (opened mode kind via)) e = (opened mode kind via, some, before_there, event_there ∙ e, refl, reached)
+        by_event (Some (opened mode kind via)) e =
+            (opened mode kind via, some, before_there, event_there ∙ e, refl, reached)
         by_event (Some accepted) e = (accepted, some, before_there, event_there ∙ e, refl, reached)
-        by_event (Some (peer_fault size text)) e = (peer_fault size text, some, before_there, event_there ∙ e, refl, reached)
-        by_event (Some (message envelope)) e = (message envelope, some, before_there, event_there ∙ e, refl, reached)
-        by_event (Some (ended size)) e = (ended size, some, before_there, event_there ∙ e, refl, reached)
+        by_event (Some (peer_fault size text)) e =
+            (peer_fault size text, some, before_there, event_there ∙ e, refl, reached)
+        by_event (Some (message envelope)) e = (
+          message envelope,
+          some,
+          before_there,
+          event_there ∙
+              e,
+          refl,
+          reached,
+        )
+        by_event (Some (ended size)) e = (
+          ended size,
+          some,
+          before_there,
+          event_there ∙ e,
+          refl,
+          reached,
+        )
 
       -- by what a reader is behind them
-      took_by : (v : Option Refusal) → refusal_in x z (there k) ≡ v → (new : StreamReader) (step : StreamStep) → BehindAnswers x (behind_payload x z (there k)) (completed_payload x z (there k)) (option_map (offence_in z.messages) v) new (Ok step)
-          → new.frames ≡ r.frames → new.taken ≡ r.taken + k → new.unit_from ≡ r.taken + k → new.failure ≡ r.failure → UnitAnswers x p c new (Ok (k, step))
-      took_by None refuses new step a frames taken_is unit_from failure = rw a.1 (by_event new refuses a.0 frames taken_is unit_from failure (completed_payload x z (there k)) refl)
+      took_by : (v : Option Refusal) → refusal_in x z (there k) ≡ v → (new : StreamReader)
+          (step : StreamStep) → BehindAnswers x (behind_payload x z (there k))
+          (completed_payload x z (there k)) (option_map (offence_in z.messages) v) new (Ok step)
+          → new.frames ≡ r.frames → new.taken ≡ r.taken + k → new.unit_from ≡ r.taken + k
+          → new.failure ≡ r.failure → UnitAnswers x p c new (Ok (k, step))
+      took_by None refuses new step a frames taken_is unit_from failure = rw a.1
+          (by_event new refuses a.0 frames taken_is unit_from failure
+          (completed_payload x z (there k)) refl)
       took_by (Some why) refuses new step a frames taken_is unit_from failure = absurd a
 
-      failed_by : (v : Option Refusal) → refusal_in x z (there k) ≡ v → (new : StreamReader) (told : ReadRefusal) → BehindAnswers x (behind_payload x z (there k)) (completed_payload x z (there k)) (option_map (offence_in z.messages) v) new (Err told)
-          → new.frames ≡ r.frames → new.taken ≡ r.taken + k → new.failure ≡ Some told → UnitAnswers x p c new (Err told)
+      failed_by : (v : Option Refusal) → refusal_in x z (there k) ≡ v → (new : StreamReader)
+          (told : ReadRefusal) → BehindAnswers x (behind_payload x z (there k))
+          (completed_payload x z (there k)) (option_map (offence_in z.messages) v) new (Err told)
+          → new.frames ≡ r.frames → new.taken ≡ r.taken + k → new.failure ≡ Some told
+          → UnitAnswers x p c new (Err told)
       unfolding failure_of taken_of messages_of ShowsText ShowsStrings
       failed_by None refuses new (Refused offence) a frames taken_is failure = absurd a
       failed_by v refuses new Memory a frames taken_is failure = absurd a
@@ -241,9 +311,13 @@ module _ (r : StreamReader) (x : Settings) (p : List ℕ) (h : Reached r x p) (l
           refused_so new (Refused offence) why refuses (ap Refused a.0) (record {
             failure = failure;
             taken_is = omega (arith, taken_is, h.taken);
-            text = subst (λ (f : FrameReader). FramesShowText f (standing (stream x) (p ++ take k c)).situation.text) (sym frames) (subst (FramesShowText r.frames) (sym text_there) h.text);
-            messages = subst (λ (s : Situation). new.messages ≡ s.messages) (sym situation_there) a.1.messages;
-            strings = subst (λ (s : Situation). ShowsTable new.decoder (strings_in s)) (sym situation_there) a.1.strings;
+            text = subst (λ (f : FrameReader). FramesShowText f
+                (standing (stream x) (p ++ take k c)).situation.text) (sym frames)
+                (subst (FramesShowText r.frames) (sym text_there) h.text);
+            messages = subst (λ (s : Situation). new.messages ≡ s.messages) (sym situation_there)
+                a.1.messages;
+            strings = subst (λ (s : Situation). ShowsTable new.decoder (strings_in s))
+                (sym situation_there) a.1.strings;
           })
 
     -- no byte more
@@ -255,18 +329,25 @@ module _ (r : StreamReader) (x : Settings) (p : List ℕ) (h : Reached r x p) (l
         (subst (λ (b : List ℕ). StaysWith r x p p b) none_own (record {
           text = refl;
           messages = refl;
-          strings = ap (strings_at z) found.1 ∙ ap (λ (s : PayloadStanding). s.situation.strings) own.standing_is;
+          strings = ap (strings_at z) found.1 ∙ ap (λ (s : PayloadStanding). s.situation.strings)
+              own.standing_is;
         }))
 
     -- fewer than are to come
-    stays_below : (j : ℕ) → j ≤ n → length bytes + j < o.size → ((i : ℕ) → i < j → refusal_at (payload_in x (standing (stream x) p).situation) (own.bytes ++ take i c) ≡ None) → StaysWith r x p (p ++ take j c) (bytes ++ take j c)
+    stays_below : (j : ℕ) → j ≤ n → length bytes + j < o.size
+        → ((i : ℕ) → i < j → refusal_at (payload_in x (standing (stream x) p).situation)
+        (own.bytes ++ take i c) ≡ None) → StaysWith r x p (p ++ take j c) (bytes ++ take j c)
     stays_below zero le more none = stays_none
     stays_below (suc j) le more none =
         stays_by (suc j) (omega arith) le none
-        (ap (λ (s : Situation). s.messages) (more_behind x z (there (suc j)) (let m = taken (suc j) le in let n = length-append bytes (take (suc j) c) in omega (arith, m, n, more))))
+        (ap (λ (s : Situation). s.messages)
+        (more_behind x z (there (suc j)) (let m = taken (suc j) le in let n = length-append bytes
+        (take (suc j) c) in omega (arith, m, n, more))))
 
     -- what a decoder shows that has failed behind some
-    shows_failed : (d : Decoder) (fault : DecodeFault) (b : List ℕ) → decoder_settings d ≡ decoder_settings r.decoder → DecoderFailedBehind d fault z.strings b → ShowsTable d (situation_of (payloads x z.kind) z.strings b).strings
+    shows_failed : (d : Decoder) (fault : DecodeFault) (b : List ℕ) → decoder_settings d
+        ≡ decoder_settings r.decoder → DecoderFailedBehind d fault z.strings b
+        → ShowsTable d (situation_of (payloads x z.kind) z.strings b).strings
     shows_failed d fault b same failed =
         let is_set : decoder_settings d ≡ payloads x z.kind = same ∙ h.at.decodes in
         record {
@@ -275,8 +356,12 @@ module _ (r : StreamReader) (x : Settings) (p : List ℕ) (h : Reached r x p) (l
           there = inr (fault, failed);
           same = ap (λ (s : PayloadSettings). (situation_of s z.strings b).strings) is_set;
           within =
-              subst (λ (s : PayloadSettings). used_cost (situation_of (payloads x z.kind) z.strings b).strings ≤ s.limits.dictionary) (sym is_set)
-              (cost_within (payloads x z.kind) z.strings b (same_grammar (λ s. used_cost z.strings ≤ s.limits.dictionary) (stands_as r.decoder z.strings bytes own.stands_for).before));
+              subst (λ (s : PayloadSettings). used_cost
+              (situation_of (payloads x z.kind) z.strings b).strings ≤ s.limits.dictionary)
+              (sym is_set)
+              (cost_within (payloads x z.kind) z.strings b
+              (same_grammar (λ s. used_cost z.strings ≤ s.limits.dictionary)
+              (stands_as r.decoder z.strings bytes own.stands_for).before));
         }
 
     -- what is read from the bytes that are fed
@@ -286,78 +371,134 @@ module _ (r : StreamReader) (x : Settings) (p : List ℕ) (h : Reached r x p) (l
     size_fed : length (take n c) ≡ n
     size_fed = taken n (omega arith)
 
-    none_in : (g : PayloadSettings) → g ≡ decoder_settings r.decoder → (k : ℕ) → k ≤ n → ((i : ℕ) → i < k → refusal_at (payload g z.strings) (bytes ++ take i (take n c)) ≡ None) → (i : ℕ) → i < k
+    none_in : (g : PayloadSettings) → g ≡ decoder_settings r.decoder → (k : ℕ) → k ≤ n
+        → ((i : ℕ) → i < k → refusal_at (payload g z.strings) (bytes ++ take i (take n c)) ≡ None)
+        → (i : ℕ) → i < k
         → refusal_at (payload_in x (standing (stream x) p).situation) (own.bytes ++ take i c) ≡ None
     none_in g is k le none i lt =
-        same_grammar (λ s. refusal_at (payload s z.strings) (bytes ++ take i c) ≡ None) (subst (λ (s : PayloadSettings). refusal_at (payload s z.strings) (bytes ++ take i c) ≡ None) is (ap (λ d. refusal_at (payload g z.strings) (bytes ++ d)) (sym (same_bytes i (omega (arith, lt, le)))) ∙ none i lt))
+        same_grammar (λ s. refusal_at (payload s z.strings) (bytes ++ take i c) ≡ None)
+        (subst (λ (s : PayloadSettings). refusal_at (payload s z.strings) (bytes ++ take i c)
+        ≡ None) is (ap (λ d. refusal_at (payload g z.strings) (bytes ++ d))
+        (sym (same_bytes i (omega (arith, lt, le)))) ∙ none i lt))
 
     -- all of them are taken
-    all_unrefused : FeedAnswers (decoder_settings r.decoder) (standing (stream x) p).situation.strings own.bytes (take n c) (Ok tt) → (i : ℕ) → i < n → refusal_at (payload_in x (standing (stream x) p).situation) (own.bytes ++ take i c) ≡ None
+    all_unrefused : FeedAnswers (decoder_settings r.decoder)
+        (standing (stream x) p).situation.strings own.bytes (take n c) (Ok tt) → (i : ℕ) → i < n
+        → refusal_at (payload_in x (standing (stream x) p).situation) (own.bytes ++ take i c) ≡ None
     all_unrefused goes =
-        let means = (answers_are_first (payload (decoder_settings r.decoder) z.strings) bytes (take n c) goes_on).0 goes in
-        none_in (decoder_settings r.decoder) refl n (omega arith) (λ i lt. means.0.unrefused i (omega (arith, lt, size_fed)))
+        let means = (answers_are_first (payload (decoder_settings r.decoder) z.strings) bytes
+        (take n c) goes_on).0 goes in
+        none_in (decoder_settings r.decoder) refl n (omega arith)
+        (λ i lt. means.0.unrefused i (omega (arith, lt, size_fed)))
 
-    module _ (some : 0 < n) (goes : FeedAnswers (decoder_settings r.decoder) (standing (stream x) p).situation.strings own.bytes (take n c) (Ok tt)) (new : StreamReader) where
-      abbrev pub behind_fed : OpenPayload
-      behind_fed = payload_behind x (standing (stream x) p).situation found.0 (own.bytes ++ take n c)
+    module _ (some : 0 < n) (goes : FeedAnswers (decoder_settings r.decoder)
+        (standing (stream x) p).situation.strings own.bytes (take n c) (Ok tt)) (new : StreamReader)
+      where
+        abbrev pub behind_fed : OpenPayload
+        behind_fed = payload_behind x (standing (stream x) p).situation found.0
+            (own.bytes ++ take n c)
 
-      pub feed_took : (step : StreamStep) → BehindAnswers x (behind_payload x (standing (stream x) p).situation behind_fed) (completed_payload x (standing (stream x) p).situation behind_fed) (refused_payload x (standing (stream x) p).situation behind_fed) new (Ok step)
-          → new.frames ≡ r.frames → new.taken ≡ r.taken + n → new.unit_from ≡ r.taken + n → new.failure ≡ r.failure → UnitAnswers x p c new (Ok (n, step))
-      feed_took step = took_by n some (omega arith) (all_unrefused goes) (refusal_in x z (there n)) refl new step
+        pub feed_took : (step : StreamStep) → BehindAnswers x
+            (behind_payload x (standing (stream x) p).situation behind_fed)
+            (completed_payload x (standing (stream x) p).situation behind_fed)
+            (refused_payload x (standing (stream x) p).situation behind_fed) new (Ok step)
+            → new.frames ≡ r.frames → new.taken ≡ r.taken + n → new.unit_from ≡ r.taken + n
+            → new.failure ≡ r.failure → UnitAnswers x p c new (Ok (n, step))
+        feed_took step = took_by n some (omega arith) (all_unrefused goes) (refusal_in x z (there n))
+            refl new step
 
-      pub feed_behind : (told : ReadRefusal) → BehindAnswers x (behind_payload x (standing (stream x) p).situation behind_fed) (completed_payload x (standing (stream x) p).situation behind_fed) (refused_payload x (standing (stream x) p).situation behind_fed) new (Err told)
-          → new.frames ≡ r.frames → new.taken ≡ r.taken + n → new.failure ≡ Some told → UnitAnswers x p c new (Err told)
-      feed_behind told = failed_by n some (omega arith) (all_unrefused goes) (refusal_in x z (there n)) refl new told
+        pub feed_behind : (told : ReadRefusal) → BehindAnswers x
+            (behind_payload x (standing (stream x) p).situation behind_fed)
+            (completed_payload x (standing (stream x) p).situation behind_fed)
+            (refused_payload x (standing (stream x) p).situation behind_fed) new (Err told)
+            → new.frames ≡ r.frames → new.taken ≡ r.taken + n → new.failure ≡ Some told
+            → UnitAnswers x p c new (Err told)
+        feed_behind told = failed_by n some (omega arith) (all_unrefused goes)
+            (refusal_in x z (there n)) refl new told
 
-    module _ (new : StreamReader) (told : ReadRefusal) (same : decoder_settings new.decoder ≡ decoder_settings r.decoder) (failure : new.failure ≡ Some told) (frames : new.frames ≡ r.frames) (messages : new.messages ≡ r.messages) where
-      failed_with : (fault : DecodeFault) (count : ℕ) (q b : List ℕ) → new.taken ≡ count → StaysWith r x p q b → DecoderFailedBehind new.decoder fault z.strings b → Failed new x told count q
+    module _ (new : StreamReader) (told : ReadRefusal) (same : decoder_settings new.decoder
+        ≡ decoder_settings r.decoder) (failure : new.failure ≡ Some told)
+        (frames : new.frames ≡ r.frames) (messages : new.messages ≡ r.messages) where
+      failed_with : (fault : DecodeFault) (count : ℕ) (q b : List ℕ) → new.taken ≡ count
+          → StaysWith r x p q b → DecoderFailedBehind new.decoder fault z.strings b
+          → Failed new x told count q
       unfolding failure_of taken_of messages_of ShowsText ShowsStrings
       failed_with fault count q b taken stays failed = record {
         failure = failure;
         taken_is = taken;
-        text = subst (λ (f : FrameReader). FramesShowText f (standing (stream x) q).situation.text) (sym frames) (subst (FramesShowText r.frames) (sym stays.text) h.text);
+        text = subst (λ (f : FrameReader). FramesShowText f (standing (stream x) q).situation.text)
+            (sym frames) (subst (FramesShowText r.frames) (sym stays.text) h.text);
         messages = messages ∙ h.at.messages ∙ sym stays.messages;
-        strings = subst (ShowsTable new.decoder) (sym stays.strings) (shows_failed new.decoder fault b same failed);
+        strings = subst (ShowsTable new.decoder) (sym stays.strings)
+            (shows_failed new.decoder fault b same failed);
       }
 
       -- of these bytes some are refused
-      some_refused : (g : PayloadSettings) → refusal_at (payload g z.strings) bytes ≡ None → (k : ℕ) (why : Refusal) → refusal_at (payload g z.strings) (bytes ++ take k (take n c)) ≡ Some why → 0 < k
-      some_refused g none zero why e = let same = ap (refusal_at (payload g z.strings)) (append-nil bytes) in let bad = sym none ∙ sym same ∙ e in cc
+      some_refused : (g : PayloadSettings) → refusal_at (payload g z.strings) bytes ≡ None
+          → (k : ℕ) (why : Refusal) → refusal_at (payload g z.strings) (bytes ++ take k (take n c))
+          ≡ Some why → 0 < k
+      some_refused g none zero why e = let same = ap (refusal_at (payload g z.strings))
+          (append-nil bytes) in let bad = sym none ∙ sym same ∙ e in cc
       some_refused g none (suc k) why e = omega arith
 
-      pub feed_fails : (fault : DecodeFault) → FeedAnswers (decoder_settings r.decoder) (standing (stream x) p).situation.strings own.bytes (take n c) (Err fault) → FailedWithin new.decoder fault (standing (stream x) p).situation.strings own.bytes (take n c) → told ≡ refusal_told r.messages fault
+      pub feed_fails : (fault : DecodeFault) → FeedAnswers (decoder_settings r.decoder)
+          (standing (stream x) p).situation.strings own.bytes (take n c) (Err fault)
+          → FailedWithin new.decoder fault (standing (stream x) p).situation.strings own.bytes
+          (take n c) → told ≡ refusal_told r.messages fault
           → new.taken ≡ r.taken + more_shown left fault → UnitAnswers x p c new (Err told)
       feed_fails (faults.Payload at reason shown_by) answers failed is taken_is =
           let g : PayloadSettings = decoder_settings r.decoder in
           let k : ℕ = answers.0 in
-          let means = (answers_are_first (payload g z.strings) bytes (take n c) (offends k (refusal at reason))).0 answers.1 in
+          let means = (answers_are_first (payload g z.strings) bytes (take n c)
+          (offends k (refusal at reason))).0 answers.1 in
           let le : k ≤ n = let w = means.0.within in omega (arith, w, size_fed) in
-          let same_count : failed.count ≡ k = let shown = failed.shown in omega (arith, shown, answers.2) in
-          let some = some_refused g (pending_unrefused (payload g z.strings) bytes (stands_as r.decoder z.strings bytes own.stands_for).pending) k (refusal at reason) means.1 in
+          let same_count : failed.count ≡ k = let shown = failed.shown in omega
+          (arith, shown, answers.2) in
+          let some = some_refused g
+          (pending_unrefused (payload g z.strings) bytes
+          (stands_as r.decoder z.strings bytes own.stands_for).pending) k (refusal at reason)
+          means.1 in
           let none = none_in g refl k le means.0.unrefused in
-          let refused = same_grammar (λ s. refusal_at (payload s z.strings) (bytes ++ take k c) ≡ Some (refusal at reason)) (ap (λ d. refusal_at (payload g z.strings) (bytes ++ d)) (sym (same_bytes k le)) ∙ means.1) in
+          let refused = same_grammar (λ s. refusal_at (payload s z.strings) (bytes ++ take k c)
+          ≡ Some (refusal at reason)) (ap (λ d. refusal_at (payload g z.strings) (bytes ++ d))
+          (sym (same_bytes k le)) ∙ means.1) in
           let refuses = refusal_is k some le none (refusal at reason) refused in
-          let behind = subst (λ (b : List ℕ). DecoderFailedBehind new.decoder (faults.Payload at reason shown_by) z.strings (bytes ++ b)) (ap (λ m. take m (take n c)) same_count ∙ same_bytes k le) failed.behind in
-          refused_so k some le none new told (refusal at reason) refuses (is ∙ ap (λ m. Refused (offence_in m (refusal at reason))) h.at.messages)
-          (failed_with (faults.Payload at reason shown_by) (length p + k) (p ++ take k c) (bytes ++ take k c) (omega (arith, taken_is, h.taken, answers.2, own.counted, left_is, size_is))
-          (stays_by k some le none (refused_messages x z (there k) (refusal at reason) refuses)) behind)
-      feed_fails faults.Memory answers failed is taken_is = subst (λ (t : ReadRefusal). UnitAnswers x p c new (Err t)) (sym is) lost
+          let behind = subst (λ (b : List ℕ). DecoderFailedBehind new.decoder
+          (faults.Payload at reason shown_by) z.strings (bytes ++ b))
+          (ap (λ m. take m (take n c)) same_count ∙ same_bytes k le) failed.behind in
+          refused_so k some le none new told (refusal at reason) refuses
+          (is ∙ ap (λ m. Refused (offence_in m (refusal at reason))) h.at.messages)
+          (failed_with (faults.Payload at reason shown_by) (length p + k) (p ++ take k c)
+          (bytes ++ take k c)
+          (omega (arith, taken_is, h.taken, answers.2, own.counted, left_is, size_is))
+          (stays_by k some le none (refused_messages x z (there k) (refusal at reason) refuses))
+          behind)
+      feed_fails faults.Memory answers failed is taken_is = subst
+          (λ (t : ReadRefusal). UnitAnswers x p c new (Err t)) (sym is) lost
         where
-          wanted : (failed.count < length (take n c)) × (refusal_at (payload (decoder_settings new.decoder) z.strings) (bytes ++ take failed.count (take n c)) ≡ None)
+          wanted : (failed.count < length (take n c))
+              × (refusal_at (payload (decoder_settings new.decoder) z.strings)
+              (bytes ++ take failed.count (take n c)) ≡ None)
           wanted = failed.wanted refl
 
           lt : failed.count < n
           lt = let less = wanted.0 in omega (arith, less, size_fed)
 
-          up_to : (i : ℕ) → i < suc failed.count → refusal_at (payload (decoder_settings new.decoder) z.strings) (bytes ++ take i (take n c)) ≡ None
+          up_to : (i : ℕ) → i < suc failed.count
+              → refusal_at (payload (decoder_settings new.decoder) z.strings)
+              (bytes ++ take i (take n c)) ≡ None
           up_to i le =
               elim (eq-or-lt_of_le (let few : i ≤ failed.count = omega (arith, le) in few)) [
-                | inl all ↦ ap (λ k. refusal_at (payload (decoder_settings new.decoder) z.strings) (bytes ++ take k (take n c))) all ∙ wanted.1
+                | inl all ↦ ap (λ k. refusal_at (payload (decoder_settings new.decoder) z.strings)
+                    (bytes ++ take k (take n c))) all ∙ wanted.1
                 | inr less ↦ failed.before i less
               ]
 
-          none : (i : ℕ) → i < suc failed.count → refusal_at (payload_in x (standing (stream x) p).situation) (own.bytes ++ take i c) ≡ None
-          none = none_in (decoder_settings new.decoder) same (suc failed.count) (omega (arith, lt)) up_to
+          none : (i : ℕ) → i < suc failed.count
+              → refusal_at (payload_in x (standing (stream x) p).situation) (own.bytes ++ take i c)
+              ≡ None
+          none = none_in (decoder_settings new.decoder) same (suc failed.count) (omega (arith, lt))
+              up_to
 
           -- one more of them decides nothing before its end
           quiet : IsQuietBefore (stream x) p c (suc failed.count)
@@ -374,7 +515,8 @@ module _ (r : StreamReader) (x : Settings) (p : List ℕ) (h : Reached r x p) (l
           )
 
           stays : StaysWith r x p (p ++ take failed.count c) (bytes ++ take failed.count c)
-          stays = stays_below failed.count (omega (arith, lt)) (omega (arith, lt, in_size)) (λ i less. none i (omega (arith, less)))
+          stays = stays_below failed.count (omega (arith, lt)) (omega (arith, lt, in_size))
+              (λ i less. none i (omega (arith, less)))
 
           lost : UnitAnswers x p c new (Err Memory)
           lost = (
@@ -382,5 +524,8 @@ module _ (r : StreamReader) (x : Settings) (p : List ℕ) (h : Reached r x p) (l
             nothing,
             has_payloads,
             subst (λ (t : ReadRefusal). Failed new x t new.taken (p ++ take failed.count c)) is
-                (failed_with faults.Memory new.taken (p ++ take failed.count c) (bytes ++ take failed.count c) refl stays (subst (λ (b : List ℕ). DecoderFailedBehind new.decoder faults.Memory z.strings (bytes ++ b)) (same_bytes failed.count (omega (arith, lt))) failed.behind)),
+                (failed_with faults.Memory new.taken (p ++ take failed.count c)
+                (bytes ++ take failed.count c) refl stays
+                (subst (λ (b : List ℕ). DecoderFailedBehind new.decoder faults.Memory z.strings
+                (bytes ++ b)) (same_bytes failed.count (omega (arith, lt))) failed.behind)),
           )

@@ -36,10 +36,12 @@ module _ (x : Settings) (z : Situation) where
   behind_fits p low o is =
       elim (outcome x z p) [
         | goes_on more b c ↦
-            let same : Some p ≡ Some o = ap (λ (s : Situation). open_payload s.stage) (sym b) ∙ is in
+            let same : Some p ≡ Some o = ap (λ (s : Situation). open_payload s.stage) (sym b) ∙ is
+            in
             let one : p ≡ o = cc in subst (λ (q : OpenPayload). q.size ≤ x.limits.payload) one low
         | wants_chunk none h b c ↦
-            let same : Some p ≡ Some o = ap (λ (s : Situation). open_payload s.stage) (sym b) ∙ is in
+            let same : Some p ≡ Some o = ap (λ (s : Situation). open_payload s.stage) (sym b) ∙ is
+            in
             let one : p ≡ o = cc in subst (λ (q : OpenPayload). q.size ≤ x.limits.payload) one low
         | is_whole all none b c ↦
             let bad = ap (λ (s : Situation). open_payload s.stage) (sym b) ∙ is in cc
@@ -101,7 +103,8 @@ module _ (x : Settings) (z : Situation) where
     in_chunks (payload_open o) fine e = cc
     in_chunks (chunk_due o) fine e =
         let same : with_chunk o size ≡ p = cc in
-        subst (λ (q : OpenPayload). q.size ≤ x.limits.payload) same (right_size x (o.size + size) fine)
+        subst (λ (q : OpenPayload). q.size ≤ x.limits.payload) same
+        (right_size x (o.size + size) fine)
   made_fits from read text p fine e = cc
 
   -- and one that is whole with it
@@ -195,15 +198,19 @@ module _ (x : Settings) where
             let bad = ap (λ (w : Standing Situation StreamEvent Offence).
             open_payload w.situation.stage) (sym s) ∙ is in cc;
         told = λ before e some.
-            let bad = ap (λ (w : Standing Situation StreamEvent Offence). w.event) (sym s) ∙ some in cc;
+            let bad = ap (λ (w : Standing Situation StreamEvent Offence). w.event) (sym s) ∙ some in
+            cc;
       }
 
-  module _ (before bytes : List ℕ) (u : StreamUnit) (units : AreUnits (stream x) before) (reads : (stream x).unit_at (standing (stream x) before).situation (standing (stream x) before).from bytes ≡ whole u (length bytes)) (h : FitsAt before) where
+  module _ (before bytes : List ℕ) (u : StreamUnit) (units : AreUnits (stream x) before)
+      (reads : (stream x).unit_at (standing (stream x) before).situation
+      (standing (stream x) before).from bytes ≡ whole u (length bytes)) (h : FitsAt before) where
     some_bytes : 0 < length bytes
     some_bytes =
         (whole_some (unit_in x (standing (stream x) before).situation.stage
         (standing (stream x) before).from)
-        ((readable x).reads (standing (stream x) before).situation (standing (stream x) before).from)
+        ((readable x).reads (standing (stream x) before).situation
+        (standing (stream x) before).from)
         ((readable x).nothing (standing (stream x) before).situation
         (standing (stream x) before).from) bytes u (length bytes) reads).0
 
@@ -224,9 +231,12 @@ module _ (x : Settings) where
         let s = unit_standing (stream x) (readable x) before bytes u units reads in
         record {
           opened = λ unrefused none.
-              let ok = (none_both _ _ (sym (refusal_from (stream x) (before ++ bytes) _ s) ∙ none)).0 in
-              subst (λ (w : Standing Situation StreamEvent Offence). FitsOpen x w.situation.stage) (sym s)
-              (unit_fits x (standing (stream x) before).situation (standing (stream x) before).from u
+              let ok = (none_both _ _ (sym (refusal_from (stream x) (before ++ bytes) _ s) ∙
+              none)).0 in
+              subst (λ (w : Standing Situation StreamEvent Offence). FitsOpen x w.situation.stage)
+              (sym s)
+              (unit_fits x (standing (stream x) before).situation (standing (stream x) before).from
+              u
               (fits_before unrefused) ok);
           told = λ unrefused e some.
               unit_told x (standing (stream x) before).situation (standing (stream x) before).from
@@ -238,5 +248,7 @@ module _ (x : Settings) where
       → IsUnrefusedBefore x p → e.size ≤ x.limits.payload
   unfolding event_at
   payloads_fit p e some unrefused =
-      let last = given_some (standing (stream x) p).begun (standing (stream x) p).event (message e) some in
-      (units_keep (stream x) (readable x) FitsAt fits_behind fits_first p last.0).told unrefused e last.1
+      let last = given_some (standing (stream x) p).begun (standing (stream x) p).event (message e)
+      some in
+      (units_keep (stream x) (readable x) FitsAt fits_behind fits_first p last.0).told unrefused e
+      last.1

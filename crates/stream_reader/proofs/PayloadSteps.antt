@@ -48,7 +48,8 @@ strings_first g strings =
     ap (λ (s : PayloadStanding). s.situation.strings)
     (standing_nothing (payload g strings) (payload_readable g strings))
 
-module _ (r : StreamReader) (x : Settings) (z : Situation) (here : PayloadLeft) (o : OpenPayload) (h : HasDecoded r x z here o) where
+module _ (r : StreamReader) (x : Settings) (z : Situation) (here : PayloadLeft) (o : OpenPayload)
+    (h : HasDecoded r x z here o) where
   abbrev bytes : List ℕ
   bytes = h.part.bytes
 
@@ -56,7 +57,8 @@ module _ (r : StreamReader) (x : Settings) (z : Situation) (here : PayloadLeft) 
   left_is = h.open_so.left
 
   -- its grammar is the decoder's
-  grammar_is : (A : PayloadSettings → Type 0) → A (decoder_settings r.decoder) → A (payloads x z.kind)
+  grammar_is : (A : PayloadSettings → Type 0) → A (decoder_settings r.decoder)
+      → A (payloads x z.kind)
   grammar_is A a = subst A h.decodes a
 
   unrefused : refusal_at (payload_in x z) bytes ≡ None
@@ -84,7 +86,8 @@ module _ (r : StreamReader) (x : Settings) (z : Situation) (here : PayloadLeft) 
   answered new result v s event refused leads completes a =
       subst (λ (v : Option Offence).
       BehindAnswers x (behind_payload x z o) (completed_payload x z o) v new result) (sym refused)
-      (subst (λ (s : Situation). BehindAnswers x s (completed_payload x z o) v new result) (sym leads)
+      (subst (λ (s : Situation). BehindAnswers x s (completed_payload x z o) v new result)
+      (sym leads)
       (subst (λ (e : Option StreamEvent). BehindAnswers x s e v new result) (sym completes) a))
 
   -- the part that the decoder has, whatever the stage
@@ -92,7 +95,8 @@ module _ (r : StreamReader) (x : Settings) (z : Situation) (here : PayloadLeft) 
       → HasPart d x (record z { stage = stage }) o
   part_at d stage same = record {
     bytes = bytes;
-    stands_for = subst (λ (d : Decoder). DecoderStandsFor d z.strings bytes) (sym same) h.part.stands_for;
+    stands_for = subst (λ (d : Decoder). DecoderStandsFor d z.strings bytes) (sym same)
+        h.part.stands_for;
     standing_is = h.part.standing_is;
     counted = h.part.counted;
     within = h.part.within;
@@ -155,7 +159,8 @@ module _ (r : StreamReader) (x : Settings) (z : Situation) (here : PayloadLeft) 
           λ over. cc,
         )
 
-    module _ (last : is_chunked_form here.form ≡ false) (new : StreamReader) (same : decoder_settings new.decoder ≡ decoder_settings r.decoder) where
+    module _ (last : is_chunked_form here.form ≡ false) (new : StreamReader)
+        (same : decoder_settings new.decoder ≡ decoder_settings r.decoder) where
       last_form : is_chunked o.form ≡ false
       last_form = chunked_as false last
 
@@ -187,7 +192,8 @@ module _ (r : StreamReader) (x : Settings) (z : Situation) (here : PayloadLeft) 
           → FinishAnswers (decoder_settings r.decoder) z.strings bytes (Ok doc)
           → DecoderStandsFor new.decoder
           (situation_of (decoder_settings r.decoder) z.strings bytes).strings []
-          → new.awaited ≡ awaits.Record (due_after here.form) → new.mode ≡ r.mode → new.kind ≡ r.kind
+          → new.awaited ≡ awaits.Record (due_after here.form) → new.mode ≡ r.mode → new.kind
+          ≡ r.kind
           → new.messages ≡ r.messages + 1 → number ≡ r.messages
           → table ≡ table_at new.decoder
           (situation_of (decoder_settings r.decoder) z.strings bytes).strings []
@@ -213,9 +219,11 @@ module _ (r : StreamReader) (x : Settings) (z : Situation) (here : PayloadLeft) 
               kind = kind ∙ h.kind;
               messages = messages ∙ ap (λ n. n + 1) h.messages;
               decodes = same ∙ h.decodes;
-              payload = subst (λ s. DecoderStandsFor new.decoder s.strings []) standing_there stands;
+              payload = subst (λ s. DecoderStandsFor new.decoder s.strings []) standing_there
+                  stands;
             },
-            message_as number z.messages here.size o.size doc o.standing.situation.items count _ cost _
+            message_as number z.messages here.size o.size doc o.standing.situation.items count _
+                cost _
                 (numbered ∙ h.messages) h.open_so.size (ends.1 ∙ ap (λ s. s.items) standing_there)
                 (counts ∙ ap length strings) (costs ∙ ap used_cost strings),
             not_over new (Some (message (envelope_of z o))),
@@ -233,7 +241,8 @@ module _ (r : StreamReader) (x : Settings) (z : Situation) (here : PayloadLeft) 
           let refusal_is = by_end (Some (refusal at reason)) ends.0 in
           let w = refused_behind x z o has_all (refusal at reason) refusal_is in
           subst (λ (t : ReadRefusal).
-          BehindAnswers x (behind_payload x z o) (completed_payload x z o) (refused_payload x z o) new
+          BehindAnswers x (behind_payload x z o) (completed_payload x z o) (refused_payload x z o)
+          new
           (Err t)) (sym is)
           (answered new (Err (refusal_told r.messages (faults.Payload at reason shown_by)))
           (Some (offence_in z.messages (refusal at reason))) (behind_whole z o z.messages) None
@@ -251,7 +260,8 @@ module _ (r : StreamReader) (x : Settings) (z : Situation) (here : PayloadLeft) 
                 within =
                     subst (λ (s : PayloadSettings).
                     used_cost o.standing.situation.strings ≤ s.limits.dictionary) (sym same)
-                    (subst (λ s. used_cost s.strings ≤ (decoder_settings r.decoder).limits.dictionary)
+                    (subst (λ s. used_cost s.strings
+                    ≤ (decoder_settings r.decoder).limits.dictionary)
                     standing_there
                     (cost_within (decoder_settings r.decoder) z.strings bytes
                     (stands_as r.decoder z.strings bytes h.part.stands_for).before));

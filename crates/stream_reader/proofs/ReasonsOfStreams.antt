@@ -91,10 +91,12 @@ module _ (x : Settings) (p : List ℕ) where
 
   -- no bytes of a payload show it
   payload_uncut : (y : PayloadSettings) (strings : List (List ℕ)) (all : Bool) (bytes : List ℕ)
-      (at : ℕ) (reason : Reason) → reason ≡ reasons.Truncated → ShowsOf y strings all bytes at reason → ⊥
+      (at : ℕ) (reason : Reason) → reason ≡ reasons.Truncated → ShowsOf y strings all bytes at
+      reason → ⊥
   payload_uncut y strings all bytes at reason cut (inr (other, every, is, nothing)) = cc
   payload_uncut y strings all bytes at reason cut (inl shows) =
-      none (situation_of y strings shows.before) (situation_of y strings shows.before).section shows.bytes
+      none (situation_of y strings shows.before) (situation_of y strings shows.before).section
+      shows.bytes
       (subst (λ (r : Reason). ShowsInSection y (situation_of y strings shows.before)
       (situation_of y strings shows.before).section shows.bytes r) cut shows.shows)
     where
@@ -116,7 +118,8 @@ module _ (x : Settings) (p : List ℕ) where
       let h = (in_payload_is x p number at reason).0 e in
       payload_uncut (payloads x h.0.kind) h.0.strings h.2 h.1 at reason cut h.5
 
-  never_cut_off : (o : Offence) → refusal_at (stream x) p ≡ Some o → o.reason ≡ reasons.Truncated → ⊥
+  never_cut_off : (o : Offence) → refusal_at (stream x) p ≡ Some o → o.reason ≡ reasons.Truncated
+      → ⊥
   never_cut_off o e cut = never_by_place o.place o.reason cut e
 
 pub no_piece_cuts_off : (x : Settings) (p y : List ℕ) (n : ℕ) (o : Offence)
@@ -146,7 +149,8 @@ module _ (x : Settings) (bytes : List ℕ) where
   )
 
   -- an offence other than the end's is that of the first prefix that is refused
-  module _ (o : Offence) (isnt : ending_at (stream x) bytes ≡ Some o → ⊥) (Holds : List ℕ → Type 0) (law : (p : List ℕ) → (refusal_at (stream x) p ≡ Some o) ↔ Holds p) where
+  module _ (o : Offence) (isnt : ending_at (stream x) bytes ≡ Some o → ⊥) (Holds : List ℕ → Type 0)
+      (law : (p : List ℕ) → (refusal_at (stream x) p ≡ Some o) ↔ Holds p) where
     first_for : offence_by (stream x) bytes ≡ Some o → Begins x bytes Holds
     first_for e =
         elim ((offences_are_first (stream x) bytes o).0 e) [
@@ -155,13 +159,21 @@ module _ (x : Settings) (bytes : List ℕ) where
         ]
 
     for_first : Begins x bytes Holds → offence_by (stream x) bytes ≡ Some o
-    for_first (n, within, before, holds) = (offences_are_first (stream x) bytes o).1 (inl (record { place = n; within = within; before = before; refused = (law (take n bytes)).1 holds }))
+    for_first (n, within, before, holds) = (offences_are_first (stream x) bytes o).1
+        (inl (record {
+          place = n;
+          within = within;
+          before = before;
+          refused = (law (take n bytes)).1
+              holds;
+        }))
 
     first_is : (offence_by (stream x) bytes ≡ Some o) ↔ Begins x bytes Holds
     first_is = (first_for, for_first)
 
   -- whose reason is none of these
-  other_end : (from : ℕ) (reason : Reason) → (reason ≡ reasons.Truncated → ⊥) → ending_at (stream x) bytes ≡ Some (offence_at from reason) → ⊥
+  other_end : (from : ℕ) (reason : Reason) → (reason ≡ reasons.Truncated → ⊥) → ending_at (stream x)
+      bytes ≡ Some (offence_at from reason) → ⊥
   other_end from reason isnt e = isnt (end_cuts_off x bytes (offence_at from reason) e).0
 
   pub refused_first : (from : ℕ) (reason : Reason) → (reason ≡ reasons.SessionTooLong → ⊥)
@@ -182,46 +194,70 @@ module _ (x : Settings) (bytes : List ℕ) where
       (λ p. ShowsInPayload x p number at reason) (λ p. in_payload_is x p number at reason)
 
   -- what is over stays so
-  over_longer : (p c : List ℕ) → is_over_at (stream x) p ≡ true → is_over_at (stream x) (p ++ c) ≡ true
+  over_longer : (p c : List ℕ) → is_over_at (stream x) p ≡ true → is_over_at (stream x) (p ++ c)
+      ≡ true
   unfolding is_over_at
-  over_longer p c o = ap (λ (s : Standing Situation StreamEvent Offence). is_over_in s.situation.stage) (after_end (stream x) (readable x) (quiet_over x) p c o) ∙ o
+  over_longer p c o = ap (λ (s : Standing Situation StreamEvent Offence). is_over_in
+      s.situation.stage) (after_end (stream x) (readable x) (quiet_over x) p c o) ∙ o
 
   -- a part that isn't refused and has the session quota is over
-  full_over : (p : List ℕ) → refusal_at (stream x) p ≡ None → x.limits.session ≤ length p → is_over_at (stream x) p ≡ true
+  full_over : (p : List ℕ) → refusal_at (stream x) p ≡ None → x.limits.session ≤ length p
+      → is_over_at (stream x) p ≡ true
   full_over p none le =
       elim (cases_Bool (is_over_at (stream x) p)) [
         | inl over ↦ over
         | inr on ↦
-            let refused = (too_long_is x p (open_from (standing (stream x) p).situation.stage (standing (stream x) p).from)).1 (record { reached = le; going_on = on; going = going_at (stream x) (readable x) p none; place = refl }) in
+            let refused =
+            (too_long_is x p (open_from (standing (stream x) p).situation.stage
+            (standing (stream x) p).from)).1
+            (record {
+              reached = le;
+              going_on = on;
+              going = going_at (stream x) (readable x) p none;
+              place = refl;
+            }) in
             cc
       ]
 
   longer : (m n : ℕ) → m ≤ n → take n bytes ≡ take m bytes ++ take (n - m) (drop m bytes)
-  longer m n le = let sum : n ≡ m + (n - m) = omega arith in ap (λ k. take k bytes) sum ∙ take-add m (n - m) bytes
+  longer m n le = let sum : n ≡ m + (n - m) = omega arith in ap (λ k. take k bytes) sum ∙ take-add m
+      (n - m) bytes
 
-  at_quota : (place from : ℕ) → place ≤ length bytes → ((i : ℕ) → i < place → refusal_at (stream x) (take i bytes) ≡ None) → IsTooLong x (take place bytes) from → place ≡ x.limits.session
+  at_quota : (place from : ℕ) → place ≤ length bytes
+      → ((i : ℕ) → i < place → refusal_at (stream x) (take i bytes) ≡ None)
+      → IsTooLong x (take place bytes) from → place ≡ x.limits.session
   at_quota place from within before h =
       let size = length-take-le place bytes within in
       let reached = h.reached in
       elim (cases_lt x.limits.session place) [
         | inl lt ↦ absurd (
             let part = length-take-le x.limits.session bytes (omega arith) in
-            let over = full_over (take x.limits.session bytes) (before x.limits.session lt) (omega (arith, part)) in
-            let over' : is_over_at (stream x) (take place bytes) ≡ true = ap (is_over_at (stream x)) (longer x.limits.session place (omega arith)) ∙ over_longer (take x.limits.session bytes) (take (place - x.limits.session) (drop x.limits.session bytes)) over in
+            let over = full_over (take x.limits.session bytes) (before x.limits.session lt)
+            (omega (arith, part)) in
+            let over' : is_over_at (stream x) (take place bytes) ≡ true = ap (is_over_at (stream x))
+            (longer x.limits.session place (omega arith)) ∙ over_longer
+            (take x.limits.session bytes)
+            (take (place - x.limits.session) (drop x.limits.session bytes)) over in
             let on = h.going_on in
             cc)
         | inr le ↦ omega (arith, size, reached)
       ]
 
   abbrev IsTooLongAtQuota : ℕ → Type 0
-  IsTooLongAtQuota from = (x.limits.session ≤ length bytes) × ((i : ℕ) → i < x.limits.session → refusal_at (stream x) (take i bytes) ≡ None) × IsTooLong x (take x.limits.session bytes) from
+  IsTooLongAtQuota from = (x.limits.session ≤ length bytes)
+      × ((i : ℕ) → i < x.limits.session → refusal_at (stream x) (take i bytes) ≡ None)
+      × IsTooLong x (take x.limits.session bytes) from
 
   long_for : (from : ℕ) → Begins x bytes (λ p. IsTooLong x p from) → IsTooLongAtQuota from
   long_for from (place, within, before, h) =
       let same = at_quota place from within before h in
       (omega (arith, same), (λ i lt. before i (omega (arith, same))), rw same at h)
 
-  pub too_long_at_quota : (from : ℕ) → (offence_by (stream x) bytes ≡ Some (offence_at from reasons.SessionTooLong)) ↔ IsTooLongAtQuota from
+  pub too_long_at_quota : (from : ℕ)
+      → (offence_by (stream x) bytes ≡ Some (offence_at from reasons.SessionTooLong))
+      ↔ IsTooLongAtQuota from
   too_long_at_quota from =
-      let first = first_is (offence_at from reasons.SessionTooLong) (other_end from reasons.SessionTooLong (λ e. cc)) (λ p. IsTooLong x p from) (λ p. too_long_is x p from) in
+      let first = first_is (offence_at from reasons.SessionTooLong)
+      (other_end from reasons.SessionTooLong (λ e. cc)) (λ p. IsTooLong x p from)
+      (λ p. too_long_is x p from) in
       ((λ e. long_for from (first.0 e)), (λ h. first.1 (x.limits.session, h.0, h.1, h.2)))

@@ -84,14 +84,16 @@ module _ (x : Settings) (z : Situation) (from to : ℕ) (f : Frame) (text : List
 
       by_both : (v : Option OpenPayload) → payload_by x z from f ≡ v → (w : Option Reason)
           → reason_in x z.stage f text ≡ w
-          → option_or (option_map (offence_at from) w) (on_payload v (refused_payload x z) None) ≡ Some o
+          → option_or (option_map (offence_at from) w) (on_payload v (refused_payload x z) None)
+          ≡ Some o
           → on_payload v (completed_payload x z) (completed_bare z to f text) ≡ None
       by_both (Some p) made (Some why) is e = more_completed x z p (large_left low p why made is)
       by_both (Some p) made None is e = by_own p (refusal_in x z p) refl e
       by_both None made w is e = bare f w is e
 
   -- payloads come behind a record that completes no event only where they could before
-  pub quiet_payloads : (due : Due) → ReadsDue z.stage due → MayCome (may_come (direction_of x.side) due) f
+  pub quiet_payloads : (due : Due) → ReadsDue z.stage due
+      → MayCome (may_come (direction_of x.side) due) f
       → completed_record x z from to f text ≡ None
       → HasPayloads (after_record x z from f text).stage → HasPayloads z.stage
   quiet_payloads due at may none has =
@@ -111,10 +113,11 @@ module _ (x : Settings) (z : Situation) (from to : ℕ) (f : Frame) (text : List
           → HasPayloads (after_record x z from (frames.Chunk size) text).stage
           → MayCome (may_come (direction_of x.side) due) (frames.Chunk size)
           → HasPayloads (record_due due)
-      no_chunk size next is has may = absurd (go (size == 0) (rw (is, size_due (direction_of x.side) due size may) at has)) where
-        go : (b : Bool) → HasPayloads (record_due (if b then dues.End else dues.Chunk)) → ⊥
-        go true has = has
-        go false has = has
+      no_chunk size next is has may = absurd
+          (go (size == 0) (rw (is, size_due (direction_of x.side) due size may) at has)) where
+            go : (b : Bool) → HasPayloads (record_due (if b then dues.End else dues.Chunk)) → ⊥
+            go true has = has
+            go false has = has
 
       by_frame : (g : Frame) → z.stage ≡ record_due due
           → MayCome (may_come (direction_of x.side) due) g
@@ -135,7 +138,8 @@ module _ (x : Settings) (z : Situation) (from to : ℕ) (f : Frame) (text : List
       by_frame frames.PreambleAck is may none has = cc
 
 -- what a reader of records answers and shows, by the limit and what may come
-module _ (limit via : ℕ) (expect other : Expect) (l : limit ≡ via) (m : expect ≡ other) (new : FrameReader) (b y : List ℕ) where
+module _ (limit via : ℕ) (expect other : Expect) (l : limit ≡ via) (m : expect ≡ other)
+    (new : FrameReader) (b y : List ℕ) where
   by_same : (P : ℕ → Expect → Type 0) → P limit expect → P via other
   by_same P h = subst (λ (n : ℕ). P n other) l (subst (P limit) m h)
 
@@ -173,7 +177,8 @@ module _ (limit via : ℕ) (expect other : Expect) (l : limit ≡ via) (m : expe
   wrong_so refusal = by_same (λ k e. frame_at k e (b ++ y) ≡ wrong refusal.fault refusal.shown_by)
 
 -- the reader of records has the bytes of what is due, as it is awaited
-pub begun_due : (direction : Direction) (a : Awaited) (due : Due) (frames : FrameReader) (b : List ℕ)
+pub begun_due : (direction : Direction) (a : Awaited) (due : Due) (frames : FrameReader)
+    (b : List ℕ)
     → due_of a ≡ Some due → HasBegun direction a frames b
     → FrameStandsFor frames (may_come direction due) b
 begun_due direction (awaits.Record other) due frames b is h =
@@ -184,7 +189,8 @@ begun_due direction (awaits.Chunk p) due frames b is h =
     subst (λ (n : Due). FrameStandsFor frames (may_come direction n) b) same h
 begun_due direction (awaits.Payload p) due frames b is h = cc
 
-pub begun_awaited : (direction : Direction) (a : Awaited) (due : Due) (frames : FrameReader) (b : List ℕ)
+pub begun_awaited : (direction : Direction) (a : Awaited) (due : Due) (frames : FrameReader)
+    (b : List ℕ)
     → due_of a ≡ Some due → FrameStandsFor frames (may_come direction due) b
     → HasBegun direction a frames b
 begun_awaited direction (awaits.Record other) due frames b is h =

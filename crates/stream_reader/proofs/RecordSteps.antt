@@ -44,7 +44,9 @@ use Rattle.stream_reader.proofs.ReaderFacts.{shows_in}
 use Rattle.stream_reader.proofs.Texts.{ReadsDue, reads_record, reads_size, before_encoding, early, begun_text, wrong_text, whole_text}
 use Rattle.stream_reader.proofs.RecordFacts.{begun_awaited, begun_due, quiet_payloads, refused_none}
 
-module _ (r : StreamReader) (x : Settings) (p c : List ℕ) (due : Due) (is : due_of r.awaited ≡ Some due) (h : Reached r x p) (on : is_over_at (stream x) p ≡ false) (fits : length p + length c ≤ x.limits.session) where
+module _ (r : StreamReader) (x : Settings) (p c : List ℕ) (due : Due)
+    (is : due_of r.awaited ≡ Some due) (h : Reached r x p) (on : is_over_at (stream x) p ≡ false)
+    (fits : length p + length c ≤ x.limits.session) where
   abbrev pub situation_here : Situation
   situation_here = (standing (stream x) p).situation
 
@@ -73,7 +75,8 @@ module _ (r : StreamReader) (x : Settings) (p c : List ℕ) (due : Due) (is : du
   front = (stream x).unit_at situation_here from_here
 
   front_is : (bytes : List ℕ) → front bytes
-      ≡ seen frame (refusing from_here due) (frame_at x.limits.via (may_come (direction_of x.side) due) bytes)
+      ≡ seen frame (refusing from_here due)
+      (frame_at x.limits.via (may_come (direction_of x.side) due) bytes)
   unfolding unit_in
   front_is bytes =
       elim due_here [
@@ -86,8 +89,10 @@ module _ (r : StreamReader) (x : Settings) (p c : List ℕ) (due : Due) (is : du
             (frame_at x.limits.via (may_come (direction_of x.side) n) bytes)) (sym same)
       ]
 
-  close : (i : ℕ) → i < length c → (stream x).at_length situation_here from_here (length p + i) ≡ None
-  close i lt = short_enough x situation_here.stage from_here (length p + i) (omega (arith, fits, lt))
+  close : (i : ℕ) → i < length c → (stream x).at_length situation_here from_here (length p + i)
+      ≡ None
+  close i lt = short_enough x situation_here.stage from_here (length p + i)
+      (omega (arith, fits, lt))
 
   all_taken : (k : ℕ) → k ≡ length c → take k c ≡ c
   all_taken k e = ap (λ n. take n c) e ∙ take-length c
@@ -102,11 +107,13 @@ module _ (r : StreamReader) (x : Settings) (p c : List ℕ) (due : Due) (is : du
 
   -- a record that is begun still
   pub record_more : (new : StreamReader) (k : ℕ) → 0 < k → k ≡ length c
-      → frame_at x.limits.via (may_come (direction_of x.side) due) ((standing (stream x) p).begun ++ c) ≡ begun
+      → frame_at x.limits.via (may_come (direction_of x.side) due)
+      ((standing (stream x) p).begun ++ c) ≡ begun
       → new.awaited ≡ r.awaited → new.mode ≡ r.mode → new.kind ≡ r.kind → new.messages ≡ r.messages
       → new.decoder ≡ r.decoder → new.unit_from ≡ r.unit_from → new.taken ≡ r.taken + k
       → new.failure ≡ r.failure
-      → FrameStandsFor new.frames (may_come (direction_of x.side) due) ((standing (stream x) p).begun ++ c)
+      → FrameStandsFor new.frames (may_come (direction_of x.side) due)
+      ((standing (stream x) p).begun ++ c)
       → FramesShowText new.frames (shown_behind x.limits.via (may_come (direction_of x.side) due)
       ((standing (stream x) p).begun ++ c) (standing (stream x) p).situation.text)
       → UnitAnswers x p c new (Ok (k, steps.More))
@@ -114,7 +121,8 @@ module _ (r : StreamReader) (x : Settings) (p c : List ℕ) (due : Due) (is : du
       frames_stand shown =
       let still : front (begun_here ++ c) ≡ begun =
       front_is (begun_here ++ c) ∙ ap (seen frame (refusing from_here due)) read in
-      let leaves = left_begun front ((readable x).reads situation_here from_here) begun_here c h.going.next still in
+      let leaves = left_begun front ((readable x).reads situation_here from_here) begun_here c
+      h.going.next still in
       let there : standing (stream x) (p ++ take k c) ≡ with_more (standing (stream x) p) c =
       ap (λ d. standing (stream x) (p ++ d)) (all_taken k all)
       ∙ leaves_standing (stream x) (readable x) p c h.going leaves close in
@@ -126,7 +134,8 @@ module _ (r : StreamReader) (x : Settings) (p c : List ℕ) (due : Due) (is : du
         subst (λ (n : ℕ). IsQuiet (stream x) p c n) (sym all) quiet,
         record {
           at = rw there (record {
-            awaits = subst (λ (a : Awaited). Awaits a situation_here.stage) (sym awaited) h.at.awaits;
+            awaits = subst (λ (a : Awaited). Awaits a situation_here.stage) (sym awaited)
+                h.at.awaits;
             mode = mode ∙ h.at.mode;
             kind = kind ∙ h.at.kind;
             messages = messages ∙ h.at.messages;
@@ -137,7 +146,8 @@ module _ (r : StreamReader) (x : Settings) (p c : List ℕ) (due : Due) (is : du
           });
           frames =
               rw there
-              (subst (λ (a : Awaited). HasBegun (direction_of x.side) a new.frames (begun_here ++ c))
+              (subst (λ (a : Awaited). HasBegun (direction_of x.side) a new.frames
+              (begun_here ++ c))
               (sym awaited)
               (begun_awaited (direction_of x.side) r.awaited due new.frames (begun_here ++ c) is
               frames_stand));
@@ -165,7 +175,10 @@ module _ (r : StreamReader) (x : Settings) (p c : List ℕ) (due : Due) (is : du
       )
 
   -- a record that is whole
-  module _ (f : Frame) (text : List ℕ) (n : ℕ) (read : frame_at x.limits.via (may_come (direction_of x.side) due) ((standing (stream x) p).begun ++ c) ≡ whole (with_text f text) (length (standing (stream x) p).begun + n)) where
+  module _ (f : Frame) (text : List ℕ) (n : ℕ)
+      (read : frame_at x.limits.via (may_come (direction_of x.side) due)
+      ((standing (stream x) p).begun ++ c) ≡ whole (with_text f text)
+      (length (standing (stream x) p).begun + n)) where
     abbrev unit : StreamUnit
     unit = frame (with_text f text)
 
@@ -217,7 +230,8 @@ module _ (r : StreamReader) (x : Settings) (p c : List ℕ) (due : Due) (is : du
         decides_at front ((readable x).reads situation_here from_here) begun_here c n h.going.next
         (λ e. let w = front_whole in cc) (ap extent front_whole)
 
-    close_before : (i : ℕ) → i < n → (stream x).at_length situation_here from_here (length p + i) ≡ None
+    close_before : (i : ℕ) → i < n → (stream x).at_length situation_here from_here (length p + i)
+        ≡ None
     close_before i lt = close i (let w = by_last.within in omega (arith, w, lt))
 
     len : length (p ++ take n c) ≡ length p + n
@@ -231,21 +245,26 @@ module _ (r : StreamReader) (x : Settings) (p c : List ℕ) (due : Due) (is : du
     to_here = from_here + (length begun_here + n)
 
     there : standing (stream x) (p ++ take n c)
-        ≡ record (behind_unit (stream x) (standing (stream x) p) unit (length begun_here + n)) { begun = [] }
-    there = whole_standing (stream x) (readable x) p c h.going n by_last close_before unit (length begun_here + n) front_whole
+        ≡ record (behind_unit (stream x) (standing (stream x) p) unit (length begun_here + n))
+        { begun = [] }
+    there = whole_standing (stream x) (readable x) p c h.going n by_last close_before unit
+        (length begun_here + n) front_whole
 
     situation_there : (standing (stream x) (p ++ take n c)).situation ≡ leads_to
     unfolding after
     situation_there = ap (λ (s : Standing Situation StreamEvent Offence). s.situation) there
 
-    quiet : completed_record x situation_here from_here to_here f text ≡ None → IsQuiet (stream x) p c n
+    quiet : completed_record x situation_here from_here to_here f text ≡ None → IsQuiet (stream x) p
+        c n
     unfolding completed
-    quiet = whole_quiet (stream x) (readable x) p c h.going n by_last close_before unit (length begun_here + n) front_whole
+    quiet = whole_quiet (stream x) (readable x) p c h.going n by_last close_before unit
+        (length begun_here + n) front_whole
 
     event : event_at (stream x) (p ++ take n c)
         ≡ completed_record x situation_here from_here to_here f text
     unfolding completed
-    event = whole_event (stream x) (readable x) p c h.going n by_last close_before unit (length begun_here + n) front_whole
+    event = whole_event (stream x) (readable x) p c h.going n by_last close_before unit
+        (length begun_here + n) front_whole
 
     before : IsQuietBefore (stream x) p c n
     before = decides_quiet (stream x) (readable x) p c h.going n by_last close_before
@@ -254,17 +273,23 @@ module _ (r : StreamReader) (x : Settings) (p c : List ℕ) (due : Due) (is : du
         → refusal_at (stream x) (p ++ take n c) ≡ Some o
     unfolding refused
     refusal_there o e =
-        whole_refusal (stream x) (readable x) p c h.going n by_last close_before unit (length begun_here + n) front_whole
-        ∙ ap (λ v. option_or v ((stream x).at_length (after x situation_here from_here unit) (from_here + (length begun_here + n)) (length p + n))) e
+        whole_refusal (stream x) (readable x) p c h.going n by_last close_before unit
+        (length begun_here + n) front_whole
+        ∙ ap (λ v. option_or v ((stream x).at_length (after x situation_here from_here unit)
+        (from_here + (length begun_here + n)) (length p + n))) e
 
     ends_there : to_here ≡ r.taken + n
-    ends_there = let place = standing_length (stream x) (readable x) p in omega (arith, h.taken, place)
+    ends_there = let place = standing_length (stream x) (readable x) p in omega
+        (arith, h.taken, place)
 
     -- the payload of a chunk is within the quota
     low : (o : OpenPayload) → situation_here.stage ≡ chunk_due o → o.size ≤ x.limits.payload
     low o at = (subst (ReadsPayload r.decoder x situation_here) at h.at.payload).1.within
 
-    module _ (new : StreamReader) (mid : FrameReader) (same : new.frames ≡ mid) (shown : FramesShowText mid (shown_behind x.limits.via (may_come (direction_of x.side) due) ((standing (stream x) p).begun ++ c) (standing (stream x) p).situation.text)) (taken : new.taken ≡ r.taken + n) where
+    module _ (new : StreamReader) (mid : FrameReader) (same : new.frames ≡ mid)
+        (shown : FramesShowText mid (shown_behind x.limits.via (may_come (direction_of x.side) due)
+        ((standing (stream x) p).begun ++ c) (standing (stream x) p).situation.text))
+        (taken : new.taken ≡ r.taken + n) where
       text_there : FramesShowText new.frames (standing (stream x) (p ++ take n c)).situation.text
       text_there =
           rw same
@@ -272,54 +297,78 @@ module _ (r : StreamReader) (x : Settings) (p c : List ℕ) (due : Due) (is : du
           (shown_there mid shown))
 
       -- and isn't refused
-      module _ (good : refused_record x situation_here from_here f text ≡ None) (is_in : IsIn new x leads_to) (recalls : is_over_in leads_to.stage ≡ true → Recalls new.closing (completed_record x situation_here from_here to_here f text)) (unit_from : new.unit_from ≡ r.taken + n) (fresh : (next : Expect) → FrameStandsFor mid next []) (failure : new.failure ≡ r.failure) where
-        between : IsBetween (stream x) (readable x) (p ++ take n c) leads_to (from_here + (length begun_here + n))
-        unfolding refused
-        between = record {
-          situation = situation_there;
-          place = ap (λ (s : Standing Situation StreamEvent Offence). s.from) there;
-          begun = ap (λ (s : Standing Situation StreamEvent Offence). s.begun) there;
-          refusal = ap (λ (s : Standing Situation StreamEvent Offence). s.refusal) there ∙ good;
-        }
+      module _ (good : refused_record x situation_here from_here f text ≡ None)
+          (is_in : IsIn new x leads_to) (recalls : is_over_in leads_to.stage ≡ true
+          → Recalls new.closing (completed_record x situation_here from_here to_here f text))
+          (unit_from : new.unit_from ≡ r.taken + n)
+          (fresh : (next : Expect) → FrameStandsFor mid next []) (failure : new.failure ≡ r.failure)
+        where
+          between : IsBetween (stream x) (readable x) (p ++ take n c) leads_to
+              (from_here + (length begun_here + n))
+          unfolding refused
+          between = record {
+            situation = situation_there;
+            place = ap (λ (s : Standing Situation StreamEvent Offence). s.from) there;
+            begun = ap (λ (s : Standing Situation StreamEvent Offence). s.begun) there;
+            refusal = ap (λ (s : Standing Situation StreamEvent Offence). s.refusal) there ∙ good;
+          }
 
-        over_so : is_over_at (stream x) (p ++ take n c) ≡ true → is_over_in leads_to.stage ≡ true
-        unfolding is_over_at
-        over_so over = sym (ap (λ (s : Situation). is_over_in s.stage) situation_there) ∙ over
+          over_so : is_over_at (stream x) (p ++ take n c) ≡ true → is_over_in leads_to.stage ≡ true
+          unfolding is_over_at
+          over_so over = sym (ap (λ (s : Situation). is_over_in s.stage) situation_there) ∙ over
 
-        reached : Reached new x (p ++ take n c)
-        reached =
-            let place = standing_length (stream x) (readable x) p in
-            record {
-              at = subst (IsIn new x) (sym situation_there) is_in;
-              frames =
-                  subst (HasBegun (direction_of x.side) new.awaited new.frames) (sym between.begun)
-                  (none_begun (direction_of x.side) new.awaited new.frames
-                  (λ next. subst (λ (g : FrameReader). FrameStandsFor g next []) (sym same) (fresh next)));
-              text = text_there;
-              closing = λ over. subst (Recalls new.closing) (sym event) (recalls (over_so over));
-              unit_from = omega (arith, unit_from, h.taken, place, between.place);
-              taken = omega (arith, taken, h.taken, len);
-              within = omega (arith, len, fits, by_last.within);
-              going = between_going (stream x) (readable x) (p ++ take n c) leads_to (from_here + (length begun_here + n)) between;
-              unfailed = failure ∙ h.unfailed;
-            }
+          reached : Reached new x (p ++ take n c)
+          reached =
+              let place = standing_length (stream x) (readable x) p in
+              record {
+                at = subst (IsIn new x) (sym situation_there) is_in;
+                frames =
+                    subst (HasBegun (direction_of x.side) new.awaited new.frames) (sym between.begun)
+                    (none_begun (direction_of x.side) new.awaited new.frames
+                    (λ next. subst (λ (g : FrameReader). FrameStandsFor g next []) (sym same)
+                    (fresh next)));
+                text = text_there;
+                closing = λ over. subst (Recalls new.closing) (sym event) (recalls (over_so over));
+                unit_from = omega (arith, unit_from, h.taken, place, between.place);
+                taken = omega (arith, taken, h.taken, len);
+                within = omega (arith, len, fits, by_last.within);
+                going = between_going (stream x) (readable x) (p ++ take n c) leads_to
+                    (from_here + (length begun_here + n)) between;
+                unfailed = failure ∙ h.unfailed;
+              }
 
-        by_event : (v : Option StreamEvent)
-            → completed_record x situation_here from_here to_here f text ≡ v
-            → UnitAnswers x p c new (Ok (n, step_of v))
-        by_event None e = (
-          by_last.some,
-          quiet e,
-          reached,
-          λ has.
-              quiet_payloads x situation_here from_here to_here f text due due_here may_come_so e
-              (subst (λ (s : Situation). HasPayloads s.stage) situation_there has),
-        )
-        by_event (Some (opened mode kind via)) e = (opened mode kind via, by_last.some, before, event ∙ e, refl, reached)
-        by_event (Some accepted) e = (accepted, by_last.some, before, event ∙ e, refl, reached)
-        by_event (Some (message envelope)) e = (message envelope, by_last.some, before, event ∙ e, refl, reached)
-        by_event (Some (ended at)) e = (ended at, by_last.some, before, event ∙ e, refl, reached)
-        by_event (Some (peer_fault at text)) e = (peer_fault at text, by_last.some, before, event ∙ e, refl, reached)
+          by_event : (v : Option StreamEvent)
+              → completed_record x situation_here from_here to_here f text ≡ v
+              → UnitAnswers x p c new (Ok (n, step_of v))
+          by_event None e = (
+            by_last.some,
+            quiet e,
+            reached,
+            λ has.
+                quiet_payloads x situation_here from_here to_here f text due due_here may_come_so e
+                (subst (λ (s : Situation). HasPayloads s.stage) situation_there has),
+          )
+          by_event (Some (opened mode kind via)) e =
+              (opened mode kind via, by_last.some, before, event ∙ e, refl, reached)
+          by_event (Some accepted) e = (accepted, by_last.some, before, event ∙ e, refl, reached)
+          by_event (Some (message envelope)) e = (
+            message envelope,
+            by_last.some,
+            before,
+            event ∙ e,
+            refl,
+            reached,
+          )
+          by_event (Some (ended at)) e = (ended at, by_last.some, before, event ∙ e, refl, reached)
+          by_event (Some (peer_fault at text)) e = (
+            peer_fault at text,
+            by_last.some,
+            before,
+            event ∙
+                e,
+            refl,
+            reached,
+          )
 
       -- what is behind the record, by where it begins and ends
       abbrev Behind : ℕ → ℕ → Result StreamStep ReadRefusal → Type 0
@@ -337,7 +386,8 @@ module _ (r : StreamReader) (x : Settings) (p c : List ℕ) (due : Due) (is : du
 
       done_by : (v : Option Offence) → refused_record x situation_here from_here f text ≡ v
           → (step : StreamStep)
-          → BehindAnswers x leads_to (completed_record x situation_here from_here to_here f text) v new (Ok step)
+          → BehindAnswers x leads_to (completed_record x situation_here from_here to_here f text) v
+          new (Ok step)
           → new.unit_from ≡ r.taken + n → ((next : Expect) → FrameStandsFor mid next [])
           → new.failure ≡ r.failure → UnitAnswers x p c new (Ok (n, step))
       done_by None good step a unit_from fresh failure =
@@ -358,7 +408,8 @@ module _ (r : StreamReader) (x : Settings) (p c : List ℕ) (due : Due) (is : du
 
       refused_by : (v : Option Offence) → refused_record x situation_here from_here f text ≡ v
           → (told : ReadRefusal)
-          → BehindAnswers x leads_to (completed_record x situation_here from_here to_here f text) v new (Err told)
+          → BehindAnswers x leads_to (completed_record x situation_here from_here to_here f text) v
+          new (Err told)
           → new.failure ≡ Some told → UnitAnswers x p c new (Err told)
       unfolding failure_of taken_of messages_of ShowsText ShowsStrings
       refused_by None good (Refused o) a failure = absurd a
@@ -371,7 +422,8 @@ module _ (r : StreamReader) (x : Settings) (p c : List ℕ) (due : Due) (is : du
           failure = failure;
           taken_is = omega (arith, taken, h.taken);
           text = text_there;
-          messages = subst (λ (s : Situation). new.messages ≡ s.messages) (sym situation_there) a.1.messages;
+          messages = subst (λ (s : Situation). new.messages ≡ s.messages) (sym situation_there)
+              a.1.messages;
           strings =
               subst (λ (s : Situation). ShowsTable new.decoder (strings_in s)) (sym situation_there)
               a.1.strings;
@@ -390,7 +442,8 @@ module _ (r : StreamReader) (x : Settings) (p c : List ℕ) (due : Due) (is : du
 
   -- a record that is wrong
   pub record_wrong : (new : StreamReader) (fault : FrameFault) (k : ℕ) (told : ReadRefusal)
-      → frame_at x.limits.via (may_come (direction_of x.side) due) ((standing (stream x) p).begun ++ c) ≡ wrong fault k
+      → frame_at x.limits.via (may_come (direction_of x.side) due)
+      ((standing (stream x) p).begun ++ c) ≡ wrong fault k
       → told ≡ Refused (offence_at (standing (stream x) p).from (reason_of due fault))
       → FramesShowText new.frames (shown_behind x.limits.via (may_come (direction_of x.side) due)
       ((standing (stream x) p).begun ++ c) (standing (stream x) p).situation.text)
@@ -401,15 +454,18 @@ module _ (r : StreamReader) (x : Settings) (p c : List ℕ) (due : Due) (is : du
       let n : ℕ = k - length begun_here in
       let o : Offence = offence_at from_here (reason_of due fault) in
       let reads = (readable x).reads situation_here from_here in
-      let is_wrong : front (begun_here ++ c) ≡ wrong (offence_at from_here (reason_of due fault)) k =
+      let is_wrong : front (begun_here ++ c) ≡ wrong (offence_at from_here (reason_of due fault))
+      k =
       front_is (begun_here ++ c) ∙ ap (seen frame (refusing from_here due)) read in
       let later = wrong_later front reads begun_here c h.going.next _ k is_wrong in
       let d : Decides front begun_here c n =
       decides_at front reads begun_here c n h.going.next (λ e. cc)
       (ap extent is_wrong ∙ omega (arith, later)) in
-      let close_before = λ (i : ℕ) (lt : i < n). close i (let w = d.within in omega (arith, w, lt)) in
+      let close_before = λ (i : ℕ) (lt : i < n). close i (let w = d.within in omega (arith, w, lt))
+      in
       let place = standing_length (stream x) (readable x) p in
-      let there = wrong_standing (stream x) (readable x) p c h.going n d close_before _ k is_wrong in
+      let there = wrong_standing (stream x) (readable x) p c h.going n d close_before _ k is_wrong
+      in
       let shows = subst (λ (e : Decoder). ShowsTable e (strings_in situation_here)) (sym decoder)
       (shows_in r x situation_here h.at) in
       subst (λ (t : ReadRefusal). UnitAnswers x p c new (Err t)) (sym is_told) (
@@ -423,7 +479,8 @@ module _ (r : StreamReader) (x : Settings) (p c : List ℕ) (due : Due) (is : du
               rw there
               (subst (FramesShowText new.frames)
               (ap (text_after situation_here.text expected (begun_here ++ c)) read
-              ∙ wrong_text x situation_here due due_here (early x p) (begun_here ++ c) fault k) shown);
+              ∙ wrong_text x situation_here due due_here (early x p) (begun_here ++ c) fault k)
+              shown);
           messages = rw there (messages ∙ h.at.messages);
           strings = rw there shows;
         },

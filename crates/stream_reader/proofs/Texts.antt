@@ -146,7 +146,8 @@ module _ (x : Settings) (z : Situation) (h : IsEarly (direction_of x.side) z) wh
 
     none_yet : (other : Due) → due ≡ other → before_via (record_due other) ≡ true → z.text ≡ []
     none_yet other same early =
-        h.text (ap (wants_text d) (at ∙ ap record_due same) ∙ wanted (direction_of x.side) other early)
+        h.text (ap (wants_text d) (at ∙ ap record_due same) ∙ wanted (direction_of x.side) other
+        early)
       where
         wanted : (direction : Direction) (due : Due) → before_via (record_due due) ≡ true
             → wants_text direction (record_due due) ≡ true
@@ -182,11 +183,13 @@ module _ (x : Settings) (z : Situation) (h : IsEarly (direction_of x.side) z) wh
             absurd (never (ap (λ n. before_encoding (record_due n)) same ∙ early)
             (receivers_alone (direction_of x.side) next is e))
 
-    going : (f : Frame) → MayCome (may_come (direction_of x.side) due) f → is_over_in z.stage ≡ false
+    going : (f : Frame) → MayCome (may_come (direction_of x.side) due) f → is_over_in z.stage
+        ≡ false
     going f may = ap is_over_in at ∙ due_on d due f may
 
     -- a record of no payload
-    early_bare : (from : ℕ) (f : Frame) (text : List ℕ) → MayCome (may_come (direction_of x.side) due) f
+    early_bare : (from : ℕ) (f : Frame) (text : List ℕ)
+        → MayCome (may_come (direction_of x.side) due) f
         → payload_by x z from f ≡ None → IsEarly (direction_of x.side) (after_bare x z f text)
     early_bare from (frames.Version major minor) text may none =
         let same = version_due d due major minor may in
@@ -206,7 +209,8 @@ module _ (x : Settings) (z : Situation) (h : IsEarly (direction_of x.side) z) wh
           late = λ is. refl;
         }
     early_bare from frames.End text may none =
-        early_at d z _ (on_again d z.stage (record_due dues.Over) refl (going frames.End may)) refl h
+        early_at d z _ (on_again d z.stage (record_due dues.Over) refl (going frames.End may)) refl
+        h
     early_bare from frames.Fault text may none =
         record { text = over (direction_of x.side); strings = λ e. cc; late = λ is. refl }
       where
@@ -243,7 +247,8 @@ module _ (x : Settings) (z : Situation) (h : IsEarly (direction_of x.side) z) wh
   early_record from f text due on may None e at = early_bare due (at refl) from f text may e
 
   early_byte : (byte : ℕ) (stage : Stage) → z.stage ≡ stage
-      → IsEarly (direction_of x.side) (on_open stage (λ p. behind_payload x z (with_byte x z p byte)) z)
+      → IsEarly (direction_of x.side)
+      (on_open stage (λ p. behind_payload x z (with_byte x z p byte)) z)
   early_byte byte (record_due due) at = h
   early_byte byte (chunk_due p) at = h
   early_byte byte (payload_open p) at = early_payload (with_byte x z p byte) (ap is_over_in at)
@@ -404,13 +409,16 @@ pub data ReadsDue (stage : Stage) (due : Due) : Type 0 where
   reads_record : stage ≡ record_due due → ReadsDue stage due
   reads_size : (o : OpenPayload) → stage ≡ chunk_due o → due ≡ dues.Chunk → ReadsDue stage due
 
-module _ (x : Settings) (z : Situation) (due : Due) (at : ReadsDue z.stage due) (h : IsEarly (direction_of x.side) z) where
+module _ (x : Settings) (z : Situation) (due : Due) (at : ReadsDue z.stage due)
+    (h : IsEarly (direction_of x.side) z) where
   -- where a text begins there was none before
-  none_shown : (b : List ℕ) → begins_text (may_come (direction_of x.side) due) b ≡ true → z.text ≡ []
+  none_shown : (b : List ℕ) → begins_text (may_come (direction_of x.side) due) b ≡ true → z.text
+      ≡ []
   none_shown b begins =
       elim at [
         | reads_record is ↦ h.text
-            (ap (wants_text (direction_of x.side)) is ∙ begins_where (direction_of x.side) due b begins)
+            (ap (wants_text (direction_of x.side)) is ∙ begins_where (direction_of x.side) due b
+            begins)
         | reads_size o is same ↦
             let bad = subst (λ (n : Due). begins_text (may_come (direction_of x.side) n) b ≡ true)
             same begins in cc
@@ -438,7 +446,8 @@ module _ (x : Settings) (z : Situation) (due : Due) (at : ReadsDue z.stage due) 
   wrong_text b fault k = same_shown b (wrong fault k) refl
 
 -- a record that is whole
-pub whole_text : (x : Settings) (z : Situation) (limit : ℕ) (expect : Expect) (from : ℕ) (b : List ℕ)
+pub whole_text : (x : Settings) (z : Situation) (limit : ℕ) (expect : Expect) (from : ℕ)
+    (b : List ℕ)
     (read : Read) (k : ℕ) → frame_at limit expect b ≡ whole read k
     → text_after z.text expect b (whole read k) ≡ (after_record x z from read.frame read.text).text
 whole_text x z limit expect from b read k e =

@@ -68,16 +68,20 @@ module _ (x : Settings) where
   abbrev Ends : Kind → List Frame → List ℕ → Type 0
   Ends kind t end = (strings : List (List ℕ)) → HasScript x (context_of kind strings []) t end
 
-  sized_ones : (mode : Mode) → ((payload bytes : List ℕ) → IsEnvelopeIn mode payload bytes → IsSized payload bytes)
+  sized_ones : (mode : Mode) → ((payload bytes : List ℕ) → IsEnvelopeIn mode payload bytes
+      → IsSized payload bytes)
       → (carried : List Carried) (kind : Kind) (strings : List (List ℕ)) (bytes : List ℕ)
-      (t : List Frame) (end : List ℕ) → CarriesAll x mode kind strings carried bytes → Ends kind t end
-      → (sizes : List ℕ) × HasScript x (context_of kind strings []) (map frames.SizedEnvelope sizes ++ t) (bytes ++ end)
+      (t : List Frame) (end : List ℕ) → CarriesAll x mode kind strings carried bytes
+      → Ends kind t end
+      → (sizes : List ℕ) × HasScript x (context_of kind strings []) (map frames.SizedEnvelope sizes
+      ++ t) (bytes ++ end)
   sized_ones mode takes [] kind strings bytes t end none ends = (
     [],
     subst (λ c. HasScript x (context_of kind strings []) t c)
         (ap (λ c. c ++ end) (sym none)) (ends strings),
   )
-  sized_ones mode takes (one ∷ carried) kind strings bytes t end (envelope, rest, is, is_whole, joined_bytes, more) ends =
+  sized_ones mode takes (one ∷ carried) kind strings bytes t end
+      (envelope, rest, is, is_whole, joined_bytes, more) ends =
       let (head, bare, envelope_is) = takes one.payload envelope is in
       let w = sized_ones mode takes carried kind (strings ++ one.own) rest t end more ends in (
         length one.payload ∷ w.0,
@@ -108,7 +112,8 @@ module _ (x : Settings) where
       (map frames.Chunk sizes ++ frames.Chunk 0 ∷ t) (bytes ++ end)
   unfolding AreChunks joined
   chunk_ones [] kind strings so_far own items bytes t end is is_whole ends =
-      let whole = subst (IsWholePayload (payloads x kind) strings own items) (append-nil so_far) is_whole in (
+      let whole = subst (IsWholePayload (payloads x kind) strings own items) (append-nil so_far)
+      is_whole in (
         [],
         All-nil (λ size. 0 < size),
         in_front (context_of kind strings so_far) (context_of kind (strings ++ own) [])
@@ -118,12 +123,14 @@ module _ (x : Settings) where
       )
   chunk_ones ([] ∷ more) kind strings so_far own items bytes t end are is_whole ends =
       absurd (let none = are.2 in omega (arith, none))
-  chunk_ones ((y ∷ chunk) ∷ more) kind strings so_far own items bytes t end (head, rest, some, bare, joined_bytes, are) is_whole ends =
+  chunk_ones ((y ∷ chunk) ∷ more) kind strings so_far own items bytes t end
+      (head, rest, some, bare, joined_bytes, are) is_whole ends =
       let whole : IsWholePayload (payloads x kind) strings own items
       ((so_far ++ y ∷ chunk) ++ joined more) =
       subst (IsWholePayload (payloads x kind) strings own items)
       (sym (append_assoc so_far (y ∷ chunk) (joined more))) is_whole in
-      let w = chunk_ones more kind strings (so_far ++ y ∷ chunk) own items rest t end are whole ends in
+      let w = chunk_ones more kind strings (so_far ++ y ∷ chunk) own items rest t end are whole ends
+      in
       let low : length so_far + suc (length chunk) ≤ x.limits.payload =
       let most = whole.within.payload in
       let all = length-append (so_far ++ y ∷ chunk) (joined more) in
@@ -151,20 +158,30 @@ module _ (x : Settings) where
       → Ends kind t end
       → (envelope : List Frame) × IsUnsizedScript envelope
       × HasScript x (context_of kind strings []) (envelope ++ t) (bytes ++ end)
-  one_envelope one kind strings bytes t end (envelope, rest, (head, chunks, tail, bare, are, payload_is, envelope_is), is_whole, joined_bytes, none) ends =
+  one_envelope one kind strings bytes t end (
+    envelope,
+    rest,
+    (head, chunks, tail, bare, are, payload_is, envelope_is),
+    is_whole,
+    joined_bytes,
+    none,
+  ) ends =
       let w = chunk_ones chunks kind strings [] one.own one.items tail t end are
       (subst (IsWholePayload (payloads x kind) strings one.own one.items) payload_is is_whole)
       (ends (strings ++ one.own)) in
       let all : bytes ++ end ≡ head ++ (tail ++ end) =
-      ap (λ c. c ++ end) (joined_bytes ∙ ap (λ c. envelope ++ c) none ∙ append-nil envelope ∙ envelope_is)
+      ap (λ c. c ++ end) (joined_bytes ∙ ap (λ c. envelope ++ c) none ∙ append-nil envelope ∙
+      envelope_is)
       ∙ append_assoc head tail end in (
         frames.UnsizedEnvelope ∷ map frames.Chunk w.0 ++ frames.Chunk 0 ∷ [],
         (w.0, w.1, refl),
-        subst (λ (fs : List Frame). HasScript x (context_of kind strings []) (frames.UnsizedEnvelope ∷ fs) (bytes ++ end))
+        subst (λ (fs : List Frame). HasScript x (context_of kind strings [])
+            (frames.UnsizedEnvelope ∷ fs) (bytes ++ end))
             (sym (append_assoc (map frames.Chunk w.0) (frames.Chunk 0 ∷ []) t))
             (subst (λ c. HasScript x (context_of kind strings [])
             (frames.UnsizedEnvelope ∷ map frames.Chunk w.0 ++ frames.Chunk 0 ∷ t) c) (sym all)
-            (in_front (context_of kind strings []) (context_of kind strings []) frames.UnsizedEnvelope [] head
+            (in_front (context_of kind strings []) (context_of kind strings [])
+            frames.UnsizedEnvelope [] head
             (tail ++ end) _ bare refl (omega arith) (refl, refl) w.2)),
       )
 
@@ -177,8 +194,12 @@ module _ (x : Settings) where
   no_ones : (direction : Direction) (mode : Mode) (kind : Kind) (bytes : List ℕ) (t : List Frame)
       (end : List ℕ) → AreEnvelopes direction mode [] → bytes ≡ [] → Ends kind t end
       → Written direction mode kind t bytes end
-  no_ones direction mode kind bytes t end are none ends =
-      ([], are, subst (λ c. HasScript x (context_of kind [] []) t c) (ap (λ c. c ++ end) (sym none)) (ends []))
+  no_ones direction mode kind bytes t end are none ends = (
+    [],
+    are,
+    subst (λ c. HasScript x (context_of kind [] []) t c) (ap (λ c. c ++ end) (sym none))
+        (ends []),
+  )
 
   written : (direction : Direction) (mode : Mode) (kind : Kind) (carried : List Carried)
       (bytes : List ℕ) (t : List Frame) (end : List ℕ) → MayCarry direction mode carried
@@ -218,7 +239,8 @@ module _ (x : Settings) where
       → Ends kind (frames.Fault ∷ []) end
   ends_fault kind text end (is, low) strings =
       subst (λ c. HasScript x (context_of kind strings []) (frames.Fault ∷ []) c) (append-nil end)
-      (in_front (context_of kind strings []) (context_of kind strings []) frames.Fault text end [] _ is
+      (in_front (context_of kind strings []) (context_of kind strings []) frames.Fault text end [] _
+      is
       refl low (refl, refl) refl)
 
   -- the script of a session
@@ -231,14 +253,16 @@ module _ (x : Settings) where
       (carried : List Carried) (bytes : List ℕ)
       → HasParts x (initiators endpoint) (conversation mode kind via carried) bytes
       → length bytes ≤ x.limits.session → Scripted (initiators endpoint) bytes
-  initiators_scripted endpoint mode kind via carried bytes (preamble, rest, p, (envelopes, end, may, all, is_end, joined_rest), joined_bytes) within =
+  initiators_scripted endpoint mode kind via carried bytes
+      (preamble, rest, p, (envelopes, end, may, all, is_end, joined_rest), joined_bytes) within =
       let w = written FromInitiator mode kind carried envelopes (frames.End ∷ []) end may all
       (ends_bare kind end is_end) in
       let first : Context = first_context (initiators endpoint) in
       let so : Context = context_of kind [] [] in
       let script : List Frame = frames.Version 1 0 ∷ frames.Mode (mode_number mode) ∷ frames.Via
       ∷ frames.KnownEncoding (kind_number kind) ∷ frames.PreambleEnd ∷ w.0 ++ frames.End ∷ [] in
-      let parts : p.version ++ (p.mode_record ++ (p.via_record ++ (p.encoding ++ (p.end ++ (envelopes ++ end)))))
+      let parts : p.version
+      ++ (p.mode_record ++ (p.via_record ++ (p.encoding ++ (p.end ++ (envelopes ++ end)))))
       ≡ bytes =
       sym (joined_bytes ∙ ap (λ c. preamble ++ c) joined_rest
       ∙ ap (λ c. c ++ (envelopes ++ end)) p.joined ∙ simp append_assoc) in (
@@ -256,13 +280,18 @@ module _ (x : Settings) where
         subst (λ c. HasScript x (first_context (initiators endpoint)) (frames.Version 1 0
             ∷ frames.Mode (mode_number mode) ∷ frames.Via ∷ frames.KnownEncoding (kind_number kind)
             ∷ frames.PreambleEnd ∷ w.0 ++ frames.End ∷ []) c) parts
-            (in_front first first (frames.Version 1 0) [] p.version _ _ p.is_version refl (omega arith) (refl, refl)
+            (in_front first first (frames.Version 1 0) [] p.version _ _ p.is_version refl
+            (omega arith) (refl, refl)
             (in_front first first (frames.Mode (mode_number mode)) [] p.mode_record _ _ p.is_mode
             (known_mode x mode) (omega arith) (refl, refl)
-            (in_front first first frames.Via via p.via_record _ _ p.is_via (served_so p.served) p.via_within (refl, refl)
-            (in_front first so (frames.KnownEncoding (kind_number kind)) [] p.encoding _ _ p.is_encoding
-            (known_encoding x kind) (omega arith) (refl, ap (λ k. context_of k [] []) (sym (kind_is kind)))
-            (in_front so so frames.PreambleEnd [] p.end _ _ p.is_end refl (omega arith) (refl, refl) w.2))))),
+            (in_front first first frames.Via via p.via_record _ _ p.is_via (served_so p.served)
+            p.via_within (refl, refl)
+            (in_front first so (frames.KnownEncoding (kind_number kind)) [] p.encoding _ _
+            p.is_encoding
+            (known_encoding x kind) (omega arith)
+            (refl, ap (λ k. context_of k [] []) (sym (kind_is kind)))
+            (in_front so so frames.PreambleEnd [] p.end _ _ p.is_end refl (omega arith) (refl, refl)
+            w.2))))),
         (within, λ e. cc),
       )
     where
@@ -277,7 +306,8 @@ module _ (x : Settings) where
       → (envelopes : List Frame) × AreEnvelopes FromReceiver mode envelopes
       × HasScript x (first_context (receivers mode kind))
       (frames.PreambleAck ∷ envelopes ++ last ∷ []) bytes
-  ack_scripted mode kind carried last Rest bytes ends (ack, rest, is_ack, (envelopes, end, may, all, is_rest, joined_rest), joined_bytes) =
+  ack_scripted mode kind carried last Rest bytes ends
+      (ack, rest, is_ack, (envelopes, end, may, all, is_rest, joined_rest), joined_bytes) =
       let w = written FromReceiver mode kind carried envelopes (last ∷ []) end may all
       (ends end is_rest) in
       let so : Context = context_of kind [] [] in (
@@ -310,7 +340,8 @@ module _ (x : Settings) where
   to_script (initiators endpoint) (turned_down text) bytes has within = absurd has
   to_script (receivers mode kind) (conversation own named via carried) bytes has within = absurd has
   to_script (receivers mode kind) (answer carried) bytes has within =
-      let w = ack_scripted mode kind carried frames.End (IsBare frames.End) bytes (ends_bare kind) has in (
+      let w = ack_scripted mode kind carried frames.End (IsBare frames.End) bytes (ends_bare kind)
+      has in (
         mode,
         frames.PreambleAck ∷ w.0 ++ frames.End ∷ [],
         refl,
@@ -318,15 +349,18 @@ module _ (x : Settings) where
         w.2,
         (within, λ e. absurd (never_lone w.0 frames.End e)),
       )
-  to_script (receivers mode kind) lone_ack bytes (simplex, (ack, rest, is_ack, none, joined_bytes)) within =
+  to_script (receivers mode kind) lone_ack bytes (simplex, (ack, rest, is_ack, none, joined_bytes))
+      within =
       let so : Context = context_of kind [] [] in
       let all : ack ++ [] ≡ bytes = sym (joined_bytes ∙ ap (λ c. ack ++ c) none) in (
         mode,
         frames.PreambleAck ∷ [],
         refl,
         inr (inl (simplex, refl)),
-        subst (λ c. HasScript x (first_context (receivers mode kind)) (frames.PreambleAck ∷ []) c) all
-            (in_front so so frames.PreambleAck [] ack [] _ is_ack refl (omega arith) (refl, refl) refl),
+        subst (λ c. HasScript x (first_context (receivers mode kind)) (frames.PreambleAck ∷ []) c)
+            all
+            (in_front so so frames.PreambleAck [] ack [] _ is_ack refl (omega arith) (refl, refl)
+            refl),
         (omega (arith, within), λ e. within),
       )
   to_script (receivers mode kind) (broken_off carried text) bytes has within =

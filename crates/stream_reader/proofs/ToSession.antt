@@ -1,4 +1,5 @@
--- What is left of a session at each stage of a stream, and that it is left where units lead to where
+-- What is left of a session at each stage of a stream, and that it is left where units lead to
+-- where
 -- the input may end.
 use Rattle.std.proofs.Common.{◌≡◌, ℕ, zero, suc, ◌+◌, ◌-◌, ◌<◌, ◌≤◌, ◌⊎◌, inl, inr, List, [], ◌∷◌, ◌++◌, length, take, Bool, true, false, Option, Some, None, refl, sym, ap, ◌∙◌, subst, arith, append_assoc}
 use Rattle.std.specs.Option.{option_map, option_or}
@@ -53,7 +54,8 @@ may_carry dues.Reply carried = length carried ≤ 1
 may_carry due carried = carried ≡ []
 
 -- documents, and what closes the session
-pub record Rest (x : Settings) (Stop : Type 0) (mode : Mode) (kind : Kind) (strings : List (List ℕ)) (due : Due) (c : List ℕ) : Type 0 where
+pub record Rest (x : Settings) (Stop : Type 0) (mode : Mode) (kind : Kind) (strings : List (List ℕ))
+    (due : Due) (c : List ℕ) : Type 0 where
   pub carried : List Carried
   pub may : may_carry due carried
   pub envelopes : List ℕ
@@ -68,7 +70,8 @@ abbrev Payloads : Type 0
 Payloads = Grammar PayloadSituation PayloadUnit NoEvent Refusal
 
 -- chunks behind these bytes of a payload, and what closes the session
-pub record Chunked (x : Settings) (Stop : Type 0) (g : Payloads) (mode : Mode) (q c : List ℕ) : Type 0 where
+pub record Chunked (x : Settings) (Stop : Type 0) (g : Payloads) (mode : Mode) (q c : List ℕ) : Type
+    0 where
   pub chunks : List (List ℕ)
   pub parts : List ℕ
   pub last : List ℕ
@@ -88,7 +91,8 @@ NextOf x Stop g mode kind form q c = (ending_at g q ≡ None)
     × Rest x Stop mode kind (standing g q).situation.strings (due_behind form) c
 
 -- those, and what is behind them
-pub record OpenRest (x : Settings) (Stop : Type 0) (g : Payloads) (mode : Mode) (kind : Kind) (form : Form) (left : ℕ) (q c : List ℕ) : Type 0 where
+pub record OpenRest (x : Settings) (Stop : Type 0) (g : Payloads) (mode : Mode) (kind : Kind)
+    (form : Form) (left : ℕ) (q c : List ℕ) : Type 0 where
   pub part : List ℕ
   pub more : List ℕ
   pub bytes_are : c ≡ part ++ more
@@ -170,7 +174,8 @@ module _ (x : Settings) (Stop : Type 0) (z : Situation) (o : OpenPayload) where
       ]
     where
       by_form : (b : Bool) → is_chunked o.form ≡ b → length q ≡ o.size
-          → refusal_in x z (record o { left = o.size - length q; standing = standing (payload_in x z) q })
+          → refusal_in x z
+          (record o { left = o.size - length q; standing = standing (payload_in x z) q })
           ≡ None → refusal_at (payload_in x z) q ≡ None
       by_form true e all so = sym (refusal_between x z o q (omega (arith, all)) e) ∙ so
       by_form false e all so = (none_both _ _ (sym (refusal_all x z o q all e) ∙ so)).0
@@ -193,7 +198,8 @@ module _ (x : Settings) (Stop : Type 0) (z : Situation) (o : OpenPayload) where
 
   whole_form : (form : Form) (q c : List ℕ) → is_chunked form ≡ false
       → ending_at (payload_in x z) q ≡ None
-      → Rest x Stop z.mode z.kind (standing (payload_in x z) q).situation.strings (due_behind form) c
+      → Rest x Stop z.mode z.kind (standing (payload_in x z) q).situation.strings (due_behind form)
+      c
       → NextOf x Stop (payload_in x z) z.mode z.kind form q c
   whole_form sized q c last fine h = (fine, h)
   whole_form chunked q c last fine h = cc
@@ -279,7 +285,8 @@ byte_first x Stop z o y q c some at none r = record {
       → refusal_at (payload_in x z) (q ++ take i (y ∷ r.part)) ≡ None
   clean zero none_taken le = absurd (omega arith)
   clean (suc zero) one le =
-      unrefused_behind x Stop z (with_byte x z o y) (q ++ y ∷ []) (byte_behind x z o q y some at) none
+      unrefused_behind x Stop z (with_byte x z o y) (q ++ y ∷ []) (byte_behind x z o q y some at)
+      none
   clean (suc (suc i)) more le =
       ap (refusal_at (payload_in x z)) (sym (append_assoc q (y ∷ []) (take (suc i) r.part)))
       ∙ r.clean (suc i) (omega arith) (omega (arith, le))

@@ -12,28 +12,37 @@ use Rattle.nbfx_decoder.proofs.units.UnitReader.pass_quickly.Goals as goal
 pub add_quickly-requires-clause-valid : goal.add_quickly-requires-clause-valid
 add_quickly-requires-clause-valid c =
     let it = c.requires.stands in
-    let e : contents it.shape ≡ Ok c.in-Ok.node = subst (λ (m : Result Node NodeFault). Made m (contents it.shape)) c.in-Ok.is it.makes.made in
-    shape_valid (place_in c.args.self.now) it.stands.bytes it.shape c.args.used it.stands.has c.in-Ok.node e it.stands.are
+    let e : contents it.shape ≡ Ok c.in-Ok.node = subst
+    (λ (m : Result Node NodeFault). Made m (contents it.shape)) c.in-Ok.is it.makes.made in
+    shape_valid (place_in c.args.self.now) it.stands.bytes it.shape c.args.used it.stands.has
+    c.in-Ok.node e it.stands.are
 
 pub add_quickly-requires-clause-single : goal.add_quickly-requires-clause-single
 add_quickly-requires-clause-single c =
     let it = c.requires.stands in
-    let e : contents it.shape ≡ Ok c.in-Ok.node = subst (λ (m : Result Node NodeFault). Made m (contents it.shape)) c.in-Ok.is it.makes.made in
+    let e : contents it.shape ≡ Ok c.in-Ok.node = subst
+    (λ (m : Result Node NodeFault). Made m (contents it.shape)) c.in-Ok.is it.makes.made in
     single_made it.shape it.single c.in-Ok.node e
 
 pub pass-requires : goal.pass-requires
 pass-requires c =
-    let few = record_few c.args.self.now c.requires.stands.shape c.args.used c.requires.stands.stands in
+    let few = record_few c.args.self.now c.requires.stands.shape c.args.used
+    c.requires.stands.stands in
     let same = c.add_quickly.ensures.from in
     omega (arith, few, same)
 
 pub returns : goal.returns
 returns c shape bytes has makes =
-    let e : contents shape ≡ Ok c.in-Ok.node = subst (λ (m : Result Node NodeFault). Made m (contents shape)) c.in-Ok.is makes.made in
+    let e : contents shape ≡ Ok c.in-Ok.node = subst
+    (λ (m : Result Node NodeFault). Made m (contents shape)) c.in-Ok.is makes.made in
     let is : c.add_quickly.result ≡ true = (let no = c.if-not-add_quickly.false in cc) in
     record {
       read = reads_done c.args.self.now c.add_quickly.new.self c.pass.new.self bytes c.args.used
-          (λ x z from at. added_said c.args.self.now x z from at c.requires.here bytes shape c.args.used has c.in-Ok.node e c.add_quickly.new.self (c.add_quickly.ensures.answers is x z from at))
-          (shape_size (place_in c.args.self.now) bytes shape c.args.used has.whole) (keeps_settings c.add_quickly.ensures.kept) c.add_quickly.ensures.from c.pass.ensures.kept c.pass.ensures.from c.pass.ensures.section c.pass.ensures.items;
+          (λ x z from at. added_said c.args.self.now x z from at c.requires.here bytes shape
+          c.args.used has c.in-Ok.node e c.add_quickly.new.self
+          (c.add_quickly.ensures.answers is x z from at))
+          (shape_size (place_in c.args.self.now) bytes shape c.args.used has.whole)
+          (keeps_settings c.add_quickly.ensures.kept) c.add_quickly.ensures.from c.pass.ensures.kept
+          c.pass.ensures.from c.pass.ensures.section c.pass.ensures.items;
       unread = tt;
     }

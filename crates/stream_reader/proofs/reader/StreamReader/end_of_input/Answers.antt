@@ -19,7 +19,8 @@ as_set r b e = e
 
 pub returns-in-Some-clause-answers : goal.returns-in-Some-clause-answers
 unfolding StandsFor
-returns-in-Some-clause-answers c = λ p h. absurd (not_failed c.args.self.now _ p c.in-Some.refusal h c.in-Some.is)
+returns-in-Some-clause-answers c = λ p h. absurd (not_failed c.args.self.now _ p c.in-Some.refusal h
+    c.in-Some.is)
 
 pub returns-in-Some-clause-repeated : goal.returns-in-Some-clause-repeated
 unfolding failure_of
@@ -27,7 +28,8 @@ returns-in-Some-clause-repeated c = λ refusal e. let same = c.in-Some.is in cc
 
 pub returns-in-Some-clause-failed : goal.returns-in-Some-clause-failed
 unfolding StandsFor
-returns-in-Some-clause-failed c = λ p h. absurd (not_failed c.args.self.now _ p c.in-Some.refusal h c.in-Some.is)
+returns-in-Some-clause-failed c = λ p h. absurd (not_failed c.args.self.now _ p c.in-Some.refusal h
+    c.in-Some.is)
 
 pub returns-in-Some-clause-refused : goal.returns-in-Some-clause-refused
 unfolding failure_of
@@ -49,7 +51,8 @@ returns-clause-answers c = λ p h.
     let may = sym c.may_end.ensures ∙ c.if-may_end.false in
     ap Err (c.refuse.ensures.offence
     ∙ ap (λ from. Refused (offence_at from Truncated)) c.open_from-from.ensures)
-    ∙ sym (ap said_at_end (ending_is c.args.self.now _ p h false (as_set c.args.self.now false may)))
+    ∙ sym (ap said_at_end
+    (ending_is c.args.self.now _ p h false (as_set c.args.self.now false may)))
 
 pub returns-clause-repeated : goal.returns-clause-repeated
 unfolding failure_of
@@ -62,16 +65,19 @@ returns-clause-unchanged c = λ refusal e. absurd (c.in_default.not-Some refusal
 pub returns-clause-failed : goal.returns-clause-failed
 unfolding StandsFor
 returns-clause-failed c = λ p h.
-    let same = same_settings c.args.self.now c.refuse.new.self c.refuse.ensures.shown.side c.refuse.ensures.shown.statics c.refuse.ensures.shown.quotas in
+    let same = same_settings c.args.self.now c.refuse.new.self c.refuse.ensures.shown.side
+    c.refuse.ensures.shown.statics c.refuse.ensures.shown.quotas in
     failed_as_set c.refuse.new.self _ c.refuse.result _ p same
-    (refused_shows c.args.self.now c.refuse.new.self _ p c.refuse.result _ h c.refuse.ensures.failure (c.refuse.ensures.taken ∙ h.taken) c.refuse.ensures.shown)
+    (refused_shows c.args.self.now c.refuse.new.self _ p c.refuse.result _ h
+    c.refuse.ensures.failure (c.refuse.ensures.taken ∙ h.taken) c.refuse.ensures.shown)
 
 pub returns-clause-refused : goal.returns-clause-refused
 unfolding failure_of
 returns-clause-refused c = c.refuse.ensures.failure
 
 pub returns-clause-settings : goal.returns-clause-settings
-returns-clause-settings c = same_settings _ _ c.refuse.ensures.shown.side c.refuse.ensures.shown.statics c.refuse.ensures.shown.quotas
+returns-clause-settings c = same_settings _ _ c.refuse.ensures.shown.side
+    c.refuse.ensures.shown.statics c.refuse.ensures.shown.quotas
 
 pub returns-in-Some-clause-wanted : goal.returns-in-Some-clause-wanted
 unfolding failure_of

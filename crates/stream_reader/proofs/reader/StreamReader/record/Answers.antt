@@ -26,7 +26,8 @@ limit_is : (r : StreamReader) → limit_of r.frames ≡ (settings_of r).limits.v
 unfolding settings_of
 limit_is r = r.limit
 
-direction_is : (r : StreamReader) → direction_of (side_of r.side) ≡ direction_of (settings_of r).side
+direction_is : (r : StreamReader) → direction_of (side_of r.side)
+    ≡ direction_of (settings_of r).side
 unfolding settings_of
 direction_is r = refl
 
@@ -51,12 +52,14 @@ module _ (f : After-feed) (p : List ℕ) where
   abbrev z : Situation
   z = (standing (stream (settings_of f.args.self.now)) p).situation
 
-  expected_is : f.expect-expect.result ≡ may_come (direction_of (settings_of f.args.self.now).side) f.args.due
+  expected_is : f.expect-expect.result ≡ may_come (direction_of (settings_of f.args.self.now).side)
+      f.args.due
   expected_is =
       f.expect-expect.ensures
       ∙ ap (λ d. may_come d f.args.due) (f.direction.ensures ∙ direction_is f.args.self.now)
 
-  module _ (h : Reached f.args.self.now (settings_of f.args.self.now) p) (on : is_over_at (stream (settings_of f.args.self.now)) p ≡ false) where
+  module _ (h : Reached f.args.self.now (settings_of f.args.self.now) p)
+      (on : is_over_at (stream (settings_of f.args.self.now)) p ≡ false) where
     fits : length p + length y ≤ x.limits.session
     fits = let session = session_is r in omega (arith, f.requires.fits, h.taken, session)
 
@@ -86,19 +89,22 @@ returns-in-Ok-default-More-clause-answers c = λ p h on.
     let said = more_so _ (x f p).limits.via _ _ (limit_is (r f p)) (expected_is f p) c.feed.new.self
     (b f p) (y f p) step.n step.field-0-1 step.field-0-1-is
     (step.ensures.answers _ (stands f p h on)) (step.ensures.stands _ (stands f p h on)) in
-    record_more (r f p) (x f p) p (y f p) c.args.due c.requires.awaited h on (fits f p h on) _ step.n
+    record_more (r f p) (x f p) p (y f p) c.args.due c.requires.awaited h on (fits f p h on) _
+    step.n
     (omega (arith, said.0, c.requires.some)) said.0 said.1 refl refl refl refl refl refl refl refl
     said.2 (shown f p h on)
 
 pub returns-in-Ok-default-More-clause-settings : goal.returns-in-Ok-default-More-clause-settings
 returns-in-Ok-default-More-clause-settings c = same_settings c.args.self.now _ refl refl refl
 
-pub returns-in_err-step-in-Ok-default-Done-clause-settings : goal.returns-in_err-step-in-Ok-default-Done-clause-settings
+pub returns-in_err-step-in-Ok-default-Done-clause-settings :
+    goal.returns-in_err-step-in-Ok-default-Done-clause-settings
 returns-in_err-step-in-Ok-default-Done-clause-settings c =
     let keeps = c.in_err-step-in-Ok-default-Done.ensures.keeps in
     same_settings c.args.self.now c.behind.new.self keeps.side keeps.statics keeps.quotas
 
-pub returns-in_ok-step-in-Ok-default-Done-clause-settings : goal.returns-in_ok-step-in-Ok-default-Done-clause-settings
+pub returns-in_ok-step-in-Ok-default-Done-clause-settings :
+    goal.returns-in_ok-step-in-Ok-default-Done-clause-settings
 returns-in_ok-step-in-Ok-default-Done-clause-settings c =
     let keeps = c.in_ok-step-in-Ok-default-Done.ensures.keeps in
     same_settings c.args.self.now c.behind.new.self keeps.side keeps.statics keeps.quotas
@@ -112,10 +118,12 @@ returns-in-Err-clause-settings c =
     let kept = c.refuse.ensures.shown in
     same_settings c.args.self.now c.refuse.new.self kept.side kept.statics kept.quotas
 
-pub returns-in_ok-step-in-Ok-default-Done-clause-answers : goal.returns-in_ok-step-in-Ok-default-Done-clause-answers
+pub returns-in_ok-step-in-Ok-default-Done-clause-answers :
+    goal.returns-in_ok-step-in-Ok-default-Done-clause-answers
 unfolding StandsFor settings_of
 returns-in_ok-step-in-Ok-default-Done-clause-answers c = λ p h on.
-    let f : After-feed = (goal.at-returns-in_ok-step-in-Ok-default-Done-clause-answers c).After-feed in
+    let f : After-feed = (goal.at-returns-in_ok-step-in-Ok-default-Done-clause-answers c).After-feed
+    in
     let step = c.in-Ok-default-Done in
     let read = step.frame in
     let done = c.in_ok-step-in-Ok-default-Done.ensures in
@@ -146,10 +154,12 @@ returns-in_ok-step-in-Ok-default-Done-clause-answers c = λ p h on.
     done.keeps.taken c.args.self.now.unit_from _ h.unit_from refl _ behind done.unit_from said.2
     done.unfailed
 
-pub returns-in_err-step-in-Ok-default-Done-clause-answers : goal.returns-in_err-step-in-Ok-default-Done-clause-answers
+pub returns-in_err-step-in-Ok-default-Done-clause-answers :
+    goal.returns-in_err-step-in-Ok-default-Done-clause-answers
 unfolding StandsFor settings_of
 returns-in_err-step-in-Ok-default-Done-clause-answers c = λ p h on.
-    let f : After-feed = (goal.at-returns-in_err-step-in-Ok-default-Done-clause-answers c).After-feed in
+    let f : After-feed = (goal.at-returns-in_err-step-in-Ok-default-Done-clause-answers
+    c).After-feed in
     let step = c.in-Ok-default-Done in
     let read = step.frame in
     let done = c.in_err-step-in-Ok-default-Done.ensures in
