@@ -1,7 +1,7 @@
 // What a decoder keeps of first bytes of a payload.
 ghost use Rattle.std.specs.Prelude.{◌≤◌, length};
 
-use super::tests::{ENVELOPE, Setting, put_times, usual};
+use super::tests::{ENVELOPE, Setting, usual};
 use super::*;
 use nbfx_values::Kind;
 use static_dictionary::StaticTable;
@@ -49,35 +49,27 @@ fn kept_at_each_byte(rt: HostRuntime) -> Result<(), Fail> {
 }
 
 // A length says how long a text, a name or an array is, and no room is made for it before it comes.
+// Records that were read are kept as items alone.
 #[test]
-fn great_lengths(rt: HostRuntime) -> Result<(), Fail> {
+fn great_lengths_and_whole_records(rt: HostRuntime) -> Result<(), Fail> {
     let statics = StaticTable::read(rt.alloc(), ENVELOPE.as_bytes())?;
     let session = usual(rt.alloc(), &statics, Kind::Session);
-    let rows: [(&[u8], u64); 4] = [
-        (b"\x00\x40\x01x\x9C\xFF\xFF\xFF\x7Faaaaaaaa", 13),
-        (b"\x00\x40\x01x\xA2\xFF\xFF\xFF\x7Fa", 6),
-        (b"\x00\x40\x01x\x40\xFF\xFF\xFF\xFF\x07a", 7),
+    let rows: [(&[u8], (u64, u64, u32)); 5] = [
+        (b"\x00\x40\x01x\x9C\xFF\xFF\xFF\x7Faaaaaaaa", (13, 1, 1)),
+        (b"\x00\x40\x01x\xA2\xFF\xFF\xFF\x7Fa", (6, 1, 1)),
+        (b"\x00\x40\x01x\x40\xFF\xFF\xFF\xFF\x07a", (7, 1, 1)),
         (
             b"\x00\x40\x01x\x03\x40\x01a\x01\x8D\xFF\xFF\xFF\xFF\x07\x01",
-            12,
+            (12, 1, 1),
+        ),
+        (
+            b"\x00\x40\x01x\x98\x01a\x98\x01b\x98\x01c\x98\x01d\x98\x01e\x98\x01f",
+            (0, 7, 1),
         ),
     ];
-    for (front, raw) in rows {
+    for (front, want) in rows {
         assert!(rt; front.len() <= 65_536);
-        assert_eq!(rt; kept(&rt, session, front), Some((raw, 1, 1)));
+        assert_eq!(rt; kept(&rt, session, front), Some(want));
     }
-    Ok(())
-}
-
-// What is whole is kept as items alone.
-#[test]
-fn whole_records(rt: HostRuntime) -> Result<(), Fail> {
-    let statics = StaticTable::read(rt.alloc(), ENVELOPE.as_bytes())?;
-    let session = usual(rt.alloc(), &statics, Kind::Session);
-    let mut front = b"\x00\x40\x01x".to_vec(rt.alloc())?;
-    put_times(&mut front, 100, b"\x98\x01a")?;
-    let front = front.as_slice();
-    assert!(rt; front.len() <= 65_536);
-    assert_eq!(rt; kept(&rt, session, front), Some((0, 101, 1)));
     Ok(())
 }

@@ -210,7 +210,7 @@ fn assert_next(
 }
 
 // Puts bytes behind others, so many times.
-pub(crate) fn put_times(out: &mut Vec<u8>, times: usize, bytes: &[u8]) -> Result<(), AllocError> {
+fn put_times(out: &mut Vec<u8>, times: usize, bytes: &[u8]) -> Result<(), AllocError> {
     for _ in 0..times {
         out.extend_from_slice(bytes)?;
     }
