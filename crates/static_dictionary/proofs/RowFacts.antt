@@ -1,41 +1,15 @@
 -- Facts about one row.
-use Rattle.std.proofs.Common.{◌≡◌, ◌≢◌, ℕ, ◌<◌, ◌≤◌, ◌%◌, Bool, true, false, List, [], ◌∷◌, length, get_or, Option, Some, None, Result, Ok, Err, Bor, refl, ap, ◌∙◌, arith, option_map, eq-eqb, ne_eqb}
+use Rattle.std.proofs.Common.{◌≡◌, ◌≢◌, ℕ, ◌<◌, ◌≤◌, ◌%◌, Bool, true, false, List, [], ◌∷◌, length, get_or, Option, Some, None, Result, Ok, Err, refl, ap, ◌∙◌, arith, eq-eqb, ne_eqb}
 use Rattle.std.specs.Prelude.{nat_le, ◌&&◌, if◌then◌else◌}
-use Rattle.std.specs.Result.{MatchResult, result_ok}
-use Rattle.std.specs.Str.{IsUtf8, all_ascii_digits, is_utf8}
+use Rattle.std.specs.Result.{result_ok}
+use Rattle.std.specs.Str.{all_ascii_digits}
 use Rattle.std.specs.Str.Parse.{ParsesUnsigned, digits_value}
 use Rattle.std.proofs.lemmas.Bool.{false_from_ne_true, le-leb, leb-true}
-use Rattle.std.proofs.lemmas.Str.{IsUtf8-from_is_utf8, is_utf8-from_IsUtf8}
 use Rattle.std.proofs.lemmas.Str.Parse.{IsNumeralModel, numerals_by_value, parse_plain, tells_all_ascii_digits}
-use Rattle.csv.specs.Records.{field_at}
+use Rattle.csv_rows.specs.Rows.{text_of}
+use Rattle.csv_rows.proofs.FieldFacts.{text_of-is}
 use Rattle.static_dictionary.specs.Rows.{Row, entry_of, even_entry, id_of, is_plain_number, most_id, two_of}
 use Rattle.static_dictionary.specs.declared.fault.TableKind.TheVariants as kind
-
--- a row without a first field, without a second, with other than two fields, and with two
-pub two_of-no_first : (fields : Row) → field_at fields 0 ≡ None → two_of fields ≡ None
-unfolding field_at
-two_of-no_first [] e = refl
-two_of-no_first (a ∷ fields) e = cc e
-
-pub two_of-no_second : (fields : Row) → field_at fields 1 ≡ None → two_of fields ≡ None
-unfolding field_at
-two_of-no_second [] e = refl
-two_of-no_second (a ∷ []) e = refl
-two_of-no_second (a ∷ b ∷ fields) e = cc e
-
-pub two_of-more : (fields : Row) → length fields ≢ 2 → two_of fields ≡ None
-two_of-more [] e = refl
-two_of-more (a ∷ []) e = refl
-two_of-more (a ∷ b ∷ []) e = absurd (e refl)
-two_of-more (a ∷ b ∷ c ∷ fields) e = refl
-
-pub two_of-two : (fields : Row) (a b : List ℕ) → length fields ≡ 2 → field_at fields 0 ≡ Some a
-    → field_at fields 1 ≡ Some b → two_of fields ≡ Some (a, b)
-unfolding field_at
-two_of-two [] a b two first second = cc
-two_of-two (x ∷ []) a b two first second = cc second
-two_of-two (x ∷ y ∷ []) a b two first second = cc second
-two_of-two (x ∷ y ∷ z ∷ fields) a b two first second = absurd (omega arith)
 
 -- an identifier that a parse read, or did not
 decimal : IsNumeralModel (λ ds. all_ascii_digits ds ≡ true) (digits_value 10)
@@ -83,29 +57,13 @@ module _ (field : List ℕ) (digits : is_plain_number field ≡ all_ascii_digits
         omega (arith, leb-true (digits_value 10 field) most_id small),
       ))
 
--- a field is text or not
-pub text-from : {E : Type 0} (field : List ℕ) (why : E → Type 0) (r : Result (Bor (List ℕ)) E)
-    → MatchResult r (λ s. (s.now ≡ field) × IsUtf8 field) (λ e. ¬ (IsUtf8 field) × why e)
-    → option_map (λ text. text.now) (result_ok r) ≡ (if is_utf8 field then Some field else None)
-text-from field why (Ok s) is = rw (is_utf8-from_IsUtf8 field is.1) (ap Some is.0)
-text-from field why (Err e) is =
-    rw (false_from_ne_true (is_utf8 field) (λ yes. is.0 (IsUtf8-from_is_utf8 field yes))) refl
-
--- what a field that was read as text shows
-pub text-is : (b : Bool) (field text : List ℕ) → Some text ≡ (if b then Some field else None)
-    → (b ≡ true) × (text ≡ field)
-text-is true field text e = (refl, cc e)
-text-is false field text e = cc e
-
 -- the entry of a row of two texts, the first of which was tried as an identifier
 pub entry_of-read : (row : Row) (id text id_read text_read : List ℕ) (found : Option ℕ)
-    → Some (id, text) ≡ two_of row
-    → Some id_read ≡ (if is_utf8 id then Some id else None)
-    → Some text_read ≡ (if is_utf8 text then Some text else None) → found ≡ id_of id_read
-    → entry_of row ≡ even_entry found text_read
+    → Some (id, text) ≡ two_of row → Some id_read ≡ text_of id → Some text_read ≡ text_of text
+    → found ≡ id_of id_read → entry_of row ≡ even_entry found text_read
 entry_of-read row id text id_read text_read found two id_text text_text tried =
-    let first = text-is (is_utf8 id) id id_read id_text in
-    let second = text-is (is_utf8 text) text text_read text_text in
+    let first = text_of-is id id_read id_text in
+    let second = text_of-is text text_read text_text in
     rw (← two, first.0, second.0, tried, first.1, second.1) refl
 
 pub even_entry-odd : (id : ℕ) (text : List ℕ) → id % 2 ≡ 1

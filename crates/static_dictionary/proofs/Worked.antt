@@ -1,8 +1,6 @@
 -- The definitions of a static file's rows, at written files.
 use Rattle.std.specs.Prelude.{◌≡◌, ℕ, List, [], ◌∷◌, ◌++◌, map, Option, Some, None, codes, refl}
-use Rattle.std.specs.Str.{chars, is_utf8}
-use lib.Utf8.{encode}
-use Rattle.csv.proofs.OnLiterals.{csv_on_literals}
+use Rattle.csv_rows.proofs.OnLiterals.{rows_on_literals}
 use Rattle.string_tables.specs.StaticStrings.{Entry, least_static_id, static_text}
 use Rattle.static_dictionary.specs.Rows.{Fault, fault_of, id_of, rows_of, table_of}
 use Rattle.static_dictionary.specs.declared.fault.TableKind.TheVariants as kind
@@ -19,7 +17,7 @@ small_file = codes "id,string\n0,mustUnderstand\n2,Envelope\n8,Header\n"
 small_rows : rows_of small_file
     ≡ (codes "id" ∷ codes "string" ∷ []) ∷ (codes "0" ∷ codes "mustUnderstand" ∷ [])
     ∷ (codes "2" ∷ codes "Envelope" ∷ []) ∷ (codes "8" ∷ codes "Header" ∷ []) ∷ []
-unfolding small_file csv_on_literals
+unfolding small_file rows_on_literals
 small_rows = refl
 
 -- the texts that an addressed envelope uses
@@ -44,7 +42,7 @@ judged : AllJudged (
     ([], Some (0, kind.Header)) ∷
     (codes "id,string\n1,x\n", Some (1, kind.Odd)) ∷
     (codes "id,string\n2,a\n0,b\n2,c\n1,d\n", Some (3, kind.Repeated)) ∷ [])
-unfolding small_file envelope_file csv_on_literals is_utf8 chars encode
+unfolding small_file envelope_file rows_on_literals
 judged = refl
 
 -- files, and the entries that they give
@@ -57,14 +55,14 @@ AllRead files = map (λ (f : Read). table_of (rows_of f.0)) files ≡ map (λ (f
 read : AllRead (
     (small_file, (0, codes "mustUnderstand") ∷ (2, codes "Envelope") ∷ (8, codes "Header") ∷ []) ∷
     (codes "id,string\n4,b\n2,a\n", (2, codes "a") ∷ (4, codes "b") ∷ []) ∷ [])
-unfolding small_file csv_on_literals is_utf8 chars encode
+unfolding small_file rows_on_literals
 read = refl
 
 envelope_id : least_static_id (table_of (rows_of envelope_file)) (codes "ReplyTo") ≡ Some 44
-unfolding envelope_file csv_on_literals is_utf8 chars encode
+unfolding envelope_file rows_on_literals
 envelope_id = refl
 
 envelope_text : static_text (table_of (rows_of envelope_file)) 6
     ≡ Some (codes "http://www.w3.org/2005/08/addressing")
-unfolding envelope_file csv_on_literals is_utf8 chars encode
+unfolding envelope_file rows_on_literals
 envelope_text = refl

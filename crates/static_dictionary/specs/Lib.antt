@@ -1,6 +1,5 @@
 -- cited by public contracts
 pub mod Rows
 pub mod Faults
--- cited by private calls, and inside tables
-pub mod Given
+-- inside tables
 pub mod Inside

@@ -7,18 +7,10 @@ use Rattle.std.specs.Option.{option_map_or}
 use Rattle.std.specs.Result.{result_ok}
 use Rattle.std.specs.Str.{all_ascii_digits, bytes_eq, is_utf8}
 use Rattle.std.specs.Str.Parse.{digits_value}
-use Rattle.csv.specs.Reading.{default_config, records, strip_bom}
+pub use Rattle.csv_rows.specs.Rows.{Row, rows_of, two_of}
 use Rattle.string_tables.specs.StaticStrings.{Entry, in_order, static_text}
 use Rattle.static_dictionary.specs.declared.fault.TableKind.{TableKind}
 use Rattle.static_dictionary.specs.declared.fault.TableKind.TheVariants as kind
-
--- the fields of a row
-abbrev pub Row : Type 0
-Row = List (List ℕ)
-
--- the rows of a file: its records as CSV of the default form, without a byte order mark
-abbrev pub rows_of : List ℕ → List Row
-rows_of bytes = records default_config (strip_bom bytes)
 
 -- decimal digits without a leading zero, or the zero alone
 abbrev pub is_plain_number : List ℕ → Bool
@@ -42,13 +34,6 @@ id_of field =
 abbrev pub even_entry : Option ℕ → List ℕ → Result Entry TableKind
 even_entry None text = Err kind.NotANumber
 even_entry (Some id) text = if id % 2 == 1 then Err kind.Odd else Ok (id, text)
-
--- the two fields of a row that has just two
-abbrev pub two_of : Row → Option (List ℕ × List ℕ)
-two_of [] = None
-two_of (id ∷ []) = None
-two_of (id ∷ text ∷ []) = Some (id, text)
-two_of (id ∷ text ∷ more ∷ rest) = None
 
 -- the entry of two fields, which may be missing
 abbrev pub two_entry : Option (List ℕ × List ℕ) → Result Entry TableKind

@@ -1,13 +1,11 @@
 // The entry of one row.
-ghost use Rattle.std.specs.Prelude.{◌≡◌, ◌≢◌, ◌==◌, if◌then◌else◌, true, false, Some, None, codes, option_map, slice_index, IsTrue};
+ghost use Rattle.std.specs.Prelude.{◌≡◌, ◌≢◌, true, false, slice_index};
 ghost use Rattle.std.specs.Result.{result_map_both};
-ghost use Rattle.std.specs.Str.{all_ascii_digits, is_utf8};
-ghost use Rattle.csv.specs.Records.{fields_of};
-ghost use Rattle.static_dictionary.specs.Rows.{entry_of, id_of, is_header, is_plain_number, two_of};
+ghost use Rattle.std.specs.Str.{all_ascii_digits};
+ghost use Rattle.static_dictionary.specs.Rows.{entry_of, id_of, is_header, is_plain_number};
 
 use crate::fault::TableKind;
-use csv::ByteRecord;
-use std::str::from_utf8;
+use csv_rows::{RowReader, text_of};
 
 // The greatest identifier there can be.
 const MOST_ID: u32 = 0x7FFF_FFFF;
@@ -35,34 +33,12 @@ fn id_of(field: &str) -> Option<u32>
     if id <= MOST_ID { Some(id) } else { None }
 }
 
-// The two fields of a row that has just two.
-fn two_of(row: &ByteRecord) -> Option<(&[u8], &[u8])>
-    ensures { option_map (λ fields. (fields.0.now, fields.1.now)) result
-        ≡ two_of (fields_of row.now) }
-{
-    let id = row.get(0)?;
-    let text = row.get(1)?;
-    if row.len() == 2 {
-        Some((id, text))
-    } else {
-        None
-    }
-}
-
-// A field as text.
-fn text_of(field: &[u8]) -> Option<&str>
-    ensures { option_map (λ text. text.now) result
-        ≡ (if is_utf8 field.now then Some field.now else None) }
-{
-    from_utf8(field).ok()
-}
-
-/// The entry that a row after the first writes, or what is wrong with the row by itself.
-pub fn entry_of(row: &ByteRecord) -> Result<(u32, &str), TableKind>
+/// The entry that the row read last writes, or what is wrong with the row by itself.
+pub fn entry_of<'r>(rows: &'r RowReader<'_>) -> Result<(u32, &'r str), TableKind>
     ensures { result_map_both (λ e. (e.0, e.1.now)) (λ kind. kind) result
-        ≡ entry_of (fields_of row.now) }
+        ≡ entry_of rows.now.row }
 {
-    let Some((id, text)) = two_of(row) else {
+    let Some((id, text)) = rows.two() else {
         return Err(TableKind::Fields);
     };
     let Some(id) = text_of(id) else {
@@ -78,11 +54,11 @@ pub fn entry_of(row: &ByteRecord) -> Result<(u32, &str), TableKind>
     }
 }
 
-/// Whether a row is the first that a file must have.
-pub fn is_header(row: &ByteRecord) -> bool
-    ensures { result ≡ is_header (fields_of row.now) }
+/// Whether the row read last is the first that a file must have.
+pub fn is_header(rows: &RowReader<'_>) -> bool
+    ensures { result ≡ is_header rows.now.row }
 {
-    match two_of(row) {
+    match rows.two() {
         Some((id, text)) => id == b"id".as_slice() && text == b"string".as_slice(),
         None => false,
     }

@@ -1,4 +1,5 @@
 // Why a file gives no table.
+use nbfx_values::Memory;
 
 /// What is wrong with a row.
 #[derive(Clone, Copy, Debug, PartialEq, Eq)]
@@ -24,4 +25,15 @@ pub enum TableFault {
     Bad { row: u64, kind: TableKind },
     /// Memory ran out.
     Memory,
+}
+
+impl From<Memory> for TableFault {
+    ghost use Rattle.std.specs.Prelude.{◌≡◌};
+    ghost use Rattle.static_dictionary.specs.declared.fault.TableFault.TheVariants as faults;
+
+    ghost from_gives = { λ _ fault. fault ≡ faults.Memory };
+
+    fn from(_memory: Memory) -> TableFault {
+        TableFault::Memory
+    }
 }

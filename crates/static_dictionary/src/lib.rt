@@ -5,13 +5,13 @@
 //! A contract sees a `StaticTable` as a finite map, the list of its entries in rising order of
 //! their identifiers. `StaticTable::read` gives the map of the file's rows, or names the first row
 //! that fails and says why. `specs/Rows.antt` has what the rows of a file say, where the rows are
-//! the records that the crate `csv` finds in it. The text of an identifier and the least identifier
-//! of a text are words of `string_tables` (`StaticStrings`).
+//! those of `csv_rows`. The text of an identifier and the least identifier of a text are words of
+//! `string_tables` (`StaticStrings`).
 #![tactic(auto)]
 
 mod entry;
 mod fault;
-mod rows;
+mod header;
 mod table;
 
 pub use fault::{TableFault, TableKind};

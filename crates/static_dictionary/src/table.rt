@@ -1,7 +1,6 @@
 // The table of the static strings.
 ghost use Rattle.std.specs.Prelude.{◌≡◌, ◌≢◌, ◌<◌, ◌%◌, Some, None, ℕ, drop, length, option_map, OnOk, OnSome, IfErr, IfNone, IfOk, IfSome, IsTrue};
 ghost use Rattle.std.specs.Str.{is_utf8};
-ghost use Rattle.csv.specs.Records.{fields_of};
 ghost use Rattle.string_tables.specs.StaticStrings.{IsStaticId, IsStaticMap, least_static_id, least_with, static_text, with_entry};
 ghost use Rattle.string_tables.specs.StringTable.{IsLeastName};
 ghost use Rattle.static_dictionary.specs.Faults.{AddsEntryOf, Tells};
@@ -10,11 +9,11 @@ ghost use Rattle.static_dictionary.specs.Rows.{entries_of, entry_of, fault_of, f
 
 use crate::entry::entry_of;
 use crate::fault::{TableFault, TableKind};
-use crate::rows::{first_of, next_row, take_header};
-use csv::ByteRecord;
+use crate::header::take_header;
+use csv_rows::RowReader;
 use nbfx_values::{Memory, Txt};
-use std::alloc::{AllocError, Global};
-use std::collections::BTreeMap;
+use std::alloc::Global;
+use std::collections::{BTreeMap, HashMap};
 use std::marker::Model;
 
 /// Of so many identifiers, the least even ones, the texts have places of their own.
@@ -24,7 +23,7 @@ const PLACES: u32 = 512;
 #[derive(Drop)]
 pub struct StaticTable {
     by_id: BTreeMap<u32, String>,
-    by_text: BTreeMap<String, u32>,
+    by_text: HashMap<String, u32>,
     /// The text of identifier 2k once more, at place k.
     placed: Vec<Option<Txt>>,
 }
@@ -51,16 +50,15 @@ impl StaticTable {
         ensures sound { OnOk result (fault_of (rows_of bytes.now) ≡ None) }
         ensures bad { IfErr result (Tells (fault_of (rows_of bytes.now))) }
     {
-        let mut reader = first_of(alloc, bytes);
-        let mut row = ByteRecord::new(alloc);
-        take_header(&mut reader, &mut row)?;
+        let mut rows = RowReader::new(alloc, bytes);
+        take_header(&mut rows)?;
         let mut by_id = BTreeMap::new(alloc);
-        let mut by_text = BTreeMap::new(alloc);
+        let mut by_text = HashMap::new(alloc);
         for number in 1..u64::MAX {
-            if !next_row(&mut reader, &mut row)? {
+            if !rows.advance()? {
                 return with_places(alloc, by_id, by_text);
             }
-            add_row(alloc, &mut by_id, &mut by_text, number, &row)?;
+            add_row(alloc, &mut by_id, &mut by_text, number, &rows)?;
         }
 
         // No memory holds a file of so many rows.
@@ -172,21 +170,19 @@ fn placed_of(alloc: Global, by_id: &BTreeMap<u32, String>) -> Result<Vec<Option<
 fn with_places(
     alloc: Global,
     by_id: BTreeMap<u32, String>,
-    by_text: BTreeMap<String, u32>,
+    by_text: HashMap<String, u32>,
 ) -> Result<StaticTable, TableFault>
     requires { AreMapsOfTable by_id by_text }
     ensures table { IfOk result (λ table. table ≡ entries_in by_id) }
     ensures map { IfOk result IsStaticMap }
     ensures memory { IfErr result (λ fault. fault ≡ TableFault.Memory) }
 {
-    match placed_of(alloc, &by_id) {
-        Ok(placed) => Ok(StaticTable {
-            by_id,
-            by_text,
-            placed,
-        }),
-        Err(_) => Err(TableFault::Memory),
-    }
+    let placed = placed_of(alloc, &by_id)?;
+    Ok(StaticTable {
+        by_id,
+        by_text,
+        placed,
+    })
 }
 
 // The less of an identifier and another, where there is another.
@@ -203,10 +199,10 @@ fn least_with(id: u32, other: Option<u32>) -> u32
 fn put_entry(
     alloc: Global,
     by_id: &mut BTreeMap<u32, String>,
-    by_text: &mut BTreeMap<String, u32>,
+    by_text: &mut HashMap<String, u32>,
     id: u32,
     text: &str,
-) -> Result<(), AllocError>
+) -> Result<(), Memory>
     requires maps { AreMapsOfTable by_id.old by_text.old }
     requires static_id { IsStaticId id }
     requires fresh { static_text (entries_in by_id.old) id ≡ None }
@@ -220,22 +216,22 @@ fn put_entry(
     Ok(())
 }
 
-// Adds the entry of a row after the first to the two maps.
+// Adds the entry of the row read last to the two maps.
 fn add_row(
     alloc: Global,
     by_id: &mut BTreeMap<u32, String>,
-    by_text: &mut BTreeMap<String, u32>,
+    by_text: &mut HashMap<String, u32>,
     number: u64,
-    row: &ByteRecord,
+    rows: &RowReader<'_>,
 ) -> Result<(), TableFault>
     requires { AreMapsOfTable by_id.old by_text.old }
     ensures maps { OnOk result (AreMapsOfTable by_id.new by_text.new) }
     ensures added { OnOk result
-        (AddsEntryOf (fields_of row.now) (entries_in by_id.old) (entries_in by_id.new)) }
+        (AddsEntryOf rows.now.row (entries_in by_id.old) (entries_in by_id.new)) }
     ensures bad { IfErr result (Tells (fault_or (λ _ _. None) number (entries_in by_id.old)
-        (entry_of (fields_of row.now)))) }
+        (entry_of rows.now.row))) }
 {
-    let (id, text) = match entry_of(row) {
+    let (id, text) = match entry_of(rows) {
         Ok(entry) => entry,
         Err(kind) => return Err(TableFault::Bad { row: number, kind }),
     };
@@ -245,8 +241,6 @@ fn add_row(
             kind: TableKind::Repeated,
         });
     }
-    match put_entry(alloc, by_id, by_text, id, text) {
-        Ok(()) => Ok(()),
-        Err(_) => Err(TableFault::Memory),
-    }
+    put_entry(alloc, by_id, by_text, id, text)?;
+    Ok(())
 }

@@ -18,8 +18,8 @@ put_entry-requires-clause-fresh c =
     (is_some-shown c.args.by_id.now.entries c.in-Ok.entry.0 ∙ sym c.contains_key.ensures
     ∙ c.if-contains_key.false)
 
-pub returns-in-Ok-put_entry-clause-added : goal.returns-in-Ok-put_entry-clause-added
-returns-in-Ok-put_entry-clause-added c =
+pub returns-clause-added : goal.returns-clause-added
+returns-clause-added c =
     record {
       entry = (c.in-Ok.entry.0, c.in-Ok.entry.1.now);
       written = sym c.in-Ok.ensures;
@@ -27,5 +27,5 @@ returns-in-Ok-put_entry-clause-added c =
           none-from_is_some _
           (is_some-shown c.args.by_id.now.entries c.in-Ok.entry.0 ∙ sym c.contains_key.ensures
           ∙ c.if-contains_key.false);
-      entries = c.in-Ok-put_entry.ensures.entries;
+      entries = c.in_ok-put_entry.ensures.entries;
     }

@@ -1,6 +1,6 @@
 use Rattle.std.proofs.Common.{arith, ◌≡◌, ◌∙◌, sym, ap, string_bytes}
-use Rattle.std.specs.BTreeMap.{get_by_text}
-use Rattle.std.proofs.lemmas.Map.Text.{btree_map_updates_text}
+use Rattle.std.specs.HashMap.{get_by_text}
+use Rattle.std.proofs.lemmas.Map.Text.{hash_map_updates_text}
 use Rattle.std.proofs.lemmas.Result.{IfOk-at_ok}
 use Rattle.string_tables.specs.StaticStrings.{least_static_id, least_with, with_entry}
 use Rattle.static_dictionary.specs.Inside.{entries_in}
@@ -20,7 +20,7 @@ pub returns-clause-maps : goal.returns-clause-maps
 returns-clause-maps c =
     let key = IfOk-at_ok (λ s. string_bytes s ≡ c.args.text.now) c.in_ok-from_str.was
     c.from_str.ensures.ok in
-    let sets = btree_map_updates_text (string_bytes c.in_ok-from_str.field-0) c.args.by_text.now
+    let sets = hash_map_updates_text (string_bytes c.in_ok-from_str.field-0) c.args.by_text.now
     c.insert.new.self _ c.in_ok-insert.ensures.updates in
     let entries : goal.returns-clause-entries = returns-clause-entries in
     let held = c.copied.ensures ∙ c.get.ensures.value ∙ c.requires.maps.least c.args.text.now in
