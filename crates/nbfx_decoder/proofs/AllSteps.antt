@@ -60,4 +60,5 @@ module _ (x : Settings) (strings : List (List ℕ)) (p y : List ℕ) (used : ℕ
         (let n = size in omega (arith, n, sum)),
         subst (λ (q : List ℕ). HasStrings new.units x (situation_of x strings q).strings (from_of x strings (p ++ take used y))) (joined k) set,
       )
-      by_fault Memory set = (used, from_of x strings (p ++ take used y), quiet, more, going_unrefused x strings (p ++ take used y) reached.going, set)
+      by_fault Memory set =
+          (used, quiet, more, going_unrefused x strings (p ++ take used y) reached.going, set)

@@ -18,7 +18,10 @@ pub mod Singles
 pub mod Saying
 pub mod TakeSteps
 pub mod AllSteps
+pub mod StandsFacts
 pub mod FeedSteps
+pub mod FinishSteps
+pub mod ShownFacts
 -- what those know that call them
 pub mod Feeding
 -- for the laws. TableBytes: a string that is read of a table is what bytes there are. Counts: how

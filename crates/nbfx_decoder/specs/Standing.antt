@@ -75,17 +75,17 @@ abbrev pub WhereItStands : Decoder → (List (List ℕ) → List ℕ → Type 0)
 WhereItStands d Holds = (strings : List (List ℕ)) (p : List ℕ) → StandsFor d strings p
     → Holds strings p
 
--- where the unit begins that a fault is placed at; want of memory has no place
-abbrev pub IsPlacedAt : DecodeFault → ℕ → Type 0
-IsPlacedAt (Payload at reason shown_by) n = n ≡ at
-IsPlacedAt Memory n = ⊤
+-- where the unit begins that a fault is placed at; for want of memory it is the one that comes next
+abbrev pub IsPlacedAt : ℕ → DecodeFault → ℕ → Type 0
+IsPlacedAt next (Payload at reason shown_by) n = n ≡ at
+IsPlacedAt next Memory n = n ≡ next
 
 -- what a decoder shows that has failed: the fault, and behind the bytes p of the payload its
 -- strings alone
 pub record Failed (d : Decoder) (x : Settings) (fault : DecodeFault) (strings : List (List ℕ))
     (p : List ℕ) : Type 0 where
   pub failure : d.failure ≡ Some fault
-  pub place : IsPlacedAt fault d.units.from
+  pub place : IsPlacedAt (from_of x strings p) fault d.units.from
   pub strings_are : HasStrings d.units x (situation_of x strings p).strings d.units.from
   pub no_bytes : d.begun ≡ []
   pub no_items : d.units.document ≡ []

@@ -43,6 +43,7 @@ AllAnswers x strings p c new (Err (Refused reason shown_by)) =
     × (refusal_at (payload x strings) (p ++ take k c) ≡ Some (refusal at reason))
     × (at + shown_by ≡ length p + k)
     × HasStrings new.units x (situation_of x strings (p ++ take k c)).strings at
-AllAnswers x strings p c new (Err Memory) = (k : ℕ) × (at : ℕ) × IsQuiet (payload x strings) p c k
+AllAnswers x strings p c new (Err Memory) = (k : ℕ) × IsQuiet (payload x strings) p c k
     × (k < length c) × (refusal_at (payload x strings) (p ++ take k c) ≡ None)
-    × HasStrings new.units x (situation_of x strings (p ++ take k c)).strings at
+    × HasStrings new.units x (situation_of x strings (p ++ take k c)).strings
+    (from_of x strings (p ++ take k c))

@@ -33,7 +33,7 @@ impl<'s> Decoder<'s> {
     ghost use Rattle.nbfx_values.specs.declared.content.Item.{Item as Content};
     ghost use Rattle.nbfx_decoder.specs.Laws.{IsWholePayload};
     ghost use Rattle.nbfx_decoder.specs.Payload.{Settings};
-    ghost use Rattle.nbfx_decoder.specs.Standing.{settings_of, failure_of, taken_of, held_of, content_held_of, situation_of, begun_of, table_at, Reached, StandsFor, FailedBehind, FailedWithin, WhereItStands, WhereItFailed, IsPlacedAt, FeedAnswers, FinishAnswers};
+    ghost use Rattle.nbfx_decoder.specs.Standing.{settings_of, failure_of, taken_of, held_of, content_held_of, situation_of, from_of, begun_of, table_at, Reached, StandsFor, FailedBehind, FailedWithin, WhereItStands, WhereItFailed, IsPlacedAt, FeedAnswers, FinishAnswers};
     ghost use Rattle.nbfx_decoder.specs.Values.{values_of};
     ghost use Rattle.nbfx_decoder.specs.Taking.{AllAnswers, KeepsRest, TakeAnswers, TakesSome};
     ghost use Rattle.nbfx_decoder.specs.Units.{Keeps, KeepsSettings};
@@ -157,11 +157,13 @@ impl<'s> Decoder<'s> {
     }
 
     /// How many bytes of the payload it has taken; 0 before the first one. Of a payload that is
-    /// refused it is the offset at which the refused unit begins.
+    /// refused it is the offset at which the refused unit begins, and after want of memory the one
+    /// at which the unit begins that came next.
     pub fn taken(&self) -> u32
         ensures counted { result < 2 ^ 32 - 1 → result ≡ taken_of self.now }
         ensures stands { WhereItStands self.now (λ strings p. result ≡ length p) }
-        ensures placed { WhereItFailed self.now (λ fault strings p. IsPlacedAt fault result) }
+        ensures placed { WhereItFailed self.now (λ fault strings p.
+            IsPlacedAt (from_of (settings_of self.now) strings p) fault result) }
     {
         let begun = self.begun.len().min(u32::MAX as usize) as u32;
         self.units.from().saturating_add(begun)

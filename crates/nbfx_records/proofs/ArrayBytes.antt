@@ -23,7 +23,8 @@ use Rattle.nbfx_records.specs.Kinds.{record_kind, body_of, array_kind_of, text_k
 use Rattle.nbfx_records.specs.Shapes.{bytes_of, AttributeShape, ArrayShape, repeats, NamedShape, CellsShape, cells_shape, array_shape}
 use Rattle.nbfx_records.specs.Contents.{scalar_of, is_chars, name_is_text, attribute_is_text, attribute_value, each, cells, array_of, is_text}
 use Rattle.nbfx_records.specs.Records.{SpellsAs, AreAttrNodes, array_byte, AreCells, IsElement, IsArray}
-use Rattle.nbfx_records.proofs.ShapeBytes.{BodyIs, ScalarIs, ArrayPartIs, IsArrayTurn, ElementOf, CellsAre, CellsOf, ArrayIs}
+use Rattle.nbfx_records.proofs.PartBytes.{BodyIs, ScalarIs}
+use Rattle.nbfx_records.proofs.ShapeBytes.{ArrayPartIs, IsArrayTurn, ElementOf, CellsAre, CellsOf, ArrayIs}
 use Rattle.nbfx_records.specs.TypeBytes.{text_byte}
 use Rattle.nbfx_records.proofs.KindBytes.{byte_is, no_text_above}
 use Rattle.nbfx_records.proofs.ScalarBytes.{of_fixed, spelled_there, spelled_back}

@@ -18,7 +18,8 @@ use Rattle.nbfx_records.specs.Kinds.{record_kind}
 use Rattle.nbfx_records.specs.Shapes.{AttributeShape, attributes, declares, NamedShape, named_shape}
 use Rattle.nbfx_records.specs.Contents.{name_is_text, value_is_text, attribute_is_text, value_of, attribute_value}
 use Rattle.nbfx_records.specs.Records.{IsAttributeHead, IsDeclarationHead, IsElementHead, IsElement, IsAttrNode}
-use Rattle.nbfx_records.proofs.ShapeBytes.{PrefixIs, NameIs, AttributeIs, DeclarationIs, ElementIs}
+use Rattle.nbfx_records.proofs.PartBytes.{PrefixIs, NameIs}
+use Rattle.nbfx_records.proofs.ShapeBytes.{AttributeIs, DeclarationIs, ElementIs}
 use Rattle.nbfx_records.specs.TypeBytes.{byte_of, form_of, is_kind}
 use Rattle.nbfx_records.proofs.KindBytes.{byte_is, kind_of_byte}
 use Rattle.nbfx_records.proofs.ValueBytes.{mapped_some, value_there, value_back}

@@ -51,7 +51,8 @@ use Rattle.nbfx_records.proofs.KindBytes.{byte_is}
 use Rattle.nbfx_records.proofs.NameBytes.{is_form}
 use Rattle.nbfx_records.proofs.NodeBytes.{contents_parts}
 use Rattle.nbfx_records.proofs.ScalarBytes.{decimal_size, spelled_there}
-use Rattle.nbfx_records.proofs.ShapeBytes.{ArrayIs, ElementIs, ElementOf, IsArrayTurn, IsRawString, IsTurn, IsValue, NameIs, PlacedIs, PrefixIs, RecordIs, ScalarIs, TextIs, ValueIs, just_shape}
+use Rattle.nbfx_records.proofs.ShapeBytes.{ArrayIs, ElementIs, ElementOf, IsArrayTurn, IsValue, PlacedIs, RecordIs, TextIs, ValueIs, just_shape}
+use Rattle.nbfx_records.proofs.PartBytes.{IsRawString, IsTurn, NameIs, PrefixIs, ScalarIs}
 use Rattle.nbfx_records.proofs.ValidFacts.{bytes_front, bytes_rest, known_inj}
 use Rattle.nbfx_records.proofs.ValueBytes.{bound_some, item_there, mapped_some}
 

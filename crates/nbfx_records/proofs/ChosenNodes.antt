@@ -43,7 +43,7 @@ use Rattle.nbfx_records.proofs.KindBytes.{kind_of_byte}
 use Rattle.nbfx_records.proofs.NameBytes.{string_there}
 use Rattle.nbfx_records.proofs.NodeBytes.{read_of_all}
 use Rattle.nbfx_records.proofs.ShapeFronts.{node_fronts}
-use Rattle.nbfx_records.proofs.ShapeBytes.{IsRawString, NameIs, PrefixIs}
+use Rattle.nbfx_records.proofs.PartBytes.{IsRawString, NameIs, PrefixIs}
 
 -- a value and the values of a list
 one_scalar : (value : RawScalar) → is_valid_raw value ≡ true → fits_raw value ≡ true → SpellsScalar value (scalar_bytes false value)

@@ -9,6 +9,7 @@ mod WorkedWriting
 -- What is read rests on its own bytes.
 pub mod ShapeFronts
 -- Reading and the relation are one, from type bytes up to records; records are of valid nodes.
+pub mod PartBytes
 pub mod ShapeBytes
 pub mod KindBytes
 pub mod ScalarBytes

@@ -16,7 +16,7 @@ use Rattle.nbfx_records.specs.Resuming.{AreMore, Passes}
 use Rattle.nbfx_records.specs.Shapes.{ScalarShape, turn_of, list_turn, list_at}
 use Rattle.nbfx_records.specs.Views.{listed, IsList}
 use Rattle.nbfx_records.proofs.ShapeFronts.{reads_list_turn, reads_list}
-use Rattle.nbfx_records.proofs.ShapeBytes.{TurnIs, IsTurn, just_list}
+use Rattle.nbfx_records.proofs.PartBytes.{TurnIs, IsTurn, just_list}
 use Rattle.nbfx_records.proofs.CursorFacts.{further_whole}
 use Rattle.nbfx_records.proofs.ManyFacts.{moves, all_stop, all_more, never_stops, many_whole, many_stops, passes_more}
 

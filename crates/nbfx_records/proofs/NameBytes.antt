@@ -15,7 +15,7 @@ use Rattle.nbfx_records.specs.Contents.{name_is_text}
 use Rattle.nbfx_records.specs.Records.{IsName, IsHead, IsHeadOnly}
 use Rattle.nbfx_records.specs.TypeBytes.{form_of, is_letter}
 use Rattle.nbfx_records.proofs.KindBytes.{letter_parts}
-use Rattle.nbfx_records.proofs.ShapeBytes.{IsRawString, PrefixIs, NameIs}
+use Rattle.nbfx_records.proofs.PartBytes.{IsRawString, PrefixIs, NameIs}
 
 pub string_there : (s bytes : List ℕ) → IsRawString s bytes → is_utf8 s ≡ true → IsString s bytes
 string_there s bytes h t = record { spelling = h.spelling; spelled = h.spelled; joined = h.joined; utf8 = IsUtf8-from_is_utf8 s t }

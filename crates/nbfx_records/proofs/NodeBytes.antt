@@ -32,7 +32,8 @@ use Rattle.nbfx_records.specs.Records.{IsAttrNode, IsArray, IsNode}
 use Rattle.nbfx_records.specs.Places.{Stands}
 use Rattle.nbfx_records.specs.Laws.{RecordsAreRead, NoRecordGoesOn}
 use Rattle.nbfx_records.proofs.ShapeFronts.{node_fronts}
-use Rattle.nbfx_records.proofs.ShapeBytes.{just_as, RecordIs, PlacedIs, IsShape, just_shape}
+use Rattle.nbfx_records.proofs.PartBytes.{just_as}
+use Rattle.nbfx_records.proofs.ShapeBytes.{RecordIs, PlacedIs, IsShape, just_shape}
 use Rattle.nbfx_records.proofs.KindBytes.{byte_is}
 use Rattle.nbfx_records.proofs.ValueBytes.{mapped_some, SpellsText, text_there, text_back}
 use Rattle.nbfx_records.specs.TypeBytes.{form_of}

@@ -23,7 +23,7 @@ use Rattle.nbfx_records.specs.Kinds.{body_of}
 use Rattle.nbfx_records.specs.Shapes.{ScalarShape, bytes_of, named_by, qualified_by, width_in, is_negative}
 use Rattle.nbfx_records.specs.Contents.{utf16_text, truth_of, decimal_of, identifier_of, scalar_of, is_chars, scalar_is_text, scalar_value}
 use Rattle.nbfx_records.specs.Records.{IsNumberOf, IsCounted, IsFixed, IsDecimal, IsSixteen, IsChars, IsUnicode, IsBinary, SpellsAs}
-use Rattle.nbfx_records.proofs.ShapeBytes.{IsLengthAnd, BodyIs, ScalarIs}
+use Rattle.nbfx_records.proofs.PartBytes.{IsLengthAnd, BodyIs, ScalarIs}
 use Rattle.nbfx_records.specs.TypeBytes.{text_byte}
 
 -- what is read of so many bytes

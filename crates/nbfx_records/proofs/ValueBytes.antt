@@ -17,7 +17,8 @@ use Rattle.nbfx_records.specs.Kinds.{record_kind}
 use Rattle.nbfx_records.specs.Shapes.{ScalarShape, ValueShape, one, several, Shape, has_text, ends_list}
 use Rattle.nbfx_records.specs.Contents.{scalar_is_text, value_is_text, scalar_value, each, value_of, is_text, node_of}
 use Rattle.nbfx_records.specs.Records.{SpellsAs, SpellsScalar, SpellScalars, SpellsList, SpellsValue, SpellsLast}
-use Rattle.nbfx_records.proofs.ShapeBytes.{ScalarIs, TurnIs, IsTurn, ValueIs, IsValue, TextIs}
+use Rattle.nbfx_records.proofs.PartBytes.{ScalarIs, TurnIs, IsTurn}
+use Rattle.nbfx_records.proofs.ShapeBytes.{ValueIs, IsValue, TextIs}
 use Rattle.nbfx_records.specs.TypeBytes.{text_byte, byte_of, is_kind}
 use Rattle.nbfx_records.proofs.KindBytes.{byte_is, kind_of_byte}
 use Rattle.nbfx_records.proofs.ScalarBytes.{end_is_none, list_is_none, spelled_there, spelled_back}

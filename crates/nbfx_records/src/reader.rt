@@ -52,10 +52,10 @@ impl NodeReader {
     /// Reads on with a piece, up to the byte that makes a record whole, and answers how many bytes
     /// of the piece it used, and the node of the record. Where none is whole yet it has used them
     /// all. A record that may not stand at this place is a fault; `place` is to be the same for all
-    /// pieces of one record. After a fault, and after want of memory, the answer is the same from
-    /// then on.
+    /// pieces of one record. After a fault, and after want of memory, it holds no bytes, and the
+    /// answer is the same from then on.
     pub fn feed(&mut self, piece: &[u8], place: NodePlace) -> Result<(usize, NodeStep), NodeFault>
-        requires { node_at place (begun_of self.old) ≡ begun }
+        requires { failure_of self.old ≡ None → node_at place (begun_of self.old) ≡ begun }
         ensures answers { failure_of self.old ≡ None
             → FeedAnswers place (begun_of self.old) piece.now result }
         ensures left { failure_of self.old ≡ None
@@ -63,6 +63,7 @@ impl NodeReader {
         ensures valid { IfOk result (λ answer. StepIsValid answer.1) }
         ensures going { OnOk result (failure_of self.new ≡ None) }
         ensures failed { IfErr result (λ why. failure_of self.new ≡ Some why) }
+        ensures emptied { failure_of self.old ≡ None → IfErr result (λ why. begun_of self.new ≡ []) }
         ensures repeated { (why : Why) → failure_of self.old ≡ Some why → result ≡ Err why }
         ensures unchanged { (why : Why) → failure_of self.old ≡ Some why → self.new ≡ self.old }
     {

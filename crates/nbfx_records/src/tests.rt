@@ -224,11 +224,10 @@ fn each_fault_comes(rt: HostRuntime) -> Result<(), Fail> {
     for (bytes, place, fault) in refused {
         let mut reader = NodeReader::new(rt.alloc());
         record_fronts();
-        assert_eq!(rt;
-            reader.feed(bytes, place).err(),
-            Some(NodeFault::Record(fault)),
-            "{bytes:?}"
-        );
+        let why = Some(NodeFault::Record(fault));
+        assert_eq!(rt; reader.feed(bytes, place).err(), why, "{bytes:?}");
+        assert_eq!(rt; reader.pending(), 0);
+        assert_eq!(rt; reader.feed(b"\x01", WITHIN).err(), why, "again: {bytes:?}");
     }
     Ok(())
 }

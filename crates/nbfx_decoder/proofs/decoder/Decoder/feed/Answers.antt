@@ -1,6 +1,7 @@
 use Rattle.std.proofs.Common.{ap, Err}
 use Rattle.nbfx_decoder.proofs.Keeping.{keeps_settings, settings_through}
-use Rattle.nbfx_decoder.proofs.FeedSteps.{settings_kept, failure_is, unfailed_stands, unfailed_failure, same_failure, few_bytes, reached_of, answer_goes_on, stands_behind, answer_fault, failed_within}
+use Rattle.nbfx_decoder.proofs.StandsFacts.{settings_kept, failure_is, unfailed_stands, unfailed_failure, same_failure, few_bytes, reached_of}
+use Rattle.nbfx_decoder.proofs.FeedSteps.{answer_goes_on, stands_behind, answer_fault, failed_within}
 use Rattle.nbfx_decoder.proofs.decoder.Decoder.feed.Goals as goal
 
 pub returns-in-Some-clause-answers : goal.returns-in-Some-clause-answers

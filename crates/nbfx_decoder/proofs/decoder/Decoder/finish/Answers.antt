@@ -1,7 +1,8 @@
 use Rattle.std.proofs.Common.{◌≡◌, ◌∙◌, Ok, Err, sym, ap, refl}
 use Rattle.nbfx_decoder.specs.declared.faults.DecodeFault.TheVariants.{Memory}
 use Rattle.nbfx_decoder.proofs.Keeping.{keeps_settings, settings_through}
-use Rattle.nbfx_decoder.proofs.FeedSteps.{settings_kept, failure_is, unfailed_stands, unfailed_failure, same_failure, items_here, nothing_cut, stands_anew, finish_failed, finish_fault, finish_place, finishes_whole, carries_on}
+use Rattle.nbfx_decoder.proofs.StandsFacts.{settings_kept, failure_is, unfailed_stands, unfailed_failure, same_failure, items_here}
+use Rattle.nbfx_decoder.proofs.FinishSteps.{nothing_cut, stands_anew, finish_failed, finish_fault, finish_place, finishes_whole, carries_on}
 use Rattle.nbfx_decoder.proofs.decoder.Decoder.finish.Goals as goal
 
 pub returns-in-Some-clause-answers : goal.returns-in-Some-clause-answers

@@ -1,6 +1,6 @@
 use Rattle.std.proofs.Common.{◌∙◌, length, ap, refl, arith}
 use Rattle.nbfx_values.specs.Measures.{capped, content_of}
-use Rattle.nbfx_decoder.proofs.FeedSteps.{raw_here, raw_small, content_is, content_small, failed_bytes, failed_items, items_few, values_few}
+use Rattle.nbfx_decoder.proofs.ShownFacts.{raw_here, raw_small, content_is, content_small, failed_bytes, failed_items, items_few, values_few}
 use Rattle.nbfx_decoder.proofs.decoder.Decoder.kept.Goals as goal
 
 pub returns-clause-raw : goal.returns-clause-raw

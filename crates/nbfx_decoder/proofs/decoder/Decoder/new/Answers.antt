@@ -1,7 +1,7 @@
 use Rattle.std.proofs.Common.{[], refl, arith}
 use Rattle.nbfx_values.specs.QuotasOf.{limits_of}
 use Rattle.nbfx_decoder.specs.Payload.{Settings}
-use Rattle.nbfx_decoder.proofs.FeedSteps.{settings_at, stands_first}
+use Rattle.nbfx_decoder.proofs.StandsFacts.{settings_at, stands_first}
 use Rattle.nbfx_decoder.proofs.decoder.Decoder.new.Goals as goal
 
 pub returns-clause-stands : goal.returns-clause-stands

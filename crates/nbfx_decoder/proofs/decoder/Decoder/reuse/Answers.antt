@@ -1,5 +1,5 @@
 use Rattle.std.proofs.Common.{refl}
-use Rattle.nbfx_decoder.proofs.FeedSteps.{settings_stay, stands_still, failed_still}
+use Rattle.nbfx_decoder.proofs.ShownFacts.{settings_stay, stands_still, failed_still}
 use Rattle.nbfx_decoder.proofs.decoder.Decoder.reuse.Goals as goal
 
 pub returns-clause-stands : goal.returns-clause-stands

@@ -1,7 +1,7 @@
 use Rattle.std.proofs.Common.{◌∙◌, ap, arith}
 use Rattle.string_tables.specs.SessionStrings.{used_cost}
 use Rattle.session_dictionary.specs.Strings.{LimitedStrings}
-use Rattle.nbfx_decoder.proofs.FeedSteps.{table_here, cost_small, failed_table}
+use Rattle.nbfx_decoder.proofs.ShownFacts.{table_here, cost_small, failed_table}
 use Rattle.nbfx_decoder.proofs.decoder.Decoder.table.Goals as goal
 
 pub returns-clause-strings : goal.returns-clause-strings

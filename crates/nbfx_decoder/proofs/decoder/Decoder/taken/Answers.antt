@@ -1,6 +1,7 @@
 use Rattle.std.proofs.Common.{◌≡◌, length, ap, subst, arith}
-use Rattle.nbfx_decoder.specs.Standing.{IsPlacedAt}
-use Rattle.nbfx_decoder.proofs.FeedSteps.{stands_as, taken_as, counts_taken, failed_bytes, failed_place, payload_small}
+use Rattle.nbfx_decoder.specs.Standing.{IsPlacedAt, from_of, settings_of}
+use Rattle.nbfx_decoder.proofs.StandsFacts.{stands_as, taken_as, counts_taken, payload_small}
+use Rattle.nbfx_decoder.proofs.ShownFacts.{failed_bytes, failed_place}
 use Rattle.nbfx_decoder.proofs.decoder.Decoder.taken.Goals as goal
 
 pub returns-clause-counted : goal.returns-clause-counted
@@ -30,5 +31,7 @@ returns-clause-placed c fault strings p h =
     let begun = c.min-begun.ensures in
     let len = c.len.ensures in
     let none = ap length (failed_bytes c.args.self.now fault strings p h) in
-    let same : c.args.self.now.units.from ≡ c.saturating_add.result = omega (arith, sum, from, begun, len, none) in
-    subst (IsPlacedAt fault) same (failed_place c.args.self.now fault strings p h)
+    let same : c.args.self.now.units.from ≡ c.saturating_add.result = omega
+    (arith, sum, from, begun, len, none) in
+    subst (IsPlacedAt (from_of (settings_of c.args.self.now) strings p) fault) same
+    (failed_place c.args.self.now fault strings p h)
