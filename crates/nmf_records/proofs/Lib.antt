@@ -19,6 +19,7 @@ pub mod Leading
 pub mod Settling
 pub mod Showing
 pub mod Feeding
+pub mod Heads
 -- scripts (specs/Script): the way through what is due and the grammar, each from the other; their
 -- ends
 pub mod ScriptWays

@@ -22,6 +22,7 @@
 
 mod fault_texts;
 mod frame;
+mod head;
 pub mod laws;
 mod reader;
 pub mod record_types;

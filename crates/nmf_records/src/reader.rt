@@ -11,6 +11,7 @@ ghost use Rattle.multibyte_ints.specs.Text.{string_at};
 ghost use Rattle.multibyte_ints.specs.TextReader.{StringStandsFor};
 
 use crate::frame::{Expect, FrameFault, FrameRefusal, FrameStep};
+use crate::head;
 use crate::stage::{self, Progress, SizeRecord, Stage, TextRecord};
 use multibyte_ints::{IntReader, IntStep, Memory, StringReader};
 use std::alloc::Global;
@@ -45,6 +46,31 @@ impl FrameReader {
     /// used and whether the record is. `expect` says what may come, and is to be the same for all
     /// pieces of one record. A fault is answered at the first byte that shows it, and from then on.
     pub fn feed(&mut self, piece: &[u8], expect: Expect) -> Result<(usize, FrameStep), FrameRefusal>
+        ensures within { IfOk result (λ answer. answer.0 ≤ length piece.now) }
+        ensures answers { (p : List ℕ) → StandsFor self.old expect p
+            → FrameAnswers (limit_of self.old) expect p piece.now result }
+        ensures stands { (p : List ℕ) → StandsFor self.old expect p
+            → AfterPiece self.new expect (p ++ piece.now) result }
+        ensures text { (p s : List ℕ) → StandsFor self.old expect p → ShowsText self.old s
+            → ShowsText self.new (shown_behind (limit_of self.old) expect (p ++ piece.now) s) }
+        ensures limit { limit_of self.new ≡ limit_of self.old }
+        ensures failed { IfErr result (λ refusal. failure_of self.new ≡ Some refusal) }
+        ensures counted { IfErr result (λ refusal. pending_of self.new ≡ refusal.shown_by) }
+        ensures repeated { (refusal : FrameRefusal) → failure_of self.old ≡ Some refusal
+            → result ≡ Err refusal }
+        ensures unchanged { (refusal : FrameRefusal) → failure_of self.old ≡ Some refusal
+            → self.new ≡ self.old }
+    {
+        if let Stage::Type = self.stage {
+            if let Some((frame, used)) = head::head_at(piece, expect) {
+                return Ok((used, FrameStep::Done(frame)));
+            }
+        }
+        self.feed_on(piece, expect)
+    }
+
+    // The same for any record, byte by byte.
+    fn feed_on(&mut self, piece: &[u8], expect: Expect) -> Result<(usize, FrameStep), FrameRefusal>
         ensures within { IfOk result (λ answer. answer.0 ≤ length piece.now) }
         ensures answers { (p : List ℕ) → StandsFor self.old expect p
             → FrameAnswers (limit_of self.old) expect p piece.now result }

@@ -106,7 +106,7 @@ fn after_known_type(kind: u8) -> Progress
 }
 
 /// Whether a record of this type may come.
-fn allows(types: u16, kind: u8) -> bool
+pub fn allows(types: u16, kind: u8) -> bool
     requires { kind ≤ GREATEST }
     ensures { result ≡ allows types kind }
 {

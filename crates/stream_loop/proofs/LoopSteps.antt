@@ -30,14 +30,19 @@ piece_is : (items new room : List ℕ) (len n : ℕ) → len ≡ length items �
     → room ≡ take len (new ++ drop (length new) items) → take n new ≡ take n room
 piece_is items new room len n e h r = ap (take n) (sym (r ∙ room_is items new len e h))
 
-module _ (left before after : Option (List ℕ)) (p : List ℕ)
-    (split : (bytes : List ℕ) → left ≡ Some bytes → (rest : List ℕ) × (before ≡ Some rest)
-    × (bytes ≡ p ++ rest)) where
+-- all that was left is this of what is left now
+abbrev pub LeftSince : (left left' : Option (List ℕ)) → (List ℕ → List ℕ) → Type 0
+LeftSince left left' all = (bytes : List ℕ) → left ≡ Some bytes → (rest : List ℕ)
+    × (left' ≡ Some rest) × (bytes ≡ all rest)
+
+-- these bytes were handed out since
+abbrev pub TakenSince : (taken taken' : Option (List ℕ)) (p : List ℕ) → Type 0
+TakenSince taken taken' p = (t : List ℕ) → taken ≡ Some t → taken' ≡ Some (t ++ p)
+
+module _ (left before after : Option (List ℕ)) (p : List ℕ) (split : LeftSince left before (λ rest. p ++ rest)) where
   -- what is left after a piece more
   left_moves : (room y : List ℕ) (n : ℕ) → Told before after (λ l l'. Moves l l' room n)
-      → take n room ≡ y
-      → (bytes : List ℕ) → left ≡ Some bytes → (rest : List ℕ) × (after ≡ Some rest)
-      × (bytes ≡ p ++ y ++ rest)
+      → take n room ≡ y → LeftSince left after (λ rest. p ++ y ++ rest)
   left_moves room y n told piece bytes e =
       let h = split bytes e in
       let k = told_some (λ l l'. Moves l l' room n) before after h.0 h.1 told in (
@@ -52,9 +57,8 @@ module _ (left before after : Option (List ℕ)) (p : List ℕ)
 
 -- what was handed out with a piece more
 taken_grows : (taken before after : Option (List ℕ)) (p room y : List ℕ) (n : ℕ)
-    → ((t : List ℕ) → taken ≡ Some t → before ≡ Some (t ++ p))
-    → Told before after (λ t t'. t' ≡ t ++ take n room)
-    → take n room ≡ y → (t : List ℕ) → taken ≡ Some t → after ≡ Some (t ++ (p ++ y))
+    → TakenSince taken before p → Told before after (λ t t'. t' ≡ t ++ take n room)
+    → take n room ≡ y → TakenSince taken after (p ++ y)
 taken_grows taken before after p room y n so_far told piece t e =
     let k = told_some (λ t t'. t' ≡ t ++ take n room) before after (t ++ p) (so_far t e) told in
     k.1 ∙ ap Some (k.2 ∙ ap (λ l. (t ++ p) ++ l) piece ∙ append_assoc t p y)
@@ -65,18 +69,14 @@ pub record Came (left left' taken taken' : Option (List ℕ)) (items new p y : L
   pub full : length new ≡ length items
   pub size : length y ≡ n
   pub short : length y ≤ 65536
-  pub rest : (bytes : List ℕ) → left ≡ Some bytes → (rest : List ℕ) × (left' ≡ Some rest)
-      × (bytes ≡ p ++ y ++ rest)
-  pub handed : (t : List ℕ) → taken ≡ Some t → taken' ≡ Some (t ++ (p ++ y))
+  pub rest : LeftSince left left' (λ rest. p ++ y ++ rest)
+  pub handed : TakenSince taken taken' (p ++ y)
 
 pub piece_came : (left before left' taken handed taken' : Option (List ℕ)) (items new room : List ℕ)
     (len n : ℕ)
     → length items ≡ 65536 → len ≡ length items → length new ≡ length items
     → room ≡ take len (new ++ drop (length new) items) → n ≤ length new
-    → (p : List ℕ)
-    → ((bytes : List ℕ) → left ≡ Some bytes → (rest : List ℕ) × (before ≡ Some rest)
-    × (bytes ≡ p ++ rest))
-    → ((t : List ℕ) → taken ≡ Some t → handed ≡ Some (t ++ p))
+    → (p : List ℕ) → LeftSince left before (λ rest. p ++ rest) → TakenSince taken handed p
     → Told before left' (λ l l'. Moves l l' new n)
     → Told handed taken' (λ t t'. t' ≡ t ++ take n new)
     → Came left left' taken taken' items new p (take n room) n
@@ -94,28 +94,22 @@ piece_came left before left' taken handed taken' items new room len n usual e fu
 
 -- what was known of the input with no piece more
 pub left_still : (left mid left' : Option (List ℕ)) (p : List ℕ)
-    → ((bytes : List ℕ) → left ≡ Some bytes → (rest : List ℕ) × (mid ≡ Some rest)
-    × (bytes ≡ p ++ rest)) → Told mid left' (λ l l'. l' ≡ l)
-    → (bytes : List ℕ) → left ≡ Some bytes → (rest : List ℕ) × (left' ≡ Some rest)
-    × (bytes ≡ p ++ [] ++ rest)
+    → LeftSince left mid (λ rest. p ++ rest) → Told mid left' (λ l l'. l' ≡ l)
+    → LeftSince left left' (λ rest. p ++ [] ++ rest)
 left_still left mid left' p known kept bytes e =
     let h = known bytes e in
     let k = told_some (λ l l'. l' ≡ l) mid left' h.0 h.1 kept in
     (k.0, k.1, h.2 ∙ ap (λ l. p ++ l) (sym k.2) ∙ ap (λ l. l ++ k.0) (sym (append-nil p)))
 
-pub taken_still : (taken mid taken' : Option (List ℕ)) (p : List ℕ) → ((t : List ℕ) → taken ≡ Some t
-    → mid ≡ Some (t ++ p)) → Told mid taken' (λ t t'. t' ≡ t) → (t : List ℕ) → taken ≡ Some t
-    → taken' ≡ Some (t ++ (p ++ []))
+pub taken_still : (taken mid taken' : Option (List ℕ)) (p : List ℕ) → TakenSince taken mid p
+    → Told mid taken' (λ t t'. t' ≡ t) → TakenSince taken taken' (p ++ [])
 taken_still taken mid taken' p took kept t e =
     let k = told_some (λ u u'. u' ≡ u) mid taken' (t ++ p) (took t e) kept in
     k.1 ∙ ap Some (k.2 ∙ ap (λ l. t ++ l) (sym (append-nil p)))
 
 -- what is known of the input after some bytes, which are these
 pub left_as : (left left' : Option (List ℕ)) (p q : List ℕ) → p ≡ q
-    → ((bytes : List ℕ) → left ≡ Some bytes → (rest : List ℕ) × (left' ≡ Some rest)
-    × (bytes ≡ p ++ rest))
-    → (bytes : List ℕ) → left ≡ Some bytes → (rest : List ℕ) × (left' ≡ Some rest)
-    × (bytes ≡ q ++ rest)
+    → LeftSince left left' (λ rest. p ++ rest) → LeftSince left left' (λ rest. q ++ rest)
 left_as left left' p q same known bytes e = let h = known bytes e in (
   h.0,
   h.1,
@@ -123,30 +117,25 @@ left_as left left' p q same known bytes e = let h = known bytes e in (
       ∙ ap (λ l. l ++ h.0) same,
 )
 
-pub taken_as : (taken taken' : Option (List ℕ)) (p q : List ℕ) → p ≡ q
-    → ((t : List ℕ) → taken ≡ Some t → taken' ≡ Some (t ++ p)) → (t : List ℕ) → taken ≡ Some t
-    → taken' ≡ Some (t ++ q)
+pub taken_as : (taken taken' : Option (List ℕ)) (p q : List ℕ) → p ≡ q → TakenSince taken taken' p
+    → TakenSince taken taken' q
 taken_as taken taken' p q same known t e = known t e ∙ ap (λ l. Some (t ++ l)) same
 
 -- where no bytes came nothing is left
 module _ (first mid last : Option (List ℕ)) (p room : List ℕ) (n : ℕ) (zero : n ≡ 0) where
-  pub end_left : ((bytes : List ℕ) → first ≡ Some bytes → (rest : List ℕ) × (mid ≡ Some rest)
-      × (bytes ≡ p ++ rest)) → Told mid last (λ l l'. Moves l l' room n)
-      → (bytes : List ℕ) → first ≡ Some bytes → (rest : List ℕ) × (last ≡ Some rest)
-      × (bytes ≡ p ++ [] ++ rest)
+  pub end_left : LeftSince first mid (λ rest. p ++ rest) → Told mid last (λ l l'. Moves l l' room n)
+      → LeftSince first last (λ rest. p ++ [] ++ rest)
   end_left known moved =
       left_still first mid last p known (told_as (λ l l'. Moves l l' room n) (λ l l'. l' ≡ l) mid
       last moved (λ l l' m. m.rest ∙ ap (λ k. drop k l) zero))
 
-  pub end_taken : ((t : List ℕ) → first ≡ Some t → mid ≡ Some (t ++ p))
-      → Told mid last (λ t t'. t' ≡ t ++ take n room) → (t : List ℕ) → first ≡ Some t
-      → last ≡ Some (t ++ (p ++ []))
+  pub end_taken : TakenSince first mid p → Told mid last (λ t t'. t' ≡ t ++ take n room)
+      → TakenSince first last (p ++ [])
   end_taken took handed =
       taken_still first mid last p took (told_as (λ t t'. t' ≡ t ++ take n room) (λ t t'. t' ≡ t)
       mid last handed (λ t t' e. e ∙ ap (λ k. t ++ take k room) zero ∙ append-nil t))
 
-  pub end_over : ((bytes : List ℕ) → first ≡ Some bytes → (rest : List ℕ) × (mid ≡ Some rest)
-      × (bytes ≡ p ++ rest)) → Told mid last (λ l l'. Moves l l' room n)
+  pub end_over : LeftSince first mid (λ rest. p ++ rest) → Told mid last (λ l l'. Moves l l' room n)
       → Told mid last (λ l l'. (n ≡ 0) ↔ (l ≡ [])) → Told first last (λ all rest. rest ≡ [])
   end_over known moved ended = known_told (λ all rest. rest ≡ []) first last (λ all e.
       let h = known all e in
@@ -192,10 +181,8 @@ module _ {Z U E R S : Type 0} (g : Grammar Z U E R) (t : Teller S E R) where
   module _ (i i' : Input) (o o' : Output) (p y : List ℕ) (pending : IsPending g p) where
     -- by what is known of the input
     pub has_reported : (state : S) (result : Result (Ending R) SinkFault) (lines : List ℕ)
-        → length y ≤ 65536
-        → ((bytes : List ℕ) → i.left ≡ Some bytes → (rest : List ℕ) × (i'.left ≡ Some rest)
-        × (bytes ≡ p ++ y ++ rest))
-        → ((t : List ℕ) → i.taken ≡ Some t → i'.taken ≡ Some (t ++ (p ++ y)))
+        → length y ≤ 65536 → LeftSince i.left i'.left (λ rest. p ++ y ++ rest)
+        → TakenSince i.taken i'.taken (p ++ y)
         → Told o.written o'.written (Writes g t o.held p) → ReportsAs g t i i' o o' p y state result
         lines → HasReported g t i i' o o' state result lines
     has_reported state result lines short moved took wrote ends = record {

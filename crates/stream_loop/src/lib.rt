@@ -19,8 +19,6 @@
 //! keep so that its streams can be read to their end; `specs/Reported` what was read and written;
 //! `specs/Edges` what is seen of the input and the output; `specs/Laws` what follows, which
 //! [`laws`] carries. `specs/Reading` is for private calls, and `specs/Toy` for the tests.
-//!
-//! No program calls it yet: `dump_replay` has a loop of its own.
 #![tactic(auto)]
 
 pub mod laws;

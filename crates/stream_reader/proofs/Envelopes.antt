@@ -7,7 +7,7 @@ use Rattle.std.proofs.lemmas.List.{append-nil, take-append-le, take_all}
 use Rattle.unit_streams.specs.Front.{whole}
 use Rattle.unit_streams.specs.Grammar.{standing}
 use Rattle.unit_streams.specs.Judging.{ending_at, refusal_at}
-use Rattle.unit_streams.proofs.Along.{Passes, passes_then, passes_unit}
+use Rattle.unit_streams.proofs.Along.{Passes, passes_none, passes_then, passes_unit}
 use Rattle.nbfx_values.specs.declared.refusals.Reason.{Reason}
 use Rattle.nbfx_values.specs.declared.refusals.Reason.TheVariants.{MessageTooLarge}
 use Rattle.nmf_records.specs.declared.frame.Frame.TheVariants as frames
@@ -51,6 +51,37 @@ module _ (x : Settings) (z : Situation) where
         (passes_unit (stream x) (readable x) (within o q) from (y ∷ []) (payload_byte y) refl
         (ap (refused_payload x z) more ∙ ap (option_map (offence_in z.messages)) none))
 
+    -- a byte that more follow
+    byte_between : (q : List ℕ) (y from : ℕ) → length (q ++ y ∷ []) < o.size
+        → refusal_at (payload_in x z) (q ++ y ∷ []) ≡ None
+        → Passes (stream x) (within o q) from (y ∷ []) (within o (q ++ y ∷ [])) []
+    byte_between q y from lt clean =
+        let r : List ℕ = q ++ y ∷ [] in
+        let fine : refusal_in x z (behind r) ≡ None = refusal_before x z o r lt ∙ clean in
+        subst (λ (w : Situation). Passes (stream x) (within o q) from (y ∷ []) w [])
+        (more_behind x z (behind r) (omega arith))
+        (subst (λ (v : Option StreamEvent). Passes (stream x) (within o q) from (y ∷ [])
+        (behind_payload x z (behind r)) (option_to_list v))
+        (more_completed x z (behind r) (omega arith)) (byte_passes q y from fine))
+
+    -- bytes that more follow
+    front_passes : (c q : List ℕ) (from : ℕ) → length q + length c < o.size
+        → ((i : ℕ) → i ≤ length c → refusal_at (payload_in x z) (q ++ take i c) ≡ None)
+        → Passes (stream x) (within o q) from c (within o (q ++ c)) []
+    front_passes [] q from lt clean =
+        subst (λ (b : List ℕ). Passes (stream x) (within o q) from [] (within o b) [])
+        (sym (append-nil q)) (passes_none (stream x) (within o q) from)
+    front_passes (y ∷ c) q from lt clean =
+        let longer = length-append q (y ∷ []) in
+        subst (λ (b : List ℕ). Passes (stream x) (within o q) from (y ∷ c) (within o b) [])
+        (append_assoc q (y ∷ []) c)
+        (passes_then (stream x) (within o q) from (y ∷ []) c (within o (q ++ y ∷ []))
+        (within o ((q ++ y ∷ []) ++ c)) [] []
+        (byte_between q y from (omega (arith, longer, lt)) (clean 1 (omega arith)))
+        (front_passes c (q ++ y ∷ []) (from + 1) (omega (arith, longer, lt))
+        (λ i less. ap (refusal_at (payload_in x z)) (append_assoc q (y ∷ []) (take i c))
+        ∙ clean (suc i) (omega (arith, less)))))
+
     -- all that are left of its size
     payload_passes : (c q : List ℕ) (from : ℕ) → 0 < length c → length q + length c ≡ o.size
         → ((i : ℕ) → i < length c → refusal_at (payload_in x z) (q ++ take i c) ≡ None)
@@ -60,15 +91,7 @@ module _ (x : Settings) (z : Situation) where
     payload_passes (y ∷ d ∷ c) q from some all clean none =
         let longer = length-append q (y ∷ []) in
         let r : List ℕ = q ++ y ∷ [] in
-        let lt : length r < o.size = omega (arith, longer, all) in
-        let fine : refusal_in x z (behind r) ≡ None =
-        refusal_before x z o r lt ∙ clean 1 (omega arith) in
-        let first : Passes (stream x) (within o q) from (y ∷ []) (within o r) [] =
-        subst (λ (w : Situation). Passes (stream x) (within o q) from (y ∷ []) w [])
-        (more_behind x z (behind r) (omega arith))
-        (subst (λ (v : Option StreamEvent). Passes (stream x) (within o q) from (y ∷ [])
-        (behind_payload x z (behind r)) (option_to_list v))
-        (more_completed x z (behind r) (omega arith)) (byte_passes q y from fine)) in
+        let first = byte_between q y from (omega (arith, longer, all)) (clean 1 (omega arith)) in
         let joined : r ++ d ∷ c ≡ q ++ y ∷ d ∷ c = append_assoc q (y ∷ []) (d ∷ c) in
         let rest = payload_passes (d ∷ c) r (from + 1) (omega arith) (omega (arith, longer, all))
         (λ i less. ap (refusal_at (payload_in x z)) (append_assoc q (y ∷ []) (take i (d ∷ c)))
@@ -80,7 +103,9 @@ module _ (x : Settings) (z : Situation) where
         (option_to_list (completed_payload x z (behind (r ++ d ∷ c)))) first rest)
 
   -- a record that makes or resumes a payload
-  module _ (from : ℕ) (read : Read) (b : List ℕ) (o : OpenPayload) (reads : unit_in x z.stage from b ≡ whole (frame read) (length b)) (made : payload_by x z from read.frame ≡ Some o) (fine : reason_in x z.stage read.frame read.text ≡ None) where
+  module _ (from : ℕ) (read : Read) (b : List ℕ) (o : OpenPayload) (reads : unit_in x z.stage from b
+      ≡ whole (frame read) (length b)) (made : payload_by x z from read.frame ≡ Some o)
+      (fine : reason_in x z.stage read.frame read.text ≡ None) where
     unrefused : refusal_in x z o ≡ None → refused_record x z from read.frame read.text ≡ None
     unrefused none =
         ap (λ (v : Option Reason). option_or (option_map (offence_at from) v)
@@ -97,6 +122,31 @@ module _ (x : Settings) (z : Situation) where
         (completed_bare z (from + length b) read.frame read.text)))) made
         (passes_unit (stream x) (readable x) z from b (frame read) reads (unrefused none))
 
+    -- the record alone, where bytes of its part are to come
+    opened_passes : (q : List ℕ) → o ≡ payload_behind x z o q → length q < o.size
+        → refusal_at (payload_in x z) q ≡ None → Passes (stream x) z from b (within o q) []
+    opened_passes q is lt clean =
+        let left : 0 < (payload_behind x z o q).left = omega (arith, lt) in
+        let so : refusal_in x z o ≡ None =
+        ap (refusal_in x z) is ∙ refusal_before x z o q lt ∙ clean in
+        let opened : Leads z from b (payload_behind x z o q) =
+        subst (Leads z from b) is (made_passes so) in
+        subst (λ (w : Situation). Passes (stream x) z from b w [])
+        (more_behind x z (payload_behind x z o q) left)
+        (subst (λ (v : Option StreamEvent). Passes (stream x) z from b
+        (behind_payload x z (payload_behind x z o q)) (option_to_list v))
+        (more_completed x z (payload_behind x z o q) left) opened)
+
+    -- and bytes of its part that more follow
+    part_front : (q c : List ℕ) → o ≡ payload_behind x z o q → length q + length c < o.size
+        → ((i : ℕ) → i ≤ length c → refusal_at (payload_in x z) (q ++ take i c) ≡ None)
+        → Passes (stream x) z from (b ++ c) (within o (q ++ c)) []
+    part_front q c is lt clean =
+        passes_then (stream x) z from b c (within o q) (within o (q ++ c)) [] []
+        (opened_passes q is (omega (arith, lt))
+        (ap (refusal_at (payload_in x z)) (sym (append-nil q)) ∙ clean 0 (omega arith)))
+        (front_passes o c q (from + length b) lt clean)
+
     -- and all bytes of its part
     part_passes : (q c : List ℕ) → o ≡ payload_behind x z o q → length q + length c ≡ o.size
         → ((i : ℕ) → i < length c → refusal_at (payload_in x z) (q ++ take i c) ≡ None)
@@ -109,19 +159,8 @@ module _ (x : Settings) (z : Situation) where
         (sym (append-nil b))
         (subst (Leads z from b) same (made_passes (ap (refusal_in x z) same ∙ none)))
     part_passes q (y ∷ c) is all clean none =
-        let lt : length q < o.size = omega (arith, all) in
-        let left : 0 < (payload_behind x z o q).left = omega (arith, lt) in
-        let so : refusal_in x z o ≡ None =
-        ap (refusal_in x z) is ∙ refusal_before x z o q lt
-        ∙ ap (refusal_at (payload_in x z)) (sym (append-nil q)) ∙ clean 0 (omega arith) in
-        let opened : Leads z from b (payload_behind x z o q) =
-        subst (Leads z from b) is (made_passes so) in
-        let first : Passes (stream x) z from b (within o q) [] =
-        subst (λ (w : Situation). Passes (stream x) z from b w [])
-        (more_behind x z (payload_behind x z o q) left)
-        (subst (λ (v : Option StreamEvent). Passes (stream x) z from b
-        (behind_payload x z (payload_behind x z o q)) (option_to_list v))
-        (more_completed x z (payload_behind x z o q) left) opened) in
+        let first = opened_passes q is (omega (arith, all))
+        (ap (refusal_at (payload_in x z)) (sym (append-nil q)) ∙ clean 0 (omega arith)) in
         passes_then (stream x) z from b (y ∷ c) (within o q)
         (behind_payload x z (payload_behind x z o (q ++ y ∷ c))) []
         (option_to_list (completed_payload x z (payload_behind x z o (q ++ y ∷ c)))) first
@@ -130,7 +169,8 @@ module _ (x : Settings) (z : Situation) where
   -- what a whole payload leads to
   whole_leads : (s : Situation) (from : ℕ) (b : List ℕ) (p : OpenPayload) → HasAll p
       → refusal_in x z p ≡ None → Leads s from b p
-      → Passes (stream x) s from b (behind_whole z p (z.messages + 1)) (message (envelope_of z p) ∷ [])
+      → Passes (stream x) s from b (behind_whole z p (z.messages + 1))
+      (message (envelope_of z p) ∷ [])
   whole_leads s from b p all none passes =
       let w = whole_behind x z p all none in
       subst (λ (t : Situation). Passes (stream x) s from b t (message (envelope_of z p) ∷ [])) w.0
@@ -152,6 +192,14 @@ module _ (x : Settings) (z : Situation) where
       ∙ clean.along (length payload) (omega arith))
       ∙ clean.at_end
 
+  sized_reads : (from : ℕ) (head : List ℕ) (size : ℕ) → z.stage ≡ record_due dues.Messages
+      → IsBare (frames.SizedEnvelope size) head
+      → unit_in x z.stage from head ≡ whole (frame (bare (frames.SizedEnvelope size))) (length head)
+  sized_reads from head size at is =
+      ap (λ (s : Stage). unit_in x s from head) at
+      ∙ record_unit x dues.Messages head from (bare (frames.SizedEnvelope size)) refl is
+      (envelope_comes (direction_of x.side) size) (omega arith)
+
   -- an envelope of one part
   pub sized_passes : (from : ℕ) (head payload : List ℕ) → z.stage ≡ record_due dues.Messages
       → IsBare (frames.SizedEnvelope (length payload)) head → length payload ≤ x.limits.payload
@@ -164,23 +212,78 @@ module _ (x : Settings) (z : Situation) where
   sized_passes from head payload at is low clean =
       let o : OpenPayload = payload_begun x z from (length payload) sized in
       let none = clean_last o payload clean refl refl in
-      let reads : unit_in x z.stage from head
-      ≡ whole (frame (bare (frames.SizedEnvelope (length payload)))) (length head) =
-      ap (λ (s : Stage). unit_in x s from head) at
-      ∙ record_unit x dues.Messages head from (bare (frames.SizedEnvelope (length payload))) refl is
-      (envelope_comes (direction_of x.side) (length payload)) (omega arith) in
       whole_leads z from (head ++ payload) (payload_behind x z o payload)
       (record { none_left = omega arith; last = refl }) none
-      (part_passes from (bare (frames.SizedEnvelope (length payload))) head o reads refl
-      (small (length payload) low) [] payload
+      (part_passes from (bare (frames.SizedEnvelope (length payload))) head o
+      (sized_reads from head (length payload) at is) refl (small (length payload) low) [] payload
       (behind_is x z o [] (begun_behind x z from (length payload) sized)) (omega arith)
       (λ i less. clean.along i (omega (arith, less))) none)
+
+  -- the same in two parts: up to the payload's last byte, and that byte
+  module _ (from : ℕ) (head front : List ℕ) (last : ℕ) (at : z.stage ≡ record_due dues.Messages)
+      (is : IsBare (frames.SizedEnvelope (length (front ++ last ∷ []))) head)
+      (low : length (front ++ last ∷ []) ≤ x.limits.payload)
+      (clean : IsClean x z (front ++ last ∷ [])) where
+    abbrev sized_payload : OpenPayload
+    sized_payload = payload_begun x z from (length (front ++ last ∷ [])) sized
+
+    abbrev pub before_last : Situation
+    before_last = within sized_payload front
+
+    pub sized_front : Passes (stream x) z from (head ++ front) before_last []
+    sized_front =
+        let size = length-append front (last ∷ []) in
+        part_front from (bare (frames.SizedEnvelope (length (front ++ last ∷ [])))) head
+        sized_payload
+        (sized_reads from head (length (front ++ last ∷ [])) at is) refl
+        (small (length (front ++ last ∷ [])) low) [] front
+        (behind_is x z sized_payload [] (begun_behind x z from (length (front ++ last ∷ [])) sized))
+        (omega (arith, size))
+        (λ i less. ap (refusal_at (payload_in x z)) (sym (take-append-le i front (last ∷ []) less))
+        ∙ clean.along i (omega (arith, less, size)))
+
+    -- the last byte leads behind the whole payload, and completes its document
+    abbrev whole_payload : OpenPayload
+    whole_payload = payload_behind x z sized_payload (front ++ last ∷ [])
+
+    last_fine : refusal_in x z whole_payload ≡ None
+    last_fine = clean_last sized_payload (front ++ last ∷ []) clean refl refl
+
+    last_behind : (behind_payload x z whole_payload
+        ≡ behind_whole z whole_payload (z.messages + 1))
+        × (completed_payload x z whole_payload ≡ Some (message (envelope_of z whole_payload)))
+    last_behind =
+        whole_behind x z whole_payload (record { none_left = omega arith; last = refl }) last_fine
+
+    pub last_reads : (to : ℕ) → unit_in x before_last.stage to (last ∷ [])
+        ≡ whole (payload_byte last) 1
+    unfolding unit_in
+    last_reads to = refl
+
+    pub last_unrefused : (to : ℕ) → refused x before_last to (payload_byte last) ≡ None
+    unfolding refused
+    last_unrefused to =
+        ap (refused_payload x z) (with_byte_is x z sized_payload front last)
+        ∙ ap (option_map (offence_in z.messages)) last_fine
+
+    pub last_completes : (to end : ℕ) → completed x before_last to end (payload_byte last)
+        ≡ Some (message (envelope_of z whole_payload))
+    unfolding completed
+    last_completes to end =
+        ap (completed_payload x z) (with_byte_is x z sized_payload front last) ∙ last_behind.1
+
+    pub last_leads : (to : ℕ) → after x before_last to (payload_byte last)
+        ≡ behind_whole z whole_payload (z.messages + 1)
+    unfolding after
+    last_leads to =
+        ap (behind_payload x z) (with_byte_is x z sized_payload front last) ∙ last_behind.0
 
 -- a front of bytes behind others
 pub fronts : (q c rest : List ℕ) (i : ℕ) → i ≤ length c
     → q ++ take i c ≡ take (length q + i) (q ++ (c ++ rest))
 fronts [] c rest i le =
-    sym (take-append-le i c rest le) ∙ ap (λ n. take n (c ++ rest)) (let n : i ≡ 0 + i = omega arith in n)
+    sym (take-append-le i c rest le) ∙ ap (λ n. take n (c ++ rest))
+    (let n : i ≡ 0 + i = omega arith in n)
 fronts (y ∷ q) c rest i le =
     ap (λ b. y ∷ b) (fronts q c rest i le)
     ∙ ap (λ n. take n (y ∷ q ++ (c ++ rest)))
@@ -286,7 +389,8 @@ module _ (x : Settings) (z : Situation) (start : ℕ) where
   unfolding AreChunks joined
   chunks_pass [] q bytes from is low clean =
       let none = append-nil q in
-      subst (λ (all : List ℕ). Passes (stream x) (between q) from bytes (ended_by all) (told_of all))
+      subst (λ (all : List ℕ). Passes (stream x) (between q) from bytes (ended_by all)
+      (told_of all))
       (sym none)
       (last_passes q bytes from is (let n = ap length none in omega (arith, n, low))
       (subst (IsClean x z) none clean))
@@ -329,7 +433,8 @@ unsized_passes x z due from head rest chunks at may is are low clean =
     let reads : unit_in x z.stage from head
     ≡ whole (frame (bare frames.UnsizedEnvelope)) (length head) =
     ap (λ (s : Stage). unit_in x s from head) at
-    ∙ record_unit x due head from (bare frames.UnsizedEnvelope) (due_going due may) is may (omega arith) in
+    ∙ record_unit x due head from (bare frames.UnsizedEnvelope) (due_going due may) is may
+    (omega arith) in
     let w = chunk_behind x z o refl refl in
     let first : Passes (stream x) z from head (between x z from []) [] =
     subst (λ (p : OpenPayload). Passes (stream x) z from head (record z { stage = chunk_due p }) [])

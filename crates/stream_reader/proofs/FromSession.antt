@@ -52,7 +52,7 @@ module _ (x : Settings) (good : IsGood x.limits) (mode : Mode) (kind : Kind) (te
   due_at due messages strings = at (record_due due) mode kind text messages strings
 
   -- a document's payload is refused nowhere
-  decoded : (one : Carried) (strings : List (List ℕ)) → used_cost strings ≤ x.limits.dictionary
+  pub decoded : (one : Carried) (strings : List (List ℕ)) → used_cost strings ≤ x.limits.dictionary
       → IsWholePayload (payloads x kind) strings one.own one.items one.payload
       → IsDecoded (payloads x kind) strings one.payload one.items one.own
   decoded one strings cheap is =
@@ -62,7 +62,7 @@ module _ (x : Settings) (good : IsGood x.limits) (mode : Mode) (kind : Kind) (te
         dictionary = cheap;
       })).1 (is.is_payload, is.within.admitted)
 
-  clean_of : (one : Carried) (due : Due) (messages : ℕ) (strings : List (List ℕ))
+  pub clean_of : (one : Carried) (due : Due) (messages : ℕ) (strings : List (List ℕ))
       → IsDecoded (payloads x kind) strings one.payload one.items one.own
       → IsClean x (due_at due messages strings) one.payload
   clean_of one due messages strings d =
@@ -141,7 +141,7 @@ module _ (x : Settings) (good : IsGood x.limits) (mode : Mode) (kind : Kind) (te
       }) ∷ [])) (sym payload_is) passes))
 
   -- envelopes of one part
-  sized_envelopes : ((p b : List ℕ) → IsEnvelopeIn mode p b → IsSized p b)
+  pub sized_envelopes : ((p b : List ℕ) → IsEnvelopeIn mode p b → IsSized p b)
       → (carried : List Carried) (b : List ℕ) (number : ℕ) (strings : List (List ℕ))
       (messages from : ℕ) → used_cost strings ≤ x.limits.dictionary
       → number + length carried ≡ messages → CarriesAll x mode kind strings carried b
@@ -328,22 +328,30 @@ module _ (endpoint : Option (List ℕ)) (statics : List Entry) (l : Limits) (goo
       (record_unit x dues.PreambleEnd b from (bare frames.PreambleEnd) refl is refl (omega arith))
       refl
 
-  pub preamble_passes : (mode : Mode) (kind : Kind) (via b : List ℕ) → IsPreamble x mode kind via b
-      → Passes (stream x) (beginning x) 0 b
-      (at (record_due (behind_preamble FromInitiator mode)) mode kind via 0 [])
-      (opened mode kind via ∷ [])
-  preamble_passes mode kind via b h =
+  -- up to its last record
+  pub preamble_front : (mode : Mode) (kind : Kind) (via b : List ℕ)
+      (h : IsPreamble x mode kind via b)
+      → Passes (stream x) (beginning x) 0 (h.version ++ h.mode_record ++ h.via_record ++ h.encoding)
+      (at (record_due dues.PreambleEnd) mode kind via 0 []) []
+  preamble_front mode kind via b h =
       let c1 = h.version in
       let c2 = c1 ++ h.mode_record in
       let c3 = c2 ++ h.via_record in
-      let c4 = c3 ++ h.encoding in
       let p1 = version_passes 0 c1 h.is_version in
       let p2 = passes_then (stream x) (beginning x) 0 c1 h.mode_record _ _ [] [] p1
       (mode_passes mode (0 + length c1) h.mode_record h.is_mode) in
       let p3 = passes_then (stream x) (beginning x) 0 c2 h.via_record _ _ [] [] p2
       (via_passes mode (0 + length c2) via h.via_record h.is_via h.via_within h.served) in
-      let p4 = passes_then (stream x) (beginning x) 0 c3 h.encoding _ _ [] [] p3
-      (encoding_passes mode (0 + length c3) via kind h.encoding h.is_encoding) in
-      let p5 = passes_then (stream x) (beginning x) 0 c4 h.end _ _ [] (opened mode kind via ∷ []) p4
+      passes_then (stream x) (beginning x) 0 c3 h.encoding _ _ [] [] p3
+      (encoding_passes mode (0 + length c3) via kind h.encoding h.is_encoding)
+
+  pub preamble_passes : (mode : Mode) (kind : Kind) (via b : List ℕ) → IsPreamble x mode kind via b
+      → Passes (stream x) (beginning x) 0 b
+      (at (record_due (behind_preamble FromInitiator mode)) mode kind via 0 [])
+      (opened mode kind via ∷ [])
+  preamble_passes mode kind via b h =
+      let c4 = h.version ++ h.mode_record ++ h.via_record ++ h.encoding in
+      let p5 = passes_then (stream x) (beginning x) 0 c4 h.end _ _ [] (opened mode kind via ∷ [])
+      (preamble_front mode kind via b h)
       (preamble_end_passes mode (0 + length c4) via kind h.end h.is_end) in
       rw h.joined p5

@@ -51,3 +51,7 @@ pub mod Behind
 pub mod RecordFacts
 pub mod RecordSteps
 pub mod FeedSteps
+-- for a loop over pieces
+pub mod Readings
+-- a machine that is a reader (specs/Calls)
+pub mod EndTold

@@ -18,7 +18,7 @@ use Rattle.nbfx_decoder.specs.declared.decoder.Decoder.{Decoder}
 use Rattle.nbfx_decoder.specs.declared.faults.DecodeFault.{DecodeFault}
 use Rattle.nbfx_decoder.specs.declared.faults.DecodeFault.TheVariants as faults
 use Rattle.nbfx_decoder.specs.Standing.{settings_of as decoder_settings, situation_of, StandsFor as DecoderStandsFor, FailedBehind as DecoderFailedBehind, FailedWithin, FeedAnswers}
-use Rattle.nbfx_decoder.proofs.FeedSteps.{stands_as}
+use Rattle.nbfx_decoder.proofs.StandsFacts.{stands_as}
 use Rattle.stream_reader.specs.declared.awaited.Awaited.{Awaited}
 use Rattle.stream_reader.specs.declared.awaited.Awaited.TheVariants as awaits
 use Rattle.stream_reader.specs.declared.awaited.PayloadLeft.{PayloadLeft}

@@ -13,7 +13,7 @@ use Rattle.nbfx_decoder.specs.declared.decoder.Decoder.{Decoder}
 use Rattle.nbfx_decoder.specs.declared.faults.DecodeFault.{DecodeFault}
 use Rattle.nbfx_decoder.specs.declared.faults.DecodeFault.TheVariants as faults
 use Rattle.nbfx_decoder.specs.Standing.{settings_of as decoder_settings, situation_of, table_at, StandsFor as DecoderStandsFor, FailedBehind as DecoderFailedBehind, FinishAnswers}
-use Rattle.nbfx_decoder.proofs.FeedSteps.{stands_as}
+use Rattle.nbfx_decoder.proofs.StandsFacts.{stands_as}
 use Rattle.nbfx_decoder.proofs.Readable.{readable as payload_readable}
 use Rattle.stream_reader.specs.declared.awaited.Awaited.{Awaited}
 use Rattle.stream_reader.specs.declared.awaited.Awaited.TheVariants as awaits
@@ -47,6 +47,12 @@ pub strings_first : (g : PayloadSettings) (strings : List (List ℕ))
 strings_first g strings =
     ap (λ (s : PayloadStanding). s.situation.strings)
     (standing_nothing (payload g strings) (payload_readable g strings))
+
+-- a reader that is the same has decoded the same
+pub decoded_as : {old new : StreamReader} {x : Settings} {z : Situation} {here : PayloadLeft}
+    {o : OpenPayload} → new ≡ old → HasDecoded old x z here o → HasDecoded new x z here o
+decoded_as {old} {new} {x} {z} {here} {o} same h =
+    subst (λ (r : StreamReader). HasDecoded r x z here o) (sym same) h
 
 module _ (r : StreamReader) (x : Settings) (z : Situation) (here : PayloadLeft) (o : OpenPayload)
     (h : HasDecoded r x z here o) where

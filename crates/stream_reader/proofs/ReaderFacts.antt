@@ -17,7 +17,7 @@ use Rattle.nbfx_decoder.specs.Payload.{Settings as PayloadSettings, payload}
 use Rattle.nbfx_decoder.specs.declared.decoder.Decoder.{Decoder}
 use Rattle.nbfx_decoder.specs.declared.faults.DecodeFault.{DecodeFault}
 use Rattle.nbfx_decoder.specs.Standing.{settings_of as decoder_settings, situation_of, begun_of, StandsFor as DecoderStandsFor, FailedBehind as DecoderFailedBehind, WhereItStands as WhereDecoderStands, WhereItFailed as WhereDecoderFailed}
-use Rattle.nbfx_decoder.proofs.FeedSteps.{stands_as}
+use Rattle.nbfx_decoder.proofs.StandsFacts.{stands_as}
 use Rattle.nbfx_decoder.proofs.Readable.{readable as payload_readable}
 use Rattle.nbfx_decoder.proofs.Sound.{keeps_within}
 use Rattle.stream_reader.specs.declared.awaited.Awaited.{Awaited}

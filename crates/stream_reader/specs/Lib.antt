@@ -8,6 +8,7 @@ pub mod Reasons
 pub mod Laws
 pub mod Saying
 pub mod Standing
+pub mod Calls
 -- cited by a reader's own state and by private calls
 pub mod Bounds
 pub mod Stepping

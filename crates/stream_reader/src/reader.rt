@@ -252,6 +252,13 @@ impl<'s> StreamReader<'s> {
         self.taken
     }
 
+    /// The refusal that it answers from now on, once there is one.
+    pub fn failure(&self) -> Option<ReadRefusal>
+        ensures { result ≡ failure_of self.now }
+    {
+        self.failure
+    }
+
     /// How many documents were read.
     pub fn messages(&self) -> u64
         ensures counted { result ≡ messages_of self.now }

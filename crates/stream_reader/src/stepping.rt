@@ -1,7 +1,7 @@
 //! The parts of a reader's step: a record or a chunk's size, bytes of a payload, and what each
 //! leads to.
 
-ghost use Rattle.std.specs.Prelude.{◌≡◌, ℕ, ◌+◌, ◌≤◌, ◌<◌, List, [], length, take, IfOk, IfErr, OnOk, Ok, Some, None, false};
+ghost use Rattle.std.specs.Prelude.{◌≡◌, ℕ, ◌+◌, ◌≤◌, ◌<◌, List, [], length, take, IfOk, IfErr, OnOk, Ok, Some, None, false, true};
 ghost use Rattle.unit_streams.specs.Judging.{is_over_at};
 ghost use Rattle.nbfx_values.specs.QuotasOf.{limits_of};
 ghost use Rattle.stream_reader.specs.Stream.{stream, offence_at};
@@ -19,7 +19,7 @@ impl<'s> StreamReader<'s> {
     ghost use Rattle.nmf_records.specs.Reader.{ShowsText as FramesShowText};
     ghost use Rattle.stream_reader.specs.Sides.{side_of};
     ghost use Rattle.stream_reader.specs.Standing.{settings_of, failure_of, Awaits, WhereItStands};
-    ghost use Rattle.stream_reader.specs.Stepping.{UnitAnswers, BehindAnswers, HasDecoded, IsDue, DecodesAfter, IsMoved, Keeps, KeepsParts, KeepsShown, MakesPayload, RecordAnswers, awaited_after, bare_step, begun_by, closing_after, closing_step, mode_after, due_of, has_ended, may_end_at, opened_at, size_before_of, taken_since, refusal_told};
+    ghost use Rattle.stream_reader.specs.Stepping.{UnitAnswers, BehindAnswers, HasDecoded, IsDue, DecodesAfter, IsMoved, Keeps, KeepsParts, KeepsShown, MakesPayload, RecordAnswers, awaited_after, bare_step, begun_by, closing_after, closing_step, is_chunked_form, mode_after, due_of, has_ended, may_end_at, opened_at, size_before_of, taken_since, refusal_told};
     ghost use Rattle.stream_reader.specs.Stream.{Settings, Situation, Stage, OpenPayload, behind_payload, completed, completed_payload, direction_of, frame as frame_unit, led, reason_in, refused_payload, after_record, completed_record, refused_record, payload_by};
 
     pub(crate) fn has_ended(&self) -> bool
@@ -138,11 +138,12 @@ impl<'s> StreamReader<'s> {
         ensures within { IfOk result (λ answer. answer.0 ≤ length bytes.now) }
         ensures taken { IfOk result (λ answer. self.new.taken ≡ self.old.taken + answer.0) }
     {
-        match self.awaited {
-            Awaited::Payload(payload) => self.payload(payload, bytes),
-            Awaited::Chunk(_) => self.record(Due::Chunk, bytes),
-            Awaited::Record(due) => self.record(due, bytes),
-        }
+        let due = match self.awaited {
+            Awaited::Payload(payload) => return self.payload(payload, bytes),
+            Awaited::Chunk(_) => Due::Chunk,
+            Awaited::Record(due) => due,
+        };
+        self.record(due, bytes)
     }
 
     // Takes bytes of the payload, as far as they are its own.
@@ -171,8 +172,36 @@ impl<'s> StreamReader<'s> {
         let left = payload.left - n as u32;
         let payload = PayloadLeft { left, ..payload };
         self.awaited = Awaited::Payload(payload);
-        let step = self.behind_payload(payload)?;
+        if self.awaits_more(payload) {
+            return Ok((n, StreamStep::More));
+        }
+        let step = self.behind_last(payload)?;
         Ok((n, step))
+    }
+
+    // Whether more of a payload is to come after bytes of it: others of the same part, or another
+    // chunk, whose size is awaited then.
+    fn awaits_more(&mut self, payload: PayloadLeft) -> bool
+        requires awaited { self.old.awaited ≡ Awaited.Payload payload }
+        ensures answers { result ≡ true → (x : Settings) (z : Situation) (p : OpenPayload)
+            → HasDecoded self.old x z payload p
+            → BehindAnswers x (behind_payload x z p) (completed_payload x z p)
+            (refused_payload x z p) self.new (Ok StreamStep.More) }
+        ensures last { result ≡ false → payload.left ≡ 0 }
+        ensures unchunked { result ≡ false → is_chunked_form payload.form ≡ false }
+        ensures unchanged { result ≡ false → self.new ≡ self.old }
+        ensures unit_from { self.new.unit_from ≡ self.old.unit_from }
+        ensures unfailed { self.new.failure ≡ self.old.failure }
+        ensures keeps { Keeps self.old self.new }
+    {
+        if payload.left > 0 {
+            return true;
+        }
+        if payload.form.is_chunked() {
+            self.awaited = Awaited::Chunk(payload);
+            return true;
+        }
+        false
     }
 
     // Goes on after bytes of a payload; after the last of them it answers its document.
@@ -187,13 +216,25 @@ impl<'s> StreamReader<'s> {
         ensures unfailed { OnOk result (self.new.failure ≡ self.old.failure) }
         ensures keeps { Keeps self.old self.new }
     {
-        if payload.left > 0 {
+        if self.awaits_more(payload) {
             return Ok(StreamStep::More);
         }
-        if payload.form.is_chunked() {
-            self.awaited = Awaited::Chunk(payload);
-            return Ok(StreamStep::More);
-        }
+        self.behind_last(payload)
+    }
+
+    // Answers the document of a payload whose last byte was taken.
+    fn behind_last(&mut self, payload: PayloadLeft) -> Result<StreamStep, ReadRefusal>
+        requires last { payload.left ≡ 0 }
+        requires unchunked { is_chunked_form payload.form ≡ false }
+        ensures answers { (x : Settings) (z : Situation) (p : OpenPayload)
+            → HasDecoded self.old x z payload p
+            → BehindAnswers x (behind_payload x z p) (completed_payload x z p)
+            (refused_payload x z p) self.new result }
+        ensures refused { IfErr result (λ refusal. failure_of self.new ≡ Some refusal) }
+        ensures unit_from { OnOk result (self.new.unit_from ≡ self.old.unit_from) }
+        ensures unfailed { OnOk result (self.new.failure ≡ self.old.failure) }
+        ensures keeps { Keeps self.old self.new }
+    {
         let doc = match self.decoder.finish() {
             Ok(doc) => doc,
             Err(fault) => return Err(self.refuse_payload(fault)),
@@ -212,6 +253,7 @@ impl<'s> StreamReader<'s> {
     }
 
     // Takes bytes of a record, or of a chunk's size.
+    #[inline(never)]
     fn record(&mut self, due: Due, bytes: &[u8]) -> Result<(usize, StreamStep), ReadRefusal>
         requires awaited { due_of self.old.awaited ≡ Some due }
         requires some { 0 < length bytes.now }

@@ -1,10 +1,10 @@
-use Rattle.std.proofs.Common.{◌≡◌, ℕ, ◌-◌, List, ◌++◌, length, Some, Ok}
+use Rattle.std.proofs.Common.{◌≡◌, ℕ, ◌-◌, List, ◌++◌, length, Ok}
 use Rattle.io_edges.specs.Puts.{PutsAll}
 use Rattle.unit_streams.specs.Going.{IsPending}
 use Rattle.unit_streams.specs.Tellers.{told_so_far}
 use Rattle.stream_loop.specs.Answers.{written_by}
 use Rattle.stream_loop.specs.Reading.{HasRead}
-use Rattle.stream_loop.proofs.LoopSteps.{WritesSoFar}
+use Rattle.stream_loop.proofs.LoopSteps.{LeftSince, TakenSince, WritesSoFar}
 use Rattle.stream_loop.proofs.reporting.put_report.Given as goal
 
 abbrev pub invariant-loop-room : goal.invariant-loop-room
@@ -18,10 +18,8 @@ invariant-loop-room g l = record {
       (written_by g.E.ReadingEnd.event_for (g.T.Reporter.rules l.initial.reporter))
       (g.E.ReadingEnd.stands l.end) (g.T.Reporter.state l.reporter) p
       × IsPending (g.E.ReadingEnd.grammar l.initial.end) p
-      × ((bytes : List ℕ) → g.I.Source.left l.initial.input ≡ Some bytes → (rest : List ℕ)
-      × (g.I.Source.left l.input ≡ Some rest) × (bytes ≡ p ++ rest))
-      × ((t : List ℕ) → g.I.Source.taken l.initial.input ≡ Some t → g.I.Source.taken l.input
-      ≡ Some (t ++ p))
+      × LeftSince (g.I.Source.left l.initial.input) (g.I.Source.left l.input) (λ rest. p ++ rest)
+      × TakenSince (g.I.Source.taken l.initial.input) (g.I.Source.taken l.input) p
       × PutsAll (told_so_far (g.E.ReadingEnd.grammar l.initial.end)
       (written_by g.E.ReadingEnd.event_for (g.T.Reporter.rules l.initial.reporter)) p) (Ok tt)
       (g.O.Sink.written l.initial.output) (g.O.Sink.written l.output)

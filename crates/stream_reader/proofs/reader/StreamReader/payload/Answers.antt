@@ -1,4 +1,4 @@
-use Rattle.std.proofs.Common.{◌≡◌, ℕ, ◌+◌, ◌≤◌, ◌<◌, ◌^◌, List, length, min, take, refl, sym, ap, subst, arith}
+use Rattle.std.proofs.Common.{◌≡◌, ℕ, ◌+◌, ◌≤◌, ◌<◌, ◌^◌, List, length, min, take, refl, sym, ap, ◌∙◌, subst, arith}
 use Rattle.std.proofs.lemmas.List.{length-take-le}
 use Rattle.std.proofs.lemmas.Result.{err_from_is_err_and}
 use Rattle.std.proofs.Math.Logic.{∥∥₁_map}
@@ -8,11 +8,13 @@ use Rattle.nbfx_decoder.specs.Standing.{settings_of as decoder_settings, FailedW
 use Rattle.stream_reader.specs.declared.awaited.Awaited.TheVariants as awaits
 use Rattle.stream_reader.specs.declared.awaited.PayloadLeft.{PayloadLeft}
 use Rattle.stream_reader.specs.declared.reader.StreamReader.{StreamReader}
+use Rattle.stream_reader.specs.declared.reader.StreamStep.TheVariants.{More}
 use Rattle.stream_reader.specs.Bounds.{IsBounded, size_of, to_come}
 use Rattle.stream_reader.specs.Standing.{Reached, StandsFor, failure_of, settings_of}
 use Rattle.stream_reader.specs.Stream.{Settings, stream}
 use Rattle.stream_reader.proofs.Bounded.{bounded_fed, bounded_refused, failed_within, may_take}
 use Rattle.stream_reader.proofs.PayloadFeeds.{found, own, more_left, has_decoded, feed_took, feed_behind, feed_fails}
+use Rattle.stream_reader.proofs.PayloadSteps.{decoded_as}
 use Rattle.stream_reader.proofs.ReaderFacts.{failure_as, same_settings}
 use Rattle.stream_reader.proofs.Situations.{messages_within}
 use Rattle.stream_reader.proofs.reader.StreamReader.payload.Goals as goal
@@ -45,15 +47,24 @@ returns-in-Err-clause-settings c = same_settings c.args.self.now c.refuse_payloa
     c.refuse_payload.ensures.shown.side c.refuse_payload.ensures.shown.statics
     c.refuse_payload.ensures.shown.quotas
 
+pub returns-then-awaits_more-clause-settings : goal.returns-then-awaits_more-clause-settings
+returns-then-awaits_more-clause-settings c = same_settings c.args.self.now c.awaits_more.new.self
+    c.awaits_more.ensures.keeps.side c.awaits_more.ensures.keeps.statics
+    c.awaits_more.ensures.keeps.quotas
+
 pub returns-in_err-step-clause-settings : goal.returns-in_err-step-clause-settings
-returns-in_err-step-clause-settings c = same_settings c.args.self.now c.behind_payload.new.self
-    c.in_err-step.ensures.keeps.side c.in_err-step.ensures.keeps.statics
-    c.in_err-step.ensures.keeps.quotas
+returns-in_err-step-clause-settings c =
+    let then = c.in_err-step.ensures.keeps in
+    let first = c.awaits_more.ensures.keeps in
+    same_settings c.args.self.now c.behind_last.new.self (then.side ∙ first.side)
+    (then.statics ∙ first.statics) (then.quotas ∙ first.quotas)
 
 pub returns-clause-settings : goal.returns-clause-settings
-returns-clause-settings c = same_settings c.args.self.now c.behind_payload.new.self
-    c.in_ok-step.ensures.keeps.side c.in_ok-step.ensures.keeps.statics
-    c.in_ok-step.ensures.keeps.quotas
+returns-clause-settings c =
+    let then = c.in_ok-step.ensures.keeps in
+    let first = c.awaits_more.ensures.keeps in
+    same_settings c.args.self.now c.behind_last.new.self (then.side ∙ first.side)
+    (then.statics ∙ first.statics) (then.quotas ∙ first.quotas)
 
 pub invariant_of-self-2-clause-bounded : goal.invariant_of-self-2-clause-bounded
 invariant_of-self-2-clause-bounded c =
@@ -126,6 +137,32 @@ module _ (r : StreamReader) (left : PayloadLeft) (is : r.awaited ≡ awaits.Payl
   short : (p : List ℕ) → Reached r (settings_of r) p → length p + n ≤ (settings_of r).limits.session
   short p h = let session = session_is r in omega (arith, least, fits, h.taken, session)
 
+pub returns-then-awaits_more-clause-answers : goal.returns-then-awaits_more-clause-answers
+unfolding StandsFor
+returns-then-awaits_more-clause-answers c = λ p h.
+    let r : StreamReader = c.args.self.now in
+    let x : Settings = settings_of c.args.self.now in
+    let n : ℕ = c.min-n.result in
+    let left : PayloadLeft = c.args.payload in
+    let bytes : List ℕ = c.args.bytes.now in
+    let own_is = own r x p h left c.requires.awaited in
+    let few_bytes = few r left c.requires.awaited bytes n c.min-n.ensures c.requires.some
+    c.requires.fits in
+    let within_bytes = within r left c.requires.awaited bytes n c.min-n.ensures c.requires.some
+    c.requires.fits in
+    let short_of = short r left c.requires.awaited bytes n c.min-n.ensures c.requires.some
+    c.requires.fits p h in
+    let some = some_read r left c.requires.awaited bytes n c.min-n.ensures c.requires.some
+    c.requires.fits p h in
+    let decoded = has_decoded r x p h left c.requires.awaited bytes n within_bytes few_bytes
+    short_of _ _ refl refl refl refl refl refl refl c.in_default.ensures.settings
+    (c.in_default.ensures.stands _ own_is.bytes own_is.stands_for) (few_messages r p h) in
+    feed_took r x p h left c.requires.awaited bytes n within_bytes few_bytes short_of some
+    (c.in_default.ensures.answers _ own_is.bytes own_is.stands_for) c.awaits_more.new.self
+    More (c.awaits_more.ensures.answers c.if-awaits_more.true x _ _ decoded)
+    c.awaits_more.ensures.keeps.frames c.awaits_more.ensures.keeps.taken
+    c.awaits_more.ensures.unit_from c.awaits_more.ensures.unfailed
+
 pub returns-in_err-step-clause-answers : goal.returns-in_err-step-clause-answers
 unfolding StandsFor
 returns-in_err-step-clause-answers c = λ p h.
@@ -147,11 +184,14 @@ returns-in_err-step-clause-answers c = λ p h.
     short_of _ _ refl refl refl refl refl refl refl c.in_default.ensures.settings
     (c.in_default.ensures.stands _ own_is.bytes own_is.stands_for) (few_messages r p h) in
     let told = err_from_is_err_and c.from_residual.result c.from_residual.ensures.1 in
+    let first = c.awaits_more.ensures.keeps in
+    let then = c.in_err-step.ensures.keeps in
+    let here = decoded_as (c.awaits_more.ensures.unchanged c.if-awaits_more.false) decoded in
     rw (told.1, told.2)
     (feed_behind r x p h left c.requires.awaited bytes n within_bytes few_bytes short_of some
-    (c.in_default.ensures.answers _ own_is.bytes own_is.stands_for) c.behind_payload.new.self
-    c.in_err-step.field-0.0 (c.in_err-step.ensures.answers x _ _ decoded)
-    c.in_err-step.ensures.keeps.frames c.in_err-step.ensures.keeps.taken
+    (c.in_default.ensures.answers _ own_is.bytes own_is.stands_for) c.behind_last.new.self
+    c.in_err-step.field-0.0 (c.in_err-step.ensures.answers x _ _ here)
+    (then.frames ∙ first.frames) (then.taken ∙ first.taken)
     (failure_as _ _ c.in_err-step.ensures.refused))
 
 pub returns-clause-answers : goal.returns-clause-answers
@@ -174,8 +214,12 @@ returns-clause-answers c = λ p h.
     let decoded = has_decoded r x p h left c.requires.awaited bytes n within_bytes few_bytes
     short_of _ _ refl refl refl refl refl refl refl c.in_default.ensures.settings
     (c.in_default.ensures.stands _ own_is.bytes own_is.stands_for) (few_messages r p h) in
+    let first = c.awaits_more.ensures.keeps in
+    let then = c.in_ok-step.ensures.keeps in
+    let here = decoded_as (c.awaits_more.ensures.unchanged c.if-awaits_more.false) decoded in
     feed_took r x p h left c.requires.awaited bytes n within_bytes few_bytes short_of some
-    (c.in_default.ensures.answers _ own_is.bytes own_is.stands_for) c.behind_payload.new.self
-    c.in_ok-step.step (c.in_ok-step.ensures.answers x _ _ decoded) c.in_ok-step.ensures.keeps.frames
-    c.in_ok-step.ensures.keeps.taken
-    c.in_ok-step.ensures.unit_from c.in_ok-step.ensures.unfailed
+    (c.in_default.ensures.answers _ own_is.bytes own_is.stands_for) c.behind_last.new.self
+    c.in_ok-step.step (c.in_ok-step.ensures.answers x _ _ here)
+    (then.frames ∙ first.frames) (then.taken ∙ first.taken)
+    (c.in_ok-step.ensures.unit_from ∙ c.awaits_more.ensures.unit_from)
+    (c.in_ok-step.ensures.unfailed ∙ c.awaits_more.ensures.unfailed)

@@ -1,10 +1,13 @@
 use Rattle.std.proofs.Common.{◌≡◌, ℕ, ◌+◌, ◌^◌, ◌<◌, ◌≤◌, false, List, ◌++◌, length, refl, sym, ap, ◌∙◌, subst, arith, length-append}
 use Rattle.std.proofs.lemmas.Result.{err_from_is_err_and}
+use Rattle.unit_streams.specs.Front.{whole}
 use Rattle.unit_streams.specs.Grammar.{standing}
 use Rattle.unit_streams.specs.Judging.{is_over_at}
 use Rattle.unit_streams.proofs.Standing.{standing_length}
 use Rattle.nmf_records.specs.declared.frame.Expect.{Expect}
+use Rattle.nmf_records.specs.declared.frame.Frame.{Frame}
 use Rattle.nmf_records.specs.declared.reader.FrameReader.{FrameReader}
+use Rattle.nmf_records.specs.Reading.{frame_at, with_text}
 use Rattle.nmf_records.specs.Reader.{limit_of, shown_behind, ShowsText as FramesShowText, StandsFor as FrameStandsFor}
 use Rattle.nmf_records.specs.Script.{may_come}
 use Rattle.nmf_records.proofs.Frames.{frames_front}
@@ -13,6 +16,7 @@ use Rattle.stream_reader.specs.declared.reader.StreamReader.{StreamReader}
 use Rattle.stream_reader.specs.Sides.{side_of}
 use Rattle.stream_reader.specs.Stream.{Settings, Situation, direction_of, offence_at, reason_of, stream}
 use Rattle.stream_reader.specs.Standing.{Reached, StandsFor, failure_of, settings_of}
+use Rattle.stream_reader.specs.Stepping.{IsDue, due_of}
 use Rattle.stream_reader.proofs.Grammar.{readable}
 use Rattle.stream_reader.proofs.ReaderFacts.{failure_as, same_settings}
 use Rattle.stream_reader.proofs.RecordFacts.{done_so, more_so, shown_so, wrong_so}
@@ -81,6 +85,31 @@ module _ (f : After-feed) (p : List ℕ) where
         let session = session_is r in
         omega (arith, least, h.within, most, session)
 
+    -- a whole record is the one that is due, of a reader that has its bytes
+    is_due : (read : Frame) (text : List ℕ) (n : ℕ)
+        → frame_at x.limits.via (may_come (direction_of x.side) f.args.due) (b ++ y)
+        ≡ whole (with_text read text) (length b + n) → {placed : StreamReader}
+        → placed.awaited ≡ r.awaited → placed.mode ≡ r.mode → placed.kind ≡ r.kind
+        → placed.messages ≡ r.messages → placed.decoder ≡ r.decoder
+        → placed.frames ≡ f.feed.new.self → IsDue placed x z read text
+    is_due read text n there {placed} awaited mode kind messages decoder frames = record {
+      at = record {
+        awaits = rw awaited h.at.awaits;
+        mode = mode ∙ h.at.mode;
+        kind = kind ∙ h.at.kind;
+        messages = messages ∙ h.at.messages;
+        decodes = rw decoder h.at.decodes;
+        payload = rw decoder h.at.payload;
+      };
+      due = f.args.due;
+      due_is = ap due_of awaited ∙ f.requires.awaited;
+      may = may_come_so r x p y f.args.due f.requires.awaited h on fits read text n there;
+      few = few;
+      no_strings = none_before r x p y f.args.due f.requires.awaited h on fits read text n there;
+      shown = rw frames (shown_via r x p y f.args.due f.requires.awaited h on fits read text n there
+          f.feed.new.self shown);
+    }
+
 pub returns-in-Ok-default-More-clause-answers : goal.returns-in-Ok-default-More-clause-answers
 unfolding StandsFor
 returns-in-Ok-default-More-clause-answers c = λ p h on.
@@ -130,25 +159,8 @@ returns-in_ok-step-in-Ok-default-Done-clause-answers c = λ p h on.
     let said = done_so _ (x f p).limits.via _ _ (limit_is (r f p)) (expected_is f p) c.feed.new.self
     (b f p) (y f p) step.n _ read step.field-0-1-is
     (step.ensures.answers _ (stands f p h on)) (step.ensures.stands _ (stands f p h on)) in
-    let behind = done.answers read (z f p) said.0 (rw step.field-0-1-is refl) (record {
-      at = record {
-        awaits = h.at.awaits;
-        mode = h.at.mode;
-        kind = h.at.kind;
-        messages = h.at.messages;
-        decodes = h.at.decodes;
-        payload = h.at.payload;
-      };
-      due = c.args.due;
-      due_is = c.requires.awaited;
-      may = may_come_so (r f p) (x f p) p (y f p) c.args.due c.requires.awaited h on
-          (fits f p h on) read said.0 step.n said.1;
-      few = few f p h on;
-      no_strings = none_before (r f p) (x f p) p (y f p) c.args.due c.requires.awaited h on
-          (fits f p h on) read said.0 step.n said.1;
-      shown = shown_via (r f p) (x f p) p (y f p) c.args.due c.requires.awaited h on
-          (fits f p h on) read said.0 step.n said.1 c.feed.new.self (shown f p h on);
-    }) in
+    let behind = done.answers read (z f p) said.0 (rw step.field-0-1-is refl) (is_due f p h on read said.0 step.n said.1
+    refl refl refl refl refl refl) in
     record_done (r f p) (x f p) p (y f p) c.args.due c.requires.awaited h on (fits f p h on) read
     said.0 step.n said.1 c.behind.new.self c.feed.new.self done.keeps.frames (shown f p h on)
     done.keeps.taken c.args.self.now.unit_from _ h.unit_from refl _ behind done.unit_from said.2
@@ -166,25 +178,8 @@ returns-in_err-step-in-Ok-default-Done-clause-answers c = λ p h on.
     let said = done_so _ (x f p).limits.via _ _ (limit_is (r f p)) (expected_is f p) c.feed.new.self
     (b f p) (y f p) step.n _ read step.field-0-1-is
     (step.ensures.answers _ (stands f p h on)) (step.ensures.stands _ (stands f p h on)) in
-    let behind = done.answers read (z f p) said.0 (rw step.field-0-1-is refl) (record {
-      at = record {
-        awaits = h.at.awaits;
-        mode = h.at.mode;
-        kind = h.at.kind;
-        messages = h.at.messages;
-        decodes = h.at.decodes;
-        payload = h.at.payload;
-      };
-      due = c.args.due;
-      due_is = c.requires.awaited;
-      may = may_come_so (r f p) (x f p) p (y f p) c.args.due c.requires.awaited h on
-          (fits f p h on) read said.0 step.n said.1;
-      few = few f p h on;
-      no_strings = none_before (r f p) (x f p) p (y f p) c.args.due c.requires.awaited h on
-          (fits f p h on) read said.0 step.n said.1;
-      shown = shown_via (r f p) (x f p) p (y f p) c.args.due c.requires.awaited h on
-          (fits f p h on) read said.0 step.n said.1 c.feed.new.self (shown f p h on);
-    }) in
+    let behind = done.answers read (z f p) said.0 (rw step.field-0-1-is refl) (is_due f p h on read said.0 step.n said.1
+    refl refl refl refl refl refl) in
     let told = err_from_is_err_and c.from_residual.result c.from_residual.ensures.1 in
     rw (told.1, told.2)
     (record_refused (r f p) (x f p) p (y f p) c.args.due c.requires.awaited h on (fits f p h on)

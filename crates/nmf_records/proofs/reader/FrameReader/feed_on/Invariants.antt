@@ -1,7 +1,7 @@
 use Rattle.std.proofs.Common.{◌≡◌, ℕ, ◌≤◌, ◌-◌, List, ◌++◌, length, take}
 use Rattle.unit_streams.specs.Front.{begun}
 use Rattle.nmf_records.specs.Reader.{StandsFor, ShowsText, text_after, limit_of}
-use Rattle.nmf_records.proofs.reader.FrameReader.feed.Given as goal
+use Rattle.nmf_records.proofs.reader.FrameReader.feed_on.Given as goal
 
 abbrev pub invariant-loop-used : goal.invariant-loop-used
 invariant-loop-used l = record {

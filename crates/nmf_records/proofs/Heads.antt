@@ -1,0 +1,85 @@
+-- The records that come with each message, where they are whole at the front of a piece.
+use Rattle.std.proofs.Common.{◌≡◌, ℕ, ◌+◌, ◌≤◌, true, false, List, [], ◌∷◌, ◌++◌, length, Some, Ok, refl, sym, ap, ◌∙◌, arith}
+use Rattle.unit_streams.specs.Front.{whole}
+use Rattle.multibyte_ints.specs.Integer.{int_at}
+use Rattle.multibyte_ints.specs.Reader.{StandsFor as IntStandsFor}
+use Rattle.multibyte_ints.proofs.IntegerBytes.{int_reads_front}
+use Rattle.nmf_records.specs.declared.record_types.TheConstants.{SIZED_ENVELOPE}
+use Rattle.nmf_records.specs.declared.frame.Expect.{Expect}
+use Rattle.nmf_records.specs.declared.frame.Expect.TheVariants.{Types, Chunk}
+use Rattle.nmf_records.specs.declared.frame.Frame.{Frame}
+use Rattle.nmf_records.specs.declared.frame.Frame.TheVariants as frames
+use Rattle.nmf_records.specs.declared.frame.FrameRefusal.{FrameRefusal}
+use Rattle.nmf_records.specs.declared.frame.FrameStep.TheVariants.{Done}
+use Rattle.nmf_records.specs.declared.reader.FrameReader.{FrameReader}
+use Rattle.nmf_records.specs.declared.stage.Stage.TheVariants as stages
+use Rattle.nmf_records.specs.Reading.{allows, as_size, bare, begins_text, frame_at}
+use Rattle.nmf_records.specs.Reader.{FrameAnswers, ShowsText, StandsFor, failure_of, limit_of, shown_behind, size_bytes}
+use Rattle.nmf_records.proofs.Feeding.{no_refusal}
+use Rattle.nmf_records.proofs.Frames.{frame_peels, frames_front}
+use Rattle.nmf_records.proofs.Showing.{plain_shows}
+use Rattle.nmf_records.proofs.Typed.{allowed_reads}
+
+-- an integer has no more bytes than those at whose front it stands
+pub int_within : (bytes : List ℕ) (size n : ℕ) → int_at bytes ≡ whole size n → n ≤ length bytes
+int_within bytes size n e = int_reads_front.whole_within bytes size n e
+
+-- the size of a chunk
+pub chunk_front : (limit : ℕ) (bytes : List ℕ) (size n : ℕ) → int_at bytes ≡ whole size n
+    → frame_at limit Chunk bytes ≡ whole (bare (frames.Chunk size)) n
+chunk_front limit bytes size n e =
+    ap (as_size 0 frames.Chunk) e ∙ ap (whole (bare (frames.Chunk size))) (omega arith)
+
+-- the head of a sized envelope, behind its type byte
+pub envelope_front : (limit types : ℕ) (bytes : List ℕ) (size n : ℕ)
+    → allows types SIZED_ENVELOPE ≡ true → int_at bytes ≡ whole size n
+    → frame_at limit (Types types) (SIZED_ENVELOPE ∷ bytes)
+    ≡ whole (bare (frames.SizedEnvelope size)) (n + 1)
+envelope_front limit types bytes size n may e =
+    allowed_reads limit types SIZED_ENVELOPE bytes (omega arith) may
+    ∙ ap (as_size 1 frames.SizedEnvelope) e
+    ∙ ap (whole (bare (frames.SizedEnvelope size))) (omega arith)
+
+-- a reader before the first byte of a record
+module _ (r : FrameReader) (at_type : r.stage ≡ stages.Type) where
+  pub none_failed : (refusal : FrameRefusal) → failure_of r ≡ Some refusal → ⊥
+  none_failed refusal = no_refusal r refusal (λ fault e. let bad = sym at_type ∙ e in cc)
+
+  module _ (expect : Expect) (p : List ℕ) (stands : StandsFor r expect p) where
+    pub none_yet : p ≡ []
+    unfolding StandsFor
+    none_yet = rw at_type at stands.shape
+
+    pub stands_anew : (next : Expect) → StandsFor r next []
+    unfolding StandsFor
+    stands_anew next =
+        let size : IntStandsFor r.size [] = rw at_type at stands.size in
+        record {
+          begun = (frame_peels (limit_of r) next).nothing;
+          shape = rw at_type refl;
+          size = rw at_type size;
+          text = rw at_type tt;
+          counted = stands.counted ∙ ap length none_yet;
+        }
+
+    module _ (piece : List ℕ) where
+      pub head_answers : (frame : Frame) (n : ℕ)
+          → ((limit : ℕ) → frame_at limit expect piece ≡ whole (bare frame) n)
+          → FrameAnswers (limit_of r) expect p piece (Ok (n, Done frame))
+      head_answers frame n read = (
+        [],
+        ap (λ q. frame_at (limit_of r) expect (q ++ piece)) none_yet ∙ read (limit_of r)
+            ∙ ap (whole (bare frame)) (let none = ap length none_yet in omega (arith, none)),
+      )
+
+      pub head_shows : (s : List ℕ) → begins_text expect piece ≡ false → ShowsText r s
+          → ShowsText r (shown_behind (limit_of r) expect (p ++ piece) s)
+      head_shows s plain h =
+          plain_shows r s expect (p ++ piece) (frame_at (limit_of r) expect (p ++ piece))
+          (ap (λ q. begins_text expect (q ++ piece)) none_yet ∙ plain) h
+
+-- it has no more bytes than the piece
+pub head_within : (expect : Expect) (piece : List ℕ) (frame : Frame) (n : ℕ)
+    → ((limit : ℕ) → frame_at limit expect piece ≡ whole (bare frame) n) → n ≤ length piece
+head_within expect piece frame n read =
+    (frames_front 0 expect).whole_within piece (bare frame) n (read 0)
