@@ -96,16 +96,16 @@ behind_both a b (Ok more) = ap (λ l. Ok (l, more.1)) (sym (append_assoc a b mor
 behind_both a b (Err unfit) = refl
 
 -- what stands behind the first envelope, where there is one
-record Parted (mode : Mode) (number : ℕ) (first : Result (Placed (List ℕ)) Unfit)
+pub record Parted (mode : Mode) (number : ℕ) (first : Result (Placed (List ℕ)) Unfit)
     (rest : StringTable → Result (Placed (List ℕ)) UnfitAt) (bytes : List ℕ) (behind : StringTable)
     : Type 0 where
-  payload : Placed (List ℕ)
-  first_is : first ≡ Ok payload
-  others : List ℕ
-  rest_is : rest payload.1 ≡ Ok (others, behind)
-  joined : bytes ≡ envelope mode payload.0 ++ others
+  pub payload : Placed (List ℕ)
+  pub first_is : first ≡ Ok payload
+  pub others : List ℕ
+  pub rest_is : rest payload.1 ≡ Ok (others, behind)
+  pub joined : bytes ≡ envelope mode payload.0 ++ others
 
-parted : (mode : Mode) (number : ℕ) (first : Result (Placed (List ℕ)) Unfit)
+pub parted : (mode : Mode) (number : ℕ) (first : Result (Placed (List ℕ)) Unfit)
     (rest : StringTable → Result (Placed (List ℕ)) UnfitAt) (bytes : List ℕ) (behind : StringTable)
     → envelope_then mode number first rest ≡ Ok (bytes, behind)
     → Parted mode number first rest bytes behind

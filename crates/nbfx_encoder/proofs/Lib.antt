@@ -14,5 +14,7 @@ pub mod LawFacts
 pub mod ReadBack
 mod OnLiterals
 mod Worked
+mod WorkedPlaces
 mod WorkedValues
 mod WorkedUnfit
+mod WorkedEnvelopes

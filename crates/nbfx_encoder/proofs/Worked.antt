@@ -143,9 +143,11 @@ prefixes : ArePlain (
     ∷ (
       Start [] (codes "x") ∷ Attr [] (codes "k") (One (Number (pos 1)))
           ∷ Attr (codes "z") (codes "k") (One (Number (pos 1)))
-          ∷ Attr (codes "zz") (codes "k") (One (Number (pos 1))) ∷ Close ∷ [],
+          ∷ Attr (codes "zz") (codes "k") (One (Number (pos 1)))
+          ∷ Attr (codes "Z") (codes "k") (One (Number (pos 1))) ∷ Close ∷ [],
       0x40 ∷ 0x01 ∷ 0x78 ∷ 0x04 ∷ 0x01 ∷ 0x6b ∷ 0x82 ∷ 0x3f ∷ 0x01 ∷ 0x6b ∷ 0x82 ∷ 0x05 ∷ 0x02
-          ∷ 0x7a ∷ 0x7a ∷ 0x01 ∷ 0x6b ∷ 0x82 ∷ 0x01 ∷ [],
+          ∷ 0x7a ∷ 0x7a ∷ 0x01 ∷ 0x6b ∷ 0x82 ∷ 0x05 ∷ 0x01 ∷ 0x5a ∷ 0x01 ∷ 0x6b ∷ 0x82 ∷ 0x01
+          ∷ [],
     )
     ∷ (
       Start [] (codes "x") ∷ Attr [] (codes "To") (One (Number (pos 0)))

@@ -1,11 +1,12 @@
 -- Worked documents that don't fit, and ones that just do, computed by the definitions.
 use Rattle.std.proofs.Common.{◌≡◌, ℕ, List, [], ◌∷◌, ◌++◌, map, refl, Result, Ok, Err}
+use Rattle.std.specs.List.{repeat}
 use Rattle.std.specs.Prelude.{codes, pos}
 use Rattle.nbfx_values.specs.Limits.{Limits, limits}
 use Rattle.nbfx_values.specs.declared.content.ArrayKind.TheVariants.{Int32}
 use Rattle.nbfx_values.specs.declared.content.AttrItem.TheVariants.{Attr as PartAttr}
 use Rattle.nbfx_values.specs.declared.content.Item.{Item}
-use Rattle.nbfx_values.specs.declared.content.Item.TheVariants.{Attr, Text, Array}
+use Rattle.nbfx_values.specs.declared.content.Item.TheVariants.{Start, Attr, Text, Array, Close}
 use Rattle.nbfx_values.specs.declared.scalars.Scalar.{Scalar}
 use Rattle.nbfx_values.specs.declared.scalars.Scalar.TheVariants.{Number, Text as TextOf, QName}
 use Rattle.nbfx_values.specs.declared.scalars.Value.TheVariants.{One, List as ListOf}
@@ -57,7 +58,11 @@ array = Array (record {
   values = Number (pos 1) ∷ [];
 })
 
--- a payload of as many bytes as the quota, and of one more
+-- elements in one another
+abbrev nest : ℕ → List Item
+nest n = repeat n (Start [] (codes "x") ∷ []) ++ repeat n (Close ∷ [])
+
+-- a payload of as many bytes as the quota, and of one more; elements of as many levels as the quota
 fitting : AreFit (
     (quotas 4 1 0 1, Plain, x [], 0x40 ∷ 0x01 ∷ 0x78 ∷ 0x01 ∷ [], [])
     ∷ (
@@ -67,6 +72,13 @@ fitting : AreFit (
       0x02 ∷ 0x01 ∷ 0x78 ∷ 0x42 ∷ 0x01 ∷ 0x01 ∷ [],
       codes "x" ∷ [],
     )
+    ∷ (
+      quotas 65536 32 2048 262144,
+      Session,
+      nest 32,
+      0x02 ∷ 0x01 ∷ 0x78 ∷ (repeat 32 (0x42 ∷ 0x01 ∷ []) ++ repeat 32 (0x01 ∷ [])),
+      codes "x" ∷ [],
+    )
     ∷ [])
 unfolding writing_on_literals
 fitting = refl
@@ -74,15 +86,22 @@ fitting = refl
 large : AreUnfit (
     (quotas 3 1 0 1, Plain, x [], too_large 4)
     ∷ (quotas 5 1 1 1, Session, x [], too_large 6)
+    ∷ (
+      quotas 4096 32 2048 262144,
+      Session,
+      Start [] (codes "big") ∷ text (TextOf (repeat 5000 (codes "y"))) ∷ Close ∷ [],
+      too_large 5010,
+    )
     ∷ [])
 unfolding writing_on_literals
 large = refl
 
--- elements of as many levels as the quota, and of one more; an array's element counts
+-- elements of one more level than the quota; an array's element counts
 nested : AreUnfit (
     (quotas 64 0 0 64, Plain, x [], too_deep 1)
     ∷ (quotas 64 1 0 64, Plain, x (x []), too_deep 2)
     ∷ (quotas 64 1 0 64, Plain, x (array ∷ []), too_deep 2)
+    ∷ (quotas 65536 32 2048 262144, Session, nest 33, too_deep 33)
     ∷ [])
 unfolding writing_on_literals
 nested = refl

@@ -109,7 +109,11 @@ lengths : AreInside (
     (text (TextOf (many 255)) ∷ [], 0x99 ∷ 0xff ∷ many 255)
     ∷ (text (TextOf (many 256)) ∷ [], 0x9b ∷ 0x00 ∷ 0x01 ∷ many 256)
     ∷ (text (Bytes (many 255)) ∷ [], 0x9f ∷ 0xff ∷ many 255)
+    ∷ (text (TextOf (many 65535)) ∷ [], 0x9b ∷ 0xff ∷ 0xff ∷ many 65535)
+    ∷ (text (TextOf (many 65536)) ∷ [], 0x9d ∷ 0x00 ∷ 0x00 ∷ 0x01 ∷ 0x00 ∷ many 65536)
     ∷ (text (Bytes (many 256)) ∷ [], 0xa1 ∷ 0x00 ∷ 0x01 ∷ many 256)
+    ∷ (text (Bytes (many 65535)) ∷ [], 0xa1 ∷ 0xff ∷ 0xff ∷ many 65535)
+    ∷ (text (Bytes (many 65536)) ∷ [], 0xa3 ∷ 0x00 ∷ 0x00 ∷ 0x01 ∷ 0x00 ∷ many 65536)
     ∷ [])
 unfolding writing_on_literals
 lengths = refl

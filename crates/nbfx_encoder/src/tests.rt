@@ -124,6 +124,15 @@ fn repeated(alloc: Global, character: char, count: usize) -> Result<String, Fail
     Ok(text)
 }
 
+// The tests see what is written, and need no clause: without those their proofs take less time.
+fn write(encoder: &mut Encoder<'_>, doc: &Doc, out: &mut Vec<u8>) -> Result<(), EncodeFault> {
+    encoder.encode(doc, out)
+}
+
+fn send(sender: &mut Sender<'_>, doc: &Doc, out: &mut Vec<u8>) -> Result<(), SendFault> {
+    sender.message(doc, out)
+}
+
 fn small() -> Option<Quotas> {
     Quotas::of(4_096, 32, 2_048, 262_144, 2_048, 1 << 48)
 }
@@ -134,10 +143,10 @@ fn a_name_is_sent_once_in_a_session(rt: HostRuntime) -> Result<(), Fail> {
     let mut encoder = Encoder::new(rt.alloc(), &statics, Quotas::usual(), Kind::Session);
     let doc = envelope(rt.alloc())?;
     let mut out = Vec::new(rt.alloc());
-    assert_eq!(rt; encoder.encode(&doc, &mut out), Ok(()));
+    assert_eq!(rt; write(&mut encoder, &doc, &mut out), Ok(()));
     assert_eq!(rt; out.as_slice(), FIRST);
     out.clear();
-    assert_eq!(rt; encoder.encode(&doc, &mut out), Ok(()));
+    assert_eq!(rt; write(&mut encoder, &doc, &mut out), Ok(()));
     assert_eq!(rt; out.as_slice(), NEXT);
     assert_eq!(rt; encoder.table().text(1), Some("x"));
     assert_eq!(rt; encoder.table().len(), 1);
@@ -153,10 +162,10 @@ fn a_refused_document_leaves_no_strings(rt: HostRuntime) -> Result<(), Fail> {
     let big = element(rt.alloc(), "big", long.as_str())?;
     let mut out = Vec::new(rt.alloc());
     let fault = EncodeFault::TooLarge { size: 5_010 };
-    assert_eq!(rt; encoder.encode(&big, &mut out), Err(fault));
+    assert_eq!(rt; write(&mut encoder, &big, &mut out), Err(fault));
     assert!(rt; out.is_empty() && encoder.table().is_empty());
     let doc = element(rt.alloc(), "x", "")?;
-    assert_eq!(rt; encoder.encode(&doc, &mut out), Ok(()));
+    assert_eq!(rt; write(&mut encoder, &doc, &mut out), Ok(()));
     assert_eq!(rt; out.as_slice(), b"\x02\x01x\x42\x01\x01".as_slice());
     Ok(())
 }
@@ -168,11 +177,11 @@ fn a_name_without_room_is_inline(rt: HostRuntime) -> Result<(), Fail> {
     let long = repeated(rt.alloc(), 'a', 2_048)?;
     let mut out = Vec::new(rt.alloc());
     let doc = element(rt.alloc(), long.as_str(), "")?;
-    assert_eq!(rt; encoder.encode(&doc, &mut out), Ok(()));
+    assert_eq!(rt; write(&mut encoder, &doc, &mut out), Ok(()));
     assert_eq!(rt; encoder.table().used(), 2_048);
     out.clear();
     let doc = element(rt.alloc(), "b", "")?;
-    assert_eq!(rt; encoder.encode(&doc, &mut out), Ok(()));
+    assert_eq!(rt; write(&mut encoder, &doc, &mut out), Ok(()));
     assert_eq!(rt; out.as_slice(), b"\x00\x40\x01b\x01".as_slice());
     Ok(())
 }
@@ -191,7 +200,7 @@ fn texts_take_the_least_width(rt: HostRuntime) -> Result<(), Fail> {
         let mut out = Vec::new(rt.alloc());
         let long = repeated(rt.alloc(), 'y', length)?;
         let doc = element(rt.alloc(), "x", long.as_str())?;
-        assert_eq!(rt; encoder.encode(&doc, &mut out), Ok(()));
+        assert_eq!(rt; write(&mut encoder, &doc, &mut out), Ok(()));
         assert!(rt; out.starts_with(front), "{length}");
         assert_eq!(rt; out.len(), front.len().saturating_add(length));
     }
@@ -211,7 +220,7 @@ fn a_document_that_is_too_deep_is_refused(rt: HostRuntime) -> Result<(), Fail> {
     }
     let mut out = Vec::new(rt.alloc());
     let fault = EncodeFault::TooDeep { depth: 33 };
-    assert_eq!(rt; encoder.encode(&doc.finish()?, &mut out), Err(fault));
+    assert_eq!(rt; write(&mut encoder, &doc.finish()?, &mut out), Err(fault));
     Ok(())
 }
 
@@ -232,13 +241,13 @@ fn sent(
         Side::Initiator,
     );
     let mut out = Vec::new(rt.alloc());
-    assert_eq!(rt; sender.message(doc, &mut out), Ok(()), "{mode:?}");
+    assert_eq!(rt; send(&mut sender, doc, &mut out), Ok(()), "{mode:?}");
     assert_eq!(rt; out.as_slice(), want, "{mode:?}");
     assert_eq!(rt; sender.end(), Ok(7), "{mode:?}");
     assert_eq!(rt; sender.end(), Err(SendState::Closed), "{mode:?}");
     let state = SendState::Closed;
     let late = Err(SendFault::WrongMoment { state });
-    assert_eq!(rt; sender.message(doc, &mut out), late, "{mode:?}");
+    assert_eq!(rt; send(&mut sender, doc, &mut out), late, "{mode:?}");
     assert_eq!(rt; out.as_slice(), want, "{mode:?}");
     Ok(())
 }
@@ -274,10 +283,10 @@ fn a_half_sends_when_it_may(rt: HostRuntime) -> Result<(), Fail> {
         Side::Initiator,
     );
     assert_eq!(rt; caller.end(), Err(SendState::Ready));
-    assert_eq!(rt; caller.message(&doc, &mut out), Ok(()));
+    assert_eq!(rt; send(&mut caller, &doc, &mut out), Ok(()));
     let state = SendState::Spent;
     let spent = Err(SendFault::WrongMoment { state });
-    assert_eq!(rt; caller.message(&doc, &mut out), spent);
+    assert_eq!(rt; send(&mut caller, &doc, &mut out), spent);
     assert_eq!(rt; caller.state(), SendState::Spent);
     let mut service = Sender::new(
         rt.alloc(),
@@ -287,7 +296,7 @@ fn a_half_sends_when_it_may(rt: HostRuntime) -> Result<(), Fail> {
         Mode::Simplex,
         Side::Receiver,
     );
-    assert_eq!(rt; service.message(&doc, &mut out), spent);
+    assert_eq!(rt; send(&mut service, &doc, &mut out), spent);
     assert_eq!(rt; service.end(), Ok(7));
     assert!(rt; service.table().is_empty());
     Ok(())

@@ -1,13 +1,14 @@
 -- Both ends of one direction.
-use Rattle.std.specs.Prelude.{◌≡◌, ⊤, List, []}
+use Rattle.std.specs.Prelude.{◌≡◌, ⊤, ℕ, List, [], Some}
 use Rattle.nbfx_values.specs.Limits.{IsGood}
 use Rattle.nbfx_values.specs.declared.content.Item.{Item}
 use Rattle.nbfx_encoder.specs.declared.encoder.Encoder.{Encoder}
 use Rattle.nbfx_encoder.specs.Reading.{AdmitsAsMuch}
 use Rattle.nbfx_encoder.specs.Spelling.{encoded}
-use Rattle.nbfx_encoder.specs.Standing.{Refuses, kind_in, limits_in, names_in}
+use Rattle.nbfx_encoder.specs.Standing.{Refuses, Writes, kind_in, limits_in, names_in}
 use Rattle.nbfx_decoder.specs.declared.decoder.Decoder.{Decoder}
-use Rattle.nbfx_decoder.specs.Standing.{StandsFor, settings_of}
+use Rattle.nbfx_decoder.specs.declared.faults.DecodeFault.TheVariants as faults
+use Rattle.nbfx_decoder.specs.Standing.{StandsFor, failure_of, settings_of}
 use Rattle.payload_ends.specs.declared.carrying.CarryFault.{CarryFault}
 use Rattle.payload_ends.specs.declared.carrying.CarryFault.TheVariants.{Unsent, Memory}
 
@@ -26,3 +27,11 @@ IsUnsent old new d e items (Unsent fault) =
     Refuses (encoded (limits_in old) (kind_in old) (names_in old) items) fault
     × (names_in new ≡ names_in old) × (e ≡ d)
 IsUnsent old new d e items Memory = ⊤
+
+-- A document was written, and the writer's strings are those after it. But the reader wanted
+-- memory, hasn't read it, and has failed for good.
+pub record IsLost (old new : Encoder) (d : Decoder) (items : List Item) (room : List ℕ)
+    : Type 0 where
+  pub written : Writes (encoded (limits_in old) (kind_in old) (names_in old) items) [] room
+      (names_in new)
+  pub failed : failure_of d ≡ Some faults.Memory

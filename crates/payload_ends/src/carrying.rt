@@ -1,12 +1,12 @@
 //! Documents from one end to the other.
 
-ghost use Rattle.std.specs.Prelude.{◌≡◌, [], IfErr, IfOk, OnOk};
+ghost use Rattle.std.specs.Prelude.{◌≡◌, [], IfErr, IfOk, IsErrOf, OnOk};
 ghost use Rattle.nbfx_values.specs.QuotasOf.{limits_of};
 ghost use Rattle.nbfx_encoder.specs.Reading.{AdmitsAsMuch};
 ghost use Rattle.nbfx_encoder.specs.Spelling.{encoded};
-ghost use Rattle.nbfx_encoder.specs.Standing.{Writes, kind_in, limits_in, names_in};
-ghost use Rattle.nbfx_decoder.specs.Standing.{table_at};
-ghost use Rattle.payload_ends.specs.Level.{AreLevel, IsUnsent};
+ghost use Rattle.nbfx_encoder.specs.Standing.{KeepsSettings, Writes, kind_in, limits_in, names_in};
+ghost use Rattle.nbfx_decoder.specs.Standing.{settings_of, table_at};
+ghost use Rattle.payload_ends.specs.Level.{AreLevel, IsLost, IsUnsent};
 
 use nbfx_decoder::{DecodeFault, Decoder};
 use nbfx_encoder::{EncodeFault, Encoder};
@@ -20,7 +20,8 @@ use std::alloc::Global;
 pub enum CarryFault {
     /// It isn't written. Both ends are as before.
     Unsent(EncodeFault),
-    /// The reader wanted memory, and has failed for good.
+    /// It is written, and the writer has the strings after it. The reader wanted memory, and has
+    /// failed for good.
     Memory,
 }
 
@@ -34,7 +35,12 @@ pub fn new_ends<'s>(
     kind: Kind,
 ) -> (Encoder<'s>, Decoder<'s>)
     requires { AdmitsAsMuch (limits_of reader) (limits_of writer) }
-    ensures { AreLevel result.0 result.1 }
+    ensures level { AreLevel result.0 result.1 }
+    ensures limits { limits_in result.0 ≡ limits_of writer }
+    ensures kind { kind_in result.0 ≡ kind }
+    ensures names { names_in result.0 ≡ record { statics = statics.now; strings = [] } }
+    ensures settings { settings_of result.1
+        ≡ record { statics = statics.now; kind = kind; limits = limits_of reader } }
 {
     let encoder = Encoder::new(alloc, statics, writer, kind);
     let decoder = Decoder::new(alloc, statics, reader, kind);
@@ -55,8 +61,9 @@ pub fn tables<'a>(
 }
 
 /// Writes a document into the room, in place of what stands there, and reads it at the other end,
-/// which gives the document. Both ends have the same strings afterwards. A document that doesn't
-/// fit is refused as [`Encoder::encode`] does, and the reader refuses none.
+/// which gives the document. Both ends have the same strings afterwards, and what they are set to
+/// stays. A document that doesn't fit is refused as [`Encoder::encode`] does, and the reader
+/// refuses none.
 pub fn carry(
     encoder: &mut Encoder<'_>,
     decoder: &mut Decoder<'_>,
@@ -71,6 +78,10 @@ pub fn carry(
         [] room.new.items (names_in encoder.new)) }
     ensures unsent { IfErr result
         (IsUnsent encoder.old encoder.new decoder.old decoder.new doc.now) }
+    ensures lost { IsErrOf result CarryFault.Memory
+        → IsLost encoder.old encoder.new decoder.new doc.now room.new.items }
+    ensures kept { KeepsSettings encoder.old encoder.new }
+    ensures settings { settings_of decoder.new ≡ settings_of decoder.old }
 {
     room.clear();
     if let Err(fault) = encoder.encode(doc, room) {

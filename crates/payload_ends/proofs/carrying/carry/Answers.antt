@@ -1,17 +1,28 @@
 use Rattle.std.proofs.Common.{◌∙◌, [], arith, refl}
+use Rattle.nbfx_encoder.specs.Reading.{IsRead}
 use Rattle.nbfx_encoder.specs.Standing.{kind_in, names_in}
 use Rattle.nbfx_decoder.specs.Standing.{settings_of}
 use Rattle.payload_ends.proofs.BothEnds.{level-again, taken, whole, whole-again, written_read}
 use Rattle.payload_ends.proofs.carrying.carry.Goals as goal
+use Rattle.payload_ends.proofs.carrying.carry.Goals.{After-deref}
+
+-- what was written is read so
+is_read : (c : After-deref)
+    → IsRead (settings_of c.args.decoder.now).limits (kind_in c.args.encoder.now)
+    (names_in c.args.encoder.now) c.args.doc.now c.deref.result.now (names_in c.encode.new.self)
+is_read c =
+    let e = c.args.encoder.now in
+    let d = c.args.decoder.now in
+    written_read (settings_of d).limits (kind_in e) (names_in e) c.args.doc.now
+    c.clear.new.self.items c.encode.new.out.items c.deref.result.now (names_in c.encode.new.self)
+    (c.in_default.ensures.payload (settings_of d).limits c.requires.admits) c.clear.ensures.items
+    c.deref.ensures.value
 
 pub feed-requires : goal.feed-requires
 feed-requires c =
     let e = c.args.encoder.now in
     let d = c.args.decoder.now in
-    let read = written_read (settings_of d).limits (kind_in e) (names_in e) c.args.doc.now
-    c.clear.new.self.items c.encode.new.out.items c.deref.result.now (names_in c.encode.new.self)
-    (c.in_default.ensures.payload (settings_of d).limits c.requires.admits) c.clear.ensures.items
-    c.deref.ensures.value in
+    let read = is_read (goal.at.feed-requires c).After-deref in
     let all = whole e d c.requires c.args.doc.now c.deref.result.now (names_in c.encode.new.self)
     read in
     let none = c.taken-taken.ensures.stands (names_in e).strings [] c.requires.stands in
@@ -26,10 +37,7 @@ pub unreachable-requires : goal.unreachable-requires
 unreachable-requires c =
     let e = c.args.encoder.now in
     let d = c.args.decoder.now in
-    let read = written_read (settings_of d).limits (kind_in e) (names_in e) c.args.doc.now
-    c.clear.new.self.items c.encode.new.out.items c.deref.result.now (names_in c.encode.new.self)
-    (c.in_default.ensures.payload (settings_of d).limits c.requires.admits) c.clear.ensures.items
-    c.deref.ensures.value in
+    let read = is_read (goal.at.unreachable-requires c).After-deref in
     let going = taken e d c.requires c.args.doc.now c.deref.result.now
     (names_in c.encode.new.self) read c.payloads.ensures
     (c.answers.ensures.make_the_history (settings_of d) (names_in e).strings) in
@@ -40,10 +48,7 @@ pub unreachable-requires-in-Err-finish : goal.unreachable-requires-in-Err-finish
 unreachable-requires-in-Err-finish c =
     let e = c.args.encoder.now in
     let d = c.args.decoder.now in
-    let read = written_read (settings_of d).limits (kind_in e) (names_in e) c.args.doc.now
-    c.clear.new.self.items c.encode.new.out.items c.deref.result.now (names_in c.encode.new.self)
-    (c.in_default.ensures.payload (settings_of d).limits c.requires.admits) c.clear.ensures.items
-    c.deref.ensures.value in
+    let read = is_read (goal.at.unreachable-requires-in-Err-finish c).After-deref in
     let again = whole-again e d c.requires c.args.doc.now c.deref.result.now
     (names_in c.encode.new.self) read c.feed.new.self c.feed.ensures.settings in
     let stands = c.in-Ok.ensures.stands (names_in e).strings [] c.requires.stands in
@@ -55,10 +60,7 @@ pub returns-clause-read : goal.returns-clause-read
 returns-clause-read c =
     let e = c.args.encoder.now in
     let d = c.args.decoder.now in
-    let read = written_read (settings_of d).limits (kind_in e) (names_in e) c.args.doc.now
-    c.clear.new.self.items c.encode.new.out.items c.deref.result.now (names_in c.encode.new.self)
-    (c.in_default.ensures.payload (settings_of d).limits c.requires.admits) c.clear.ensures.items
-    c.deref.ensures.value in
+    let read = is_read (goal.at.returns-clause-read c).After-deref in
     let again = whole-again e d c.requires c.args.doc.now c.deref.result.now
     (names_in c.encode.new.self) read c.feed.new.self c.feed.ensures.settings in
     let stands = c.in-Ok.ensures.stands (names_in e).strings [] c.requires.stands in
@@ -70,10 +72,7 @@ pub returns-clause-level : goal.returns-clause-level
 returns-clause-level c =
     let e = c.args.encoder.now in
     let d = c.args.decoder.now in
-    let read = written_read (settings_of d).limits (kind_in e) (names_in e) c.args.doc.now
-    c.clear.new.self.items c.encode.new.out.items c.deref.result.now (names_in c.encode.new.self)
-    (c.in_default.ensures.payload (settings_of d).limits c.requires.admits) c.clear.ensures.items
-    c.deref.ensures.value in
+    let read = is_read (goal.at.returns-clause-level c).After-deref in
     let again = whole-again e d c.requires c.args.doc.now c.deref.result.now
     (names_in c.encode.new.self) read c.feed.new.self c.feed.ensures.settings in
     let stands = c.in-Ok.ensures.stands (names_in e).strings [] c.requires.stands in
