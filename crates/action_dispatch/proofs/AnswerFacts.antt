@@ -1,23 +1,64 @@
--- The answer to a request, by what is kept of its view.
-use Rattle.std.proofs.Common.{◌≡◌, ◌∙◌, ℕ, List, Ok, ap, sym}
+-- The plan for a request leads to its answer.
+use Rattle.std.proofs.Common.{◌≡◌, ◌∙◌, ℕ, List, [], Result, Ok, Err, ap, refl, subst, sym}
+use Rattle.std.specs.Prelude.{IfOk, IsTrue, OnOk, slice_get}
+use Rattle.unit_streams.specs.declared.memory.Memory.{Memory}
 use Rattle.nbfx_values.specs.declared.content.Item.{Item}
+use Rattle.soap_envelope.specs.declared.refusals.SoapFault.{SoapFault}
 use Rattle.soap_envelope.specs.Body.{body_items}
+use Rattle.soap_envelope.specs.Children.{is_start}
+use Rattle.soap_envelope.specs.Fitting.{fitting}
+use Rattle.soap_envelope.specs.Making.{AreTexts}
 use Rattle.soap_envelope.specs.Parts.{root_scope}
 use Rattle.soap_envelope.specs.Seen.{BodyStands}
 use Rattle.soap_envelope.specs.View.{View, view}
+use Rattle.action_dispatch.specs.declared.answers.Answer.{Answer}
 use Rattle.action_dispatch.specs.declared.judging.Judged.{Judged}
-use Rattle.action_dispatch.specs.Answers.{Serves, answer_to, answered, answered_by, judged, says_of}
+use Rattle.action_dispatch.specs.declared.judging.Judged.TheVariants.{Unanswered, Refused, Asked}
+use Rattle.action_dispatch.specs.declared.planning.Plan.{Plan}
+use Rattle.action_dispatch.specs.declared.planning.Plan.TheVariants.{Answered}
+use Rattle.action_dispatch.specs.Answers.{RelatesToTexts, Serves, answer_to, answered_by, asked, judged, refused}
+use Rattle.action_dispatch.specs.Planning.{IsFor, Plans, answer_by_plan, planned, planned_of}
+use Rattle.action_dispatch.specs.Refusals.{refusal_of}
 
-module _ (serves : Serves) (doc : List Item) (v : View) (viewed : view doc ≡ Ok v)
-    (stands : BodyStands doc v) where
-  pub answered-kept : (body_at : ℕ) (relates : List Item) (step : Judged) → body_at ≡ v.body_at
-      → relates ≡ v.message_id → step ≡ judged v
-      → answer_to (says_of serves (body_items doc (root_scope doc) body_at)) relates step
-      ≡ answered serves doc
-  answered-kept body_at relates step at identified is =
-      let says = says_of serves v.body in
-      ap (λ n. answer_to (says_of serves (body_items doc (root_scope doc) n)) relates step) at
-      ∙ ap (λ body. answer_to (says_of serves body) relates step) (sym stands.content)
-      ∙ ap (λ texts. answer_to says texts step) identified
-      ∙ ap (answer_to says v.message_id) is
-      ∙ ap (answered_by serves) (sym viewed)
+module _ (quota : ℕ) (doc : List Item) where
+  -- whatever becomes of it
+  leads-by : (serves : Serves) (body relates : List Item) (at : ℕ) (step : Judged)
+      → body ≡ body_items doc (root_scope doc) at
+      → answer_by_plan quota serves doc (planned quota step relates at)
+      ≡ answer_to quota serves body relates step
+  leads-by serves body relates at Unanswered same = refl
+  leads-by serves body relates at (Refused refusal) same = refl
+  leads-by serves body relates at (Asked action) same =
+      ap (λ content. asked serves action relates (fitting quota content)) (sym same)
+
+  is-for : (relates : List Item) (at : ℕ) (step : Judged) → AreTexts relates
+      → IsTrue (is_start (slice_get doc at)) → IsFor doc (planned quota step relates at)
+  is-for relates at Unanswered texts starts = tt
+  is-for relates at (Refused refusal) texts starts = texts
+  is-for relates at (Asked action) texts starts = (texts, starts)
+
+  -- of a document with a view
+  pub plans_viewed : (v : View) → view doc ≡ Ok v → BodyStands doc v → AreTexts v.message_id
+      → Plans quota doc (planned_of quota v)
+  plans_viewed v viewed stands texts = record {
+    leads =
+        λ serves. leads-by serves v.body v.message_id v.body_at (judged v) stands.content
+        ∙ ap (answered_by quota serves) (sym viewed);
+    is_for = is-for v.message_id v.body_at (judged v) texts stands.starts;
+  }
+
+  -- of a document without one
+  pub plans_refused : (fault : SoapFault) (answer : Answer) → view doc ≡ Err fault
+      → answer ≡ refused (refusal_of fault) [] → RelatesToTexts answer
+      → Plans quota doc (Answered answer)
+  plans_refused fault answer viewed is texts = record {
+    leads = λ serves. is ∙ ap (answered_by quota serves) (sym viewed);
+    is_for = texts;
+  }
+
+  pub plans_by : (v : View) (plan : Result Plan Memory) → view doc ≡ Ok v → BodyStands doc v
+      → IfOk plan (λ plan. plan ≡ planned_of quota v) → OnOk plan (AreTexts v.message_id)
+      → IfOk plan (Plans quota doc)
+  plans_by v (Ok plan) viewed stands is texts =
+      subst (Plans quota doc) (sym is) (plans_viewed v viewed stands texts)
+  plans_by v (Err memory) viewed stands is texts = tt

@@ -3,11 +3,11 @@ use Rattle.std.proofs.Common.{◌≡◌, List, [], ◌∷◌, false, refl, inl, 
 use Rattle.std.specs.List.{list_any}
 use Rattle.std.proofs.lemmas.Bool.{cases_Bool}
 use Rattle.soap_envelope.specs.declared.blocks.Block.{Block}
-use Rattle.soap_envelope.specs.declared.blocks.QualifiedName.{QualifiedName}
+use Rattle.soap_envelope.specs.Qualified.{Name}
 use Rattle.soap_envelope.specs.Understanding.{is_foreign, not_understood}
 
 -- where none is foreign, no name is left
-pub none_foreign : (known : List QualifiedName) (blocks : List Block)
+pub none_foreign : (known : List Name) (blocks : List Block)
     → list_any (is_foreign known) blocks ≡ false → not_understood known blocks ≡ []
 none_foreign known [] h = refl
 none_foreign known (b ∷ blocks) h =

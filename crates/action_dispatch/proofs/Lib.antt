@@ -4,6 +4,7 @@ pub mod RowFacts
 pub mod BlockFacts
 pub mod Replies
 pub mod AnswerFacts
+pub mod AskedFacts
 -- worked cases
 mod Requests
 mod Worked

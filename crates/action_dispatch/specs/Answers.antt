@@ -1,10 +1,11 @@
 -- What a server answers a request with, by its service.
-use Rattle.std.specs.Prelude.{ℕ, List, [], ◌∷◌, Option, Some, None, Result, Ok, Err, if◌then◌else◌, codes}
+use Rattle.std.specs.Prelude.{⊤, ℕ, List, [], ◌∷◌, Option, Some, None, Result, Ok, Err, if◌then◌else◌, codes}
 use Rattle.std.specs.Str.{bytes_eq}
 use Rattle.nbfx_values.specs.declared.content.Item.{Item}
-use Rattle.soap_envelope.specs.declared.blocks.QualifiedName.{QualifiedName}
+use Rattle.soap_envelope.specs.Qualified.{Name}
 use Rattle.soap_envelope.specs.declared.refusals.SoapFault.{SoapFault}
-use Rattle.soap_envelope.specs.Making.{reply_items}
+use Rattle.soap_envelope.specs.Fitting.{fitting}
+use Rattle.soap_envelope.specs.Making.{AreTexts, reply_items}
 use Rattle.soap_envelope.specs.Names.{addressing, anonymous_address, no_address, qualified_name}
 use Rattle.soap_envelope.specs.Understanding.{not_understood}
 use Rattle.soap_envelope.specs.View.{View, view}
@@ -15,20 +16,20 @@ use Rattle.action_dispatch.specs.declared.judging.Destination.TheVariants.{Sende
 use Rattle.action_dispatch.specs.declared.judging.Judged.{Judged}
 use Rattle.action_dispatch.specs.declared.judging.Judged.TheVariants.{Unanswered, Refused, Asked}
 use Rattle.action_dispatch.specs.declared.refusals.Refusal.{Refusal}
-use Rattle.action_dispatch.specs.declared.refusals.Refusal.TheVariants.{NotUnderstood, NoAction, OtherReplyAddress, UnknownAction, ByService}
+use Rattle.action_dispatch.specs.declared.refusals.Refusal.TheVariants.{NotUnderstood, NoAction, OtherReplyAddress, UnknownAction, ByService, Unfit}
 use Rattle.action_dispatch.specs.declared.service.Served.{Served}
 use Rattle.action_dispatch.specs.declared.service.Served.TheVariants as said
-use Rattle.action_dispatch.specs.Refusals.{fault_of, refusal_of}
+use Rattle.action_dispatch.specs.Refusals.{fault_of, fitting as fitting_refusal, refusal_of}
 
 -- a service, as a function of action and content of Body
 abbrev pub Serves : Type 0
 Serves = (action : List ℕ) → (body : List Item) → Served
 
 -- the header blocks that every server understands: those of addressing
-abbrev pub block : List ℕ → QualifiedName
+abbrev pub block : List ℕ → Name
 block local = qualified_name addressing local
 
-abbrev pub known : List QualifiedName
+abbrev pub known : List Name
 known =
     block (codes "Action") ∷ block (codes "To") ∷ block (codes "MessageID")
     ∷ block (codes "RelatesTo") ∷ block (codes "ReplyTo") ∷ []
@@ -47,7 +48,7 @@ unless_nobody Nobody later = Unanswered
 unless_nobody to later = later
 
 -- blocks that must be understood and aren't have these names
-abbrev pub unless_foreign : List QualifiedName → Judged → Judged
+abbrev pub unless_foreign : List Name → Judged → Judged
 unless_foreign [] later = later
 unless_foreign (name ∷ more) later = Refused (NotUnderstood (name ∷ more))
 
@@ -75,20 +76,28 @@ answer_by action relates said.Nothing = Nothing
 answer_by action relates said.Unknown = refused UnknownAction relates
 answer_by action relates (said.Refuse reason) = refused (ByService reason) relates
 
--- what a service says to an action where this is the content of Body
-abbrev pub says_of : Serves → (body : List Item) → (action : List ℕ) → Served
-says_of serves body action = serves action body
+-- the answer where the service is asked for an action, with the content of Body where that fits
+abbrev pub asked : Serves → (action : List ℕ) → (relates : List Item) → Option (List Item) → Answer
+asked serves action relates None = refused Unfit relates
+asked serves action relates (Some body) = answer_by action relates (serves action body)
 
--- the answer to a request that was judged, where the service says this to its action
-abbrev pub answer_to : (says : List ℕ → Served) → (relates : List Item) → Judged → Answer
-answer_to says relates Unanswered = Nothing
-answer_to says relates (Refused refusal) = refused refusal relates
-answer_to says relates (Asked action) = answer_by action relates (says action)
+-- the answer to a request that was judged, which has this content of Body
+abbrev pub answer_to : ℕ → Serves → (body relates : List Item) → Judged → Answer
+answer_to quota serves body relates Unanswered = Nothing
+answer_to quota serves body relates (Refused refusal) =
+    refused (fitting_refusal quota refusal) relates
+answer_to quota serves body relates (Asked action) =
+    asked serves action relates (fitting quota body)
 
-abbrev pub answered_by : Serves → Result View SoapFault → Answer
-answered_by serves (Err fault) = refused (refusal_of fault) []
-answered_by serves (Ok v) = answer_to (says_of serves v.body) v.message_id (judged v)
+abbrev pub answered_by : ℕ → Serves → Result View SoapFault → Answer
+answered_by quota serves (Err fault) = refused (refusal_of fault) []
+answered_by quota serves (Ok v) = answer_to quota serves v.body v.message_id (judged v)
 
--- the answer to the request that is this document
-abbrev pub answered : Serves → List Item → Answer
-answered serves items = answered_by serves (view items)
+-- the answer to the request that is this document, where this is the quota on content
+abbrev pub answered : ℕ → Serves → List Item → Answer
+answered quota serves items = answered_by quota serves (view items)
+
+-- what an answer relates to are texts, which another answer may relate to
+abbrev pub RelatesToTexts : Answer → Type 0
+RelatesToTexts (Reply document relates) = AreTexts relates
+RelatesToTexts Nothing = ⊤

@@ -3,5 +3,7 @@ pub mod Services
 pub mod Actions
 pub mod Refusals
 pub mod Answers
--- inside a table
+pub mod Laws
+-- for private calls
+pub mod Planning
 pub mod Inside

@@ -1,7 +1,7 @@
 -- The fault of each reason not to serve a request.
-use Rattle.std.specs.Prelude.{ℕ, List, [], codes}
+use Rattle.std.specs.Prelude.{ℕ, List, [], codes, if◌then◌else◌}
 use Rattle.nbfx_values.specs.declared.content.Item.{Item}
-use Rattle.soap_envelope.specs.declared.blocks.QualifiedName.{QualifiedName}
+use Rattle.soap_envelope.specs.Qualified.{Name}
 use Rattle.soap_envelope.specs.declared.refusals.SoapFault.{SoapFault}
 use Rattle.soap_envelope.specs.declared.refusals.SoapFault.TheVariants as soap
 use Rattle.soap_envelope.specs.declared.report.Code.{Code}
@@ -10,6 +10,7 @@ use Rattle.soap_envelope.specs.declared.report.FaultReport.{FaultReport}
 use Rattle.soap_envelope.specs.declared.report.Sub.{Sub}
 use Rattle.soap_envelope.specs.declared.report.Sub.TheVariants as sub
 use Rattle.soap_envelope.specs.Faults.{fault_items}
+use Rattle.soap_envelope.specs.Fitting.{names_fit}
 use Rattle.action_dispatch.specs.declared.refusals.Refusal.{Refusal}
 use Rattle.action_dispatch.specs.declared.refusals.Refusal.TheVariants.{NoEnvelope, RepeatedHeader, IllFormed, NotUnderstood, NoAction, OtherReplyAddress, UnknownAction, ByService, Unfit}
 
@@ -45,8 +46,14 @@ reason_of UnknownAction = codes "The action is not supported."
 reason_of (ByService reason) = reason
 reason_of Unfit = codes "The reply does not fit."
 
+-- the refusal where the names in its fault fit the quota on content
+abbrev pub fitting : ℕ → Refusal → Refusal
+fitting quota (NotUnderstood names) =
+    if names_fit quota names then NotUnderstood names else Unfit
+fitting quota refusal = refusal
+
 -- the blocks that weren't understood
-abbrev pub names_of : Refusal → List QualifiedName
+abbrev pub names_of : Refusal → List Name
 names_of (NotUnderstood names) = names
 names_of _ = []
 

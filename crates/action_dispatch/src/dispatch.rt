@@ -3,35 +3,29 @@
 ghost use Rattle.std.specs.Prelude.{◌≡◌, IfOk, IsTrue, slice_get};
 ghost use Rattle.soap_envelope.specs.Body.{body_items};
 ghost use Rattle.soap_envelope.specs.Children.{is_start};
+ghost use Rattle.soap_envelope.specs.Fitting.{fitting};
 ghost use Rattle.soap_envelope.specs.Making.{AreTexts};
 ghost use Rattle.soap_envelope.specs.Parts.{root_scope};
 ghost use Rattle.action_dispatch.specs.Answers as spec;
-ghost use Rattle.action_dispatch.specs.Answers.{answer_to, answered, says_of};
+ghost use Rattle.action_dispatch.specs.Answers.{RelatesToTexts, answered};
 ghost use Rattle.action_dispatch.specs.Services.{MayStand};
 
 use crate::answers::Answer;
-use crate::judging::{Judged, Request};
+use crate::planning::{Plan, plan_for, refused};
 use crate::refusals::Refusal;
 use crate::service::{Served, Service};
-use nbfx_values::{Copied, Doc, Items};
-use soap_envelope::{Envelope, SoapFault, reply_doc_with, take_body};
+use nbfx_values::{Copied, Doc, Items, Quotas};
+use soap_envelope::{reply_doc_with, take_body};
 use std::alloc::Global;
 use unit_streams::Memory;
-
-// The answer that a request isn't served.
-fn refused(alloc: Global, refusal: Refusal, relates: Items) -> Result<Answer, Memory>
-    requires { AreTexts relates }
-    ensures { IfOk result (λ answer. answer ≡ spec.refused refusal relates) }
-{
-    let doc = refusal.doc(alloc, &relates)?;
-    Ok(Answer::Reply { doc, relates })
-}
 
 // The answer where the service says this.
 fn answer_by(alloc: Global, action: &str, relates: Items, said: Served) -> Result<Answer, Memory>
     requires relates { AreTexts relates }
     requires content { MayStand said }
-    ensures { IfOk result (λ answer. answer ≡ spec.answer_by action.now relates said) }
+    ensures answered { IfOk result (λ answer. answer
+        ≡ spec.answer_by action.now relates said) }
+    ensures texts { IfOk result RelatesToTexts }
 {
     match said {
         Served::Reply(body) => {
@@ -44,53 +38,78 @@ fn answer_by(alloc: Global, action: &str, relates: Items, said: Served) -> Resul
     }
 }
 
-// The answer to a request that was judged, which is this document.
-fn answer_request<V: Service>(
+// The answer to a request for this action, which is this document.
+fn answer_asked<V: Service>(
     alloc: Global,
+    quotas: &Quotas,
     service: &V,
-    request: Request,
+    action: &str,
+    relates: Items,
     doc: Doc,
+    body_at: usize,
 ) -> Result<Answer, Memory>
-    requires relates { AreTexts request.relates }
-    requires body { IsTrue (is_start (slice_get doc request.body_at)) }
-    ensures { let body = body_items doc (root_scope doc) request.body_at in
-        let says = says_of (V.served service.now) body in
-        IfOk result (λ answer. answer ≡ answer_to says request.relates request.judged) }
+    requires relates { AreTexts relates }
+    requires body { IsTrue (is_start (slice_get doc body_at)) }
+    ensures answered { let body = fitting quotas.now.content (body_items doc (root_scope doc) body_at) in
+        IfOk result (λ answer. answer ≡ spec.asked (V.served service.now) action.now relates body) }
+    ensures texts { IfOk result RelatesToTexts }
 {
-    let Request {
-        judged,
-        relates,
-        body_at,
-    } = request;
-    match judged {
-        Judged::Unanswered => Ok(Answer::Nothing),
-        Judged::Refused(refusal) => refused(alloc, refusal, relates),
-        Judged::Asked(action) => {
-            let body = take_body(alloc, doc, body_at)?;
-            let said = service.serve_owned(alloc, action.as_str(), body)?;
-            answer_by(alloc, action.as_str(), relates, said)
+    match take_body(alloc, quotas, doc, body_at)? {
+        Some(body) => {
+            let said = service.serve_owned(alloc, action, body)?;
+            answer_by(alloc, action, relates, said)
         }
+        None => refused(alloc, Refusal::Unfit, relates),
     }
 }
 
 /// What a server with this service answers to the request that is this document: a fault where the
-/// document is no envelope or the request isn't one to serve, and else what the service says. Where
-/// the service gives the content of the request's Body back, its items are moved into the reply,
-/// and copied only where the root or Body declares other prefixes than those of every reply.
-pub fn answer_owned<V: Service>(alloc: Global, service: &V, doc: Doc) -> Result<Answer, Memory>
-    ensures { IfOk result (λ answer. answer ≡ answered (V.served service.now) doc) }
+/// document is no envelope or the request isn't one to serve, and else what the service says. The
+/// service is asked only where the content of Body, with the declarations of its elements, counts
+/// no more than the quotas admit, and blocks that weren't understood are named only where their
+/// names do; else the answer is the fault that a reply doesn't fit. Where the service gives the
+/// content back, its items are moved into the reply, and copied only where the root or Body declares
+/// other prefixes than those of every reply.
+pub fn answer_owned<V: Service>(
+    alloc: Global,
+    quotas: &Quotas,
+    service: &V,
+    doc: Doc,
+) -> Result<Answer, Memory>
+    ensures answered { IfOk result
+        (λ answer. answer ≡ answered quotas.now.content (V.served service.now) doc) }
+    ensures texts { IfOk result RelatesToTexts }
 {
-    let request = match Envelope::of(alloc, &doc) {
-        Ok(envelope) => Request::of(alloc, &envelope)?,
-        Err(SoapFault::Memory) => return Err(Memory),
-        Err(fault) => return refused(alloc, Refusal::of(fault), Items::new(alloc)),
-    };
-    answer_request(alloc, service, request, doc)
+    match plan_for(alloc, quotas, &doc)? {
+        Plan::Answered(answer) => Ok(answer),
+        Plan::Asks {
+            action,
+            relates,
+            body_at,
+        } => {
+            answer_asked(
+                alloc,
+                quotas,
+                service,
+                action.as_str(),
+                relates,
+                doc,
+                body_at,
+            )
+        }
+    }
 }
 
 /// The same answer to a request that is kept, whose document is copied.
-pub fn answer<V: Service>(alloc: Global, service: &V, doc: &Doc) -> Result<Answer, Memory>
-    ensures { IfOk result (λ answer. answer ≡ answered (V.served service.now) doc.now) }
+pub fn answer<V: Service>(
+    alloc: Global,
+    quotas: &Quotas,
+    service: &V,
+    doc: &Doc,
+) -> Result<Answer, Memory>
+    ensures answered { IfOk result
+        (λ answer. answer ≡ answered quotas.now.content (V.served service.now) doc.now) }
+    ensures texts { IfOk result RelatesToTexts }
 {
-    answer_owned(alloc, service, doc.copy()?)
+    answer_owned(alloc, quotas, service, doc.copy()?)
 }

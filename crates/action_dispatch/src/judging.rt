@@ -2,12 +2,11 @@
 
 ghost use Rattle.std.specs.Prelude.{◌≡◌, IfOk};
 ghost use Rattle.std.specs.Option.{option_copied};
-ghost use Rattle.soap_envelope.specs.Making.{AreTexts};
 ghost use Rattle.action_dispatch.specs.Answers as spec;
 
 use crate::refusals::Refusal;
 use crate::understanding::foreign_names;
-use nbfx_values::{Items, Txt};
+use nbfx_values::Txt;
 use soap_envelope::Envelope;
 use soap_envelope::namespaces::{ANONYMOUS_ADDRESS, NO_ADDRESS};
 use std::alloc::Global;
@@ -42,15 +41,15 @@ impl Destination {
 
 // What becomes of a request.
 #[derive(Drop)]
-pub(crate) enum Judged {
+pub(crate) enum Judged<'d> {
     Unanswered,
-    Refused(Refusal),
+    Refused(Refusal<'d>),
     // The service is asked for this action.
     Asked(Txt),
 }
 
 // What becomes of a request with this action, if it has one, whose answer isn't for nobody.
-fn by_action(alloc: Global, action: Option<&str>, to: Destination) -> Result<Judged, Memory>
+fn by_action<'d>(alloc: Global, action: Option<&str>, to: Destination) -> Result<Judged<'d>, Memory>
     ensures { IfOk result (λ judged. judged ≡ spec.by_action (option_copied action.entry) to) }
 {
     let Some(action) = action else {
@@ -62,8 +61,8 @@ fn by_action(alloc: Global, action: Option<&str>, to: Destination) -> Result<Jud
     }
 }
 
-// What becomes of a request with this view.
-fn judge(alloc: Global, envelope: &Envelope<'_>) -> Result<Judged, Memory>
+/// What becomes of a request with this view.
+pub(crate) fn judge<'d>(alloc: Global, envelope: &Envelope<'d>) -> Result<Judged<'d>, Memory>
     ensures { IfOk result (λ judged. judged ≡ spec.judged envelope.now) }
 {
     let to = Destination::of(envelope.reply_address());
@@ -75,29 +74,4 @@ fn judge(alloc: Global, envelope: &Envelope<'_>) -> Result<Judged, Memory>
         return Ok(Judged::Refused(Refusal::NotUnderstood(foreign)));
     }
     by_action(alloc, envelope.action(), to)
-}
-
-/// What is kept of a request's view: what becomes of it, the texts that an answer relates to, and
-/// the place of its Body.
-#[derive(Drop)]
-pub(crate) struct Request {
-    pub(crate) judged: Judged,
-    pub(crate) relates: Items,
-    pub(crate) body_at: usize,
-}
-
-impl Request {
-    /// Of the request with this view.
-    pub(crate) fn of(alloc: Global, envelope: &Envelope<'_>) -> Result<Request, Memory>
-        ensures judged { IfOk result (λ request. request.judged ≡ spec.judged envelope.now) }
-        ensures relates { IfOk result (λ request. request.relates ≡ envelope.now.message_id) }
-        ensures texts { IfOk result (λ request. AreTexts request.relates) }
-        ensures body { IfOk result (λ request. request.body_at ≡ envelope.now.body_at) }
-    {
-        Ok(Request {
-            judged: judge(alloc, envelope)?,
-            relates: envelope.message_id(alloc)?,
-            body_at: envelope.body_at(),
-        })
-    }
 }

@@ -16,6 +16,8 @@ mod dispatch;
 mod echo;
 mod fault;
 mod judging;
+pub mod laws;
+mod planning;
 mod refusals;
 mod service;
 mod table;

@@ -5,14 +5,14 @@ ghost use Rattle.soap_envelope.specs.Making.{AreTexts};
 ghost use Rattle.action_dispatch.specs.Refusals as spec;
 ghost use Rattle.action_dispatch.specs.Refusals.{fault_of, report_of, unfit_fault};
 
-use nbfx_values::{Doc, Items, Txt};
-use soap_envelope::{Code, FaultReport, Names, SoapFault, Sub, fault_doc};
+use nbfx_values::{Doc, Items, Quotas, Txt};
+use soap_envelope::{Code, FaultReport, Names, SoapFault, Sub, fault_doc, names_fit};
 use std::alloc::Global;
 use unit_streams::Memory;
 
 /// Why a request isn't served, or its reply not sent. Each has its fault.
 #[derive(Debug, Drop)]
-pub enum Refusal {
+pub enum Refusal<'d> {
     /// The root isn't a SOAP 1.2 Envelope.
     NoEnvelope,
     /// A header that may stand once stands twice.
@@ -20,7 +20,7 @@ pub enum Refusal {
     /// The document isn't an envelope for another reason.
     IllFormed,
     /// Blocks of these names must be understood and aren't.
-    NotUnderstood(Names),
+    NotUnderstood(Names<'d>),
     /// There is no Action.
     NoAction,
     /// The answer is to go to another address than the sender's.
@@ -33,15 +33,32 @@ pub enum Refusal {
     Unfit,
 }
 
-impl Refusal {
+impl<'d> Refusal<'d> {
     /// The refusal of a document without a view.
-    pub(crate) fn of(fault: SoapFault) -> Refusal
+    pub(crate) fn of(fault: SoapFault) -> Refusal<'d>
         ensures { result ≡ spec.refusal_of fault }
     {
         match fault {
             SoapFault::NotAnEnvelope | SoapFault::VersionMismatch => Refusal::NoEnvelope,
             SoapFault::RepeatedHeader { .. } => Refusal::RepeatedHeader,
             _ => Refusal::IllFormed,
+        }
+    }
+
+    /// The refusal where the names in its fault fit the quota on content, and else that the reply
+    /// doesn't fit.
+    pub(crate) fn fitting(self, quotas: &Quotas) -> Refusal<'d>
+        ensures { result ≡ spec.fitting quotas.now.content self.entry }
+    {
+        match self {
+            Refusal::NotUnderstood(names) => {
+                if names_fit(quotas, names.as_slice()) {
+                    Refusal::NotUnderstood(names)
+                } else {
+                    Refusal::Unfit
+                }
+            }
+            other => other,
         }
     }
 
@@ -86,8 +103,8 @@ impl Refusal {
     }
 
     // The names of the blocks that weren't understood.
-    fn into_names(self, alloc: Global) -> Names
-        ensures { result ≡ spec.names_of self }
+    fn into_names(self, alloc: Global) -> Names<'d>
+        ensures { result ≡ spec.names_of self.entry }
     {
         match self {
             Refusal::NotUnderstood(names) => names,
@@ -96,8 +113,8 @@ impl Refusal {
     }
 
     // What the fault reports.
-    fn report(self, alloc: Global) -> Result<FaultReport, Memory>
-        ensures { IfOk result (λ report. report ≡ report_of self) }
+    fn report(self, alloc: Global) -> Result<FaultReport<'d>, Memory>
+        ensures { IfOk result (λ report. report ≡ report_of self.entry) }
     {
         let code = self.code();
         let sub = self.sub();
@@ -113,7 +130,7 @@ impl Refusal {
     /// The fault, which relates to the request with this identifier.
     pub(crate) fn doc(self, alloc: Global, relates: &Items) -> Result<Doc, Memory>
         requires { AreTexts relates.now }
-        ensures { IfOk result (λ doc. doc ≡ fault_of self relates.now) }
+        ensures { IfOk result (λ doc. doc ≡ fault_of self.entry relates.now) }
     {
         let report = self.report(alloc)?;
         fault_doc(alloc, &report, relates)

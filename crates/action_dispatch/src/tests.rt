@@ -3,7 +3,7 @@ use crate::{
     ActionFault, ActionKind, Answer, EchoService, Served, Service, TableService, answer,
     answer_owned, unfit_doc,
 };
-use nbfx_values::{Doc, Item, Items, Scalar, Txt, Value};
+use nbfx_values::{Doc, Item, Items, Quotas, Scalar, Txt, Value};
 use std::alloc::Global;
 use std::process::Abort;
 use std::test::Fail;
@@ -104,9 +104,10 @@ fn expect<V: Service>(
     doc: Doc,
     texts: &str,
 ) -> Result<(), Fail> {
-    let kept = answer(alloc, service, &doc)?;
+    let quotas = Quotas::usual();
+    let kept = answer(alloc, &quotas, service, &doc)?;
     assert_eq!(rt; texts_in(alloc, &kept)?.as_str(), texts);
-    let moved = answer_owned(alloc, service, doc)?;
+    let moved = answer_owned(alloc, &quotas, service, doc)?;
     assert_eq!(rt; texts_in(alloc, &moved)?.as_str(), texts);
     Ok(())
 }

@@ -55,7 +55,7 @@ put_all-texts (d ∷ ds) others h k =
     put_all-texts ds (put d others) p.1 (put-texts d others p.0 k)
 
 -- what all pass, those that are kept pass too
-filtered : {X : Type 0} (p q : X → Bool) (xs : List X) → list_all p xs ≡ true
+pub filtered : {X : Type 0} (p q : X → Bool) (xs : List X) → list_all p xs ≡ true
     → list_all p (filter q xs) ≡ true
 filtered p q [] h = refl
 filtered p q (x ∷ xs) h =

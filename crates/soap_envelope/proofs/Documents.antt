@@ -55,14 +55,65 @@ with_blocks blocks = enveloped (s (codes "Header") blocks ++ s (codes "Body") []
 abbrev pub with_body : List Item → List Item
 with_body content = enveloped (s (codes "Body") content)
 
+-- the texts of an identifier, and a content of Body
+abbrev pub identified : List Item
+identified = Text (One (UniqueId identifier)) ∷ []
+
+abbrev pub hi : List Item
+hi = x (words (codes "hi") ∷ [])
+
+-- the block with an action
+abbrev pub acting : List ℕ → List Item
+acting name =
+    a (codes "Action") (Attr (codes "s") (codes "mustUnderstand") (One (Number (pos 1)))
+    ∷ words name ∷ [])
+
+-- a block of another namespace that must be understood, with these attributes
+abbrev pub secured : List Item → List Item
+secured attributes =
+    Start (codes "t") (codes "Sec") ∷ Xmlns (codes "t") (codes "urn:t") ∷ must (codes "1")
+    ∷ (attributes ++ Close ∷ [])
+
+-- the blocks of a request, and a request
 abbrev pub action : List Item
-action =
-    a (codes "Action")
-    (Attr (codes "s") (codes "mustUnderstand") (One (Number (pos 1))) ∷ words (codes "urn:echo") ∷ [])
+action = acting (codes "urn:echo")
 
 abbrev pub message : List Item
-message = a (codes "MessageID") (Text (One (UniqueId identifier)) ∷ [])
+message = a (codes "MessageID") identified
 
 abbrev pub echo : List Item
-echo =
-    enveloped (s (codes "Header") (action ++ message) ++ s (codes "Body") (x (words (codes "hi") ∷ [])))
+echo = enveloped (s (codes "Header") (action ++ message) ++ s (codes "Body") hi)
+
+-- the block of an answer to the request with the identifier
+abbrev pub related : List Item
+related = a (codes "RelatesTo") identified
+
+-- a reply of this action and this content
+abbrev pub reply : List ℕ → List Item → List Item
+reply name body = enveloped (s (codes "Header") (acting name ++ related) ++ s (codes "Body") body)
+
+-- a fault of this action and these further blocks, by its code, its subcodes and its reason
+abbrev pub fault : (name : List ℕ) (blocks : List Item) (code : List ℕ) (subcodes : List Item)
+    (reason : List ℕ) → List Item
+fault name blocks code subcodes reason =
+    enveloped (
+    s (codes "Header") (acting name ++ blocks)
+    ++ s (codes "Body") (
+    s (codes "Fault") (
+    s (codes "Code") (s (codes "Value") (words code ∷ []) ++ subcodes)
+    ++ s (codes "Reason")
+    (s (codes "Text") (attribute (codes "xml") (codes "lang") (codes "en") ∷ words reason ∷ []))
+    )
+    )
+    )
+
+-- a subcode, and those in it
+abbrev pub subcode : List ℕ → List Item → List Item
+subcode text inner = s (codes "Subcode") (s (codes "Value") (words text ∷ []) ++ inner)
+
+-- the actions of faults: SOAP's own, and addressing's
+abbrev pub soap_action : List ℕ
+soap_action = codes "http://www.w3.org/2005/08/addressing/soap/fault"
+
+abbrev pub addressing_action : List ℕ
+addressing_action = codes "http://www.w3.org/2005/08/addressing/fault"

@@ -9,7 +9,7 @@ use Rattle.nbfx_values.specs.declared.scalars.Scalar.TheVariants.{Text as TextOf
 use Rattle.nbfx_values.specs.declared.scalars.Value.TheVariants.{One}
 use Rattle.nbfx_values.specs.Positions.{position_from}
 use Rattle.nbfx_values.proofs.Positions.{stepped}
-use Rattle.soap_envelope.specs.declared.blocks.QualifiedName.{QualifiedName}
+use Rattle.soap_envelope.specs.Qualified.{Name}
 use Rattle.soap_envelope.specs.declared.report.Code.{Code}
 use Rattle.soap_envelope.specs.declared.report.Code.TheVariants.{VersionMismatch, MustUnderstand, Sender, Receiver}
 use Rattle.soap_envelope.specs.declared.report.FaultReport.{FaultReport}
@@ -21,7 +21,7 @@ use Rattle.soap_envelope.proofs.OnLiterals.{envelopes_on_literals}
 use Rattle.soap_envelope.proofs.Places.{leads-on}
 
 -- a block that names what wasn't understood
-name-leads : (name : QualifiedName) → is_nameable name ≡ true
+name-leads : (name : Name) → is_nameable name ≡ true
     → position_from (Some (Within 1 false)) (not_understood_block name) ≡ Some (Within 1 false)
 unfolding envelopes_on_literals
 name-leads name h =
@@ -30,7 +30,7 @@ name-leads name h =
     stepped (Within 2 true) (Xmlns (codes "n") name.uri) (qname ∷ Close ∷ []) q.0
     ∙ stepped (Within 2 true) qname (Close ∷ []) q.1
 
-pub names-lead : (names : List QualifiedName) → list_all is_nameable names ≡ true
+pub names-lead : (names : List Name) → list_all is_nameable names ≡ true
     → position_from (Some (Within 1 false)) (flat_map not_understood_block names) ≡ Some (Within 1 false)
 names-lead [] h = refl
 names-lead (name ∷ more) h =
@@ -39,7 +39,7 @@ names-lead (name ∷ more) h =
     (not_understood_block name) (flat_map not_understood_block more) (name-leads name q.0) (names-lead more q.1)
 
 -- the code, with its subcodes
-code-leads : (code : Code) (s : Sub) (reason : List ℕ) (names : List QualifiedName)
+code-leads : (code : Code) (s : Sub) (reason : List ℕ) (names : List Name)
     → position_from (Some (Within 1 true)) (code_items (record { code = code; sub = s; reason = reason; names = names })) ≡ Some (Within 1 false)
 unfolding envelopes_on_literals
 code-leads VersionMismatch sub.None reason names = refl

@@ -1,22 +1,32 @@
 -- What replies and faults are seen as.
-use Rattle.std.proofs.Common.{◌≡◌, ◌+◌, ℕ, true, List, [], ◌∷◌, ◌++◌, ap, append_assoc, arith, length, refl, sym, ◌∙◌, Some, None, codes}
+use Rattle.std.proofs.Common.{◌≡◌, ◌+◌, ℕ, true, List, [], ◌∷◌, ◌++◌, ap, append_assoc, arith, length, refl, sym, ◌∙◌, Some, None, Ok, Err, Option, Result, codes, drop, option_map}
 use Rattle.std.specs.Prelude.{flat_map, slice_get}
 use Rattle.std.specs.List.{list_all}
 use Rattle.std.proofs.lemmas.Bool.{and_parts}
 use Rattle.std.proofs.lemmas.List.{length-append}
 use Rattle.nbfx_values.specs.Items.{is_valid_item}
 use Rattle.nbfx_values.specs.declared.content.Item.{Item}
-use Rattle.nbfx_values.specs.declared.content.Item.TheVariants.{Text, Close}
+use Rattle.nbfx_values.specs.declared.content.Item.TheVariants.{Start, Text, Close}
 use Rattle.soap_envelope.specs.declared.report.FaultReport.{FaultReport}
 use Rattle.soap_envelope.specs.declared.report.Sub.{Sub}
 use Rattle.soap_envelope.specs.declared.report.Sub.TheVariants as sub
-use Rattle.soap_envelope.specs.BadNames.{first_bad_name}
-use Rattle.soap_envelope.specs.Children.{children_from}
+use Rattle.soap_envelope.specs.BadNames.{bad_name, first_bad_name}
+use Rattle.soap_envelope.specs.Children.{children_from, is_start}
 use Rattle.soap_envelope.specs.Faults.{code_text, fault_action, fault_body, reason_items, sub_texts, subcode_items, value_items}
-use Rattle.soap_envelope.specs.Laws.{FaultsAreViewed, RelatesAreKept, RepliesAreViewed}
+use Rattle.soap_envelope.specs.Laws.{BodiesStand, FaultsAreViewed, RelatesAreKept, RepliesAreViewed}
 use Rattle.soap_envelope.specs.Made.{StandsInReplies, reply_scope}
-use Rattle.soap_envelope.specs.Making.{action_block, ending, is_valid_text, middle, opening, response_action, soap_start, addressing_start}
-use Rattle.soap_envelope.specs.View.{texts_in}
+use Rattle.soap_envelope.specs.Making.{IsContent, action_block, ending, is_valid_text, middle, opening, response_action, soap_start, addressing_start}
+use Rattle.soap_envelope.specs.declared.parts.Parts.{Parts}
+use Rattle.soap_envelope.specs.declared.refusals.SoapFault.{SoapFault}
+use Rattle.soap_envelope.specs.declared.refusals.SoapFault.TheVariants.{BadNames}
+use Rattle.soap_envelope.specs.Parts.{name_by, parts_of, root_scope, wrong_name, wrong_root}
+use Rattle.soap_envelope.specs.Seen.{BodyStands}
+use Rattle.soap_envelope.specs.Scopes.{Scope, within}
+use Rattle.soap_envelope.specs.Body.{behind_head, body_items, needed, self_standing}
+use Rattle.soap_envelope.specs.View.{View, header_fault, texts_in, unless, view, viewed, viewed_by}
+use Rattle.soap_envelope.proofs.Contents.{body-content, view-stands}
+use Rattle.soap_envelope.proofs.GoodNames.{content-good, good-names}
+use Rattle.soap_envelope.proofs.Standing.{standing-good}
 use Rattle.soap_envelope.proofs.FaultPlaces.{fault-content}
 use Rattle.soap_envelope.proofs.MadeParts.{get-behind}
 use Rattle.soap_envelope.proofs.MadeView.{made-viewed}
@@ -25,6 +35,71 @@ use Rattle.soap_envelope.proofs.OnLiterals.{envelopes_on_literals}
 pub replies_are_viewed : RepliesAreViewed
 replies_are_viewed action relates body texts content named =
     made-viewed (response_action action) relates [] body texts content named
+
+-- what was viewed has good names, begins with its root, and has its parts
+passes : {X : Type 0} (fault : Option SoapFault) (r : Result X SoapFault) (x : X)
+    → unless fault r ≡ Ok x → (fault ≡ None) × (r ≡ Ok x)
+passes None r x h = (refl, h)
+passes (Some fault) r x h = absurd cc
+
+no-bad_name : (bad : Option ℕ) → option_map BadNames bad ≡ None → bad ≡ None
+no-bad_name None h = refl
+no-bad_name (Some at) h = absurd cc
+
+root-starts : (scope : Scope) (root : Option Item) → wrong_name (name_by scope root) ≡ None
+    → is_start root ≡ true
+root-starts scope (Some (Start p l)) h = refl
+root-starts scope root h = absurd cc
+
+record IsViewed (doc : List Item) (v : View) : Type 0 where
+  names : bad_name doc ≡ None
+  root : is_start (slice_get doc 0) ≡ true
+  parts : Parts
+  are_parts : parts_of doc ≡ Ok parts
+  place : parts.body ≡ v.body_at
+
+is-viewed : (doc : List Item) (v : View) → view doc ≡ Ok v → IsViewed doc v
+is-viewed doc v h =
+    let later = unless (wrong_root doc) (viewed_by doc (parts_of doc)) in
+    let named = passes (option_map BadNames (bad_name doc)) later v h in
+    let rooted = passes (wrong_root doc) (viewed_by doc (parts_of doc)) v named.1 in
+    by (parts_of doc) refl rooted.1 (no-bad_name (bad_name doc) named.0)
+    (root-starts (within doc 0 []) (slice_get doc 0) rooted.0)
+  where
+    by : (parts : Result Parts SoapFault) → parts_of doc ≡ parts → viewed_by doc parts ≡ Ok v
+        → bad_name doc ≡ None → is_start (slice_get doc 0) ≡ true → IsViewed doc v
+    by (Err fault) is h names root = absurd cc
+    by (Ok parts) is h names root =
+        let seen = passes (header_fault doc parts.header) (Ok (viewed doc parts)) v h in
+        let same : viewed doc parts ≡ v = cc seen.1 in
+        record {
+          names = names;
+          root = root;
+          parts = parts;
+          are_parts = is;
+          place = ap (λ (w : View). w.body_at) same;
+        }
+
+-- the content of its Body has good names in any reply
+body-named : (doc : List Item) (v : View) → view doc ≡ Ok v → StandsInReplies v.body
+body-named doc v h at =
+    let seen = is-viewed doc v h in
+    let stands : BodyStands doc v = rw h at (view-stands doc) in
+    let starts : is_start (slice_get doc seen.parts.body) ≡ true = rw seen.place stands.starts in
+    let scope = within doc seen.parts.body (root_scope doc) in
+    let content = behind_head (drop (seen.parts.body + 1) doc) in
+    let good = content-good doc seen.parts seen.root starts seen.names seen.are_parts in
+    let same : v.body ≡ self_standing (needed scope) (Some 0) content =
+    stands.content ∙ ap (body_items doc (root_scope doc)) (sym seen.place) in
+    rw same (good-names reply_scope at (self_standing (needed scope) (Some 0) content)
+    (standing-good scope content good))
+
+pub bodies_stand : BodiesStand
+bodies_stand doc v action relates document h texts =
+    let stands : BodyStands doc v = rw h at (view-stands doc) in
+    let content : IsContent v.body =
+    rw stands.content (body-content doc v.body_at document stands.starts) in
+    replies_are_viewed action relates v.body texts content (body-named doc v h)
 
 -- texts up to an end, after a front
 texts-there : (all before texts rest : List Item) (at : ℕ)

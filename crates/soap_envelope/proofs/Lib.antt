@@ -1,10 +1,16 @@
 pub mod Lists
 pub mod NameFacts
+pub mod LayerFacts
 pub mod OnLiterals
 pub mod Documents
 pub mod PutFacts
+pub mod FitFacts
+pub mod Apart
+pub mod GoodNames
+pub mod Standing
 pub mod Places
 pub mod FaultPlaces
+pub mod FaultSizes
 pub mod Nesting
 pub mod MadeNames
 pub mod MadeParts
@@ -16,6 +22,7 @@ pub mod Declarations
 pub mod Contents
 pub mod Suffixes
 mod Worked
+mod WorkedMade
 mod WorkedRefusals
 pub mod WorkedPlaces
 mod WorkedStructure

@@ -9,7 +9,7 @@ use Rattle.nbfx_values.specs.declared.content.Item.{Item}
 use Rattle.nbfx_values.specs.declared.content.Item.TheVariants.{Start, Xmlns, Attr, Text, Comment, Array, Close}
 use Rattle.nbfx_values.specs.declared.position.Position.TheVariants.{Within}
 use Rattle.nbfx_values.proofs.Positions.{passed}
-use Rattle.soap_envelope.specs.declared.blocks.QualifiedName.{QualifiedName}
+use Rattle.soap_envelope.specs.Qualified.{Name}
 use Rattle.soap_envelope.specs.BadNames.{bad_attribute, bad_in_head, bad_name, first_bad_name, is_good_array}
 use Rattle.soap_envelope.specs.Body.{behind_head}
 use Rattle.soap_envelope.specs.Faults.{not_understood_block}
@@ -27,12 +27,13 @@ behind scope (Close ∷ more) = behind (around scope) more
 behind scope (item ∷ more) = behind scope more
 
 -- where the first of two places is none, neither is there
-neither : (a b : Option ℕ) → option_or a b ≡ None → (a ≡ None) × (b ≡ None)
+pub neither : (a b : Option ℕ) → option_or a b ≡ None → (a ≡ None) × (b ≡ None)
 neither None b h = (refl, h)
 neither (Some at) b h = absurd cc
 
 -- a choice that isn't a place is the other
-unless_bad : (good : Bool) (other : Option ℕ) (at : ℕ) → (if good then other else Some at) ≡ None
+pub unless_bad : (good : Bool) (other : Option ℕ) (at : ℕ) → (if good then other else Some at)
+    ≡ None
     → (good ≡ true) × (other ≡ None)
 unless_bad true other at h = (refl, h)
 unless_bad false other at h = absurd cc
@@ -142,14 +143,14 @@ relates-named (Text v ∷ texts) rest h good at =
     (λ i. good (i + 1)) (at + 1 + 1))
 relates-named (x ∷ texts) rest h good at = absurd cc
 
-blocks-named : (names : List QualifiedName) (rest : List Item)
+blocks-named : (names : List Name) (rest : List Item)
     → ((at : ℕ) → first_bad_name reply_scope at rest ≡ None) → (at : ℕ)
     → first_bad_name reply_scope at (flat_map not_understood_block names ++ rest) ≡ None
 unfolding envelopes_on_literals
 blocks-named [] rest good at = good at
 blocks-named (name ∷ names) rest good at = blocks-named names rest good (at + 1 + 1 + 1 + 1)
 
-pub made-named : (action : List ℕ) (relates : List Item) (names : List QualifiedName)
+pub made-named : (action : List ℕ) (relates : List Item) (names : List Name)
     (body : List Item) → list_all is_valid_text relates ≡ true → IsContent body
     → StandsInReplies body
     → bad_name (envelope_items action relates (flat_map not_understood_block names) body) ≡ None

@@ -7,7 +7,7 @@ use Rattle.std.proofs.lemmas.List.{length-append}
 use Rattle.nbfx_values.specs.Items.{is_valid_item}
 use Rattle.nbfx_values.specs.declared.content.Item.{Item}
 use Rattle.nbfx_values.specs.declared.content.Item.TheVariants.{Text, Close}
-use Rattle.soap_envelope.specs.declared.blocks.QualifiedName.{QualifiedName}
+use Rattle.soap_envelope.specs.Qualified.{Name}
 use Rattle.soap_envelope.specs.Characters.{is_passed}
 use Rattle.soap_envelope.specs.Children.{children_from}
 use Rattle.soap_envelope.specs.Faults.{not_understood_block}
@@ -49,7 +49,7 @@ relates-nested (Text v ∷ texts) h =
     ∙ ap (λ o. nested o (Close ∷ [])) (texts-nested (Text v ∷ texts) 1 h)
 relates-nested (x ∷ texts) h = absurd cc
 
-pub blocks-nested : (names : List QualifiedName)
+pub blocks-nested : (names : List Name)
     → nested (Some 0) (flat_map not_understood_block names) ≡ Some 0
 blocks-nested [] = refl
 blocks-nested (name ∷ names) = blocks-nested names
@@ -67,7 +67,7 @@ parts-by : (all : List Item) (at : ℕ) → slice_get all at ≡ Some (soap_star
 unfolding envelopes_on_literals
 parts-by all at got none first = rw (first, got, none) refl
 
-module _ (action : List ℕ) (relates : List Item) (names : List QualifiedName) (body : List Item)
+module _ (action : List ℕ) (relates : List Item) (names : List Name) (body : List Item)
     (texts : list_all is_valid_text relates ≡ true) (content : IsContent body) where
   abbrev pub blocks : List Item
   blocks = relates_block relates ++ flat_map not_understood_block names

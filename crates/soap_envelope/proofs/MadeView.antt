@@ -9,7 +9,7 @@ use Rattle.nbfx_values.specs.declared.content.Item.TheVariants.{Xmlns, Attr, Tex
 use Rattle.nbfx_values.specs.declared.scalars.Scalar.TheVariants.{Text as TextOf}
 use Rattle.nbfx_values.specs.declared.scalars.Value.TheVariants.{One}
 use Rattle.soap_envelope.specs.declared.blocks.Block.{Block}
-use Rattle.soap_envelope.specs.declared.blocks.QualifiedName.{QualifiedName}
+use Rattle.soap_envelope.specs.Qualified.{Name}
 use Rattle.soap_envelope.specs.Blocks.{block_of, blocks_among}
 use Rattle.soap_envelope.specs.Body.{behind_head, body_items, needed, self_standing}
 use Rattle.soap_envelope.specs.Characters.{is_passed, text_of}
@@ -82,11 +82,11 @@ abbrev relates_places : List Item → List ℕ
 relates_places [] = []
 relates_places texts = 8 ∷ []
 
-abbrev names_places : ℕ → List QualifiedName → List ℕ
+abbrev names_places : ℕ → List Name → List ℕ
 names_places at [] = []
 names_places at (name ∷ more) = at ∷ names_places (at + 4) more
 
-names-children : (names : List QualifiedName) (body : List Item) (at : ℕ)
+names-children : (names : List Name) (body : List Item) (at : ℕ)
     → children_from (Some 0) at
     (flat_map not_understood_block names ++ (middle ++ (body ++ ending))) ≡ names_places at names
 names-children [] body at = refl
@@ -107,20 +107,20 @@ relates-children (Text v ∷ texts) tail h =
 relates-children (x ∷ texts) tail h = absurd cc
 
 -- of these blocks none but Action counts, and none is repeated
-names-uncounted : (local : List ℕ) (names : List QualifiedName) (at : ℕ)
+names-uncounted : (local : List ℕ) (names : List Name) (at : ℕ)
     → ((n : ℕ) → counts_as local (name_seen n) ≡ false) → counted local (names_seen at names) ≡ None
 names-uncounted local [] at h = refl
 names-uncounted local (name ∷ names) at h =
     rw (h at) (names-uncounted local names (at + 4) h)
 
-names-unrepeated : (before : List Block) (names : List QualifiedName) (at : ℕ)
+names-unrepeated : (before : List Block) (names : List Name) (at : ℕ)
     → repeated_behind before (names_seen at names) ≡ None
 unfolding envelopes_on_literals
 names-unrepeated before [] at = refl
 names-unrepeated before (name ∷ names) at =
     names-unrepeated (before ++ name_seen at ∷ []) names (at + 4)
 
-module _ (action : List ℕ) (relates : List Item) (names : List QualifiedName) where
+module _ (action : List ℕ) (relates : List Item) (names : List Name) where
   abbrev seen : List Block
   seen = action_seen ∷ (relates_seen relates ++ names_seen (behind_relates relates) names)
 
@@ -156,7 +156,7 @@ module _ (action : List ℕ) (relates : List Item) (names : List QualifiedName) 
           names-uncounted (codes "MessageID") names (behind_relates (text ∷ texts)) (λ n. refl)
 
 -- the block of a name, where it stands after a front
-name-block : (all before more : List Item) (name : QualifiedName)
+name-block : (all before more : List Item) (name : Name)
     → all ≡ before ++ (not_understood_block name ++ more)
     → IsBlock all reply_scope (length before) (name_seen (length before))
 unfolding envelopes_on_literals
@@ -177,7 +177,7 @@ name-block all before more name is =
       good = rw left refl;
     }
 
-names-blocks : (all before tail : List Item) (names : List QualifiedName) (at : ℕ)
+names-blocks : (all before tail : List Item) (names : List Name) (at : ℕ)
     → all ≡ before ++ (flat_map not_understood_block names ++ tail) → at ≡ length before
     → AreBlocks all reply_scope (names_places at names) (names_seen at names)
 names-blocks all before tail [] at is place = tt
@@ -203,7 +203,7 @@ body-stands body content =
     (standing-inside body ending 0 0 (leads-nested body 0 0 false false content)
     ∙ append-nil body)
 
-module _ (action : List ℕ) (relates : List Item) (names : List QualifiedName) (body : List Item)
+module _ (action : List ℕ) (relates : List Item) (names : List Name) (body : List Item)
     (texts : list_all is_valid_text relates ≡ true) (content : IsContent body)
     (named : StandsInReplies body) where
   abbrev all : List Item
@@ -253,7 +253,7 @@ module _ (action : List ℕ) (relates : List Item) (names : List QualifiedName) 
   count-relates [] = refl
   count-relates (t ∷ ts) = omega (arith, length-append (t ∷ ts) (Close ∷ []))
 
-  count-names : (more : List QualifiedName) (at : ℕ)
+  count-names : (more : List Name) (at : ℕ)
       → behind_names at more ≡ at + length (flat_map not_understood_block more)
   count-names [] at = omega arith
   count-names (name ∷ more) at =

@@ -1,18 +1,37 @@
--- What a declaration in place of another leaves.
-use Rattle.std.proofs.Common.{◌≡◌, ◌<◌, ◌++◌, ◌∷◌, [], ℕ, zero, suc, List, ap, arith, drop, get_or, length, map, refl, take}
+-- Sorted declarations, as a map holds them.
+use Rattle.std.proofs.Common.{◌≡◌, ◌∙◌, ◌∷◌, [], ℕ, List, Bor, ap, map, refl, sym}
+use Rattle.std.specs.BTreeMap.{insert_entry}
 use Rattle.std.specs.Cmp.Lexicographic.{slice_cmp}
-use Rattle.std.specs.Ordering.{nat_cmp}
-use Rattle.std.specs.declared.cmp.Ordering.TheVariants.{Equal}
-use Rattle.std.proofs.Math.ListN.{set}
-use Rattle.soap_envelope.specs.declared.scopes.Declared.{Declared}
-use Rattle.soap_envelope.specs.Body.{put}
-use Rattle.soap_envelope.specs.Layers.{kept}
+use Rattle.std.specs.Ordering.{match_ordering, nat_cmp}
+use Rattle.std.specs.declared.cmp.Ordering.{Ordering}
+use Rattle.std.specs.declared.cmp.Ordering.TheVariants.{Less, Equal, Greater}
+use Rattle.std.proofs.lemmas.Map.Lookups.{exact_bytes}
+use Rattle.soap_envelope.specs.Body.{placed, put}
+use Rattle.soap_envelope.specs.Scopes.{Declaration, declaration}
 
-pub put-equal : (xs : List Declared) (i : ℕ) (one x : Declared) → i < length xs → x ≡ get_or xs i x
-    → slice_cmp nat_cmp one.prefix.now x.prefix.now ≡ Equal
-    → map kept (take i xs) ++ put (kept one) (map kept (drop i xs)) ≡ map kept (set xs i one)
-put-equal [] i one x h e same = absurd (omega arith)
-put-equal (y ∷ xs) zero one x h e same =
-    let at : slice_cmp nat_cmp one.prefix.now y.prefix.now ≡ Equal = rw e at same in
-    rw at refl
-put-equal (y ∷ xs) (suc i) one x h e same = ap (λ l. kept y ∷ l) (put-equal xs i one x (omega arith) e same)
+abbrev pub Text : Type 0
+Text = Bor (List ℕ)
+
+abbrev pub one_shown : Text × Text → Declaration
+one_shown entry = declaration entry.0.now entry.1.now
+
+-- an entry more, by the order of its prefix and that of the first
+shown-placed : (o : Ordering) (k v : Text) (e : Text × Text) (es behind : List (Text × Text))
+    → (o ≡ Equal → k.now ≡ e.0.now)
+    → map one_shown (match_ordering o ((k, v) ∷ e ∷ es) ((e.0, v) ∷ es) (e ∷ behind))
+    ≡ placed o (declaration k.now v.now) (one_shown e) (map one_shown es) (map one_shown behind)
+shown-placed Less k v e es behind h = refl
+shown-placed Equal k v e es behind h =
+    ap (λ p. declaration p v.now ∷ map one_shown es) (sym (h refl))
+shown-placed Greater k v e es behind h = refl
+
+pub shown-insert : (es : List (Text × Text)) (k v : Text)
+    → map one_shown (insert_entry (λ x y. slice_cmp nat_cmp x.now y.now) es k v)
+    ≡ put (declaration k.now v.now) (map one_shown es)
+shown-insert [] k v = refl
+shown-insert (e ∷ es) k v =
+    let order = slice_cmp nat_cmp k.now e.0.now in
+    shown-placed order k v e es (insert_entry (λ x y. slice_cmp nat_cmp x.now y.now) es k v)
+    (λ same. exact_bytes k.now e.0.now same)
+    ∙ ap (placed order (declaration k.now v.now) (one_shown e) (map one_shown es))
+    (shown-insert es k v)

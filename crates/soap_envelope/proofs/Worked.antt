@@ -1,13 +1,15 @@
 -- Worked cases: the view of literal documents.
-use Rattle.std.proofs.Common.{◌≡◌, List, [], ◌∷◌, ◌++◌, codes, refl, pos, map, Some, None, Result, Ok, Err, Bool, true, false}
+use Rattle.std.proofs.Common.{◌≡◌, ℕ, List, [], ◌∷◌, ◌++◌, codes, refl, pos, map, Some, None, Result, Ok, Err, Bool, true, false}
 use Rattle.nbfx_values.specs.declared.content.AttrItem.TheVariants.{Xmlns as DeclaresOn}
 use Rattle.nbfx_values.specs.declared.content.Item.{Item}
 use Rattle.nbfx_values.specs.declared.content.Item.TheVariants.{Start, Xmlns, Attr, Text, Comment, Close}
-use Rattle.nbfx_values.specs.declared.scalars.Scalar.TheVariants.{Number, Truth, UniqueId}
+use Rattle.nbfx_values.specs.declared.scalars.Scalar.TheVariants.{Number, Truth, Float, UniqueId, QName}
 use Rattle.nbfx_values.specs.declared.scalars.Value.TheVariants.{One}
 use Rattle.soap_envelope.specs.declared.blocks.Block.{Block}
 use Rattle.soap_envelope.specs.declared.refusals.SoapFault.{SoapFault}
-use Rattle.soap_envelope.specs.Names.{addressing, qualified_name, role_next, role_ultimate_receiver, soap}
+use Rattle.soap_envelope.specs.Fitting.{fits}
+use Rattle.soap_envelope.specs.Names.{addressing, qualified_name, role_next, role_ultimate_receiver, soap, xml_namespace}
+use Rattle.soap_envelope.specs.Qualified.{Name}
 use Rattle.soap_envelope.specs.View.{View, view}
 use Rattle.soap_envelope.proofs.Documents.{a, action, array, attribute, echo, enveloped, identifier, must, role, s, with_blocks, with_body, words, x}
 use Rattle.soap_envelope.proofs.OnLiterals.{envelopes_on_literals}
@@ -15,8 +17,21 @@ use Rattle.soap_envelope.proofs.OnLiterals.{envelopes_on_literals}
 -- an envelope as WCF sends them
 an_echo : view echo ≡ Ok (record {
   blocks =
-      record { name = qualified_name addressing (codes "Action"); must_understand = true; targeted = true; from = 4; to = 7 }
-      ∷ record { name = qualified_name addressing (codes "MessageID"); must_understand = false; targeted = true; from = 8; to = 10 }
+      record {
+        name = qualified_name addressing (codes "Action");
+        must_understand = true;
+        targeted =
+            true;
+        from = 4;
+        to = 7;
+      }
+      ∷ record {
+        name = qualified_name addressing (codes "MessageID");
+        must_understand = false;
+        targeted = true;
+        from = 8;
+        to = 10;
+      }
       ∷ [];
   action = Some (codes "urn:echo");
   reply_address = None;
@@ -59,16 +74,71 @@ flags_of_blocks : AllTold flags (
     ∷ (block (must (codes "1") ∷ must (codes "TRUE") ∷ []), (true, true) ∷ [])
     ∷ (block (attribute [] (codes "mustUnderstand") (codes "1") ∷ []), (false, true) ∷ [])
     ∷ (block (attribute (codes "a") (codes "mustUnderstand") (codes "1") ∷ []), (false, true) ∷ [])
-    ∷ (block (Xmlns [] soap ∷ attribute [] (codes "mustUnderstand") (codes "1") ∷ []), (false, true) ∷ [])
-    ∷ (block (attribute (codes "p") (codes "mustUnderstand") (codes "1") ∷ Xmlns (codes "p") soap ∷ []), (true, true) ∷ [])
+    ∷ (
+      block (Xmlns [] soap ∷ attribute [] (codes "mustUnderstand") (codes "1") ∷ []),
+      (false, true)
+          ∷ [],
+    )
+    ∷ (
+      block (attribute (codes "p") (codes "mustUnderstand") (codes "1") ∷ Xmlns (codes "p") soap
+          ∷ []),
+      (true, true) ∷ [],
+    )
     ∷ (block (role [] ∷ []), (false, true) ∷ [])
     ∷ (block (role role_next ∷ []), (false, true) ∷ [])
     ∷ (block (role role_ultimate_receiver ∷ []), (false, true) ∷ [])
-    ∷ (block (role (codes "http://www.w3.org/2003/05/soap-envelope/role/none") ∷ []), (false, false) ∷ [])
+    ∷ (
+      block (role (codes "http://www.w3.org/2003/05/soap-envelope/role/none") ∷ []),
+      (false, false)
+          ∷ [],
+    )
     ∷ (block (role (codes "urn:other") ∷ role role_next ∷ []), (false, false) ∷ [])
+    ∷ (
+      block (role role_next ∷ Attr (codes "s") (codes "role") (One (Float 0)) ∷ []),
+      (false, true) ∷ [],
+    )
+    ∷ (
+      with_blocks (a (codes "RelatesTo") [] ++ a (codes "RelatesTo") []),
+      (false, true) ∷ (false, true) ∷ [],
+    )
+    ∷ (with_blocks (s (codes "Action") [] ++ action), (false, true) ∷ (true, true) ∷ [])
     ∷ [])
 unfolding envelopes_on_literals block
 flags_of_blocks = refl
+
+-- the names of blocks: by a prefix that the block, Header or the root declares, by one that the block
+-- binds to no namespace, by none, and by `xml`, which an element may declare as it likes
+abbrev names : View → List Name
+names v = map (λ (b : Block). b.name) v.blocks
+
+q : List ℕ → List Item → List Item
+q uri inner = Start (codes "q") (codes "x") ∷ Xmlns (codes "q") uri ∷ (inner ++ Close ∷ [])
+
+xml : List Item → List Item
+xml inner = Start (codes "xml") (codes "x") ∷ (inner ++ Close ∷ [])
+
+names_of_blocks : AllTold names ((
+  with_blocks (q (codes "urn:q") (q (codes "urn:r") [])),
+  qualified_name (codes "urn:q") (codes "x") ∷ [],
+)
+    ∷ (
+      with_blocks (Xmlns (codes "q") (codes "urn:q") ∷ Start (codes "q") (codes "x") ∷ Close
+          ∷ q (codes "urn:r") [] ++ Start (codes "q") (codes "y") ∷ Close ∷ []),
+      qualified_name (codes "urn:q") (codes "x") ∷ qualified_name (codes "urn:r") (codes "x")
+          ∷ qualified_name (codes "urn:q") (codes "y") ∷ [],
+    )
+    ∷ (
+      with_blocks (Xmlns [] (codes "urn:d") ∷ x []),
+      qualified_name (codes "urn:d") (codes "x") ∷ [],
+    )
+    ∷ (with_blocks (a (codes "To") []), qualified_name addressing (codes "To") ∷ [])
+    ∷ (
+      with_blocks (xml [] ++ xml (Xmlns (codes "xml") (codes "urn:q") ∷ [])),
+      qualified_name xml_namespace (codes "x") ∷ qualified_name (codes "urn:q") (codes "x") ∷ [],
+    )
+    ∷ [])
+unfolding envelopes_on_literals q xml
+names_of_blocks = refl
 
 -- the action: the first that is targeted, its texts joined, nothing trimmed
 acting : List Item → List Item
@@ -78,10 +148,22 @@ actions : AllTold (λ v. v.action) (
     (with_blocks [], None)
     ∷ (with_body [], None)
     ∷ (acting [], Some [])
-    ∷ (acting (words (codes " a") ∷ Comment (codes "b") ∷ Text (One (Number (pos 1))) ∷ []), Some (codes " a1"))
+    ∷ (
+      acting (words (codes " a") ∷ Comment (codes "b") ∷ Text (One (Number (pos 1))) ∷ []),
+      Some
+          (codes " a1"),
+    )
     ∷ (acting (role (codes "urn:other") ∷ words (codes "b") ∷ []), None)
-    ∷ (with_blocks (a (codes "Action") (role (codes "urn:other") ∷ words (codes "b") ∷ []) ++ action), Some (codes "urn:echo"))
-    ∷ (with_blocks (a (codes "Action") (role (codes "urn:other") ∷ x []) ++ action), Some (codes "urn:echo"))
+    ∷ (
+      with_blocks (a (codes "Action") (role (codes "urn:other") ∷ words (codes "b") ∷ [])
+          ++ action),
+      Some (codes "urn:echo"),
+    )
+    ∷ (
+      with_blocks (a (codes "Action") (role (codes "urn:other") ∷ x []) ++ action),
+      Some
+          (codes "urn:echo"),
+    )
     ∷ (with_blocks (s (codes "Action") (words (codes "b") ∷ [])), None)
     ∷ [])
 unfolding envelopes_on_literals acting
@@ -93,22 +175,64 @@ replying inner = with_blocks (a (codes "ReplyTo") inner)
 
 reply_addresses : AllTold (λ v. v.reply_address) (
     (with_blocks [], None)
+    ∷ (
+      replying (a (codes "Address") (words (codes "urn:") ∷ Comment [] ∷ words (codes "a") ∷ [])),
+      Some (codes "urn:a"),
+    )
+    ∷ (
+      with_blocks (a (codes "ReplyTo") (role (codes "urn:other") ∷ [])),
+      None,
+    )
     ∷ (replying (a (codes "Address") (words (codes "urn:a") ∷ [])), Some (codes "urn:a"))
-    ∷ (replying (x [] ++ a (codes "Address") (words (codes "urn:a") ∷ []) ++ words (codes "z") ∷ []), Some (codes "urn:a"))
-    ∷ (replying (a (codes "Address") (x []) ++ a (codes "Address") (words (codes "urn:a") ∷ [])), Some (codes "urn:a"))
-    ∷ (replying (Start (codes "q") (codes "Address") ∷ Xmlns (codes "q") addressing ∷ words (codes "urn:a") ∷ Close ∷ []), Some (codes "urn:a"))
+    ∷ (
+      replying (x [] ++ a (codes "Address") (words (codes "urn:a") ∷ []) ++ words (codes "z")
+          ∷ []),
+      Some (codes "urn:a"),
+    )
+    ∷ (
+      replying (a (codes "Address") (x []) ++ a (codes "Address") (words (codes "urn:a") ∷ [])),
+      Some (codes "urn:a"),
+    )
+    ∷ (
+      replying (Start (codes "q") (codes "Address") ∷ Xmlns (codes "q") addressing
+          ∷ words (codes "urn:a") ∷ Close ∷ []),
+      Some (codes "urn:a"),
+    )
     ∷ [])
 unfolding envelopes_on_literals replying
 reply_addresses = refl
 
 -- what may stand about, and other prefixes for the same namespaces
-passed : AllTold (λ v. v.body) (
-    (enveloped (words (codes " ") ∷ s (codes "Header") [] ++ Comment [] ∷ s (codes "Body") [] ++ words (0x0D ∷ 0x0A ∷ 0x09 ∷ []) ∷ []), [])
+passed : AllTold (λ v. v.body) ((
+  enveloped (words (codes " ") ∷ s (codes "Header") [] ++ Comment [] ∷ s (codes "Body") []
+      ++ words (0x0D ∷ 0x0A ∷ 0x09 ∷ []) ∷ []),
+  [],
+)
     ∷ (with_blocks (Comment [] ∷ words [] ∷ action ++ words (codes " ") ∷ []), [])
-    ∷ (Start [] (codes "Envelope") ∷ Xmlns [] soap ∷ Start [] (codes "Body") ∷ words (codes "hi") ∷ Close ∷ Close ∷ [], words (codes "hi") ∷ [])
-    ∷ (Start (codes "e") (codes "Envelope") ∷ Xmlns (codes "e") soap ∷ Start (codes "e") (codes "Body") ∷ Close ∷ Close ∷ [], [])
-    ∷ (with_body (x (attribute (codes "xml") (codes "lang") (codes "en") ∷ [])), x (attribute (codes "xml") (codes "lang") (codes "en") ∷ []))
-    ∷ (with_body (x (attribute (codes "q") (codes "k") [] ∷ Xmlns (codes "q") [] ∷ [])), x (attribute (codes "q") (codes "k") [] ∷ Xmlns (codes "q") [] ∷ []))
+    ∷ (
+      Start [] (codes "Envelope") ∷ Xmlns [] soap ∷ Start [] (codes "Body") ∷ words (codes "hi")
+          ∷ Close ∷ Close ∷ [],
+      words (codes "hi") ∷ [],
+    )
+    ∷ (
+      Start (codes "e") (codes "Envelope") ∷ Xmlns (codes "e") soap ∷ Start (codes "e")
+          (codes "Body") ∷ Close ∷ Close ∷ [],
+      [],
+    )
+    ∷ (
+      with_body (x (attribute (codes "xml") (codes "lang") (codes "en") ∷ [])),
+      x
+          (attribute (codes "xml") (codes "lang") (codes "en") ∷ []),
+    )
+    ∷ (
+      with_body (x (attribute (codes "q") (codes "k") [] ∷ Xmlns (codes "q") [] ∷ [])),
+      x
+          (attribute (codes "q") (codes "k") [] ∷ Xmlns (codes "q") [] ∷ []),
+    )
+    ∷ (
+      with_body (x (Text (One (QName 1 (codes "x"))) ∷ [])),
+      x (Text (One (QName 1 (codes "x"))) ∷ []),
+    )
     ∷ [])
 unfolding envelopes_on_literals
 passed = refl
@@ -122,30 +246,54 @@ declaring inner =
 
 bodies : AllTold (λ v. v.body) (
     (declaring [], [])
+    ∷ (
+      enveloped (s (codes "Header") (Xmlns (codes "q") [] ∷ []) ++ s (codes "Body") (x [] ++ x [])),
+      x [] ++ x [],
+    )
+    ∷ (
+      enveloped (s (codes "Body") (Xmlns (codes "b") addressing ∷ (x [] ++ x []))),
+      x (Xmlns (codes "b") addressing ∷ []) ++ x (Xmlns (codes "b") addressing ∷ []),
+    )
     ∷ (declaring (words (codes "hi") ∷ Comment [] ∷ []), words (codes "hi") ∷ Comment [] ∷ [])
     ∷ (
       declaring (x (x [])),
-      Start [] (codes "x") ∷ Xmlns [] (codes "urn:d") ∷ Xmlns (codes "a") (codes "urn:a") ∷ Xmlns (codes "b") (codes "urn:b")
+      Start [] (codes "x") ∷ Xmlns [] (codes "urn:d") ∷ Xmlns (codes "a") (codes "urn:a")
+          ∷ Xmlns (codes "b") (codes "urn:b")
           ∷ Xmlns (codes "z") (codes "urn:z") ∷ (x [] ++ Close ∷ []),
     )
     ∷ (
       declaring (x (Xmlns (codes "b") (codes "urn:c") ∷ words (codes "hi") ∷ [])),
-      Start [] (codes "x") ∷ Xmlns [] (codes "urn:d") ∷ Xmlns (codes "a") (codes "urn:a") ∷ Xmlns (codes "z") (codes "urn:z")
+      Start [] (codes "x") ∷ Xmlns [] (codes "urn:d") ∷ Xmlns (codes "a") (codes "urn:a")
+          ∷ Xmlns (codes "z") (codes "urn:z")
           ∷ Xmlns (codes "b") (codes "urn:c") ∷ words (codes "hi") ∷ Close ∷ [],
     )
     ∷ (
       declaring (array [] (DeclaresOn (codes "a") [] ∷ []) ∷ []),
-      array [] (DeclaresOn [] (codes "urn:d") ∷ DeclaresOn (codes "b") (codes "urn:b") ∷ DeclaresOn (codes "z") (codes "urn:z") ∷ DeclaresOn (codes "a") [] ∷ []) ∷ [],
+      array [] (DeclaresOn [] (codes "urn:d") ∷ DeclaresOn (codes "b") (codes "urn:b")
+          ∷ DeclaresOn (codes "z") (codes "urn:z") ∷ DeclaresOn (codes "a") [] ∷ []) ∷ [],
     )
     ∷ (
-      s (codes "Envelope") (Xmlns (codes "s") soap ∷ Xmlns (codes "q") (codes "urn:q") ∷ s (codes "Body") (Xmlns (codes "q") (codes "urn:r") ∷ x [])),
+      s (codes "Envelope") (Xmlns (codes "s") soap ∷ Xmlns (codes "q") (codes "urn:q")
+          ∷ s (codes "Body") (Xmlns (codes "q") (codes "urn:r") ∷ x [])),
       x (Xmlns (codes "q") (codes "urn:r") ∷ []),
     )
-    ∷ (s (codes "Envelope") (Xmlns (codes "s") soap ∷ Xmlns (codes "xml") (codes "urn:q") ∷ s (codes "Body") (x [])), x (Xmlns (codes "xml") (codes "urn:q") ∷ []))
     ∷ (
-      Start (codes "e") (codes "Envelope") ∷ Xmlns (codes "e") soap ∷ Xmlns (codes "s") (codes "urn:s") ∷ Start (codes "e") (codes "Body") ∷ (x [] ++ Close ∷ Close ∷ []),
+      s (codes "Envelope") (Xmlns (codes "s") soap ∷ Xmlns (codes "xml") (codes "urn:q")
+          ∷ s (codes "Body") (x [])),
+      x (Xmlns (codes "xml") (codes "urn:q") ∷ []),
+    )
+    ∷ (
+      Start (codes "e") (codes "Envelope") ∷ Xmlns (codes "e") soap ∷ Xmlns (codes "s")
+          (codes "urn:s") ∷ Start (codes "e") (codes "Body") ∷ (x [] ++ Close ∷ Close ∷ []),
       x (Xmlns (codes "e") soap ∷ Xmlns (codes "s") (codes "urn:s") ∷ []),
     )
     ∷ [])
 unfolding envelopes_on_literals declaring
 bodies = refl
+
+-- whether the content of Body fits: it counts 24 bytes, of which its declarations are 23
+fitting_bodies : map (λ quota. told (λ v. fits quota v.body) (view (declaring (x []))))
+    (24 ∷ 23 ∷ [])
+    ≡ map seen (true ∷ false ∷ [])
+unfolding envelopes_on_literals declaring
+fitting_bodies = refl

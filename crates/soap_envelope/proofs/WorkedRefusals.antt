@@ -26,15 +26,38 @@ AllRefused rows =
 names : AllRefused (
     (with_body (Start (codes "q") (codes "x") ∷ Close ∷ []), BadNames 4)
     ∷ (with_body (x (attribute (codes "q") (codes "k") [] ∷ [])), BadNames 5)
-    ∷ (with_body (x (Xmlns (codes "q") (codes "urn:q") ∷ []) ++ Start (codes "q") (codes "x") ∷ Close ∷ []), BadNames 7)
+    ∷ (
+      with_body (x (Xmlns (codes "q") (codes "urn:q") ∷ []) ++ Start (codes "q") (codes "x")
+          ∷ Close ∷ []),
+      BadNames 7,
+    )
     ∷ (with_body (x (Xmlns (codes "q") [] ∷ Xmlns (codes "q") [] ∷ [])), BadNames 6)
     ∷ (with_body (x (Xmlns [] (codes "urn:q") ∷ Xmlns [] (codes "urn:r") ∷ [])), BadNames 6)
-    ∷ (with_body (Start (codes "q") (codes "x") ∷ Xmlns (codes "r") [] ∷ Xmlns (codes "r") [] ∷ Close ∷ []), BadNames 4)
-    ∷ (with_body (x (attribute (codes "q") (codes "k") [] ∷ Xmlns (codes "r") [] ∷ Xmlns (codes "r") [] ∷ [])), BadNames 5)
+    ∷ (
+      with_body (Start (codes "q") (codes "x") ∷ Xmlns (codes "r") [] ∷ Xmlns (codes "r") []
+          ∷ Close ∷ []),
+      BadNames 4,
+    )
+    ∷ (
+      with_body
+          (x (attribute (codes "q") (codes "k") [] ∷ Xmlns (codes "r") [] ∷ Xmlns (codes "r") [] ∷ [])),
+      BadNames 5,
+    )
     ∷ (with_body (array (codes "q") [] ∷ []), BadNames 4)
-    ∷ (with_body (array [] (AttrOn (codes "q") (codes "k") (One (Truth true)) ∷ []) ∷ []), BadNames 4)
-    ∷ (with_body (array [] (DeclaresOn (codes "q") [] ∷ DeclaresOn (codes "q") [] ∷ []) ∷ []), BadNames 4)
-    ∷ (with_body (array [] (DeclaresOn (codes "q") [] ∷ []) ∷ Start (codes "q") (codes "x") ∷ Close ∷ []), BadNames 5)
+    ∷ (
+      with_body (array [] (AttrOn (codes "q") (codes "k") (One (Truth true)) ∷ []) ∷ []),
+      BadNames
+          4,
+    )
+    ∷ (
+      with_body (array [] (DeclaresOn (codes "q") [] ∷ DeclaresOn (codes "q") [] ∷ []) ∷ []),
+      BadNames 4,
+    )
+    ∷ (
+      with_body (array [] (DeclaresOn (codes "q") [] ∷ []) ∷ Start (codes "q") (codes "x") ∷ Close
+          ∷ []),
+      BadNames 5,
+    )
     ∷ (Start (codes "s") (codes "Envelope") ∷ Close ∷ [], BadNames 0)
     ∷ [])
 unfolding envelopes_on_literals
@@ -75,9 +98,19 @@ children = refl
 repeated_blocks : AllRefused (
     (with_blocks (action ++ action), RepeatedHeader 8)
     ∷ (with_blocks (a (codes "To") [] ++ a (codes "To") []), RepeatedHeader 6)
-    ∷ (with_blocks (a (codes "MessageID") [] ++ action ++ a (codes "MessageID") []), RepeatedHeader 10)
+    ∷ (
+      with_blocks (a (codes "MessageID") [] ++ action ++ a (codes "MessageID") []),
+      RepeatedHeader
+          10,
+    )
     ∷ (with_blocks (x [] ++ a (codes "ReplyTo") [] ++ a (codes "ReplyTo") []), RepeatedHeader 8)
     ∷ (with_blocks (action ++ a (codes "Action") (role [] ∷ [])), RepeatedHeader 8)
+    ∷ (with_blocks (action ++ action ++ action), RepeatedHeader 8)
+    ∷ (
+      with_blocks (a (codes "To") [] ++ a (codes "MessageID") [] ++ a (codes "MessageID") []
+          ++ a (codes "To") []),
+      RepeatedHeader 8,
+    )
     ∷ [])
 unfolding envelopes_on_literals
 repeated_blocks = refl
@@ -90,13 +123,36 @@ headers : AllRefused (
     (with_blocks (words (codes "hi") ∷ []), BadHeader 4)
     ∷ (with_blocks (array [] [] ∷ []), BadHeader 4)
     ∷ (with_blocks (x []), BadHeader 4)
+    ∷ (
+      with_blocks (Start (codes "q") (codes "x") ∷ Xmlns (codes "q") [] ∷ Close ∷ []),
+      BadHeader 4,
+    )
+    ∷ (
+      with_blocks (a (codes "Sec") (role (codes "urn:other") ∷ must (codes "TRUE") ∷ [])),
+      BadHeader 6,
+    )
     ∷ (with_blocks (a (codes "Sec") (must (codes "TRUE") ∷ [])), BadHeader 5)
     ∷ (with_blocks (a (codes "Sec") (must [] ∷ [])), BadHeader 5)
     ∷ (with_blocks (a (codes "Sec") (must (codes " 1") ∷ [])), BadHeader 5)
-    ∷ (with_blocks (a (codes "Sec") (Attr (codes "s") (codes "mustUnderstand") (One (Float 0)) ∷ [])), BadHeader 5)
-    ∷ (with_blocks (a (codes "Sec") (Attr (codes "s") (codes "role") (One (Float 0)) ∷ [])), BadHeader 5)
-    ∷ (with_blocks (a (codes "Sec") (Attr (codes "s") (codes "role") (One (Float 0)) ∷ must (codes "TRUE") ∷ [])), BadHeader 5)
-    ∷ (with_blocks (a (codes "Sec") (must (codes "TRUE") ∷ Attr (codes "s") (codes "role") (One (Float 0)) ∷ [])), BadHeader 5)
+    ∷ (
+      with_blocks
+          (a (codes "Sec") (Attr (codes "s") (codes "mustUnderstand") (One (Float 0)) ∷ [])),
+      BadHeader 5,
+    )
+    ∷ (
+      with_blocks (a (codes "Sec") (Attr (codes "s") (codes "role") (One (Float 0)) ∷ [])),
+      BadHeader 5,
+    )
+    ∷ (
+      with_blocks
+          (a (codes "Sec") (Attr (codes "s") (codes "role") (One (Float 0)) ∷ must (codes "TRUE") ∷ [])),
+      BadHeader 5,
+    )
+    ∷ (
+      with_blocks
+          (a (codes "Sec") (must (codes "TRUE") ∷ Attr (codes "s") (codes "role") (One (Float 0)) ∷ [])),
+      BadHeader 5,
+    )
     ∷ (with_blocks (a (codes "Action") (must (codes "TRUE") ∷ x [])), BadHeader 4)
     ∷ (with_blocks (a (codes "Action") (Text (One (Float 0)) ∷ [])), BadHeader 4)
     ∷ (with_blocks (a (codes "To") (array [] [] ∷ [])), BadHeader 4)

@@ -7,7 +7,7 @@ use Rattle.std.specs.Option.{unwrap_or}
 use Rattle.nbfx_values.specs.declared.content.Item.{Item}
 use Rattle.nbfx_values.specs.declared.content.Item.TheVariants.{Start, Xmlns, Comment, Close}
 use Rattle.soap_envelope.specs.declared.blocks.Block.{Block}
-use Rattle.soap_envelope.specs.declared.blocks.QualifiedName.{QualifiedName}
+use Rattle.soap_envelope.specs.Qualified.{Name}
 use Rattle.soap_envelope.specs.Children.{children_of, close_of, is_child, is_start}
 use Rattle.soap_envelope.specs.Names.{qualified_name}
 use Rattle.soap_envelope.specs.Parts.{name_by}
@@ -89,7 +89,7 @@ elements = refl
 -- the blocks of documents: the names of Header's child elements by what is declared around them,
 -- and where they begin and end
 abbrev Seen : Type 0
-Seen = QualifiedName × ℕ × ℕ
+Seen = Name × ℕ × ℕ
 
 abbrev by_view : List Item → ℕ → List Seen
 by_view items header =

@@ -8,7 +8,7 @@ use Rattle.nbfx_values.specs.declared.scalars.Value.{Value}
 use Rattle.nbfx_values.specs.Characters.{value_characters}
 use Rattle.soap_envelope.specs.declared.attributes.Found.{Found}
 use Rattle.soap_envelope.specs.declared.blocks.Block.{Block}
-use Rattle.soap_envelope.specs.declared.blocks.QualifiedName.{QualifiedName}
+use Rattle.soap_envelope.specs.Qualified.{Name}
 use Rattle.soap_envelope.specs.Children.{close_of, is_start}
 use Rattle.soap_envelope.specs.Names.{qualified_name, role_next, role_ultimate_receiver, soap}
 use Rattle.soap_envelope.specs.Parts.{element_name}
@@ -70,7 +70,7 @@ is_targeted None = true
 is_targeted (Some f) = is_own_role f.characters
 
 -- the name of the element that begins at a place
-abbrev pub name_of : List Item → Scope → ℕ → QualifiedName
+abbrev pub name_of : List Item → Scope → ℕ → Name
 name_of items outer at = unwrap_or (element_name items outer at) (qualified_name [] [])
 
 abbrev pub block_of : List Item → Scope → ℕ → Block

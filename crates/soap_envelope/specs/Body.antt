@@ -16,7 +16,8 @@ use Rattle.soap_envelope.specs.Children.{open_behind}
 use Rattle.soap_envelope.specs.Names.{addressing, soap}
 use Rattle.soap_envelope.specs.Scopes.{Declaration, Scope, declared, declared_on, uri_in, within}
 
--- one declaration and another with those behind it, by the order of the two; and those behind it with
+-- one declaration and another with those behind it, by the order of the two; and those behind it
+-- with
 -- the first at its place
 abbrev pub placed : Ordering → (d e : Declaration) → (more put_behind : List Declaration)
     → List Declaration
@@ -24,7 +25,8 @@ placed Less d e more put_behind = d ∷ e ∷ more
 placed Equal d e more put_behind = d ∷ more
 placed Greater d e more put_behind = e ∷ put_behind
 
--- a declaration at its place among others by the order of their prefixes' bytes, and in place of one
+-- a declaration at its place among others by the order of their prefixes' bytes, and in place of
+-- one
 -- of its prefix
 abbrev pub put : Declaration → List Declaration → List Declaration
 put d [] = d ∷ []
@@ -45,9 +47,13 @@ is_usual d =
     (bytes_eq d.prefix (codes "s") && bytes_eq d.uri soap)
     || (bytes_eq d.prefix (codes "a") && bytes_eq d.uri addressing)
 
+-- those among declarations that not every reply has
+abbrev pub unusual : List Declaration → List Declaration
+unusual declarations = filter (λ d. not (is_usual d)) declarations
+
 -- those that an element in Body may rest on
 abbrev pub needed : Scope → List Declaration
-needed scope = filter (λ d. not (is_usual d)) (in_scope scope)
+needed scope = unusual (in_scope scope)
 
 -- whether an element with these declarations doesn't declare a prefix itself
 abbrev pub is_missing : List Declaration → Declaration → Bool

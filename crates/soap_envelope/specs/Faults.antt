@@ -6,7 +6,7 @@ use Rattle.nbfx_values.specs.declared.content.Item.{Item}
 use Rattle.nbfx_values.specs.declared.content.Item.TheVariants.{Xmlns, Attr, Close}
 use Rattle.nbfx_values.specs.declared.scalars.Scalar.TheVariants.{Text as TextOf}
 use Rattle.nbfx_values.specs.declared.scalars.Value.TheVariants.{One}
-use Rattle.soap_envelope.specs.declared.blocks.QualifiedName.{QualifiedName}
+use Rattle.soap_envelope.specs.Qualified.{Name}
 use Rattle.soap_envelope.specs.declared.report.Code.{Code}
 use Rattle.soap_envelope.specs.declared.report.Code.TheVariants.{VersionMismatch, MustUnderstand, Sender, Receiver}
 use Rattle.soap_envelope.specs.declared.report.FaultReport.{FaultReport}
@@ -65,13 +65,13 @@ fault_body report =
     ∷ (code_items report ++ (reason_items report.reason ++ (Close ∷ [])))
 
 -- the block that names what wasn't understood
-abbrev pub not_understood_block : QualifiedName → List Item
+abbrev pub not_understood_block : Name → List Item
 not_understood_block name =
     soap_start (codes "NotUnderstood") ∷ Xmlns (codes "n") name.uri
     ∷ Attr [] (codes "qname") (One (TextOf (codes "n:" ++ name.local))) ∷ Close ∷ []
 
 -- whether the texts of that block are UTF-8
-abbrev pub is_nameable : QualifiedName → Bool
+abbrev pub is_nameable : Name → Bool
 is_nameable name = is_utf8 name.uri && is_utf8 (codes "n:" ++ name.local)
 
 abbrev pub fault_items : FaultReport → List Item → List Item

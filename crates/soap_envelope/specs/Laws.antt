@@ -1,10 +1,12 @@
 -- What holds of views by the definitions alone.
-use Rattle.std.specs.Prelude.{◌≡◌, ℕ, List, [], IsTrue, Ok}
+use Rattle.std.specs.Prelude.{◌≡◌, ℕ, List, [], IsTrue, Ok, false}
 use Rattle.std.specs.Str.{is_utf8}
 use Rattle.std.specs.Prelude.{codes}
+use Rattle.nbfx_values.specs.Documents.{IsDocument}
 use Rattle.nbfx_values.specs.declared.content.Item.{Item}
 use Rattle.soap_envelope.specs.declared.report.FaultReport.{FaultReport}
 use Rattle.soap_envelope.specs.Faults.{fault_action, fault_body, fault_items}
+use Rattle.soap_envelope.specs.Fitting.{fits, names_fit}
 use Rattle.soap_envelope.specs.Headers.{counted_at}
 use Rattle.soap_envelope.specs.Made.{StandsInReplies, made_view}
 use Rattle.soap_envelope.specs.Making.{AreTexts, IsContent, reply_items, response_action}
@@ -27,12 +29,23 @@ RelatesAreKept = (action : List ℕ) (relates body : List Item) → AreTexts rel
     → texts_at (reply_items action relates body)
     (counted_at (codes "RelatesTo") (reply_view action relates body).blocks) ≡ relates
 
+-- The content of a document's Body may be put into any reply, and viewed there it is the same.
+abbrev pub BodiesStand : Type 0
+BodiesStand = (doc : List Item) (v : View) (action : List ℕ) (relates : List Item) → IsDocument doc
+    → view doc ≡ Ok v → AreTexts relates
+    → view (reply_items action relates v.body) ≡ Ok (reply_view action relates v.body)
+
 -- A fault is an envelope whose Body has one Fault alone.
 abbrev pub FaultsAreViewed : Type 0
 FaultsAreViewed = (report : FaultReport) (relates : List Item) → AreTexts relates
     → IsTrue (is_utf8 report.reason)
     → view (fault_items report relates)
     ≡ Ok (made_view (fault_action report.sub) relates report.names (fault_body report))
+
+-- A fault whose names don't fit a quota doesn't fit it either.
+abbrev pub UnfitNamesAreUnfit : Type 0
+UnfitNamesAreUnfit = (quota : ℕ) (report : FaultReport) (relates : List Item)
+    → names_fit quota report.names ≡ false → fits quota (fault_items report relates) ≡ false
 
 -- Other prefixes for the same namespaces change nothing of what is seen outside Body, nor why a
 -- document has no view.

@@ -1,7 +1,14 @@
--- Declarations as they are kept: that of the innermost element last.
-use Rattle.std.specs.Prelude.{List, map, reverse}
+-- Declarations as they are kept: that of the innermost element last, and where the first of a
+-- prefix
+-- stands.
+use Rattle.std.specs.Prelude.{◌≡◌, ◌+◌, ◌<◌, ℕ, List, [], ◌∷◌, Option, None, Some, if◌then◌else◌, length, map, reverse}
+use denote.Ref.{Bor}
+use Rattle.std.specs.BTreeMap.{BTreeMap, get_by}
+use Rattle.std.specs.Cmp.Lexicographic.{slice_cmp}
 use Rattle.std.specs.Global.{Vec}
-use Rattle.soap_envelope.specs.declared.scopes.Declared.{Declared}
+use Rattle.std.specs.Ordering.{nat_cmp}
+use Rattle.std.specs.Str.{bytes_eq}
+use Rattle.soap_envelope.specs.declared.layers.Declared.{Declared}
 use Rattle.soap_envelope.specs.Scopes.{Declaration, Scope, declaration}
 
 abbrev pub kept : Declared → Declaration
@@ -10,5 +17,27 @@ kept d = declaration d.prefix.now d.uri.now
 abbrev pub layer_of : Vec Declared → List Declaration
 layer_of v = map kept v.items
 
-abbrev pub scope_of : List (Vec Declared) → Scope
-scope_of layers = reverse (map layer_of layers)
+-- the entries of a map from prefixes to namespaces
+abbrev pub shown : BTreeMap (Bor (List ℕ)) (Bor (List ℕ)) → List Declaration
+shown sorted = map (λ entry. declaration entry.0.now entry.1.now) sorted.entries
+
+abbrev pub scope_of : List (List Declaration) → Scope
+scope_of layers = reverse layers
+
+-- the place of the first declaration of a prefix, where the first of these has this place
+abbrev pub place_from : ℕ → List ℕ → List Declaration → Option ℕ
+place_from at prefix [] = None
+place_from at prefix (d ∷ more) =
+    if bytes_eq d.prefix prefix then Some at else place_from (at + 1) prefix more
+
+abbrev pub place_of : List ℕ → List Declaration → Option ℕ
+place_of = place_from 0
+
+-- the place that a map has for a prefix
+abbrev pub place_in : List ℕ → BTreeMap (Bor (List ℕ)) ℕ → Option ℕ
+place_in prefix places = get_by (λ k. slice_cmp nat_cmp prefix k.now) places
+
+-- of more than eight declarations a map has these places
+abbrev pub ArePlaces : Vec Declared → BTreeMap (Bor (List ℕ)) ℕ → Type 0
+ArePlaces declared places = 8 < length declared.items
+    → (prefix : List ℕ) → place_in prefix places ≡ place_of prefix (layer_of declared)

@@ -1,4 +1,5 @@
 -- cited by public contracts
+pub mod Qualified
 pub mod Names
 pub mod Scopes
 pub mod Layers
@@ -10,6 +11,7 @@ pub mod Blocks
 pub mod Headers
 pub mod Understanding
 pub mod Body
+pub mod Fitting
 pub mod View
 pub mod Seen
 pub mod Making

@@ -2,7 +2,7 @@
 use Rattle.std.specs.Prelude.{◌≡◌, ℕ, ◌+◌, List, [], ◌∷◌, ◌++◌, codes, length, None, Some, true, false}
 use Rattle.nbfx_values.specs.declared.content.Item.{Item}
 use Rattle.soap_envelope.specs.declared.blocks.Block.{Block}
-use Rattle.soap_envelope.specs.declared.blocks.QualifiedName.{QualifiedName}
+use Rattle.soap_envelope.specs.Qualified.{Name}
 use Rattle.soap_envelope.specs.BadNames.{first_bad_name}
 use Rattle.soap_envelope.specs.Names.{addressing, qualified_name, soap}
 use Rattle.soap_envelope.specs.Scopes.{Scope, declaration}
@@ -55,17 +55,17 @@ name_seen at = record {
   to = at + 3;
 }
 
-abbrev pub names_seen : ℕ → List QualifiedName → List Block
+abbrev pub names_seen : ℕ → List Name → List Block
 names_seen at [] = []
 names_seen at (name ∷ more) = name_seen at ∷ names_seen (at + 4) more
 
 -- the place after those
-abbrev pub behind_names : ℕ → List QualifiedName → ℕ
+abbrev pub behind_names : ℕ → List Name → ℕ
 behind_names at [] = at
 behind_names at (name ∷ more) = behind_names (at + 4) more
 
 -- the view of what has this action, these texts of RelatesTo, these names, and this content of Body
-abbrev pub made_view : List ℕ → (relates : List Item) → List QualifiedName → (body : List Item)
+abbrev pub made_view : List ℕ → (relates : List Item) → List Name → (body : List Item)
     → View
 made_view action relates names body = record {
   blocks = action_seen ∷ (relates_seen relates ++ names_seen (behind_relates relates) names);

@@ -2,7 +2,7 @@
 -- of addressing stands here alone.
 use Rattle.std.specs.Prelude.{ℕ, List, Bool, ◌&&◌, codes}
 use Rattle.std.specs.Str.{bytes_eq}
-use Rattle.soap_envelope.specs.declared.blocks.QualifiedName.{QualifiedName}
+use Rattle.soap_envelope.specs.Qualified.{Name}
 
 -- the namespaces of envelopes, of addressing, and of the prefix `xml`
 unfoldable pub soap : List ℕ
@@ -35,13 +35,13 @@ addressing_fault = codes "http://www.w3.org/2005/08/addressing/fault"
 unfoldable pub soap_fault : List ℕ
 soap_fault = codes "http://www.w3.org/2005/08/addressing/soap/fault"
 
-abbrev pub qualified_name : (uri local : List ℕ) → QualifiedName
+abbrev pub qualified_name : (uri local : List ℕ) → Name
 qualified_name uri local = record { uri = uri; local = local }
 
 -- whether a name is this one
-abbrev pub is_named : QualifiedName → (uri local : List ℕ) → Bool
+abbrev pub is_named : Name → (uri local : List ℕ) → Bool
 is_named name uri local = bytes_eq name.uri uri && bytes_eq name.local local
 
 -- whether two names are one
-abbrev pub is_same_name : QualifiedName → QualifiedName → Bool
+abbrev pub is_same_name : Name → Name → Bool
 is_same_name name other = is_named name other.uri other.local

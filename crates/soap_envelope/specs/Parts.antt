@@ -4,7 +4,7 @@ use Rattle.std.specs.List.{filter}
 use Rattle.std.specs.Str.{bytes_eq}
 use Rattle.nbfx_values.specs.declared.content.Item.{Item}
 use Rattle.nbfx_values.specs.declared.content.Item.TheVariants.{Start}
-use Rattle.soap_envelope.specs.declared.blocks.QualifiedName.{QualifiedName}
+use Rattle.soap_envelope.specs.Qualified.{Name}
 use Rattle.soap_envelope.specs.declared.parts.Parts.{Parts}
 use Rattle.soap_envelope.specs.declared.refusals.SoapFault.{SoapFault}
 use Rattle.soap_envelope.specs.declared.refusals.SoapFault.TheVariants.{NotAnEnvelope, VersionMismatch, Misplaced, NoBody}
@@ -14,15 +14,15 @@ use Rattle.soap_envelope.specs.Names.{is_named, qualified_name, soap}
 use Rattle.soap_envelope.specs.Scopes.{Scope, element_uri, within}
 
 -- the name of the element that an item begins, by the declarations within the element
-abbrev pub name_by : Scope → Option Item → Option QualifiedName
+abbrev pub name_by : Scope → Option Item → Option Name
 name_by scope (Some (Start prefix local)) = Some (qualified_name (element_uri scope prefix) local)
 name_by scope _ = None
 
 -- the name of the element that begins at a place, if one does, by the declarations around it
-abbrev pub element_name : List Item → Scope → ℕ → Option QualifiedName
+abbrev pub element_name : List Item → Scope → ℕ → Option Name
 element_name items outer at = name_by (within items at outer) (slice_get items at)
 
-abbrev pub is_some_name : (uri local : List ℕ) → Option QualifiedName → Bool
+abbrev pub is_some_name : (uri local : List ℕ) → Option Name → Bool
 is_some_name uri local None = false
 is_some_name uri local (Some name) = is_named name uri local
 
@@ -31,7 +31,7 @@ abbrev pub is_element : List Item → Scope → (uri local : List ℕ) → ℕ �
 is_element items outer uri local at = is_some_name uri local (element_name items outer at)
 
 -- what is wrong with a root of this name
-abbrev pub wrong_name : Option QualifiedName → Option SoapFault
+abbrev pub wrong_name : Option Name → Option SoapFault
 wrong_name None = Some NotAnEnvelope
 wrong_name (Some name) =
     if bytes_eq name.local (codes "Envelope")

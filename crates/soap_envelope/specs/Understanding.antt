@@ -2,14 +2,14 @@
 use Rattle.std.specs.Prelude.{List, Bool, ◌&&◌, not, map}
 use Rattle.std.specs.List.{filter, list_any}
 use Rattle.soap_envelope.specs.declared.blocks.Block.{Block}
-use Rattle.soap_envelope.specs.declared.blocks.QualifiedName.{QualifiedName}
+use Rattle.soap_envelope.specs.Qualified.{Name}
 use Rattle.soap_envelope.specs.Names.{is_same_name}
 
 -- whether a block is targeted and must be understood, and its name isn't among those known
-abbrev pub is_foreign : List QualifiedName → Block → Bool
+abbrev pub is_foreign : List Name → Block → Bool
 is_foreign known b =
     b.targeted && (b.must_understand && not (list_any (is_same_name b.name) known))
 
 -- the names of such blocks, in order
-abbrev pub not_understood : List QualifiedName → List Block → List QualifiedName
+abbrev pub not_understood : List Name → List Block → List Name
 not_understood known blocks = map (λ (b : Block). b.name) (filter (is_foreign known) blocks)

@@ -1,16 +1,16 @@
 // The SOAP attributes of header blocks.
-ghost use Rattle.std.specs.Prelude.{◌≡◌, ◌∷◌, ◌+◌, ◌<◌, ◌^◌, IfOk, IsTrue, codes, drop, length, map};
+ghost use Rattle.std.specs.Prelude.{◌≡◌, ◌∷◌, ◌+◌, ◌<◌, ◌^◌, IfOk, IsTrue, codes, drop, length};
 ghost use Rattle.std.specs.List.{list_all};
 ghost use Rattle.nbfx_values.specs.Items.{is_valid_item};
 ghost use Rattle.soap_envelope.specs.Blocks as spec;
 ghost use Rattle.soap_envelope.specs.Headers as headers;
-ghost use Rattle.soap_envelope.specs.Layers.{kept};
 ghost use Rattle.soap_envelope.specs.Scopes as scope;
 
 use crate::children::behind;
+use crate::layers::Layer;
 use crate::namespaces::{ROLE_NEXT, ROLE_ULTIMATE_RECEIVER, SOAP};
 use crate::parts::element_uri;
-use crate::scopes::{Declared, Scopes, declared_in};
+use crate::scopes::{Scopes, declared_in};
 use nbfx_values::{Item, Txt};
 use std::alloc::Global;
 use unit_streams::Memory;
@@ -23,8 +23,8 @@ pub(crate) struct Found {
 }
 
 // The namespace of an attribute with this prefix. One without prefix has none.
-fn attribute_uri<'a>(outer: &'a Scopes<'_>, own: &'a [Declared<'_>], prefix: &Txt) -> &'a str
-    ensures { result.now ≡ scope.attribute_uri (map kept own.now ∷ outer.now) prefix.now }
+fn attribute_uri<'d>(outer: &Scopes<'d>, own: &Layer<'d>, prefix: &Txt) -> &'d str
+    ensures { result.now ≡ scope.attribute_uri (own.now ∷ outer.now) prefix.now }
 {
     if prefix.len() == 0 {
         return "";
@@ -34,24 +34,24 @@ fn attribute_uri<'a>(outer: &'a Scopes<'_>, own: &'a [Declared<'_>], prefix: &Tx
 
 // Whether an attribute is SOAP's of a local name.
 #[tactic(auto, unfolding(crate::specs::Names::soap))]
-fn is_soap_attribute(
-    outer: &Scopes<'_>,
-    own: &[Declared<'_>],
+fn is_soap_attribute<'d>(
+    outer: &Scopes<'d>,
+    own: &Layer<'d>,
     name: &str,
     prefix: &Txt,
     local: &Txt,
 ) -> bool
-    ensures { result ≡ spec.is_soap_attribute (map kept own.now ∷ outer.now) name.now
+    ensures { result ≡ spec.is_soap_attribute (own.now ∷ outer.now) name.now
         prefix.now local.now }
 {
     local.as_str() == name && attribute_uri(outer, own, prefix) == SOAP
 }
 
 // The first attribute that is, at the head of items of which the first is at this place.
-fn soap_attribute(
+fn soap_attribute<'d>(
     alloc: Global,
-    outer: &Scopes<'_>,
-    own: &[Declared<'_>],
+    outer: &Scopes<'d>,
+    own: &Layer<'d>,
     name: &str,
     at: usize,
     behind: &[Item],
@@ -59,7 +59,7 @@ fn soap_attribute(
     requires few { at + length behind.now < 2 ^ 64 }
     requires valid { IsTrue (list_all is_valid_item behind.now) }
     ensures { IfOk result (λ found. found
-        ≡ spec.soap_attribute (map kept own.now ∷ outer.now) name.now at behind.now) }
+        ≡ spec.soap_attribute (own.now ∷ outer.now) name.now at behind.now) }
 {
     for (i, item) in behind.iter().enumerate() {
         match item {
@@ -84,10 +84,10 @@ fn soap_attribute(
 }
 
 // The same of the element that begins at a place.
-fn soap_attribute_of(
+fn soap_attribute_of<'d>(
     alloc: Global,
-    items: &[Item],
-    outer: &Scopes<'_>,
+    items: &'d [Item],
+    outer: &Scopes<'d>,
     name: &str,
     at: usize,
 ) -> Result<Option<Found>, Memory>
@@ -98,13 +98,13 @@ fn soap_attribute_of(
 {
     let behind = behind(items, at);
     let own = declared_in(alloc, behind)?;
-    soap_attribute(alloc, outer, own.as_slice(), name, at + 1, behind)
+    soap_attribute(alloc, outer, &own, name, at + 1, behind)
 }
 
-pub(crate) fn must_understand_of(
+pub(crate) fn must_understand_of<'d>(
     alloc: Global,
-    items: &[Item],
-    outer: &Scopes<'_>,
+    items: &'d [Item],
+    outer: &Scopes<'d>,
     at: usize,
 ) -> Result<Option<Found>, Memory>
     requires within { at < length items.now }
@@ -114,10 +114,10 @@ pub(crate) fn must_understand_of(
     soap_attribute_of(alloc, items, outer, "mustUnderstand", at)
 }
 
-pub(crate) fn role_of(
+pub(crate) fn role_of<'d>(
     alloc: Global,
-    items: &[Item],
-    outer: &Scopes<'_>,
+    items: &'d [Item],
+    outer: &Scopes<'d>,
     at: usize,
 ) -> Result<Option<Found>, Memory>
     requires within { at < length items.now }

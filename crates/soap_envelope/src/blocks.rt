@@ -1,19 +1,29 @@
 //! The header blocks of an envelope.
 
-use nbfx_values::{Sequence, Txt};
+use nbfx_values::Sequence;
+use std::marker::Model;
 
-/// A name whose prefix is resolved: its namespace and its local part.
+/// A name whose prefix is resolved: its namespace and its local part. Those of an envelope's blocks
+/// are borrowed from its document, which may declare one namespace for many of them.
 #[derive(Debug, Drop)]
-pub struct QualifiedName {
+pub struct QualifiedName<'a> {
     /// The namespace, which is the empty text for a name in none.
-    pub uri: Txt,
-    pub local: Txt,
+    pub uri: &'a str,
+    pub local: &'a str,
+}
+
+impl<'a> Model for QualifiedName<'a> {
+    ghost use Rattle.soap_envelope.specs.Qualified.{Name};
+
+    ghost Value = { Name };
+
+    ghost view = { λ n. record { uri = n.uri.now; local = n.local.now } };
 }
 
 /// A header block: a child element of the envelope's Header.
 #[derive(Debug, Drop)]
-pub struct Block {
-    pub name: QualifiedName,
+pub struct Block<'d> {
+    pub name: QualifiedName<'d>,
     /// Whether the block's SOAP mustUnderstand attribute is true.
     pub must_understand: bool,
     /// Whether the block's SOAP role is one of the ultimate receiver's, which it is without one.
@@ -25,7 +35,7 @@ pub struct Block {
 }
 
 /// Header blocks in the order in which they stand.
-pub type Blocks = Sequence<Block>;
+pub type Blocks<'d> = Sequence<Block<'d>>;
 
 /// Qualified names in order.
-pub type Names = Sequence<QualifiedName>;
+pub type Names<'a> = Sequence<QualifiedName<'a>>;

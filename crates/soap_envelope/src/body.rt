@@ -1,46 +1,39 @@
 // The content of Body, so that it means the same in any other place.
-ghost use Rattle.std.specs.Prelude.{◌≡◌, ◌∷◌, ◌++◌, [], IfOk, OnOk, Some, map};
+ghost use Rattle.std.specs.Prelude.{◌≡◌, ◌++◌, IfOk, IsTrue, OnOk, Some, map};
 ghost use Rattle.soap_envelope.specs.Body as spec;
 ghost use Rattle.soap_envelope.specs.Body.{attribute_of, missing, xmlns_of};
-ghost use Rattle.soap_envelope.specs.Layers.{kept, layer_of};
+ghost use Rattle.soap_envelope.specs.Fitting.{fits, fitting, greatest_quota};
+ghost use Rattle.soap_envelope.specs.Layers.{kept, layer_of, shown};
 ghost use Rattle.soap_envelope.specs.Parts.{root_scope};
+ghost use Rattle.soap_envelope.specs.Scopes.{within};
 
 use crate::children::{behind, open_behind};
+use crate::fitting::content_fits;
+use crate::layers::{Declared, Layer};
 use crate::namespaces::{ADDRESSING, SOAP};
-use crate::scopes::{Declared, declared_in, declared_on, uri_in};
-use nbfx_values::{ArrayItem, AttrItem, Attrs, Copied, Item, Items};
+use crate::scopes::{declared_in, declared_on};
+use nbfx_values::{ArrayItem, AttrItem, Attrs, Copied, Item, Items, Quotas, Txt};
 use std::alloc::Global;
-use std::cmp::Ordering;
+use std::collections::BTreeMap;
 use unit_streams::Memory;
 
 // Puts a declaration at its place among others by the order of their prefixes' bytes, and in place
 // of one of its prefix.
-fn put<'d>(sorted: &mut Vec<Declared<'d>>, one: Declared<'d>) -> Result<(), Memory>
-    ensures { OnOk result (layer_of sorted.new ≡ spec.put (kept one.entry) (layer_of sorted.old)) }
+fn put<'d>(sorted: &mut BTreeMap<&'d str, &'d str>, one: &Declared<'d>) -> Result<(), Memory>
+    ensures { OnOk result (shown sorted.new ≡ spec.put (kept one.now) (shown sorted.old)) }
 {
-    for i in 0..sorted.len() {
-        match one.prefix.as_str().cmp(&sorted[i].prefix.as_str()) {
-            Ordering::Less => {
-                sorted.insert(i, one)?;
-                return Ok(());
-            }
-            Ordering::Equal => {
-                sorted[i] = one;
-                return Ok(());
-            }
-            Ordering::Greater => {}
-        }
-    }
-    sorted.push(one)?;
+    sorted.insert(one.prefix, one.uri)?;
     Ok(())
 }
 
-fn put_all<'d>(sorted: &mut Vec<Declared<'d>>, layer: &[Declared<'d>]) -> Result<(), Memory>
-    ensures { OnOk result
-        (layer_of sorted.new ≡ spec.put_all (map kept layer.now) (layer_of sorted.old)) }
+fn put_all<'d>(
+    sorted: &mut BTreeMap<&'d str, &'d str>,
+    layer: &[Declared<'d>],
+) -> Result<(), Memory>
+    ensures { OnOk result (shown sorted.new ≡ spec.put_all (map kept layer.now) (shown sorted.old)) }
 {
     for one in layer {
-        put(sorted, *one)?;
+        put(sorted, one)?;
     }
     Ok(())
 }
@@ -50,52 +43,65 @@ fn put_all<'d>(sorted: &mut Vec<Declared<'d>>, layer: &[Declared<'d>]) -> Result
 fn is_usual(one: &Declared<'_>) -> bool
     ensures { result ≡ spec.is_usual (kept one.now) }
 {
-    (one.prefix.as_str() == "s" && one.uri.as_str() == SOAP)
-        || (one.prefix.as_str() == "a" && one.uri.as_str() == ADDRESSING)
+    (one.prefix == "s" && one.uri == SOAP) || (one.prefix == "a" && one.uri == ADDRESSING)
 }
 
-// The declarations that an element in Body may rest on, where these are the root's and Body's.
-pub(crate) fn needed<'d>(
+// Those of sorted declarations that not every reply has.
+fn unusual<'d>(
     alloc: Global,
-    root: &[Declared<'d>],
-    body: &[Declared<'d>],
+    sorted: BTreeMap<&'d str, &'d str>,
 ) -> Result<Vec<Declared<'d>>, Memory>
-    ensures { IfOk result
-        (λ needs. layer_of needs ≡ spec.needed (map kept body.now ∷ map kept root.now ∷ [])) }
+    ensures { IfOk result (λ needs. layer_of needs ≡ spec.unusual (shown sorted.entry)) }
 {
-    let mut sorted = Vec::new(alloc);
-    put_all(&mut sorted, root)?;
-    put_all(&mut sorted, body)?;
     let mut needs = Vec::new(alloc);
-    for one in sorted.as_slice() {
-        if !is_usual(one) {
-            needs.push(*one)?;
+    for (prefix, uri) in sorted {
+        let one = Declared { prefix, uri };
+        if !is_usual(&one) {
+            needs.push(one)?;
         }
     }
     Ok(needs)
 }
 
-// Whether an element doesn't declare a prefix itself.
-fn is_missing(own: &[Declared<'_>], one: &Declared<'_>) -> bool
-    ensures { result ≡ spec.is_missing (map kept own.now) (kept one.now) }
+// The declarations that an element in the Body that begins at a place may rest on.
+pub(crate) fn needed_at<'d>(
+    alloc: Global,
+    items: &'d [Item],
+    at: usize,
+) -> Result<Vec<Declared<'d>>, Memory>
+    ensures { IfOk result
+        (λ needs. layer_of needs ≡ spec.needed (within items.now at (root_scope items.now))) }
 {
-    uri_in(own, one.prefix.as_str()).is_none()
+    let root = declared_in(alloc, behind(items, 0))?;
+    let body = declared_in(alloc, behind(items, at))?;
+    let mut sorted = BTreeMap::new(alloc);
+    put_all(&mut sorted, root.as_slice())?;
+    put_all(&mut sorted, body.as_slice())?;
+    unusual(alloc, sorted)
+}
+
+// Whether an element doesn't declare a prefix itself.
+pub(crate) fn is_missing(own: &Layer<'_>, one: &Declared<'_>) -> bool
+    ensures { result ≡ spec.is_missing own.now (kept one.now) }
+{
+    own.uri_of(one.prefix).is_none()
 }
 
 // Puts the declarations that an element needs and hasn't itself.
 fn put_missing(
+    alloc: Global,
     items: &mut Items,
     needs: &[Declared<'_>],
-    own: &[Declared<'_>],
+    own: &Layer<'_>,
 ) -> Result<(), Memory>
     ensures { OnOk result (items.new ≡ items.old
-        ++ map xmlns_of (missing (map kept needs.now) (map kept own.now))) }
+        ++ map xmlns_of (missing (map kept needs.now) own.now)) }
 {
     for one in needs {
         if is_missing(own, one) {
             items.push(Item::Xmlns {
-                prefix: one.prefix.copy()?,
-                uri: one.uri.copy()?,
+                prefix: Txt::of(alloc, one.prefix)?,
+                uri: Txt::of(alloc, one.uri)?,
             })?;
         }
     }
@@ -106,18 +112,18 @@ fn put_missing(
 fn attributes_with(
     alloc: Global,
     needs: &[Declared<'_>],
-    own: &[Declared<'_>],
+    own: &Layer<'_>,
     attributes: &[AttrItem],
 ) -> Result<Attrs, Memory>
     ensures { IfOk result (λ all. all
-        ≡ map attribute_of (missing (map kept needs.now) (map kept own.now)) ++ attributes.now) }
+        ≡ map attribute_of (missing (map kept needs.now) own.now) ++ attributes.now) }
 {
     let mut all = Attrs::new(alloc);
     for one in needs {
         if is_missing(own, one) {
             all.push(AttrItem::Xmlns {
-                prefix: one.prefix.copy()?,
-                uri: one.uri.copy()?,
+                prefix: Txt::of(alloc, one.prefix)?,
+                uri: Txt::of(alloc, one.uri)?,
             })?;
         }
     }
@@ -131,7 +137,7 @@ fn array_with(alloc: Global, needs: &[Declared<'_>], array: &ArrayItem) -> Resul
     ensures { IfOk result (λ with. with ≡ spec.array_with (map kept needs.now) array.now) }
 {
     let own = declared_on(alloc, array.attrs.as_slice())?;
-    let attrs = attributes_with(alloc, needs, own.as_slice(), array.attrs.as_slice())?;
+    let attrs = attributes_with(alloc, needs, &own, array.attrs.as_slice())?;
     Ok(ArrayItem {
         prefix: array.prefix.copy()?,
         local: array.local.copy()?,
@@ -156,7 +162,7 @@ fn put_child(
         Item::Start { .. } => {
             let own = declared_in(alloc, more)?;
             out.push(item.copy()?)?;
-            put_missing(out, needs, own.as_slice())?;
+            put_missing(alloc, out, needs, &own)?;
             Ok(())
         }
         Item::Array(array) => {
@@ -192,8 +198,10 @@ fn put_item(
 }
 
 // The items up to the end of the element that holds them, with the declarations that its children
-// need.
+// need. These fit some quotas, so that nobody copies what was never counted.
 fn self_standing(alloc: Global, needs: &[Declared<'_>], items: &[Item]) -> Result<Items, Memory>
+    requires { IsTrue (fits greatest_quota
+        (spec.self_standing (map kept needs.now) (Some 0) items.now)) }
     ensures { IfOk result
         (λ out. out ≡ spec.self_standing (map kept needs.now) (Some 0) items.now) }
 {
@@ -222,12 +230,22 @@ pub(crate) fn behind_head(items: &[Item]) -> &[Item]
     &[]
 }
 
-/// The content of the Body that begins at a place, so that it means the same in any other place.
-pub(crate) fn body_items(alloc: Global, items: &[Item], at: usize) -> Result<Items, Memory>
-    ensures { IfOk result (λ body. body ≡ spec.body_items items.now (root_scope items.now) at) }
+// The content of the Body that begins at a place, so that it means the same in any other place, where
+// it fits the quotas.
+pub(crate) fn body_items(
+    alloc: Global,
+    quotas: &Quotas,
+    items: &[Item],
+    at: usize,
+) -> Result<Option<Items>, Memory>
+    ensures { IfOk result (λ body. body
+        ≡ fitting quotas.now.content (spec.body_items items.now (root_scope items.now) at)) }
 {
-    let root = declared_in(alloc, behind(items, 0))?;
-    let body = declared_in(alloc, behind(items, at))?;
-    let needs = needed(alloc, root.as_slice(), body.as_slice())?;
-    self_standing(alloc, needs.as_slice(), behind_head(behind(items, at)))
+    let needs = needed_at(alloc, items, at)?;
+    let content = behind_head(behind(items, at));
+    if !content_fits(alloc, quotas, needs.as_slice(), content)? {
+        return Ok(None);
+    }
+    let body = self_standing(alloc, needs.as_slice(), content)?;
+    Ok(Some(body))
 }

@@ -1,11 +1,12 @@
 //! The view of a document as an envelope.
 
-ghost use Rattle.std.specs.Prelude.{◌≡◌, ◌≢◌, ◌++◌, Err, IfOk, IsTrue, MatchResult, Ok, OnOk, slice_get};
+ghost use Rattle.std.specs.Prelude.{◌≡◌, ◌≢◌, ◌++◌, Err, IfOk, IfSome, IsTrue, MatchResult, Ok, OnOk, slice_get};
 ghost use Rattle.std.specs.List.{list_all};
 ghost use Rattle.std.specs.Option.{option_copied, option_map};
 ghost use Rattle.nbfx_values.specs.Documents.{IsDocument};
 ghost use Rattle.nbfx_values.specs.Items.{is_valid_item};
 ghost use Rattle.soap_envelope.specs.Characters as characters;
+ghost use Rattle.soap_envelope.specs.Fitting.{fitting};
 ghost use Rattle.soap_envelope.specs.Making.{AreTexts, IsContent};
 ghost use Rattle.soap_envelope.specs.Parts.{root_scope};
 ghost use Rattle.soap_envelope.specs.Seen.{BodyStands, HasBody};
@@ -22,7 +23,7 @@ use crate::parts::{Parts, kept_children, parts_of, wrong_root};
 use crate::refusals::SoapFault;
 use crate::scopes::{Scopes, declared_in};
 use crate::texts::text_of;
-use nbfx_values::{Copied, Doc, Item, Items, Txt};
+use nbfx_values::{Copied, Doc, Item, Items, Quotas, Txt};
 use std::alloc::Global;
 use std::marker::Model;
 use unit_streams::Memory;
@@ -32,7 +33,7 @@ use unit_streams::Memory;
 #[derive(Drop)]
 pub struct Envelope<'d> {
     items: &'d [Item],
-    blocks: Blocks,
+    blocks: Blocks<'d>,
     action: Option<Txt>,
     reply_address: Option<Txt>,
     message: Option<usize>,
@@ -99,7 +100,7 @@ fn fault_among<'d>(
     items: &'d [Item],
     scopes: &mut Scopes<'d>,
     children: &[usize],
-    blocks: &[Block],
+    blocks: &[Block<'_>],
 ) -> Result<Option<SoapFault>, Memory>
     requires { IsTrue (list_all is_valid_item items.now) }
     ensures fault { IfOk result
@@ -134,7 +135,7 @@ fn reply_address_at<'d>(
     alloc: Global,
     items: &'d [Item],
     scopes: &mut Scopes<'d>,
-    blocks: &[Block],
+    blocks: &[Block<'_>],
 ) -> Result<Option<usize>, Memory>
     requires { IsTrue (list_all is_valid_item items.now) }
     ensures { IfOk result
@@ -151,7 +152,7 @@ fn envelope_with<'d>(
     alloc: Global,
     items: &'d [Item],
     scopes: &mut Scopes<'d>,
-    blocks: Blocks,
+    blocks: Blocks<'d>,
     parts: Parts,
 ) -> Result<Envelope<'d>, Memory>
     requires body { HasBody items.now parts.body }
@@ -284,7 +285,7 @@ impl<'d> Envelope<'d> {
     }
 
     /// The header blocks in order.
-    pub fn blocks(&self) -> &Blocks
+    pub fn blocks(&self) -> &Blocks<'d>
         ensures { result.now ≡ self.now.blocks }
     {
         &self.blocks
@@ -319,12 +320,13 @@ impl<'d> Envelope<'d> {
     }
 
     /// The content of Body, so that it means the same in a reply: each child element declares what
-    /// was in scope at Body and it doesn't declare itself.
-    pub fn body(&self, alloc: Global) -> Result<Items, Memory>
-        ensures same { IfOk result (λ items. items ≡ self.now.body) }
-        ensures content { IfOk result IsContent }
+    /// was in scope at Body and it doesn't declare itself. None where that counts more content than
+    /// the quotas admit: its declarations may be many more than the document's.
+    pub fn body(&self, alloc: Global, quotas: &Quotas) -> Result<Option<Items>, Memory>
+        ensures same { IfOk result (λ body. body ≡ fitting quotas.now.content self.now.body) }
+        ensures content { IfOk result (λ body. IfSome body IsContent) }
     {
-        body_items(alloc, self.items, self.body)
+        body_items(alloc, quotas, self.items, self.body)
     }
 
     /// The place of Body's Start in the document's items, counted from 0.
@@ -336,7 +338,11 @@ impl<'d> Envelope<'d> {
 
     /// The names, in order, of the blocks that are targeted and must be understood, and whose names
     /// aren't among those known.
-    pub fn not_understood(&self, alloc: Global, known: &[QualifiedName]) -> Result<Names, Memory>
+    pub fn not_understood(
+        &self,
+        alloc: Global,
+        known: &[QualifiedName<'_>],
+    ) -> Result<Names<'d>, Memory>
         ensures { IfOk result
             (λ names. names ≡ understanding.not_understood known.now self.now.blocks) }
     {

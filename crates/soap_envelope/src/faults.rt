@@ -103,7 +103,7 @@ fn put_reason(alloc: Global, items: &mut Items, reason: &Txt) -> Result<(), Memo
 }
 
 // The code of a fault, with its subcodes.
-fn put_code(alloc: Global, items: &mut Items, report: &FaultReport) -> Result<(), Memory>
+fn put_code(alloc: Global, items: &mut Items, report: &FaultReport<'_>) -> Result<(), Memory>
     ensures { OnOk result (items.new ≡ items.old ++ code_items report.now) }
 {
     put_start(alloc, items, "s", "Code")?;
@@ -114,7 +114,7 @@ fn put_code(alloc: Global, items: &mut Items, report: &FaultReport) -> Result<()
 }
 
 // The content of a fault's Body.
-fn put_fault(alloc: Global, items: &mut Items, report: &FaultReport) -> Result<(), Memory>
+fn put_fault(alloc: Global, items: &mut Items, report: &FaultReport<'_>) -> Result<(), Memory>
     ensures { OnOk result (items.new ≡ items.old ++ fault_body report.now) }
 {
     put_start(alloc, items, "s", "Fault")?;
@@ -125,12 +125,12 @@ fn put_fault(alloc: Global, items: &mut Items, report: &FaultReport) -> Result<(
 }
 
 // A local name with the prefix that its block declares.
-fn prefixed(alloc: Global, local: &Txt) -> Result<Txt, Memory>
+fn prefixed(alloc: Global, local: &str) -> Result<Txt, Memory>
     ensures same { IfOk result (λ text. text ≡ codes "n:" ++ local.now) }
     ensures utf8 { IfOk result (λ text. IsTrue (is_utf8 text)) }
 {
     let mut text = String::from_str(alloc, "n:")?;
-    text.push_str(local.as_str())?;
+    text.push_str(local)?;
     let text = Txt::from(text);
 
     // Characters are UTF-8.
@@ -139,21 +139,25 @@ fn prefixed(alloc: Global, local: &Txt) -> Result<Txt, Memory>
 }
 
 // The block that names what wasn't understood.
-fn put_not_understood(alloc: Global, items: &mut Items, name: &QualifiedName) -> Result<(), Memory>
+fn put_not_understood(
+    alloc: Global,
+    items: &mut Items,
+    name: &QualifiedName<'_>,
+) -> Result<(), Memory>
     ensures put { OnOk result (items.new ≡ items.old ++ not_understood_block name.now) }
     ensures uri { OnOk result (IsTrue (is_utf8 name.now.uri)) }
     ensures qname { OnOk result (IsTrue (is_utf8 (codes "n:" ++ name.now.local))) }
 {
     put_start(alloc, items, "s", "NotUnderstood")?;
-    put_xmlns(alloc, items, "n", name.uri.as_str())?;
-    let qname = prefixed(alloc, &name.local)?;
+    put_xmlns(alloc, items, "n", name.uri)?;
+    let qname = prefixed(alloc, name.local)?;
     put_attribute(alloc, items, "", "qname", Value::One(Scalar::Text(qname)))?;
     put_close(items)?;
     Ok(())
 }
 
 // The blocks that name what wasn't understood.
-fn put_names(alloc: Global, items: &mut Items, names: &[QualifiedName]) -> Result<(), Memory>
+fn put_names(alloc: Global, items: &mut Items, names: &[QualifiedName<'_>]) -> Result<(), Memory>
     ensures put { OnOk result (items.new ≡ items.old ++ flat_map not_understood_block names.now) }
     ensures valid { OnOk result (IsTrue (list_all is_nameable names.now)) }
 {
@@ -169,7 +173,7 @@ fn put_report(
     items: &mut Items,
     action: Txt,
     relates: &[Item],
-    report: &FaultReport,
+    report: &FaultReport<'_>,
 ) -> Result<(), Memory>
     ensures put { OnOk result (items.new ≡ items.old ++ envelope_items action relates.now
         (flat_map not_understood_block report.now.names) (fault_body report.now)) }
@@ -188,7 +192,7 @@ fn put_report(
 /// The fault of this report, which is an envelope of SOAP 1.2: its RelatesTo has these texts, those
 /// of the MessageID of the request that it answers. A fault with a subcode has addressing's action
 /// for faults, and one without has SOAP's.
-pub fn fault_doc(alloc: Global, report: &FaultReport, relates: &Items) -> Result<Doc, Memory>
+pub fn fault_doc(alloc: Global, report: &FaultReport<'_>, relates: &Items) -> Result<Doc, Memory>
     requires { AreTexts relates.now }
     ensures { IfOk result (λ doc. doc ≡ fault_items report.now relates.now) }
 {

@@ -16,37 +16,38 @@ use crate::namespaces::ADDRESSING;
 use crate::parts::{element_uri, is_element};
 use crate::scopes::{Scopes, declared_in};
 use crate::texts::has_plain_content;
-use nbfx_values::{Copied, Item, Txt};
+use nbfx_values::Item;
 use std::alloc::Global;
 use unit_streams::Memory;
 
 // The name of the element that begins at a place.
-fn name_of(
+fn name_of<'d>(
     alloc: Global,
-    items: &[Item],
-    outer: &Scopes<'_>,
+    items: &'d [Item],
+    outer: &Scopes<'d>,
     at: usize,
-) -> Result<QualifiedName, Memory>
+) -> Result<QualifiedName<'d>, Memory>
     ensures { IfOk result (λ name. name ≡ blocks.name_of items.now outer.now at) }
 {
     match items.get(at) {
         Some(Item::Start { prefix, local }) => {
             let own = declared_in(alloc, behind(items, at))?;
-            let uri = Txt::of(alloc, element_uri(outer, own.as_slice(), prefix))?;
             Ok(QualifiedName {
-                uri,
-                local: local.copy()?,
+                uri: element_uri(outer, &own, prefix),
+                local: local.as_str(),
             })
         }
-        _ => Ok(QualifiedName {
-            uri: Txt::empty(),
-            local: Txt::empty(),
-        }),
+        _ => Ok(QualifiedName { uri: "", local: "" }),
     }
 }
 
 // The block that begins at a place.
-fn block_of(alloc: Global, items: &[Item], outer: &Scopes<'_>, at: usize) -> Result<Block, Memory>
+fn block_of<'d>(
+    alloc: Global,
+    items: &'d [Item],
+    outer: &Scopes<'d>,
+    at: usize,
+) -> Result<Block<'d>, Memory>
     requires within { at < length items.now }
     requires valid { IsTrue (list_all is_valid_item items.now) }
     ensures { IfOk result (λ block. block ≡ blocks.block_of items.now outer.now at) }
@@ -63,12 +64,12 @@ fn block_of(alloc: Global, items: &[Item], outer: &Scopes<'_>, at: usize) -> Res
 }
 
 // The blocks among the children of Header.
-pub(crate) fn blocks_among(
+pub(crate) fn blocks_among<'d>(
     alloc: Global,
-    items: &[Item],
-    outer: &Scopes<'_>,
+    items: &'d [Item],
+    outer: &Scopes<'d>,
     children: &[usize],
-) -> Result<Blocks, Memory>
+) -> Result<Blocks<'d>, Memory>
     requires { IsTrue (list_all is_valid_item items.now) }
     ensures { IfOk result
         (λ found. found ≡ blocks.blocks_among items.now outer.now children.now) }
@@ -83,57 +84,58 @@ pub(crate) fn blocks_among(
 }
 
 // Whether two names are one.
-pub(crate) fn is_same_name(name: &QualifiedName, other: &QualifiedName) -> bool
+pub(crate) fn is_same_name(name: &QualifiedName<'_>, other: &QualifiedName<'_>) -> bool
     ensures { result ≡ names.is_same_name name.now other.now }
 {
-    name.uri.as_str() == other.uri.as_str() && name.local.as_str() == other.local.as_str()
+    name.uri == other.uri && name.local == other.local
 }
 
 // Whether a block counts as addressing's of a local name.
 #[tactic(auto, unfolding(crate::specs::Names::addressing))]
-pub(crate) fn counts_as(block: &Block, local: &str) -> bool
+pub(crate) fn counts_as(block: &Block<'_>, local: &str) -> bool
     ensures { result ≡ spec.counts_as local.now block.now }
 {
-    block.targeted && block.name.uri.as_str() == ADDRESSING && block.name.local.as_str() == local
+    let name = &block.name;
+    block.targeted && name.uri == ADDRESSING && name.local == local
 }
 
 // Whether a block counts as one with content of characters alone.
-fn is_textual(block: &Block) -> bool
+fn is_textual(block: &Block<'_>) -> bool
     ensures { result ≡ spec.is_textual block.now }
 {
     counts_as(block, "Action") || counts_as(block, "To") || counts_as(block, "MessageID")
 }
 
 // Whether a block counts as one that may stand once.
-fn is_single(block: &Block) -> bool
+fn is_single(block: &Block<'_>) -> bool
     ensures { result ≡ spec.is_single block.now }
 {
     is_textual(block) || counts_as(block, "ReplyTo")
 }
 
 // Whether another block is targeted, and has the block's name.
-fn is_first_of(block: &Block, other: &Block) -> bool
+fn is_first_of(block: &Block<'_>, other: &Block<'_>) -> bool
     ensures { result ≡ spec.is_first_of block.now other.now }
 {
     other.targeted && is_same_name(&other.name, &block.name)
 }
 
 // Whether such a block stands among these.
-fn comes_behind(before: &[Block], block: &Block) -> bool
+fn comes_behind(before: &[Block<'_>], block: &Block<'_>) -> bool
     ensures { result ≡ list_any (spec.is_first_of block.now) before.now }
 {
     before.iter().any(|other| is_first_of(block, other))
 }
 
 // Whether a block that may stand once comes behind one of its name that counts.
-fn is_again(before: &[Block], block: &Block) -> bool
+fn is_again(before: &[Block<'_>], block: &Block<'_>) -> bool
     ensures { result ≡ spec.is_again before.now block.now }
 {
     is_single(block) && comes_behind(before, block)
 }
 
 // The beginning of the first such.
-pub(crate) fn repeated(blocks: &[Block]) -> Option<usize>
+pub(crate) fn repeated(blocks: &[Block<'_>]) -> Option<usize>
     ensures { result ≡ spec.repeated blocks.now }
 {
     for (i, block) in blocks.iter().enumerate() {
@@ -146,7 +148,12 @@ pub(crate) fn repeated(blocks: &[Block]) -> Option<usize>
 
 // Whether an Address of characters alone begins at a place.
 #[tactic(auto, unfolding(crate::specs::Names::addressing))]
-fn is_address(alloc: Global, items: &[Item], outer: &Scopes<'_>, at: usize) -> Result<bool, Memory>
+fn is_address<'d>(
+    alloc: Global,
+    items: &'d [Item],
+    outer: &Scopes<'d>,
+    at: usize,
+) -> Result<bool, Memory>
     requires { IsTrue (list_all is_valid_item items.now) }
     ensures { IfOk result (λ found. found ≡ spec.is_address items.now outer.now at) }
 {
@@ -157,10 +164,10 @@ fn is_address(alloc: Global, items: &[Item], outer: &Scopes<'_>, at: usize) -> R
 }
 
 // The children of the element that begins at a place that are an Address of characters alone.
-fn addresses_among(
+fn addresses_among<'d>(
     alloc: Global,
-    items: &[Item],
-    inner: &Scopes<'_>,
+    items: &'d [Item],
+    inner: &Scopes<'d>,
     children: &[usize],
 ) -> Result<Vec<usize>, Memory>
     requires { IsTrue (list_all is_valid_item items.now) }
@@ -212,7 +219,7 @@ fn is_bad_content<'d>(
     alloc: Global,
     items: &'d [Item],
     scopes: &mut Scopes<'d>,
-    block: &Block,
+    block: &Block<'_>,
 ) -> Result<bool, Memory>
     requires { IsTrue (list_all is_valid_item items.now) }
     ensures bad { IfOk result
@@ -245,7 +252,7 @@ fn bad_in_block<'d>(
     alloc: Global,
     items: &'d [Item],
     scopes: &mut Scopes<'d>,
-    block: &Block,
+    block: &Block<'_>,
 ) -> Result<Option<usize>, Memory>
     requires within { block.now.from < length items.now }
     requires valid { IsTrue (list_all is_valid_item items.now) }
@@ -253,7 +260,8 @@ fn bad_in_block<'d>(
         (λ bad. bad ≡ spec.bad_in_block items.now scopes.old block.now) }
     ensures unchanged { OnOk result (scopes.new ≡ scopes.old) }
 {
-    if block.name.uri.as_str() == "" || is_bad_content(alloc, items, scopes, block)? {
+    let name = &block.name;
+    if name.uri == "" || is_bad_content(alloc, items, scopes, block)? {
         return Ok(Some(block.from));
     }
     let must_understand = must_understand_of(alloc, items, scopes, block.from)?;
@@ -301,7 +309,7 @@ pub(crate) fn bad_header<'d>(
 }
 
 // The beginning of the first block that counts as addressing's of a local name.
-pub(crate) fn counted_at(blocks: &[Block], local: &str) -> Option<usize>
+pub(crate) fn counted_at(blocks: &[Block<'_>], local: &str) -> Option<usize>
     ensures { result ≡ spec.counted_at local.now blocks.now }
 {
     for block in blocks {
@@ -313,14 +321,14 @@ pub(crate) fn counted_at(blocks: &[Block], local: &str) -> Option<usize>
 }
 
 // Whether a name is among these.
-fn is_known(known: &[QualifiedName], name: &QualifiedName) -> bool
+fn is_known(known: &[QualifiedName<'_>], name: &QualifiedName<'_>) -> bool
     ensures { result ≡ list_any (names.is_same_name name.now) known.now }
 {
     known.iter().any(|other| is_same_name(name, other))
 }
 
 // Whether a block is targeted and must be understood, and its name isn't among those known.
-fn is_foreign(known: &[QualifiedName], block: &Block) -> bool
+fn is_foreign(known: &[QualifiedName<'_>], block: &Block<'_>) -> bool
     ensures { result ≡ understanding.is_foreign known.now block.now }
 {
     if !block.targeted || !block.must_understand {
@@ -329,28 +337,28 @@ fn is_foreign(known: &[QualifiedName], block: &Block) -> bool
     !is_known(known, &block.name)
 }
 
-fn copy_of(name: &QualifiedName) -> Result<QualifiedName, Memory>
-    ensures { IfOk result (λ copied. copied ≡ name.now) }
+fn copy_of<'d>(name: &QualifiedName<'d>) -> QualifiedName<'d>
+    ensures { result ≡ name.now }
 {
-    Ok(QualifiedName {
-        uri: name.uri.copy()?,
-        local: name.local.copy()?,
-    })
+    QualifiedName {
+        uri: name.uri,
+        local: name.local,
+    }
 }
 
 // The names of such blocks, in order.
-pub(crate) fn foreign_names(
+pub(crate) fn foreign_names<'d>(
     alloc: Global,
-    known: &[QualifiedName],
-    blocks: &[Block],
-) -> Result<Names, Memory>
+    known: &[QualifiedName<'_>],
+    blocks: &[Block<'d>],
+) -> Result<Names<'d>, Memory>
     ensures { IfOk result
         (λ found. found ≡ understanding.not_understood known.now blocks.now) }
 {
     let mut found = Names::new(alloc);
     for block in blocks {
         if is_foreign(known, block) {
-            found.push(copy_of(&block.name)?)?;
+            found.push(copy_of(&block.name))?;
         }
     }
     Ok(found)

@@ -1,7 +1,7 @@
 //! What holds of views by the definitions alone. Each function does nothing: its contract is a law,
 //! which a caller has where it calls the function.
 
-ghost use Rattle.soap_envelope.specs.Laws.{FaultsAreViewed, PrefixesAreFree, RelatesAreKept, RepliesAreViewed};
+ghost use Rattle.soap_envelope.specs.Laws.{BodiesStand, FaultsAreViewed, PrefixesAreFree, RelatesAreKept, RepliesAreViewed, UnfitNamesAreUnfit};
 
 /// A reply is an envelope whose Action is the request's followed by `Response`, whose RelatesTo has
 /// the texts and whose Body the content that were put there. The content's names have to be good
@@ -11,9 +11,17 @@ pub fn replies()
     ensures relates { RelatesAreKept }
 {}
 
+/// The content of a document's Body, which a view has, may be put into any reply: its names are good
+/// there, and the reply's view has the same content.
+pub fn bodies()
+    ensures { BodiesStand }
+{}
+
 /// A fault is an envelope whose Body has one Fault alone, and whose Action is that of its subcode.
+/// Where its names don't fit a quota on content, it doesn't either.
 pub fn faults()
-    ensures { FaultsAreViewed }
+    ensures viewed { FaultsAreViewed }
+    ensures unfit { UnfitNamesAreUnfit }
 {}
 
 /// What is seen of a document doesn't depend on its prefixes: with others, of which no two become

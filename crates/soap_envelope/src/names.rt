@@ -1,40 +1,35 @@
 // The first item whose prefix isn't declared, or that declares a prefix again in its element.
-ghost use Rattle.std.specs.Prelude.{◌≡◌, ◌∷◌, ◌+◌, ◌<◌, ◌≤◌, ◌^◌, [], IfOk, drop, length, map};
+ghost use Rattle.std.specs.Prelude.{◌≡◌, ◌∷◌, ◌+◌, ◌<◌, ◌≤◌, ◌^◌, [], IfOk, drop, length};
 ghost use Rattle.std.specs.Option.{option_or};
 ghost use Rattle.soap_envelope.specs.BadNames as spec;
 ghost use Rattle.soap_envelope.specs.BadNames.{first_bad_name};
-ghost use Rattle.soap_envelope.specs.Layers.{kept};
 ghost use Rattle.soap_envelope.specs.Scopes as scope;
 ghost use Rattle.soap_envelope.specs.Scopes.{declared, declared_on};
 
-use crate::scopes::{Declared, Scopes, declared_in, declared_on, uri_in};
+use crate::layers::Layer;
+use crate::scopes::{Scopes, declared_in, declared_on};
 use nbfx_values::{ArrayItem, AttrItem, Item, Txt};
 use std::alloc::Global;
 use unit_streams::Memory;
 
 // Whether something declares a prefix, the element itself or one around it.
-fn is_bound(outer: &Scopes<'_>, own: &[Declared<'_>], prefix: &Txt) -> bool
-    ensures { result ≡ scope.is_bound (map kept own.now ∷ outer.now) prefix.now }
+fn is_bound(outer: &Scopes<'_>, own: &Layer<'_>, prefix: &Txt) -> bool
+    ensures { result ≡ scope.is_bound (own.now ∷ outer.now) prefix.now }
 {
-    uri_in(own, prefix.as_str()).is_some() || outer.uri_of(prefix.as_str()).is_some()
+    own.uri_of(prefix.as_str()).is_some() || outer.uri_of(prefix.as_str()).is_some()
 }
 
 // The first of an element's declarations and attributes, where these are all its declarations.
-fn bad_attribute(
-    outer: &Scopes<'_>,
-    own: &[Declared<'_>],
-    at: usize,
-    behind: &[Item],
-) -> Option<usize>
-    requires own { map kept own.now ≡ declared behind.now }
+fn bad_attribute(outer: &Scopes<'_>, own: &Layer<'_>, at: usize, behind: &[Item]) -> Option<usize>
+    requires own { own.now ≡ declared behind.now }
     requires few { at + length behind.now < 2 ^ 64 }
-    ensures { result ≡ spec.bad_attribute (map kept own.now ∷ outer.now) [] at behind.now }
+    ensures { result ≡ spec.bad_attribute (own.now ∷ outer.now) [] at behind.now }
 {
     let mut before = 0;
     for (i, item) in behind.iter().enumerate() {
         match item {
             Item::Xmlns { prefix, .. } => {
-                if uri_in(&own[..before], prefix.as_str()).is_some() {
+                if own.declares_before(before, prefix.as_str()) {
                     return Some(at + i);
                 }
                 before += 1;
@@ -52,15 +47,15 @@ fn bad_attribute(
 
 // Whether all declarations and attributes of an array's element are good, where these are all its
 // declarations.
-fn are_good(outer: &Scopes<'_>, own: &[Declared<'_>], attributes: &[AttrItem]) -> bool
-    requires { map kept own.now ≡ declared_on attributes.now }
-    ensures { result ≡ spec.are_good (map kept own.now ∷ outer.now) [] attributes.now }
+fn are_good(outer: &Scopes<'_>, own: &Layer<'_>, attributes: &[AttrItem]) -> bool
+    requires { own.now ≡ declared_on attributes.now }
+    ensures { result ≡ spec.are_good (own.now ∷ outer.now) [] attributes.now }
 {
     let mut before = 0;
     for attribute in attributes {
         match attribute {
             AttrItem::Xmlns { prefix, .. } => {
-                if uri_in(&own[..before], prefix.as_str()).is_some() {
+                if own.declares_before(before, prefix.as_str()) {
                     return false;
                 }
                 before += 1;
@@ -79,24 +74,21 @@ fn is_good_array(alloc: Global, outer: &Scopes<'_>, array: &ArrayItem) -> Result
     ensures { IfOk result (λ good. good ≡ spec.is_good_array outer.now array.now) }
 {
     let own = declared_on(alloc, array.attrs.as_slice())?;
-    Ok(
-        is_bound(outer, own.as_slice(), &array.prefix)
-            && are_good(outer, own.as_slice(), array.attrs.as_slice()),
-    )
+    Ok(is_bound(outer, &own, &array.prefix) && are_good(outer, &own, array.attrs.as_slice()))
 }
 
 // The first of an element's beginning, its declarations and its attributes, where these are all its
 // declarations.
 fn bad_in_head(
     outer: &Scopes<'_>,
-    own: &[Declared<'_>],
+    own: &Layer<'_>,
     prefix: &Txt,
     at: usize,
     behind: &[Item],
 ) -> Option<usize>
-    requires own { map kept own.now ≡ declared behind.now }
+    requires own { own.now ≡ declared behind.now }
     requires few { at + 1 + length behind.now < 2 ^ 64 }
-    ensures { result ≡ spec.bad_in_head (map kept own.now ∷ outer.now) prefix.now at behind.now }
+    ensures { result ≡ spec.bad_in_head (own.now ∷ outer.now) prefix.now at behind.now }
 {
     if !is_bound(outer, own, prefix) {
         return Some(at);
@@ -120,7 +112,7 @@ fn bad_item<'d>(
         Item::Start { prefix, .. } => {
             let behind = &items[at + 1..];
             let layer = declared_in(alloc, behind)?;
-            let bad = bad_in_head(scopes, layer.as_slice(), prefix, at, behind);
+            let bad = bad_in_head(scopes, &layer, prefix, at, behind);
             scopes.enter(layer)?;
             Ok(bad)
         }

@@ -1,29 +1,26 @@
 // The root of an envelope, and which of the root's children are its Header and its Body.
-ghost use Rattle.std.specs.Prelude.{◌≡◌, ◌∷◌, IfOk, IsTrue, map};
+ghost use Rattle.std.specs.Prelude.{◌≡◌, ◌∷◌, IfOk, IsTrue, Some};
 ghost use Rattle.std.specs.List.{list_all};
 ghost use Rattle.nbfx_values.specs.Items.{is_valid_item};
-ghost use Rattle.soap_envelope.specs.Layers.{kept};
+ghost use Rattle.soap_envelope.specs.Names.{qualified_name};
 ghost use Rattle.soap_envelope.specs.Parts as spec;
 ghost use Rattle.soap_envelope.specs.Scopes as scope;
 
 use crate::children::{behind, children_of};
+use crate::layers::Layer;
 use crate::namespaces::SOAP;
 use crate::refusals::SoapFault;
-use crate::scopes::{Declared, Scopes, declared_in, uri_in};
+use crate::scopes::{Scopes, declared_in};
 use crate::texts::is_passed;
 use nbfx_values::{Item, Txt};
 use std::alloc::Global;
 use unit_streams::Memory;
 
 // The namespace of an element with this prefix and these declarations.
-pub(crate) fn element_uri<'a>(
-    outer: &'a Scopes<'_>,
-    own: &'a [Declared<'_>],
-    prefix: &Txt,
-) -> &'a str
-    ensures { result.now ≡ scope.element_uri (map kept own.now ∷ outer.now) prefix.now }
+pub(crate) fn element_uri<'d>(outer: &Scopes<'d>, own: &Layer<'d>, prefix: &Txt) -> &'d str
+    ensures { result.now ≡ scope.element_uri (own.now ∷ outer.now) prefix.now }
 {
-    match uri_in(own, prefix.as_str()) {
+    match own.uri_of(prefix.as_str()) {
         Some(uri) => uri,
         None => match outer.uri_of(prefix.as_str()) {
             Some(uri) => uri,
@@ -33,10 +30,10 @@ pub(crate) fn element_uri<'a>(
 }
 
 // Whether the element of this name begins at a place.
-pub(crate) fn is_element(
+pub(crate) fn is_element<'d>(
     alloc: Global,
-    items: &[Item],
-    outer: &Scopes<'_>,
+    items: &'d [Item],
+    outer: &Scopes<'d>,
     uri: &str,
     local: &str,
     at: usize,
@@ -52,7 +49,7 @@ pub(crate) fn is_element(
             },
         ) => {
             let own = declared_in(alloc, behind(items, at))?;
-            Ok(element_uri(outer, own.as_slice(), prefix) == uri && name.as_str() == local)
+            Ok(element_uri(outer, &own, prefix) == uri && name.as_str() == local)
         }
         _ => Ok(false),
     }
@@ -80,33 +77,42 @@ pub(crate) struct Parts {
     pub(crate) body: usize,
 }
 
-// What is wrong with the root.
+// What is wrong with a root of this name.
 #[tactic(auto, unfolding(crate::specs::Names::soap))]
+fn wrong_name(uri: &str, local: &str) -> Option<SoapFault>
+    ensures { result ≡ spec.wrong_name (Some (qualified_name uri.now local.now)) }
+{
+    if local != "Envelope" {
+        return Some(SoapFault::NotAnEnvelope);
+    }
+    if uri == SOAP {
+        None
+    } else {
+        Some(SoapFault::VersionMismatch)
+    }
+}
+
+// What is wrong with the root.
 pub(crate) fn wrong_root(alloc: Global, items: &[Item]) -> Result<Option<SoapFault>, Memory>
     ensures { IfOk result (λ wrong. wrong ≡ spec.wrong_root items.now) }
 {
-    let Some(Item::Start { prefix, local }) = items.get(0) else {
-        return Ok(Some(SoapFault::NotAnEnvelope));
-    };
-    if local.as_str() != "Envelope" {
-        return Ok(Some(SoapFault::NotAnEnvelope));
-    }
-    let outer = Scopes::new(alloc);
-    let own = declared_in(alloc, behind(items, 0))?;
-    if element_uri(&outer, own.as_slice(), prefix) == SOAP {
-        Ok(None)
-    } else {
-        Ok(Some(SoapFault::VersionMismatch))
+    match items.get(0) {
+        Some(Item::Start { prefix, local }) => {
+            let outer = Scopes::new(alloc);
+            let own = declared_in(alloc, behind(items, 0))?;
+            Ok(wrong_name(element_uri(&outer, &own, prefix), local.as_str()))
+        }
+        _ => Ok(Some(SoapFault::NotAnEnvelope)),
     }
 }
 
 // The parts, of which the Header stands before these children of the root: one child, the Body, or
 // the first that is none.
 #[tactic(auto, unfolding(crate::specs::Names::soap))]
-fn parts_behind(
+fn parts_behind<'d>(
     alloc: Global,
-    items: &[Item],
-    root: &Scopes<'_>,
+    items: &'d [Item],
+    root: &Scopes<'d>,
     header: Option<usize>,
     kept: &[usize],
 ) -> Result<Result<Parts, SoapFault>, Memory>
@@ -136,10 +142,10 @@ fn parts_behind(
 
 // The parts, of which these are the children of the root.
 #[tactic(auto, unfolding(crate::specs::Names::soap))]
-fn parts_among(
+fn parts_among<'d>(
     alloc: Global,
-    items: &[Item],
-    root: &Scopes<'_>,
+    items: &'d [Item],
+    root: &Scopes<'d>,
     kept: &[usize],
 ) -> Result<Result<Parts, SoapFault>, Memory>
     ensures { IfOk result (λ parts. parts ≡ spec.parts_among items.now root.now kept.now) }
@@ -155,10 +161,10 @@ fn parts_among(
 }
 
 // The parts of an envelope, where these are the declarations within its root.
-pub(crate) fn parts_of(
+pub(crate) fn parts_of<'d>(
     alloc: Global,
-    items: &[Item],
-    root: &Scopes<'_>,
+    items: &'d [Item],
+    root: &Scopes<'d>,
 ) -> Result<Result<Parts, SoapFault>, Memory>
     requires valid { IsTrue (list_all is_valid_item items.now) }
     requires within { root.now ≡ spec.root_scope items.now }

@@ -1,5 +1,6 @@
 // Items that are put behind others. Want of memory leaves what was put before.
-ghost use Rattle.std.specs.Prelude.{◌≡◌, ◌∷◌, ◌++◌, [], OnOk, codes};
+ghost use Rattle.std.specs.Prelude.{◌≡◌, ◌∷◌, ◌++◌, [], IsTrue, OnOk, codes};
+ghost use Rattle.std.specs.Str.{is_utf8};
 ghost use Rattle.nbfx_values.specs.declared.content.Item.TheVariants as item;
 ghost use Rattle.nbfx_values.specs.declared.scalars.Scalar.TheVariants as scalar;
 ghost use Rattle.nbfx_values.specs.declared.scalars.Value.TheVariants as value;
@@ -29,7 +30,8 @@ pub(crate) fn put_xmlns(
     prefix: &str,
     uri: &str,
 ) -> Result<(), Memory>
-    ensures { OnOk result (items.new ≡ items.old ++ item.Xmlns prefix.now uri.now ∷ []) }
+    ensures put { OnOk result (items.new ≡ items.old ++ item.Xmlns prefix.now uri.now ∷ []) }
+    ensures utf8 { OnOk result (IsTrue (is_utf8 uri.now)) }
 {
     let prefix = Txt::of(alloc, prefix)?;
     let uri = Txt::of(alloc, uri)?;

@@ -29,11 +29,11 @@ pub enum Sub {
 
 /// What a fault document is made of.
 #[derive(Debug, Drop)]
-pub struct FaultReport {
+pub struct FaultReport<'a> {
     pub code: Code,
     pub sub: Sub,
     /// The reason in English.
     pub reason: Txt,
     /// The header blocks that weren't understood, in order.
-    pub names: Names,
+    pub names: Names<'a>,
 }

@@ -1,27 +1,21 @@
 // The declarations that are in scope, and what a prefix stands for by them.
-ghost use Rattle.std.specs.Prelude.{◌≡◌, ◌∷◌, [], IfOk, OnOk, map};
+ghost use Rattle.std.specs.Prelude.{◌≡◌, ◌∷◌, [], IfOk, OnOk};
 ghost use Rattle.std.specs.Option.{option_copied};
-ghost use Rattle.soap_envelope.specs.Layers.{kept, layer_of, scope_of};
+ghost use Rattle.soap_envelope.specs.Layers.{layer_of, scope_of};
 ghost use Rattle.soap_envelope.specs.Scopes as spec;
 ghost use Rattle.soap_envelope.specs.Scopes.{declared};
 
+use crate::layers::{Declared, Layer};
 use crate::namespaces::XML;
-use nbfx_values::{AttrItem, Item, Txt};
+use nbfx_values::{AttrItem, Item};
 use std::alloc::Global;
 use std::marker::Model;
 use unit_streams::Memory;
 
-// What an element declares a prefix to stand for.
-#[derive(Clone, Copy)]
-pub(crate) struct Declared<'d> {
-    pub(crate) prefix: &'d Txt,
-    pub(crate) uri: &'d Txt,
-}
-
 // The declarations of the elements that are open, that of the innermost element last.
 #[derive(Drop)]
 pub(crate) struct Scopes<'d> {
-    layers: Vec<Vec<Declared<'d>>>,
+    layers: Vec<Layer<'d>>,
 }
 
 impl<'d> Model for Scopes<'d> {
@@ -33,19 +27,46 @@ impl<'d> Model for Scopes<'d> {
     ghost view = { λ s. scope_of s.layers.items };
 }
 
-// The declarations at the head of what stands behind the beginning of an element.
-pub(crate) fn declared_in<'d>(
-    alloc: Global,
-    behind: &'d [Item],
-) -> Result<Vec<Declared<'d>>, Memory>
+// The declarations at the head of what stands behind the beginning of an element, one by one.
+fn declarations_in<'d>(alloc: Global, behind: &'d [Item]) -> Result<Vec<Declared<'d>>, Memory>
     ensures { IfOk result (λ layer. layer_of layer ≡ declared behind.now) }
 {
     let mut layer = Vec::new(alloc);
     for item in behind {
         match item {
-            Item::Xmlns { prefix, uri } => layer.push(Declared { prefix, uri })?,
+            Item::Xmlns { prefix, uri } => layer.push(Declared {
+                prefix: prefix.as_str(),
+                uri: uri.as_str(),
+            })?,
             Item::Attr { .. } => {}
             _ => return Ok(layer),
+        }
+    }
+    Ok(layer)
+}
+
+// The declarations at the head of what stands behind the beginning of an element.
+pub(crate) fn declared_in<'d>(alloc: Global, behind: &'d [Item]) -> Result<Layer<'d>, Memory>
+    ensures { IfOk result (λ layer. layer ≡ declared behind.now) }
+{
+    let declarations = declarations_in(alloc, behind)?;
+    Layer::of(alloc, declarations)
+}
+
+// The declarations among an array's attributes.
+fn declarations_on<'d>(
+    alloc: Global,
+    attributes: &'d [AttrItem],
+) -> Result<Vec<Declared<'d>>, Memory>
+    ensures { IfOk result (λ layer. layer_of layer ≡ spec.declared_on attributes.now) }
+{
+    let mut layer = Vec::new(alloc);
+    for attribute in attributes {
+        if let AttrItem::Xmlns { prefix, uri } = attribute {
+            layer.push(Declared {
+                prefix: prefix.as_str(),
+                uri: uri.as_str(),
+            })?;
         }
     }
     Ok(layer)
@@ -55,28 +76,11 @@ pub(crate) fn declared_in<'d>(
 pub(crate) fn declared_on<'d>(
     alloc: Global,
     attributes: &'d [AttrItem],
-) -> Result<Vec<Declared<'d>>, Memory>
-    ensures { IfOk result (λ layer. layer_of layer ≡ spec.declared_on attributes.now) }
+) -> Result<Layer<'d>, Memory>
+    ensures { IfOk result (λ layer. layer ≡ spec.declared_on attributes.now) }
 {
-    let mut layer = Vec::new(alloc);
-    for attribute in attributes {
-        if let AttrItem::Xmlns { prefix, uri } = attribute {
-            layer.push(Declared { prefix, uri })?;
-        }
-    }
-    Ok(layer)
-}
-
-// What an element declares a prefix to stand for.
-pub(crate) fn uri_in<'d>(layer: &[Declared<'d>], prefix: &str) -> Option<&'d str>
-    ensures { option_copied result ≡ spec.uri_in (map kept layer.now) prefix.now }
-{
-    for declared in layer {
-        if declared.prefix.as_str() == prefix {
-            return Some(declared.uri.as_str());
-        }
-    }
-    None
+    let declarations = declarations_on(alloc, attributes)?;
+    Layer::of(alloc, declarations)
 }
 
 // What a prefix stands for where nothing declares it.
@@ -92,13 +96,13 @@ fn undeclared_uri(prefix: &str) -> Option<&'static str>
 }
 
 // What a prefix stands for, by the layers of all elements that are open.
-fn uri_of<'d>(layers: &[Vec<Declared<'d>>], prefix: &str) -> Option<&'d str>
+fn uri_of<'d>(layers: &[Layer<'d>], prefix: &str) -> Option<&'d str>
     ensures { option_copied result ≡ spec.uri_of (scope_of layers.now) prefix.now }
 {
     let mut more = layers.len();
     while more > 0 {
         more -= 1;
-        if let Some(uri) = uri_in(&layers[more], prefix) {
+        if let Some(uri) = layers[more].uri_of(prefix) {
             return Some(uri);
         }
     }
@@ -116,8 +120,8 @@ impl<'d> Scopes<'d> {
     }
 
     // Into the element with these declarations.
-    pub(crate) fn enter(&mut self, layer: Vec<Declared<'d>>) -> Result<(), Memory>
-        ensures { OnOk result (self.new ≡ layer_of layer.entry ∷ self.old) }
+    pub(crate) fn enter(&mut self, layer: Layer<'d>) -> Result<(), Memory>
+        ensures { OnOk result (self.new ≡ layer.entry ∷ self.old) }
     {
         self.layers.push(layer)?;
         Ok(())
@@ -131,7 +135,7 @@ impl<'d> Scopes<'d> {
     }
 
     // What a prefix stands for.
-    pub(crate) fn uri_of(&self, prefix: &str) -> Option<&str>
+    pub(crate) fn uri_of(&self, prefix: &str) -> Option<&'d str>
         ensures { option_copied result ≡ spec.uri_of self.now prefix.now }
     {
         uri_of(self.layers.as_slice(), prefix)

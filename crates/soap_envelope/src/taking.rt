@@ -1,18 +1,19 @@
 //! The content of Body, taken out of its document.
 
-ghost use Rattle.std.specs.Prelude.{◌≡◌, ◌+◌, ◌≤◌, [], IfOk, IsTrue, Some, drop, length, slice_get, take, true};
+ghost use Rattle.std.specs.Prelude.{◌≡◌, ◌+◌, ◌≤◌, [], IfOk, IfSome, IsTrue, Some, drop, length, slice_get, take, true};
 ghost use Rattle.soap_envelope.specs.Body as spec;
 ghost use Rattle.soap_envelope.specs.Body.{behind_head, needed, self_standing};
 ghost use Rattle.soap_envelope.specs.Children.{is_start};
+ghost use Rattle.soap_envelope.specs.Fitting.{fits, fitting};
 ghost use Rattle.soap_envelope.specs.Making.{IsContent};
 ghost use Rattle.soap_envelope.specs.Parts.{root_scope};
 ghost use Rattle.soap_envelope.specs.Scopes.{within};
 
-use crate::body::{behind_head, body_items, needed};
+use crate::body::{behind_head, body_items, needed_at};
 use crate::children::{behind, open_behind};
+use crate::fitting::content_fits;
 use crate::moving::moved;
-use crate::scopes::declared_in;
-use nbfx_values::{Doc, Item, Items};
+use nbfx_values::{Doc, Item, Items, Quotas};
 use std::alloc::Global;
 use unit_streams::Memory;
 
@@ -21,9 +22,7 @@ fn needs_nothing(alloc: Global, items: &[Item], at: usize) -> Result<bool, Memor
     ensures { IfOk result (λ nothing. nothing ≡ true
         → needed (within items.now at (root_scope items.now)) ≡ []) }
 {
-    let root = declared_in(alloc, behind(items, 0))?;
-    let body = declared_in(alloc, behind(items, at))?;
-    let needs = needed(alloc, root.as_slice(), body.as_slice())?;
+    let needs = needed_at(alloc, items, at)?;
     Ok(needs.is_empty())
 }
 
@@ -53,25 +52,51 @@ fn content_places(items: &[Item], at: usize) -> (usize, usize)
     (first, first + content_len(content))
 }
 
-// The content of the Body that begins at a place, where its children need no declaration.
-fn moved_body(alloc: Global, doc: Doc, at: usize) -> Result<Items, Memory>
-    requires { needed (within doc at (root_scope doc)) ≡ [] }
-    ensures { IfOk result (λ body. body ≡ spec.body_items doc (root_scope doc) at) }
+// Whether the content of the Body that begins at a place fits the quotas, where its children need no
+// declaration. It is a part of its document, and most documents fit.
+fn moved_fits(alloc: Global, quotas: &Quotas, doc: &Doc, at: usize) -> Result<bool, Memory>
+    ensures { IfOk result (λ fit. fit ≡ fits quotas.now.content
+        (self_standing [] (Some 0) (behind_head (drop (at + 1) doc.now)))) }
 {
+    if doc.content() <= quotas.content as u64 {
+        return Ok(true);
+    }
+    let content = behind_head(behind(doc.items().as_slice(), at));
+    content_fits(alloc, quotas, &[], content)
+}
+
+// The content of the Body that begins at a place, where its children need no declaration and it fits
+// the quotas.
+fn moved_body(alloc: Global, quotas: &Quotas, doc: Doc, at: usize) -> Result<Option<Items>, Memory>
+    requires { needed (within doc at (root_scope doc)) ≡ [] }
+    ensures { IfOk result (λ body. body
+        ≡ fitting quotas.now.content (spec.body_items doc (root_scope doc) at)) }
+{
+    if !moved_fits(alloc, quotas, &doc, at)? {
+        return Ok(None);
+    }
     let (first, end) = content_places(doc.items().as_slice(), at);
-    moved(alloc, doc.into_items(), first, end)
+    let body = moved(alloc, doc.into_items(), first, end)?;
+    Ok(Some(body))
 }
 
 /// The content of the Body that begins at a place of a document, as `Envelope::body` gives it,
-/// taken out of the document. The items are moved. They are copied only where the root or Body
-/// declares other prefixes than those that every reply declares.
-pub fn take_body(alloc: Global, doc: Doc, at: usize) -> Result<Items, Memory>
+/// taken out of the document: None where it counts more content than the quotas admit. The items
+/// are moved. They are copied only where the root or Body declares other prefixes than those that
+/// every reply declares.
+pub fn take_body(
+    alloc: Global,
+    quotas: &Quotas,
+    doc: Doc,
+    at: usize,
+) -> Result<Option<Items>, Memory>
     requires { IsTrue (is_start (slice_get doc at)) }
-    ensures same { IfOk result (λ body. body ≡ spec.body_items doc (root_scope doc) at) }
-    ensures content { IfOk result IsContent }
+    ensures same { IfOk result (λ body. body
+        ≡ fitting quotas.now.content (spec.body_items doc (root_scope doc) at)) }
+    ensures content { IfOk result (λ body. IfSome body IsContent) }
 {
     if needs_nothing(alloc, doc.items().as_slice(), at)? {
-        return moved_body(alloc, doc, at);
+        return moved_body(alloc, quotas, doc, at);
     }
-    body_items(alloc, doc.items().as_slice(), at)
+    body_items(alloc, quotas, doc.items().as_slice(), at)
 }

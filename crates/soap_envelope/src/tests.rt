@@ -3,7 +3,7 @@ ghost use Rattle.std.specs.Prelude.{IfOk};
 ghost use Rattle.soap_envelope.specs.Making.{AreTexts};
 
 use super::*;
-use nbfx_values::{Doc, Item, Items, Scalar, Txt, Value};
+use nbfx_values::{Doc, Item, Items, Quotas, Scalar, Txt, Value};
 use std::alloc::Global;
 use std::test::Fail;
 use unit_streams::Memory;
@@ -23,6 +23,14 @@ fn reply(alloc: Global) -> Result<Doc, Memory> {
     reply_doc(alloc, "urn:echo", &relates, &body)
 }
 
+// How many items the content of Body has.
+fn content_len(alloc: Global, seen: &Envelope<'_>) -> Result<usize, Fail> {
+    match seen.body(alloc, &Quotas::usual())? {
+        Some(body) => Ok(body.len()),
+        None => Err(Fail::new("too much content")),
+    }
+}
+
 #[test]
 fn a_reply_is_viewed(rt: HostRuntime) -> Result<(), Fail> {
     let doc = reply(rt.alloc())?;
@@ -30,7 +38,7 @@ fn a_reply_is_viewed(rt: HostRuntime) -> Result<(), Fail> {
     assert_eq!(rt; seen.action(), Some("urn:echoResponse"));
     assert!(rt; seen.reply_address().is_none());
     assert_eq!(rt; seen.blocks().len(), 2);
-    assert_eq!(rt; seen.body(rt.alloc())?.len(), 0);
+    assert_eq!(rt; content_len(rt.alloc(), &seen)?, 0);
     assert_eq!(rt; seen.message_id(rt.alloc())?.len(), 0);
     assert_eq!(rt; seen.not_understood(rt.alloc(), &[])?.len(), 1);
     Ok(())
@@ -40,8 +48,8 @@ fn a_reply_is_viewed(rt: HostRuntime) -> Result<(), Fail> {
 fn a_fault_is_viewed(rt: HostRuntime) -> Result<(), Fail> {
     let mut names = Names::new(rt.alloc());
     names.push(QualifiedName {
-        uri: Txt::of(rt.alloc(), "urn:t")?,
-        local: Txt::of(rt.alloc(), "Sec")?,
+        uri: "urn:t",
+        local: "Sec",
     })?;
     let report = FaultReport {
         code: Code::MustUnderstand,
@@ -56,6 +64,6 @@ fn a_fault_is_viewed(rt: HostRuntime) -> Result<(), Fail> {
         Some("http://www.w3.org/2005/08/addressing/soap/fault")
     );
     assert_eq!(rt; seen.blocks().len(), 2);
-    assert_eq!(rt; seen.body(rt.alloc())?.len(), 13);
+    assert_eq!(rt; content_len(rt.alloc(), &seen)?, 13);
     Ok(())
 }

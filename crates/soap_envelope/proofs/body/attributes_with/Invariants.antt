@@ -5,8 +5,10 @@ use Rattle.soap_envelope.specs.Layers.{kept}
 use Rattle.soap_envelope.proofs.body.attributes_with.Given as goal
 
 abbrev pub invariant-loop-one : goal.invariant-loop-one
-invariant-loop-one l = l.all ≡ map attribute_of (missing (map kept (take l.one-index l.needs)) (map kept l.own))
+invariant-loop-one l = l.all ≡ map attribute_of
+    (missing (map kept (take l.one-index l.needs)) l.own)
 
 abbrev pub invariant-loop-attribute : goal.invariant-loop-attribute
 invariant-loop-attribute l =
-    l.all ≡ map attribute_of (missing (map kept l.needs) (map kept l.own)) ++ take l.attribute-index l.attributes
+    l.all ≡ map attribute_of (missing (map kept l.needs) l.own) ++ take l.attribute-index
+    l.attributes

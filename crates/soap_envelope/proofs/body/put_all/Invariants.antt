@@ -1,9 +1,10 @@
 -- The rest gives the answer.
 use Rattle.std.proofs.Common.{◌≡◌, drop, map}
 use Rattle.soap_envelope.specs.Body.{put_all}
-use Rattle.soap_envelope.specs.Layers.{kept, layer_of}
+use Rattle.soap_envelope.specs.Layers.{kept, shown}
 use Rattle.soap_envelope.proofs.body.put_all.Given as goal
 
 abbrev pub invariant-loop-one : goal.invariant-loop-one
 invariant-loop-one l =
-    put_all (map kept (drop l.one-index l.layer)) (layer_of l.sorted) ≡ put_all (map kept l.layer) (layer_of l.initial.sorted)
+    put_all (map kept (drop l.one-index l.layer)) (shown l.sorted) ≡ put_all (map kept l.layer)
+    (shown l.initial.sorted)

@@ -5,4 +5,5 @@ use Rattle.soap_envelope.specs.Layers.{kept}
 use Rattle.soap_envelope.proofs.body.put_missing.Given as goal
 
 abbrev pub invariant-loop-one : goal.invariant-loop-one
-invariant-loop-one l = l.items ≡ l.initial.items ++ map xmlns_of (missing (map kept (take l.one-index l.needs)) (map kept l.own))
+invariant-loop-one l = l.items ≡ l.initial.items
+    ++ map xmlns_of (missing (map kept (take l.one-index l.needs)) l.own)

@@ -1,5 +1,9 @@
+use Rattle.soap_envelope.proofs.FaultSizes.{unfit_names_are_unfit}
 use Rattle.soap_envelope.proofs.LawFacts.{faults_are_viewed}
 use Rattle.soap_envelope.proofs.laws.faults.Goals as goal
 
-pub returns : goal.returns
-returns c = faults_are_viewed
+pub returns-clause-viewed : goal.returns-clause-viewed
+returns-clause-viewed c = faults_are_viewed
+
+pub returns-clause-unfit : goal.returns-clause-unfit
+returns-clause-unfit c = unfit_names_are_unfit

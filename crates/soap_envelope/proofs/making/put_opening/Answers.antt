@@ -7,8 +7,8 @@ unfolding soap addressing
 returns c =
     rw (
       c.in_ok-put_start-2.ensures,
-      c.in_ok-put_xmlns-2.ensures,
-      c.in_ok-put_xmlns.ensures,
+      c.in_ok-put_xmlns-2.ensures.put,
+      c.in_ok-put_xmlns.ensures.put,
       c.in_ok-put_start.ensures,
     )
     (simp append_assoc)

@@ -1,43 +1,47 @@
-use Rattle.std.proofs.Common.{◌≡◌, ◌∙◌, ◌∷◌, ◌+◌, ap, drop, false, map, sym, take}
+use Rattle.std.proofs.Common.{◌≡◌, ◌∙◌, ◌∷◌, ◌+◌, ap, arith, drop, false, sym, take}
 use Rattle.std.specs.Option.{is_some}
 use Rattle.soap_envelope.specs.BadNames.{are_good}
-use Rattle.soap_envelope.specs.Layers.{kept}
 use Rattle.soap_envelope.specs.Scopes.{declared_on, uri_in}
 use Rattle.soap_envelope.proofs.Lists.{drop-at}
-use Rattle.soap_envelope.proofs.NameFacts.{declares-step, has-step, is_some-copied}
+use Rattle.soap_envelope.proofs.NameFacts.{declares-step, has-step}
 use Rattle.soap_envelope.proofs.names.are_good.Goals as goal
-use Rattle.soap_envelope.proofs.names.are_good.Goals.{in-Xmlns+else-is_some, in-Attr+else-not-is_bound}
+use Rattle.soap_envelope.proofs.names.are_good.Goals.{in-Xmlns+else-declares_before, in-Attr+else-not-is_bound}
 
 pub loop-attribute-preserved : goal.loop-attribute-preserved
 loop-attribute-preserved c =
     let own = c.args.own.now in
-    let scope = map kept own ∷ c.args.outer.now in
+    let scope = own ∷ c.args.outer.now in
     let attributes = c.args.attributes.now in
     let i = c.loop-attribute.attribute-index in
     let rest = drop (i + 1) attributes in
     let before = c.loop-attribute.before in
     let inv = c.loop-attribute.invariant in
-    let here = drop-at attributes i c.attribute-item.result c.loop-attribute-test.true c.attribute-item.is in
+    let here = drop-at attributes i c.attribute-item.result c.loop-attribute-test.true
+    c.attribute-item.is in
     elim c.match-attribute.branch [
-      | in-Xmlns+else-is_some w ↦
+      | in-Xmlns+else-declares_before w ↦
           let p = w.in-Xmlns.prefix in
           let at_i = here ∙ ap (λ y. y ∷ rest) w.in-Xmlns.is in
-          let fresh : is_some (uri_in (map kept (take before own)) p) ≡ false =
-          ap (λ q. is_some (uri_in (map kept (take before own)) q)) (sym w.as_str.ensures.same)
-          ∙ ap is_some (sym w.uri_in.ensures) ∙ is_some-copied w.uri_in.result ∙ sym w.is_some.ensures ∙ w.if-is_some.false in
-          let s = declares-step scope own before p w.in-Xmlns.uri rest (inv.left ∙ ap declared_on at_i) fresh in
+          let fresh : is_some (uri_in (take before own) p) ≡ false =
+          rw (← w.as_str.ensures.same) (sym w.declares_before.ensures ∙ w.if-declares_before.false)
+          in
+          let s = declares-step scope own before p w.in-Xmlns.uri rest
+          (inv.left ∙ ap declared_on at_i) fresh in
           rw w.before-is (record {
+            few = omega arith;
             within = s.0;
             left = s.1;
-            same = sym s.2 ∙ ap (are_good scope (map kept (take before own))) (sym at_i) ∙ inv.same;
+            same = sym s.2 ∙ ap (are_good scope (take before own)) (sym at_i) ∙ inv.same;
           })
       | in-Attr+else-not-is_bound w ↦
           let at_i = here ∙ ap (λ y. y ∷ rest) w.in-Attr.is in
-          let s = has-step scope (map kept (take before own)) w.in-Attr.prefix w.in-Attr.local w.in-Attr.value rest
+          let s = has-step scope (take before own) w.in-Attr.prefix w.in-Attr.local w.in-Attr.value
+          rest
           (sym w.is_bound.ensures ∙ w.if-not-is_bound.false) in
           rw w.before-is (record {
+            few = omega arith;
             within = inv.within;
             left = inv.left ∙ ap declared_on at_i;
-            same = sym s ∙ ap (are_good scope (map kept (take before own))) (sym at_i) ∙ inv.same;
+            same = sym s ∙ ap (are_good scope (take before own)) (sym at_i) ∙ inv.same;
           })
     ]

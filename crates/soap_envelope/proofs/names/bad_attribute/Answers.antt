@@ -1,17 +1,16 @@
-use Rattle.std.proofs.Common.{◌≡◌, ◌∙◌, ◌∷◌, ◌+◌, ap, arith, drop, false, map, sym, take}
+use Rattle.std.proofs.Common.{◌≡◌, ◌∙◌, ◌∷◌, ◌+◌, ap, arith, drop, false, sym, take}
 use Rattle.std.specs.Option.{is_some}
 use Rattle.soap_envelope.specs.BadNames.{bad_attribute}
-use Rattle.soap_envelope.specs.Layers.{kept}
 use Rattle.soap_envelope.specs.Scopes.{declared, uri_in}
 use Rattle.soap_envelope.proofs.Lists.{drop-at}
-use Rattle.soap_envelope.proofs.NameFacts.{attr-step, is_some-copied, xmlns-step}
+use Rattle.soap_envelope.proofs.NameFacts.{attr-step, xmlns-step}
 use Rattle.soap_envelope.proofs.names.bad_attribute.Goals as goal
-use Rattle.soap_envelope.proofs.names.bad_attribute.Goals.{in-Xmlns+else-is_some, in-Attr+else-not-is_bound}
+use Rattle.soap_envelope.proofs.names.bad_attribute.Goals.{in-Xmlns+else-declares_before, in-Attr+else-not-is_bound}
 
 pub loop-i-preserved : goal.loop-i-preserved
 loop-i-preserved c =
     let own = c.args.own.now in
-    let scope = map kept own ∷ c.args.outer.now in
+    let scope = own ∷ c.args.outer.now in
     let behind = c.args.behind.now in
     let i = c.loop-i.i in
     let rest = drop (i + 1) behind in
@@ -20,25 +19,31 @@ loop-i-preserved c =
     let place : c.args.at + (i + 1) ≡ c.args.at + i + 1 = omega arith in
     let here = drop-at behind i c.index-behind-i.result c.loop-i-test.true c.index-behind-i.is in
     elim c.match-item.branch [
-      | in-Xmlns+else-is_some w ↦
+      | in-Xmlns+else-declares_before w ↦
           let p = w.in-Xmlns.prefix in
           let at_i = here ∙ ap (λ y. y ∷ rest) w.in-Xmlns.is in
-          let fresh : is_some (uri_in (map kept (take before own)) p) ≡ false =
-          ap (λ q. is_some (uri_in (map kept (take before own)) q)) (sym w.as_str.ensures.same)
-          ∙ ap is_some (sym w.uri_in.ensures) ∙ is_some-copied w.uri_in.result ∙ sym w.is_some.ensures ∙ w.if-is_some.false in
-          let s = xmlns-step scope own before (c.args.at + i) p w.in-Xmlns.uri rest (inv.left ∙ ap declared at_i) fresh in
+          let fresh : is_some (uri_in (take before own) p) ≡ false =
+          rw (← w.as_str.ensures.same) (sym w.declares_before.ensures ∙ w.if-declares_before.false)
+          in
+          let s = xmlns-step scope own before (c.args.at + i) p w.in-Xmlns.uri rest
+          (inv.left ∙ ap declared at_i) fresh in
           rw (w.before-is, place) (record {
+            few = omega arith;
             within = s.0;
             left = s.1;
-            same = sym s.2 ∙ ap (bad_attribute scope (map kept (take before own)) (c.args.at + i)) (sym at_i) ∙ inv.same;
+            same = sym s.2 ∙ ap (bad_attribute scope (take before own) (c.args.at + i)) (sym at_i) ∙
+                inv.same;
           })
       | in-Attr+else-not-is_bound w ↦
           let at_i = here ∙ ap (λ y. y ∷ rest) w.in-Attr.is in
-          let s = attr-step scope (map kept (take before own)) (c.args.at + i) w.in-Attr.prefix w.in-Attr.local w.in-Attr.value rest
+          let s = attr-step scope (take before own) (c.args.at + i) w.in-Attr.prefix w.in-Attr.local
+          w.in-Attr.value rest
           (sym w.is_bound.ensures ∙ w.if-not-is_bound.false) in
           rw (w.before-is, place) (record {
+            few = omega arith;
             within = inv.within;
             left = inv.left ∙ ap declared at_i;
-            same = sym s ∙ ap (bad_attribute scope (map kept (take before own)) (c.args.at + i)) (sym at_i) ∙ inv.same;
+            same = sym s ∙ ap (bad_attribute scope (take before own) (c.args.at + i)) (sym at_i) ∙
+                inv.same;
           })
     ]

@@ -1,25 +1,38 @@
-use Rattle.std.proofs.Common.{◌≡◌, ◌∙◌, subst, sym}
+use Rattle.std.proofs.Common.{◌≡◌, ◌∙◌, Option, List, subst, sym}
 use Rattle.std.proofs.lemmas.Result.{IfOk-weaker}
+use Rattle.std.specs.Prelude.{IfSome}
+use Rattle.nbfx_values.specs.declared.content.Item.{Item}
 use Rattle.soap_envelope.specs.Body.{body_items}
+use Rattle.soap_envelope.specs.Fitting.{fitting}
 use Rattle.soap_envelope.specs.Making.{IsContent}
 use Rattle.soap_envelope.specs.Parts.{root_scope}
 use Rattle.soap_envelope.proofs.Contents.{body-content}
+use Rattle.soap_envelope.proofs.FitFacts.{fitting-all}
 use Rattle.soap_envelope.proofs.taking.take_body.Goals as goal
 
 pub returns-then-branch-clause-content : goal.returns-then-branch-clause-content
 returns-then-branch-clause-content c =
     let doc = c.args.doc in
-    let content = body-content doc c.args.at c.items.ensures.document c.requires in
-    IfOk-weaker c.moved_body.result (λ body. body ≡ body_items doc (root_scope doc) c.args.at)
-    IsContent
-    (λ body same. subst IsContent (sym same) content) c.moved_body.ensures
+    let quota = c.args.quotas.now.content in
+    let content = fitting-all IsContent quota (body_items doc (root_scope doc) c.args.at)
+    (body-content doc c.args.at c.items.ensures.document c.requires) in
+    IfOk-weaker c.moved_body.result
+    (λ body. body ≡ fitting quota (body_items doc (root_scope doc) c.args.at))
+    (λ body. IfSome body IsContent)
+    (λ body same. subst (λ (b : Option (List Item)). IfSome b IsContent) (sym same) content)
+    c.moved_body.ensures
 
 pub returns-clause-content : goal.returns-clause-content
 returns-clause-content c =
     let doc = c.args.doc in
+    let quota = c.args.quotas.now.content in
     let items = c.as_slice-2.result.now in
     let same_items : items ≡ doc = c.as_slice-2.ensures ∙ c.items-2.ensures.same in
-    let content = body-content doc c.args.at c.items.ensures.document c.requires in
-    IfOk-weaker c.body_items.result (λ body. body ≡ body_items items (root_scope items) c.args.at)
-    IsContent
-    (λ body same. subst IsContent (sym (rw same_items at same)) content) c.body_items.ensures
+    let content = fitting-all IsContent quota (body_items doc (root_scope doc) c.args.at)
+    (body-content doc c.args.at c.items.ensures.document c.requires) in
+    IfOk-weaker c.body_items.result
+    (λ body. body ≡ fitting quota (body_items items (root_scope items) c.args.at))
+    (λ body. IfSome body IsContent)
+    (λ body same. subst (λ (b : Option (List Item)). IfSome b IsContent)
+    (sym (rw same_items at same)) content)
+    c.body_items.ensures

@@ -1,16 +1,24 @@
-use Rattle.std.proofs.Common.{◌≡◌, subst, sym}
+use Rattle.std.proofs.Common.{◌≡◌, List, Option, subst, sym}
 use Rattle.std.proofs.lemmas.Result.{IfOk-weaker}
+use Rattle.std.specs.Prelude.{IfSome}
+use Rattle.nbfx_values.specs.declared.content.Item.{Item}
 use Rattle.soap_envelope.specs.Body.{body_items}
+use Rattle.soap_envelope.specs.Fitting.{fitting}
 use Rattle.soap_envelope.specs.Making.{IsContent}
 use Rattle.soap_envelope.specs.Parts.{root_scope}
 use Rattle.soap_envelope.proofs.Contents.{body-content}
+use Rattle.soap_envelope.proofs.FitFacts.{fitting-all}
 use Rattle.soap_envelope.proofs.envelope.Envelope.body.Goals as goal
 
 pub returns-clause-content : goal.returns-clause-content
 returns-clause-content c =
     let items = c.self.inside.items.now in
     let at = c.self.inside.body in
-    let content = body-content items at c.self.invariant.document c.self.invariant.starts in
-    IfOk-weaker c.body_items.result (λ body. body ≡ body_items items (root_scope items) at)
-    IsContent (λ body same. subst IsContent (sym same) content)
+    let quota = c.args.quotas.now.content in
+    let content = fitting-all IsContent quota (body_items items (root_scope items) at)
+    (body-content items at c.self.invariant.document c.self.invariant.starts) in
+    IfOk-weaker c.body_items.result
+    (λ body. body ≡ fitting quota (body_items items (root_scope items) at))
+    (λ body. IfSome body IsContent)
+    (λ body same. subst (λ (b : Option (List Item)). IfSome b IsContent) (sym same) content)
     c.body_items.ensures

@@ -2,7 +2,8 @@
 use Rattle.std.proofs.Common.{◌≡◌, ◌++◌, drop}
 use Rattle.soap_envelope.specs.Layers.{layer_of}
 use Rattle.soap_envelope.specs.Scopes.{declared_on}
-use Rattle.soap_envelope.proofs.scopes.declared_on.Given as goal
+use Rattle.soap_envelope.proofs.scopes.declarations_on.Given as goal
 
 abbrev pub invariant-loop-attribute : goal.invariant-loop-attribute
-invariant-loop-attribute l = layer_of l.layer ++ declared_on (drop l.attribute-index l.attributes) ≡ declared_on l.attributes
+invariant-loop-attribute l = layer_of l.layer ++ declared_on (drop l.attribute-index l.attributes)
+    ≡ declared_on l.attributes

@@ -2,7 +2,8 @@
 use Rattle.std.proofs.Common.{◌≡◌, ◌++◌, drop}
 use Rattle.soap_envelope.specs.Layers.{layer_of}
 use Rattle.soap_envelope.specs.Scopes.{declared}
-use Rattle.soap_envelope.proofs.scopes.declared_in.Given as goal
+use Rattle.soap_envelope.proofs.scopes.declarations_in.Given as goal
 
 abbrev pub invariant-loop-item : goal.invariant-loop-item
-invariant-loop-item l = layer_of l.layer ++ declared (drop l.item-index l.behind) ≡ declared l.behind
+invariant-loop-item l = layer_of l.layer ++ declared (drop l.item-index l.behind)
+    ≡ declared l.behind

@@ -1,0 +1,91 @@
+//! What is left to do for a request once it was judged.
+
+ghost use Rattle.std.specs.Prelude.{◌≡◌, IfOk, OnOk};
+ghost use Rattle.soap_envelope.specs.Making.{AreTexts};
+ghost use Rattle.action_dispatch.specs.Answers as answers;
+ghost use Rattle.action_dispatch.specs.Answers.{RelatesToTexts};
+ghost use Rattle.action_dispatch.specs.Planning as spec;
+ghost use Rattle.action_dispatch.specs.Planning.{Plans};
+
+use crate::answers::Answer;
+use crate::judging::{Judged, judge};
+use crate::refusals::Refusal;
+use nbfx_values::{Doc, Items, Quotas, Txt};
+use soap_envelope::{Envelope, SoapFault};
+use std::alloc::Global;
+use unit_streams::Memory;
+
+/// What is left to do for a request. It borrows nothing from the request's document.
+#[derive(Drop)]
+pub(crate) enum Plan {
+    /// Nothing, since no service is asked.
+    Answered(Answer),
+    /// The service is asked for this action. An answer relates to these texts, and Body begins at
+    /// this place of the document.
+    Asks {
+        action: Txt,
+        relates: Items,
+        body_at: usize,
+    },
+}
+
+/// The answer that a request isn't served.
+pub(crate) fn refused(alloc: Global, refusal: Refusal<'_>, relates: Items) -> Result<Answer, Memory>
+    requires { AreTexts relates }
+    ensures refused { IfOk result (λ answer. answer ≡ answers.refused refusal.entry relates) }
+    ensures texts { IfOk result RelatesToTexts }
+{
+    let doc = refusal.doc(alloc, &relates)?;
+    Ok(Answer::Reply { doc, relates })
+}
+
+// What is left to do for a request that was judged, which has this identifier and this place of
+// Body.
+fn plan_judged(
+    alloc: Global,
+    quotas: &Quotas,
+    judged: Judged<'_>,
+    relates: Items,
+    body_at: usize,
+) -> Result<Plan, Memory>
+    requires { AreTexts relates }
+    ensures { IfOk result
+        (λ plan. plan ≡ spec.planned quotas.now.content judged.entry relates body_at) }
+{
+    match judged {
+        Judged::Unanswered => Ok(Plan::Answered(Answer::Nothing)),
+        Judged::Refused(refusal) => {
+            let answer = refused(alloc, refusal.fitting(quotas), relates)?;
+            Ok(Plan::Answered(answer))
+        }
+        Judged::Asked(action) => Ok(Plan::Asks {
+            action,
+            relates,
+            body_at,
+        }),
+    }
+}
+
+// What is left to do for the request with this view.
+fn plan_viewed(alloc: Global, quotas: &Quotas, envelope: &Envelope<'_>) -> Result<Plan, Memory>
+    ensures planned { IfOk result (λ plan. plan ≡ spec.planned_of quotas.now.content envelope.now) }
+    ensures texts { OnOk result (AreTexts envelope.now.message_id) }
+{
+    let judged = judge(alloc, envelope)?;
+    let relates = envelope.message_id(alloc)?;
+    plan_judged(alloc, quotas, judged, relates, envelope.body_at())
+}
+
+/// What is left to do for the request that is this document.
+pub(crate) fn plan_for(alloc: Global, quotas: &Quotas, doc: &Doc) -> Result<Plan, Memory>
+    ensures { IfOk result (Plans quotas.now.content doc.now) }
+{
+    match Envelope::of(alloc, doc) {
+        Ok(envelope) => plan_viewed(alloc, quotas, &envelope),
+        Err(SoapFault::Memory) => Err(Memory),
+        Err(fault) => {
+            let answer = refused(alloc, Refusal::of(fault), Items::new(alloc))?;
+            Ok(Plan::Answered(answer))
+        }
+    }
+}

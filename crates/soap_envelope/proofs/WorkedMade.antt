@@ -1,0 +1,181 @@
+-- Worked cases: replies and faults, item by item, and which names a fault reports.
+use Rattle.std.proofs.Common.{◌≡◌, ℕ, List, [], ◌∷◌, ◌++◌, codes, map, refl, Result, Ok, Err, Bool, true, false}
+use Rattle.nbfx_values.specs.declared.content.Item.{Item}
+use Rattle.nbfx_values.specs.declared.content.Item.TheVariants.{Start, Xmlns, Close}
+use Rattle.soap_envelope.specs.declared.report.Code.TheVariants.{VersionMismatch, MustUnderstand, Sender, Receiver}
+use Rattle.soap_envelope.specs.declared.report.FaultReport.{FaultReport}
+use Rattle.soap_envelope.specs.declared.report.Sub.TheVariants as sub
+use Rattle.soap_envelope.specs.declared.refusals.SoapFault.{SoapFault}
+use Rattle.soap_envelope.specs.Faults.{fault_items}
+use Rattle.soap_envelope.specs.Fitting.{names_fit}
+use Rattle.soap_envelope.specs.Making.{reply_items}
+use Rattle.soap_envelope.specs.Names.{addressing, qualified_name}
+use Rattle.soap_envelope.specs.Qualified.{Name}
+use Rattle.soap_envelope.specs.Understanding.{not_understood}
+use Rattle.soap_envelope.specs.View.{View, view}
+use Rattle.soap_envelope.proofs.Documents.{a, acting, action, addressing_action, attribute, echo, enveloped, fault, hi, identified, message, must, related, reply, role, s, secured, soap_action, subcode, with_blocks, words}
+use Rattle.soap_envelope.proofs.OnLiterals.{envelopes_on_literals}
+
+-- the action of a request, the texts of its identifier, a content of Body, and the reply
+abbrev Row : Type 0
+Row = List ℕ × List Item × List Item × List Item
+
+abbrev AllReplied : List Row → Type 0
+AllReplied rows =
+    map (λ (r : Row). reply_items r.0 r.1 r.2) rows ≡ map (λ (r : Row). r.3) rows
+
+replies : AllReplied (
+    (codes "urn:echo", identified, hi, reply (codes "urn:echoResponse") hi)
+    ∷ (
+      codes "urn:echo",
+      identified,
+      Start [] (codes "reply") ∷ words (codes "ok") ∷ Close ∷ [],
+      reply (codes "urn:echoResponse") (Start [] (codes "reply") ∷ words (codes "ok") ∷ Close ∷ []),
+    )
+    ∷ (
+      [],
+      [],
+      [],
+      enveloped (s (codes "Header") (acting (codes "Response")) ++ s (codes "Body") []),
+    )
+    ∷ (
+      codes "urn:a",
+      words (codes "b") ∷ words (codes "c") ∷ [],
+      [],
+      enveloped (s (codes "Header") (acting (codes "urn:aResponse")
+          ++ a (codes "RelatesTo") (words (codes "b") ∷ words (codes "c") ∷ []))
+          ++ s (codes "Body") []),
+    )
+    ∷ [])
+unfolding envelopes_on_literals
+replies = refl
+
+-- what is reported, the texts of the request's identifier, and the fault
+abbrev FaultRow : Type 0
+FaultRow = FaultReport × List Item × List Item
+
+abbrev AllReported : List FaultRow → Type 0
+AllReported rows =
+    map (λ (r : FaultRow). fault_items r.0 r.1) rows ≡ map (λ (r : FaultRow). r.2) rows
+
+sec : Name
+sec = qualified_name (codes "urn:t") (codes "Sec")
+
+-- each code and each subcode; the names that weren't understood, in order
+faults : AllReported ((
+  record { code = MustUnderstand; sub = sub.None; reason = codes "why"; names = sec ∷ [] },
+  identified,
+  fault soap_action
+      (related ++ s (codes "NotUnderstood")
+      (Xmlns (codes "n") (codes "urn:t") ∷ attribute [] (codes "qname") (codes "n:Sec") ∷ []))
+      (codes "s:MustUnderstand") [] (codes "why"),
+)
+    ∷ (
+      record {
+        code = MustUnderstand;
+        sub = sub.None;
+        reason = [];
+        names = qualified_name [] (codes "k") ∷ sec ∷ [];
+      },
+      [],
+      fault soap_action
+          (s (codes "NotUnderstood")
+          (Xmlns (codes "n") [] ∷ attribute [] (codes "qname") (codes "n:k") ∷ [])
+          ++ s (codes "NotUnderstood")
+          (Xmlns (codes "n") (codes "urn:t") ∷ attribute [] (codes "qname") (codes "n:Sec") ∷ []))
+          (codes "s:MustUnderstand") [] [],
+    )
+    ∷ (
+      record { code = VersionMismatch; sub = sub.None; reason = codes "why"; names = [] },
+      [],
+      fault soap_action [] (codes "s:VersionMismatch") [] (codes "why"),
+    )
+    ∷ (
+      record { code = Receiver; sub = sub.None; reason = codes "why"; names = [] },
+      identified,
+      fault soap_action related (codes "s:Receiver") [] (codes "why"),
+    )
+    ∷ (
+      record { code = Sender; sub = sub.None; reason = codes "why"; names = [] },
+      [],
+      fault soap_action [] (codes "s:Sender") [] (codes "why"),
+    )
+    ∷ (
+      record { code = Sender; sub = sub.HeaderRequired; reason = codes "why"; names = [] },
+      identified,
+      fault addressing_action related (codes "s:Sender")
+          (subcode (codes "a:MessageAddressingHeaderRequired") []) (codes "why"),
+    )
+    ∷ (
+      record { code = Sender; sub = sub.ActionNotSupported; reason = codes "why"; names = [] },
+      identified,
+      fault addressing_action related (codes "s:Sender")
+          (subcode (codes "a:ActionNotSupported") []) (codes "why"),
+    )
+    ∷ (
+      record { code = Sender; sub = sub.OnlyAnonymous; reason = codes "why"; names = [] },
+      identified,
+      fault addressing_action related (codes "s:Sender")
+          (subcode (codes "a:InvalidAddressingHeader")
+          (subcode (codes "a:OnlyAnonymousAddressSupported") []))
+          (codes "why"),
+    )
+    ∷ (
+      record { code = Sender; sub = sub.InvalidCardinality; reason = codes "why"; names = [] },
+      [],
+      fault addressing_action [] (codes "s:Sender")
+          (subcode (codes "a:InvalidAddressingHeader") (subcode (codes "a:InvalidCardinality") []))
+          (codes "why"),
+    )
+    ∷ [])
+unfolding envelopes_on_literals sec
+faults = refl
+
+-- the names that are known, a document, and those that must be understood and aren't
+abbrev Understood : Type 0
+Understood = List Name × List Item × List Name
+
+abbrev foreign : List Name → Result View SoapFault → Result (List Name) SoapFault
+foreign known (Ok v) = Ok (not_understood known v.blocks)
+foreign known (Err fault) = Err fault
+
+abbrev names_in : List Name → Result (List Name) SoapFault
+names_in names = Ok names
+
+abbrev AllUnderstood : List Understood → Type 0
+AllUnderstood rows =
+    map (λ (r : Understood). foreign r.0 (view r.1)) rows
+    ≡ map (λ (r : Understood). names_in r.2) rows
+
+none : List ℕ
+none = codes "http://www.w3.org/2003/05/soap-envelope/role/none"
+
+next : List ℕ
+next = codes "http://www.w3.org/2003/05/soap-envelope/role/next"
+
+-- a block that isn't known, that is, that isn't for this node, that need not be; two of one name
+understood : AllUnderstood (
+    ([], with_blocks (secured (role next ∷ []) ++ message), sec ∷ [])
+    ∷ (sec ∷ [], with_blocks (secured (role next ∷ []) ++ message), [])
+    ∷ ([], with_blocks (secured (role none ∷ []) ++ message), [])
+    ∷ ([], with_blocks (a (codes "Sec") (must (codes "0") ∷ []) ++ message), [])
+    ∷ (sec ∷ [], echo, qualified_name addressing (codes "Action") ∷ [])
+    ∷ (
+      qualified_name addressing (codes "Action") ∷ [],
+      with_blocks (secured [] ++ action ++ secured []),
+      sec ∷ sec ∷ [],
+    )
+    ∷ (
+      qualified_name (codes "urn:t") (codes "sec") ∷ qualified_name [] (codes "Sec") ∷ [],
+      with_blocks (secured []),
+      sec ∷ [],
+    )
+    ∷ [])
+unfolding envelopes_on_literals sec none next
+understood = refl
+
+-- what names count
+fitting : map (λ quota. names_fit quota (sec ∷ qualified_name [] (codes "k") ∷ [])) (9 ∷ 8 ∷ [])
+    ≡ true ∷ false ∷ []
+unfolding sec
+fitting = refl
