@@ -1,2 +1,2 @@
--- how a receiver says what its reader does
-pub mod Said
+-- what a receiver owes (specs/Owed)
+pub mod Owing

@@ -1,3 +1,3 @@
 -- Public contracts cite both.
-pub mod Saying
+pub mod Owed
 pub mod Standing

@@ -1,12 +1,14 @@
 -- What a receiver stands for, and what it shows: what its reader of streams does.
-use Rattle.std.specs.Prelude.{◌≡◌, ℕ, List, length, Option}
+use Rattle.std.specs.Prelude.{◌≡◌, ℕ, List, length, Option, Some, None}
 use Rattle.unit_streams.specs.Judging.{Answer}
 use Rattle.nbfx_values.specs.Limits.{IsGood}
 use Rattle.nbfx_values.specs.declared.refusals.Offence.{Offence}
 use Rattle.stream_reader.specs.declared.reader.ReadRefusal.{ReadRefusal}
 use Rattle.stream_reader.specs.Standing as reader
 use Rattle.stream_reader.specs.Stream.{Settings, StreamEvent}
+use Rattle.receiver_machine.specs.declared.owed.Owed.{Owed}
 use Rattle.receiver_machine.specs.declared.receiver.Receiver.{Receiver}
+use Rattle.receiver_machine.specs.Owed.{bytes_of, owed_for}
 
 -- what it is set to
 unfoldable pub settings_of : Receiver → Settings
@@ -36,6 +38,14 @@ held_of r = reader.held_of r.reader
 -- the content of an open payload's items that it holds
 unfoldable pub content_held_of : Receiver → ℕ
 content_held_of r = reader.content_held_of r.reader
+
+-- what it owes the initiator: for a refusal, or else for the last event
+abbrev pub owed_unless : Option ReadRefusal → Owed → List ℕ
+owed_unless None owed = bytes_of owed
+owed_unless (Some refusal) owed = owed_for refusal
+
+unfoldable pub owed_of : Receiver → List ℕ
+owed_of r = owed_unless (reader.failure_of r.reader) r.owed
 
 -- the text that it shows: the Via
 unfoldable pub ShowsText : Receiver → List ℕ → Type 0

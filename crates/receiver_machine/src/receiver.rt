@@ -1,4 +1,5 @@
 //! An initiator's stream, in any pieces.
+#![tactic(auto, unfolding(crate::specs::Standing::settings_of, crate::specs::Standing::taken_of, crate::specs::Standing::messages_of, crate::specs::Standing::failure_of, crate::specs::Standing::held_of, crate::specs::Standing::content_held_of, crate::specs::Standing::owed_of, crate::specs::Standing::ShowsText, crate::specs::Standing::ShowsStrings, crate::specs::Standing::StandsFor, crate::specs::Standing::FailedBehind))]
 
 ghost use Rattle.std.specs.Prelude.{◌≡◌, ℕ, ◌+◌, ◌≤◌, List, [], ◌++◌, length, take, IfOk, IfErr, OnOk, IsErrOf, Ok, Err, Some, false, true};
 ghost use Rattle.unit_streams.specs.Grammar.{standing};
@@ -9,6 +10,7 @@ ghost use Rattle.string_tables.specs.SessionStrings.{used_cost};
 ghost use Rattle.stream_reader.specs.Sides.{endpoint_of};
 ghost use Rattle.stream_reader.specs.Stream.{initiators, stream, strings_in};
 
+use crate::owed::{Owed, owed_for};
 use nbfx_values::{Doc, Kept, Offence, Quotas};
 use session_dictionary::SessionTable;
 use static_dictionary::StaticTable;
@@ -20,6 +22,8 @@ use unit_streams::Memory;
 #[derive(Drop)]
 pub struct Receiver<'s> {
     reader: StreamReader<'s>,
+    // For the last event.
+    owed: Owed,
 }
 
 impl<'s> Receiver<'s> {
@@ -27,8 +31,9 @@ impl<'s> Receiver<'s> {
     ghost use Rattle.stream_reader.specs.declared.reader.ReadRefusal.{ReadRefusal as Failure};
     ghost use Rattle.stream_reader.specs.Standing.{HasPayloads, begun_in, items_in};
     ghost use Rattle.stream_reader.specs.Saying.{Says, Repeats};
-    ghost use Rattle.receiver_machine.specs.Saying.{said_at_end};
-    ghost use Rattle.receiver_machine.specs.Standing.{settings_of, taken_of, held_of, content_held_of, messages_of, failure_of, StandsFor, FailedBehind, ShowsText, ShowsStrings, WhereItStands, WhereItFailed, FailsBy};
+    ghost use Rattle.receiver_machine.specs.Owed.{owed_at_end, owed_behind, owed_for};
+    ghost use Rattle.stream_reader.specs.Calls.{told_at_end};
+    ghost use Rattle.receiver_machine.specs.Standing.{owed_of, settings_of, taken_of, held_of, content_held_of, messages_of, failure_of, StandsFor, FailedBehind, ShowsText, ShowsStrings, WhereItStands, WhereItFailed, FailsBy};
 
     /// A receiver before the first byte, which serves this endpoint. It makes all the room that it
     /// needs up to the preamble's end.
@@ -44,9 +49,13 @@ impl<'s> Receiver<'s> {
           statics = statics.now;
           limits = limits_of quotas;
         }) }
+        ensures owed { IfOk result (λ receiver. owed_of receiver ≡ []) }
     {
         let reader = StreamReader::new(alloc, statics, quotas, Side::Initiator(endpoint))?;
-        Ok(Receiver { reader })
+        Ok(Receiver {
+            reader,
+            owed: Owed::Nothing,
+        })
     }
 
     /// Uses the bytes of the piece up to and including the one that completes the next event, and
@@ -79,15 +88,20 @@ impl<'s> Receiver<'s> {
             (answer (stream (settings_of self.old)) p piece.now))) }
         ensures refused { IfErr result (λ refusal. failure_of self.new ≡ Some refusal) }
         ensures settings { settings_of self.new ≡ settings_of self.old }
+        // What it owes for the event, or for the refusal.
+        ensures owed { WhereItStands self.old (λ p.
+            owed_of self.new ≡ owed_behind (owed_of self.old) result) }
     {
-        self.reader.feed(piece)
+        let answer = self.reader.feed(piece);
+        self.owed = self.owed.after(&answer);
+        answer
     }
 
     /// Says that the input is over, which is no offence exactly after the session's end.
     pub fn end_of_input(&mut self) -> Result<(), Offence>
         requires { failure_of self.old ≡ Some ReadRefusal.Memory → ⊥ }
         ensures answers { WhereItStands self.old (λ p.
-            result ≡ said_at_end (ending_at (stream (settings_of self.old)) p)) }
+            result ≡ told_at_end (ending_at (stream (settings_of self.old)) p)) }
         ensures repeated { (o : Refused) → failure_of self.old ≡ Some (ReadRefusal.Offence o)
             → result ≡ Err o }
         ensures unchanged { (refusal : Failure) → failure_of self.old ≡ Some refusal
@@ -97,6 +111,8 @@ impl<'s> Receiver<'s> {
         ensures refused { IfErr result (λ o. failure_of self.new ≡ Some (ReadRefusal.Offence o)) }
         ensures kept { OnOk result (self.new ≡ self.old) }
         ensures settings { settings_of self.new ≡ settings_of self.old }
+        ensures owed { WhereItStands self.old (λ p.
+            owed_of self.new ≡ owed_at_end (owed_of self.old) result) }
     {
         match self.reader.end_of_input() {
             Ok(()) => Ok(()),
@@ -110,8 +126,22 @@ impl<'s> Receiver<'s> {
         ensures stands { WhereItStands self.old (StandsFor self.new) }
         ensures failed { WhereItFailed self.old (FailedBehind self.new) }
         ensures settings { settings_of self.new ≡ settings_of self.old }
+        ensures owed { WhereItStands self.old (λ p. owed_of self.new ≡ owed_of self.old) }
     {
         self.reader.reuse(doc);
+    }
+
+    /// The bytes that the framing owes the initiator for the last event: a Preamble Ack after
+    /// `Opened`, an End after `Ended`; and after an offence the Fault record that says why, where
+    /// the standard has a text for it. Else they are none. It takes no memory.
+    pub fn owed(&self) -> &[u8]
+        ensures shown { result.now ≡ owed_of self.now }
+        ensures failed { WhereItFailed self.now (λ refusal taken p. result.now ≡ owed_for refusal) }
+    {
+        match self.reader.failure() {
+            Some(refusal) => owed_for(refusal),
+            None => self.owed.bytes(),
+        }
     }
 
     /// The Via, once its record was read, and before that the empty text.
@@ -166,7 +196,6 @@ impl<'s> Receiver<'s> {
 
     /// What it holds of the input: in bytes, the framing's text and the unfinished unit of the
     /// payload, and the content of the document so far.
-    #[tactic(auto, unfolding(crate::specs::Standing::held_of, crate::specs::Standing::content_held_of))]
     pub fn kept(&self) -> Kept
         ensures held { result.raw ≡ held_of self.now }
         ensures content_held { result.content ≡ content_held_of self.now }

@@ -1,5 +1,5 @@
 use super::*;
-use nbfx_values::{Kind, Offence, Place, Quotas, Reason};
+use nbfx_values::{Kind, Offence, Place, Quotas, Reason, Txt};
 use static_dictionary::{StaticTable, TableFault};
 use std::alloc::Global;
 use std::test::Fail;
@@ -177,6 +177,56 @@ fn a_refusal_is_kept_with_what_it_shows(rt: HostRuntime) -> Result<(), Fail> {
             assert_eq!(rt; receiver.messages(), 3);
             assert_eq!(rt; receiver.table().len(), strings);
             assert_eq!(rt; receiver.kept().content, 0);
+        }
+    }
+    Ok(())
+}
+
+// What is owed for the last of these bytes, to the endpoint `net.tcp://h/e`.
+#[test]
+fn the_framing_owes_an_ack_an_end_or_a_fault(rt: HostRuntime) -> Result<(), Fail> {
+    let statics = no_statics(rt.alloc())?;
+    let table: [(&[u8], &[u8]); 9] = [
+        (b"", b""),
+        (PREAMBLE, b"\x0B"),
+        (SESSION, b"\x07"),
+        (
+            b"\x00\x02\x00",
+            b"\x08\x49http://schemas.microsoft.com/ws/2006/05/framing/faults/UnsupportedVersion",
+        ),
+        (
+            b"\x00\x01\x00\x01\x04",
+            b"\x08\x46http://schemas.microsoft.com/ws/2006/05/framing/faults/UnsupportedMode",
+        ),
+        (
+            b"\x00\x01\x00\x01\x02\x02\x81\x10",
+            b"\x08\x41http://schemas.microsoft.com/ws/2006/05/framing/faults/ViaTooLong",
+        ),
+        (
+            b"\x00\x01\x00\x01\x02\x02\x0Dnet.tcp://h/z",
+            b"\x08\x47http://schemas.microsoft.com/ws/2006/05/framing/faults/EndpointNotFound",
+        ),
+        (
+            b"\x00\x01\x00\x01\x02\x02\x0Dnet.tcp://h/e\x03\x00",
+            b"\x08\x49http://schemas.microsoft.com/ws/2006/05/framing/faults/ContentTypeInvalid",
+        ),
+        (
+            b"\x00\x01\x00\x01\x02\x02\x0Dnet.tcp://h/e\x03\x08\x09",
+            b"\x08\x45http://schemas.microsoft.com/ws/2006/05/framing/faults/UpgradeInvalid",
+        ),
+    ];
+    for (bytes, owed) in table {
+        for size in [64, 1] {
+            let endpoint = Txt::of(rt.alloc(), "net.tcp://h/e").map_err(|_| "no memory")?;
+            let mut receiver = Receiver::new(
+                rt.alloc(),
+                &statics,
+                Quotas::usual(),
+                Endpoint::Only(endpoint),
+            )
+            .map_err(|_| "no memory")?;
+            let _told = last_told(&mut receiver, bytes, size);
+            assert_eq!(rt; receiver.owed(), owed);
         }
     }
     Ok(())

@@ -1,14 +1,7 @@
-use Rattle.receiver_machine.specs.Standing.{settings_of, taken_of, messages_of, failure_of, ShowsText, ShowsStrings, StandsFor, FailedBehind}
+use Rattle.receiver_machine.specs.Standing.{settings_of, taken_of, messages_of, failure_of, ShowsText, ShowsStrings, StandsFor, FailedBehind, owed_of}
+use Rattle.receiver_machine.proofs.Owing.{owed_kept}
 use Rattle.receiver_machine.proofs.receiver.Receiver.reuse.Goals as goal
 
-pub returns-clause-stands : goal.returns-clause-stands
-unfolding settings_of taken_of messages_of failure_of ShowsText ShowsStrings StandsFor FailedBehind
-returns-clause-stands c = c.reuse.ensures.stands
-
-pub returns-clause-failed : goal.returns-clause-failed
-unfolding settings_of taken_of messages_of failure_of ShowsText ShowsStrings StandsFor FailedBehind
-returns-clause-failed c = c.reuse.ensures.failed
-
-pub returns-clause-settings : goal.returns-clause-settings
-unfolding settings_of taken_of messages_of failure_of ShowsText ShowsStrings StandsFor FailedBehind
-returns-clause-settings c = c.reuse.ensures.settings
+pub returns-clause-owed : goal.returns-clause-owed
+unfolding StandsFor owed_of
+returns-clause-owed c = λ p stands. owed_kept _ _ _ p stands (c.reuse.ensures.stands p stands)

@@ -1,0 +1,3 @@
+-- Public contracts cite both.
+pub mod Opening
+pub mod Standing

@@ -1,0 +1,36 @@
+//! The bytes that an initiator sends before its first envelope.
+
+ghost use Rattle.std.specs.Prelude.{◌≡◌, ◌≤◌, ◌++◌, length, OnOk, OnErr};
+ghost use Rattle.nbfx_records.specs.Putting.{Puts};
+ghost use Rattle.initiator_machine.specs.Opening.{opening_bytes};
+
+use nbfx_values::{Kind, Mode};
+use nmf_records::put_text_frame;
+use nmf_records::record_types::{KNOWN_ENCODING, MODE, PREAMBLE_END, VERSION, VIA};
+use unit_streams::Memory;
+
+/// Appends an initiator's preamble (MC-NMF): version 1.0, the mode, the Via, the known encoding and
+/// the preamble's end. After an error `out` is as before.
+pub fn opening(mode: Mode, kind: Kind, via: &str, out: &mut Vec<u8>) -> Result<(), Memory>
+    requires { length via.now ≤ 2048 }
+    ensures written { OnOk result (out.new.items ≡ out.old.items ++ opening_bytes mode kind via.now) }
+    ensures unchanged { OnErr result (out.new.items ≡ out.old.items) }
+{
+    let before = out.len();
+    let put = put_opening(mode, kind, via, out);
+    if put.is_err() {
+        out.truncate(before);
+    }
+    put
+}
+
+// After an error the first bytes of it may stand there.
+fn put_opening(mode: Mode, kind: Kind, via: &str, out: &mut Vec<u8>) -> Result<(), Memory>
+    requires { length via.now ≤ 2048 }
+    ensures { Puts result out.old.items out.new.items (opening_bytes mode kind via.now) }
+{
+    out.extend_from_slice(&[VERSION, 1, 0, MODE, mode.number()])?;
+    put_text_frame(VIA, via, out)?;
+    out.extend_from_slice(&[KNOWN_ENCODING, kind.number(), PREAMBLE_END])?;
+    Ok(())
+}

@@ -1,0 +1,95 @@
+//! What a receiver's framing answers an event or an offence with (MC-NMF).
+
+ghost use Rattle.std.specs.Prelude.{◌≡◌};
+ghost use Rattle.receiver_machine.specs.Owed.{after_answer, after_step, bytes_of, fault_record, owed_for};
+
+use nbfx_values::Reason;
+use stream_reader::{ReadRefusal, StreamStep};
+
+/// What the last event is answered with.
+#[derive(Clone, Copy, Debug, PartialEq, Eq)]
+pub(crate) enum Owed {
+    Nothing,
+    /// A Preamble Ack, for the preamble.
+    Ack,
+    /// An End, for the session's.
+    End,
+}
+
+impl Owed {
+    /// What is owed after this answer to a piece, where that was owed before. For a refusal it is
+    /// [`owed_for`] of that.
+    pub(crate) fn after(self, answer: &Result<(usize, StreamStep), ReadRefusal>) -> Owed
+        ensures { result ≡ after_answer self answer.now }
+    {
+        match answer {
+            Ok((_, step)) => self.after_step(step),
+            Err(_) => self,
+        }
+    }
+
+    fn after_step(self, step: &StreamStep) -> Owed
+        ensures { result ≡ after_step self step.now }
+    {
+        match step {
+            StreamStep::More => self,
+            StreamStep::Opened { .. } => Owed::Ack,
+            StreamStep::Message { .. } => Owed::Nothing,
+            StreamStep::Ended { .. } => Owed::End,
+            // A receiver's, which no initiator sends.
+            StreamStep::Accepted | StreamStep::PeerFault { .. } => Owed::Nothing,
+        }
+    }
+
+    /// As bytes.
+    pub(crate) fn bytes(self) -> &'static [u8]
+        ensures { result.now ≡ bytes_of self }
+    {
+        match self {
+            Owed::Nothing => &[],
+            Owed::Ack => &[0x0B],
+            Owed::End => &[0x07],
+        }
+    }
+}
+
+/// What is owed for a refusal.
+pub(crate) fn owed_for(refusal: ReadRefusal) -> &'static [u8]
+    ensures { result.now ≡ owed_for refusal }
+{
+    match refusal {
+        ReadRefusal::Offence(offence) => fault_record(offence.reason),
+        ReadRefusal::Memory => &[],
+    }
+}
+
+// The Fault record with the text that says why a stream is refused, where there is one.
+#[tactic(auto, unfolding(multibyte_ints::specs::Text::string_bytes_of, multibyte_ints::specs::Integer::shortest, multibyte_ints::specs::Integer::shortest_within))]
+fn fault_record(reason: Reason) -> &'static [u8]
+    ensures { result.now ≡ fault_record reason }
+{
+    match reason {
+        Reason::BadVersion => {
+            b"\x08\x49http://schemas.microsoft.com/ws/2006/05/framing/faults/UnsupportedVersion"
+        }
+        Reason::BadMode => {
+            b"\x08\x46http://schemas.microsoft.com/ws/2006/05/framing/faults/UnsupportedMode"
+        }
+        Reason::TextTooLong => {
+            b"\x08\x41http://schemas.microsoft.com/ws/2006/05/framing/faults/ViaTooLong"
+        }
+        Reason::EndpointNotFound => {
+            b"\x08\x47http://schemas.microsoft.com/ws/2006/05/framing/faults/EndpointNotFound"
+        }
+        Reason::BadEncoding => {
+            b"\x08\x49http://schemas.microsoft.com/ws/2006/05/framing/faults/ContentTypeInvalid"
+        }
+        Reason::UpgradeRefused => {
+            b"\x08\x45http://schemas.microsoft.com/ws/2006/05/framing/faults/UpgradeInvalid"
+        }
+        Reason::MessageTooLarge => {
+            b"\x08\x52http://schemas.microsoft.com/ws/2006/05/framing/faults/MaxMessageSizeExceededFault"
+        }
+        _ => &[],
+    }
+}
