@@ -1,0 +1,5 @@
+-- the answer to bytes of which only the last unit completes an event (any grammar)
+pub mod Answering
+-- what is sent is read: as envelopes of the documents, and piece by piece
+pub mod Sent
+pub mod Steps
