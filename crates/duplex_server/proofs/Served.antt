@@ -1,0 +1,136 @@
+-- What is known of a connection when its stream is over and what is owed last is written.
+use Rattle.std.proofs.Common.{◌≡◌, ℕ, ◌⊎◌, inl, inr, List, [], ◌++◌, Bool, Option, Some, None, Result, Ok, Err, IsErrOf, map, refl, sym, ap, ◌∙◌, subst}
+use Rattle.io_edges.specs.Faults.{CountsFaults}
+use Rattle.io_edges.specs.declared.SinkFault.TheVariants as sinks
+use Rattle.io_edges.proofs.Putting.{PutsAll-then}
+use Rattle.unit_streams.specs.Grammar.{Grammar}
+use Rattle.unit_streams.specs.Judging.{events_of}
+use Rattle.unit_streams.specs.Tellers.{Teller}
+use Rattle.nbfx_values.specs.declared.refusals.Offence.{Offence}
+use Rattle.stream_loop.specs.Edges.{Input}
+use Rattle.stream_reader.specs.Stream.{Settings, StreamEvent, stream}
+use Rattle.stream_follower.specs.declared.following.Ending.{Ending}
+use Rattle.stream_follower.specs.declared.following.Ending.TheVariants as endings
+use Rattle.stream_follower.specs.declared.writing.Outbound.{Outbound}
+use Rattle.stream_follower.specs.declared.writing.Outbound.TheVariants as outbounds
+use Rattle.stream_follower.specs.Followed.{Follows}
+use Rattle.stream_follower.specs.Writing.{Ends, PutsTo, Wrote}
+use Rattle.stream_follower.proofs.Taking.{follows_as}
+use Rattle.duplex_server.specs.declared.outcome.Inbound.{Inbound}
+use Rattle.duplex_server.specs.declared.outcome.Inbound.TheVariants.{Ended, Offended, ReadFault, Memory}
+use Rattle.duplex_server.specs.declared.outcome.Outcome.{Outcome}
+use Rattle.duplex_server.specs.Owed.{Answering, messages_along, replies, requests_to}
+use Rattle.duplex_server.specs.Requests.{request_for}
+use Rattle.duplex_server.specs.Serving.{HasServed, Serves, closing_of, ending_of, inbound_of}
+
+pub ending_again : (ending : Ending Offence) → ending_of (inbound_of ending) ≡ ending
+ending_again (endings.Judged None) = refl
+ending_again (endings.Judged (Some offence)) = refl
+ending_again endings.ReadFault = refl
+ending_again endings.Memory = refl
+
+-- a failed read is said so
+read_fault : (ending : Ending Offence) → inbound_of ending ≡ ReadFault → ending ≡ endings.ReadFault
+read_fault ending is = sym (ending_again ending) ∙ ap ending_of is
+
+pub reads_counted : (f f' : ℕ) (ending : Ending Offence)
+    → CountsFaults f f' (ending ≡ endings.ReadFault)
+    → CountsFaults f f' (inbound_of ending ≡ ReadFault)
+reads_counted f f' ending h = record {
+  rose = λ is. h.rose (read_fault ending is);
+  same = λ never. h.same (λ is. never (ap inbound_of is));
+  grows = h.grows;
+}
+
+-- some events were heard, however that ends
+pub heard_some : {Z U E R : Type 0} (g : Grammar Z U E R) (Heard : List E → Type 0) (i i' : Input)
+    (ending : Ending R) → Follows g Heard i i' ending → (events : List E) × Heard events
+heard_some g Heard i i' (endings.Judged judged) h = (h.events, h.heard)
+heard_some g Heard i i' endings.ReadFault h = (events_of g h.bytes, h.heard)
+heard_some g Heard i i' endings.Memory h = (h.events, h.heard)
+
+-- counts of calls that failed so where others failed
+counts_as : (f f' : ℕ) (A B : Type 0) → (A → B) → (B → A) → CountsFaults f f' A → CountsFaults f f'
+    B
+counts_as f f' A B to back h = record {
+  rose = λ b. h.rose (back b);
+  same = λ never. h.same (λ a. never (to a));
+  grows = h.grows;
+}
+
+module _ {K : Type 0} (written : K → Option (List ℕ)) (held : K → List ℕ) (faults : K → ℕ)
+    (may_want : K → Bool) where
+  abbrev Counts : Outbound → K → K → Type 0
+  Counts o old new = CountsFaults (faults old) (faults new) (o ≡ outbounds.WriteFault)
+
+  ends_counted : (o : Outbound) (before bytes : List ℕ) (first mid now : K)
+      → PutsTo written held faults may_want first mid before (Ok tt)
+      → Ends written held faults may_want o mid now bytes → Counts o first now
+  ends_counted outbounds.Done before bytes first mid now puts ends = absurd ends
+  ends_counted outbounds.WriteFault before bytes first mid now puts ends =
+      counts_as _ _ _ _ (λ e. refl) (λ e. refl) (PutsAll-then _ puts ends).counted
+  ends_counted outbounds.Memory before bytes first mid now puts (inl ends) =
+      counts_as _ _ _ _ (λ e. cc) (λ e. cc) (PutsAll-then _ puts ends).counted
+  ends_counted outbounds.Memory before bytes first mid now puts (inr ends) =
+      counts_as _ _ _ _ (λ e. cc) (λ e. cc) (PutsAll-then _ puts ends.0).counted
+
+  pub writes_counted : {S E R : Type 0} (t : Teller S E R) (o : Outbound) (closing : List ℕ)
+      (first : K) (events : List E) (Left : S → Type 0) (now : K)
+      → Wrote written held faults may_want t o closing first events Left now
+      → CountsFaults (faults first) (faults now) (o ≡ outbounds.WriteFault)
+  writes_counted t outbounds.Done closing first events Left now h =
+      counts_as _ _ _ _ (λ e. cc) (λ e. cc) h.puts.counted
+  writes_counted t outbounds.WriteFault closing first events Left now h =
+      ends_counted outbounds.WriteFault _ h.cut.bytes first h.mid now h.puts h.cut.ends
+  writes_counted t outbounds.Memory closing first events Left now h =
+      ends_counted outbounds.Memory _ h.cut.bytes first h.mid now h.puts h.cut.ends
+
+-- the same settings
+pub followed_as : (x y : Settings) → x ≡ y → (Heard : List StreamEvent → Type 0) (i i' : Input)
+    (ending : Ending Offence) → Follows (stream x) Heard i i' ending
+    → Follows (stream y) Heard i i' ending
+followed_as x y same Heard i i' ending h =
+    subst (λ (s : Settings). Follows (stream s) Heard i i' ending) same h
+
+module _ {K : Type 0} (written : K → Option (List ℕ)) (held : K → List ℕ) (faults : K → ℕ)
+    (may_want : K → Bool) (x : Answering) (first now : K) (outcome : Outcome)
+    (ending : Ending Offence) (is : outcome.inbound ≡ inbound_of ending) where
+  ending_is : ending ≡ ending_of outcome.inbound
+  ending_is = sym (ap ending_of is ∙ ending_again ending)
+
+  -- what was written of some events, as what was owed last came
+  pub served : (xn : Answering) → xn ≡ x → (events : List StreamEvent)
+      → outcome.messages ≡ messages_along 0 (map request_for events)
+      → Wrote written held faults may_want (replies xn) outcome.outbound (closing_of ending) first
+      (map request_for events) (λ s. outcome.answers ≡ s.answers) now
+      → HasServed written held faults may_want x outcome first now events
+  served xn same events counts wrote = record {
+    counted = counts;
+    wrote = subst (λ (e : Ending Offence). Wrote written held faults may_want (replies x)
+        outcome.outbound (closing_of e) first (map request_for events)
+        (λ s. outcome.answers ≡ s.answers) now) ending_is
+        (subst (λ (y : Answering). Wrote written held faults may_want (replies y)
+        outcome.outbound (closing_of ending) first (map request_for events)
+        (λ s. outcome.answers ≡ s.answers) now) same wrote);
+  }
+
+  module _ (endpoint : Option (List ℕ)) (i i' : Input) (Heard : List StreamEvent → Type 0)
+      (follows : Follows (stream (requests_to x endpoint)) Heard i i' ending)
+      (all : (events : List StreamEvent) → Heard events
+      → HasServed written held faults may_want x outcome first now events)
+      (counted : CountsFaults i.faults i'.faults (ending ≡ endings.ReadFault)) where
+    some : (events : List StreamEvent) × Heard events
+    some = heard_some (stream (requests_to x endpoint)) Heard i i' ending follows
+
+    pub serves : Serves written held faults may_want x endpoint i i' first now outcome
+    serves = record {
+      follows = subst (λ (e : Ending Offence). Follows (stream (requests_to x endpoint))
+          (HasServed written held faults may_want x outcome first now) i i' e) ending_is
+          (follows_as (stream (requests_to x endpoint)) Heard
+          (HasServed written held faults may_want x outcome first now) i i' ending all follows);
+      reads_counted = subst (λ (v : Inbound). CountsFaults i.faults i'.faults (v ≡ ReadFault))
+          (sym is) (reads_counted i.faults i'.faults ending counted);
+      writes_counted = writes_counted written held faults may_want (replies x) outcome.outbound
+          (closing_of (ending_of outcome.inbound)) first (map request_for some.0)
+          (λ s. outcome.answers ≡ s.answers) now (all some.0 some.1).wrote;
+    }

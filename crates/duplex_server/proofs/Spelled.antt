@@ -1,0 +1,53 @@
+-- What two tries of an envelope leave.
+use Rattle.std.proofs.Common.{◌≡◌, ℕ, List, ◌++◌, Bool, true, false, Option, Some, None, Result, Ok, Err, IfOk, refl, sym, ap, ◌∙◌, subst}
+use Rattle.unit_streams.specs.declared.memory.Memory.{Memory}
+use Rattle.nbfx_values.specs.declared.session.Mode.{Mode}
+use Rattle.string_tables.specs.StringTable.{StringTable}
+use Rattle.nbfx_encoder.specs.declared.faults.EncodeFault.{EncodeFault}
+use Rattle.nbfx_encoder.specs.declared.faults.EncodeFault.TheVariants as encode
+use Rattle.nbfx_encoder.specs.declared.sender.SendFault.TheVariants.{WrongMoment, Refused}
+use Rattle.nbfx_encoder.specs.declared.sender.SendState.{SendState}
+use Rattle.nbfx_encoder.specs.declared.sender.SendState.TheVariants.{Ready, Spent, Closed}
+use Rattle.nbfx_encoder.specs.Envelopes.{envelope}
+use Rattle.nbfx_encoder.specs.Placing.{Placed}
+use Rattle.nbfx_encoder.specs.Sending.{RefusesMessage, Sends, behind_message}
+use Rattle.nbfx_encoder.specs.Spelling.{Unfit}
+use Rattle.nbfx_encoder.specs.Standing.{Refuses}
+use Rattle.duplex_server.specs.Owed.{first_fitting, when_ready}
+use Rattle.duplex_server.specs.Spelling.{Appends, Spells, StaysSo, Tries}
+
+-- where a first try wasn't enough, and there was a second one
+module _ (mode again : Mode) (old mid new : List ℕ) (before between behind : StringTable)
+    (was still moment : SendState) (encoded other other' : Result (Placed (List ℕ)) Unfit)
+    (same_mode : again ≡ mode) (same : other' ≡ other) (ready : was ≡ Ready)
+    (first : Tries mode old mid before between was still encoded (Ok false)) where
+  fitting : (a : Result (Placed (List ℕ)) Unfit) → other' ≡ a
+      → when_ready was (first_fitting encoded other) ≡ first_fitting (Err first.0) a
+  fitting a is =
+      ap (λ m. when_ready m (first_fitting encoded other)) ready
+      ∙ ap (λ e. first_fitting e other) first.1
+      ∙ ap (λ e. first_fitting (Err first.0) e) (sym same ∙ is)
+
+  pub second_try : (result : Result Bool Memory)
+      → Tries again mid new between behind still moment other' result
+      → Spells mode old new before behind was moment (when_ready was (first_fitting encoded other))
+      result
+  second_try (Ok true) h = (
+    h.0,
+    fitting (Ok h.0) h.1,
+    record {
+      written = h.2.written ∙ ap (λ l. l ++ envelope again h.0.0) first.2.written
+          ∙ ap (λ m. old ++ envelope m h.0.0) same_mode;
+      table = h.2.table;
+      moment_is = h.2.moment_is ∙ ap behind_message same_mode;
+    },
+  )
+  second_try (Ok false) h = (
+    fitting (Err h.0) h.1,
+    record {
+      written = h.2.written ∙ first.2.written;
+      table = h.2.table ∙ first.2.table;
+      moment_is = h.2.moment_is ∙ first.2.moment_is;
+    },
+  )
+  second_try (Err memory) h = tt

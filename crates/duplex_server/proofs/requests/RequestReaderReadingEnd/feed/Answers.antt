@@ -1,0 +1,13 @@
+use Rattle.std.proofs.Common.{length}
+use Rattle.unit_streams.specs.Judging.{answer}
+use Rattle.stream_reader.specs.Stream.{stream}
+use Rattle.receiver_machine.specs.Standing.{settings_of}
+use Rattle.duplex_server.proofs.Saying.{step_said}
+use Rattle.duplex_server.proofs.requests.RequestReaderReadingEnd.feed.Goals as goal
+
+pub returns-in-Ok-clause-answers : goal.returns-in-Ok-clause-answers
+returns-in-Ok-clause-answers c = λ p stands on.
+    rw c.request_in.ensures (step_said (length c.args.piece.now)
+    (answer (stream (settings_of c.args.self.now.receiver)) p c.args.piece.now) c.in-Ok.n
+    c.in-Ok.step
+    (c.in-Ok.ensures.answers p stands on))

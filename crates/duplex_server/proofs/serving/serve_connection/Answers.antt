@@ -1,0 +1,57 @@
+use Rattle.std.proofs.Common.{◌≡◌, List, refl, sym, ap, ◌∙◌, map}
+use Rattle.nbfx_values.specs.QuotasOf.{limits_of}
+use Rattle.stream_loop.specs.Edges.{Input, input_at}
+use Rattle.stream_reader.specs.Sides.{endpoint_of}
+use Rattle.stream_reader.specs.Stream.{StreamEvent}
+use Rattle.duplex_server.specs.declared.outcome.Outcome.{Outcome}
+use Rattle.duplex_server.specs.Owed.{Answering, answering, start}
+use Rattle.duplex_server.specs.Replying.{HasHeard}
+use Rattle.duplex_server.specs.Requests.{request_for}
+use Rattle.duplex_server.proofs.Heard.{heard_first}
+use Rattle.duplex_server.proofs.Served.{served, serves}
+use Rattle.duplex_server.proofs.serving.serve_connection.Given.{Over}
+use Rattle.duplex_server.proofs.serving.serve_connection.Goals as goal
+
+module _ (g : Over) where
+  abbrev input_of : g.row.S.Denot → Input
+  input_of source = input_at g.S.Source.left g.S.Source.taken g.S.Source.faults
+      g.S.Source.empty_takes source
+
+pub follow_requests-ending-requires-clause-fresh : goal.follow_requests-ending-requires-clause-fresh
+follow_requests-ending-requires-clause-fresh g c =
+    let r = c.new-replier.result in
+    let e = c.new-replier.ensures in
+    rw e.outbound (heard_first g.K.Sink.written g.K.Sink.held g.K.Sink.faults g.K.Sink.may_want
+    (answering (g.V.Service.served r.service.now) r.statics.now (limits_of r.quotas))
+    c.args.sink.now r.sender r.answers r.messages (e.state ∙ ap start (sym e.statics)) e.messages)
+
+pub returns : goal.returns
+returns g c =
+    let e = c.new-replier.ensures in
+    let r = c.new-replier.result in
+    let f = c.follow_requests-ending in
+    let n = f.new.replier in
+    let k = c.close.new.self in
+    let x : Answering = answering (g.V.Service.served c.args.service.now) c.args.statics.now
+    (limits_of c.args.quotas.now) in
+    let xr : Answering = answering (g.V.Service.served r.service.now) r.statics.now
+    (limits_of r.quotas) in
+    let xn : Answering = answering (g.V.Service.served n.service.now) n.statics.now
+    (limits_of n.quotas) in
+    let begun : xr ≡ x = rw (e.service, e.statics, e.quotas) refl in
+    let outcome : Outcome = record {
+      messages = k.messages;
+      answers = k.answers;
+      inbound = c.inbound_of.result;
+      outbound = k.outbound;
+    } in
+    serves g.K.Sink.written g.K.Sink.held g.K.Sink.faults g.K.Sink.may_want x c.args.sink.now
+    c.close.new.sink outcome f.result c.inbound_of.ensures (endpoint_of c.args.endpoint.now)
+    (input_of g c.args.source.now) (input_of g f.new.source)
+    (λ (events : List StreamEvent). HasHeard g.K.Sink.written g.K.Sink.held g.K.Sink.faults
+    g.K.Sink.may_want xn c.args.sink.now (map request_for events) n.outbound n.sender n.answers
+    n.messages f.new.sink) f.ensures.follows
+    (λ events h. served g.K.Sink.written g.K.Sink.held g.K.Sink.faults g.K.Sink.may_want x
+    c.args.sink.now c.close.new.sink outcome f.result c.inbound_of.ensures xn
+    (f.ensures.settings ∙ begun) events (c.close.ensures.messages ∙ h.counted)
+    (c.close.ensures.closed c.args.sink.now (map request_for events) h)) f.ensures.counted

@@ -1,0 +1,75 @@
+-- What was read and written where a connection is served, however that ends.
+use Rattle.std.specs.Prelude.{◌≡◌, ⊤, ℕ, List, [], ◌++◌, Bool, Option, Some, None, map}
+use Rattle.io_edges.specs.Faults.{CountsFaults}
+use Rattle.io_edges.specs.Flow.{GrowsByPrefix}
+use Rattle.unit_streams.specs.Judging.{offence}
+use Rattle.nbfx_values.specs.declared.refusals.Offence.{Offence}
+use Rattle.stream_loop.specs.Edges.{Input}
+use Rattle.stream_reader.specs.Stream.{StreamEvent, stream}
+use Rattle.stream_follower.specs.declared.following.Ending.{Ending}
+use Rattle.stream_follower.specs.declared.following.Ending.TheVariants as endings
+use Rattle.stream_follower.specs.declared.writing.Outbound.{Outbound}
+use Rattle.stream_follower.specs.declared.writing.Outbound.TheVariants as outbounds
+use Rattle.stream_follower.specs.Followed.{Follows}
+use Rattle.stream_follower.specs.Writing.{Wrote}
+use Rattle.duplex_server.specs.declared.outcome.Inbound.{Inbound}
+use Rattle.duplex_server.specs.declared.outcome.Inbound.TheVariants.{Ended, Offended, ReadFault, Memory}
+use Rattle.duplex_server.specs.declared.outcome.Outcome.{Outcome}
+use Rattle.duplex_server.specs.Requests.{request_for}
+use Rattle.duplex_server.specs.Owed.{Answering, closing_bytes, messages_along, replies, requests_to}
+
+-- how the reading of a connection ended
+abbrev pub inbound_of : Ending Offence → Inbound
+inbound_of (endings.Judged None) = Ended
+inbound_of (endings.Judged (Some offence)) = Offended offence
+inbound_of endings.ReadFault = ReadFault
+inbound_of endings.Memory = Memory
+
+abbrev pub ending_of : Inbound → Ending Offence
+ending_of Ended = endings.Judged None
+ending_of (Offended offence) = endings.Judged (Some offence)
+ending_of ReadFault = endings.ReadFault
+ending_of Memory = endings.Memory
+
+-- what is owed last: a session that isn't judged has no end
+abbrev pub closing_of : Ending Offence → List ℕ
+closing_of (endings.Judged refusal) = closing_bytes refusal
+closing_of endings.ReadFault = []
+closing_of endings.Memory = []
+
+-- a session that was read to its end is judged as its bytes are
+abbrev pub Judges : Answering → (endpoint : Option (List ℕ)) → (bytes : List ℕ) → Inbound → Type 0
+Judges x endpoint bytes Ended = offence (stream (requests_to x endpoint)) bytes ≡ None
+Judges x endpoint bytes (Offended o) = offence (stream (requests_to x endpoint)) bytes ≡ Some o
+Judges x endpoint bytes ReadFault = ⊤
+Judges x endpoint bytes Memory = ⊤
+
+-- What is written of a stream, behind what was held: what is owed for it, where it was read to its
+-- end and nothing has ended the writing; else first bytes of that.
+abbrev pub WritesOwed : (owed held w w' : List ℕ) → Inbound → Outbound → Type 0
+WritesOwed owed held w w' Ended outbounds.Done = w' ≡ w ++ held ++ owed
+WritesOwed owed held w w' (Offended o) outbounds.Done = w' ≡ w ++ held ++ owed
+WritesOwed owed held w w' inbound outbound = GrowsByPrefix w w' (held ++ owed)
+
+module _ {K : Type 0} (written : K → Option (List ℕ)) (held : K → List ℕ) (faults : K → ℕ)
+    (may_want : K → Bool) (x : Answering) where
+  -- The events of these requests were answered from when the sink was like the first, and it is
+  -- like this now: all that is owed for them was written, and what is owed last, or the writing
+  -- ended at a part of it. The outcome counts the documents, and the answers that were put.
+  pub record HasServed (outcome : Outcome) (first now : K) (events : List StreamEvent) : Type 0
+    where
+      pub counted : outcome.messages ≡ messages_along 0 (map request_for events)
+      pub wrote : Wrote written held faults may_want (replies x) outcome.outbound
+          (closing_of (ending_of outcome.inbound)) first (map request_for events)
+          (λ s. outcome.answers ≡ s.answers) now
+
+  -- What is known of a connection that was served, to the Via that is served alone, or to any: what
+  -- was read of its stream, which events of it were answered, and what the calls that failed by the
+  -- outside left of the counts of the source and of the sink.
+  pub record Serves (endpoint : Option (List ℕ)) (i i' : Input) (first now : K) (outcome : Outcome)
+      : Type 0 where
+    pub follows : Follows (stream (requests_to x endpoint)) (HasServed outcome first now) i i'
+        (ending_of outcome.inbound)
+    pub reads_counted : CountsFaults i.faults i'.faults (outcome.inbound ≡ ReadFault)
+    pub writes_counted : CountsFaults (faults first) (faults now)
+        (outcome.outbound ≡ outbounds.WriteFault)

@@ -1,0 +1,28 @@
+//! What became of a connection.
+
+use nbfx_values::Offence;
+use stream_follower::Outbound;
+
+/// How the reading of a connection ended.
+#[derive(Clone, Copy, Debug, PartialEq, Eq)]
+pub enum Inbound {
+    /// The session ended with End.
+    Ended,
+    /// The stream is refused so.
+    Offended(Offence),
+    /// A read failed.
+    ReadFault,
+    /// There was no memory to read on, or to answer a request.
+    Memory,
+}
+
+/// What became of a connection. Counts stand still at the end of their type.
+#[derive(Clone, Copy, Debug, PartialEq, Eq)]
+pub struct Outcome {
+    /// How many documents were answered by the service or refused.
+    pub messages: u64,
+    /// How many envelopes with answers were put to the sink without a fault.
+    pub answers: u64,
+    pub inbound: Inbound,
+    pub outbound: Outbound,
+}

@@ -1,0 +1,69 @@
+//! How the envelope of an answer is spelled.
+
+ghost use Rattle.std.specs.Prelude.{◌≡◌, ⊤, IfOk, false};
+ghost use Rattle.nbfx_encoder.specs.Sending.{KeepsSettings, kind_in, limits_in, mode_in, names_in, state_in};
+ghost use Rattle.nbfx_encoder.specs.Spelling.{encoded};
+ghost use Rattle.soap_envelope.specs.Making.{AreTexts};
+ghost use Rattle.action_dispatch.specs.Refusals.{unfit_fault};
+ghost use Rattle.duplex_server.specs.Owed.{first_fitting, when_ready};
+ghost use Rattle.duplex_server.specs.Spelling.{Spells, Tries};
+
+use action_dispatch::unfit_doc;
+use nbfx_encoder::{EncodeFault, SendFault, SendState, Sender};
+use nbfx_values::{Doc, Items};
+use std::alloc::Global;
+use unit_streams::Memory;
+
+// That a document doesn't fit, unless there was no memory to say so.
+fn unfit(fault: EncodeFault) -> Result<bool, Memory>
+    ensures { IfOk result (λ fits. (fits ≡ false) × (fault ≡ EncodeFault.Memory → ⊥)) }
+{
+    match fault {
+        EncodeFault::Memory => Err(Memory),
+        _ => Ok(false),
+    }
+}
+
+// Appends the envelope of a document if it fits, and says whether it does.
+fn spell_if_fits(sender: &mut Sender<'_>, doc: &Doc, out: &mut Vec<u8>) -> Result<bool, Memory>
+    requires { state_in sender.old ≡ SendState.Ready }
+    ensures tries { Tries (mode_in sender.old) out.old.items out.new.items
+        (names_in sender.old) (names_in sender.new) (state_in sender.old) (state_in sender.new)
+        (encoded (limits_in sender.old) (kind_in sender.old) (names_in sender.old) doc.now) result }
+    ensures kept { KeepsSettings sender.old sender.new }
+{
+    match sender.message(doc, out) {
+        Ok(()) => Ok(true),
+        Err(SendFault::Refused(fault)) => unfit(fault),
+        Err(SendFault::WrongMoment { .. }) => unreachable!(),
+    }
+}
+
+/// Appends the envelope of an answer, or, where it doesn't fit, of the fault in its place, which
+/// relates to the same texts. Says whether either fits. Where the session admits no answer now,
+/// nothing is appended.
+pub fn spell_answer(
+    alloc: Global,
+    sender: &mut Sender<'_>,
+    doc: &Doc,
+    relates: &Items,
+    out: &mut Vec<u8>,
+) -> Result<bool, Memory>
+    requires { AreTexts relates.now }
+    ensures spells { Spells (mode_in sender.old) out.old.items out.new.items
+        (names_in sender.old) (names_in sender.new) (state_in sender.old) (state_in sender.new)
+        (when_ready (state_in sender.old) (first_fitting
+        (encoded (limits_in sender.old) (kind_in sender.old) (names_in sender.old) doc.now)
+        (encoded (limits_in sender.old) (kind_in sender.old) (names_in sender.old)
+        (unfit_fault relates.now)))) result }
+    ensures kept { KeepsSettings sender.old sender.new }
+{
+    if sender.state() != SendState::Ready {
+        return Ok(false);
+    }
+    if spell_if_fits(sender, doc, out)? {
+        return Ok(true);
+    }
+    let fault = unfit_doc(alloc, relates)?;
+    spell_if_fits(sender, &fault, out)
+}

@@ -1,0 +1,6 @@
+-- Public contracts cite these: what was read of a stream and which of its events were heard
+-- (Followed); what has become of the writing about it (Writing).
+pub mod Followed
+pub mod Writing
+-- Private calls cite this one: what one piece of a stream brings.
+pub mod Hearing

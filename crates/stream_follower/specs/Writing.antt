@@ -1,0 +1,92 @@
+-- What has become of the writing of an end that answers a stream.
+use Rattle.std.specs.Prelude.{◌≡◌, ⊤, ℕ, ◌⊎◌, List, [], ◌∷◌, ◌++◌, Bool, Option, Result, Ok, Err}
+use Rattle.io_edges.specs.Puts.{Puts}
+use Rattle.io_edges.specs.declared.SinkFault.{SinkFault}
+use Rattle.io_edges.specs.declared.SinkFault.TheVariants as sinks
+use Rattle.unit_streams.specs.Tellers.{Teller, told_along, state_behind}
+use Rattle.stream_follower.specs.declared.writing.Outbound.{Outbound}
+use Rattle.stream_follower.specs.declared.writing.Outbound.TheVariants.{Done, WriteFault, Memory}
+
+-- by a fault of the sink
+abbrev pub outbound_of : SinkFault → Outbound
+outbound_of sinks.Failed = WriteFault
+outbound_of sinks.Memory = Memory
+
+-- by the answer of a call of it
+abbrev pub outbound_by : Result ⊤ SinkFault → Outbound
+outbound_by (Ok _) = Done
+outbound_by (Err fault) = outbound_of fault
+
+-- of sinks, by what they tell
+module _ {K : Type 0} (written : K → Option (List ℕ)) (held : K → List ℕ) (faults : K → ℕ)
+    (may_want : K → Bool) where
+  abbrev pub PutsTo : K → K → List ℕ → Result ⊤ SinkFault → Type 0
+  PutsTo old new bytes answer = Puts written held faults may_want old new bytes answer
+
+  -- The writing ended so where these bytes were put: the sink failed at them, or there was no
+  -- memory
+  -- for them. Then none were put, and what the sink held is written.
+  abbrev pub Ends : Outbound → K → K → List ℕ → Type 0
+  Ends Done old new bytes = ⊥
+  Ends WriteFault old new bytes = PutsTo old new bytes (Err sinks.Failed)
+  Ends Memory old new bytes = PutsTo old new bytes (Err sinks.Memory)
+      ⊎ (PutsTo old new bytes (Ok tt) × (bytes ≡ []) × (held new ≡ []))
+
+  -- the writing ended so where these bytes were due next: at a put of them, or before it
+  pub record IsCut (outbound : Outbound) (next : List ℕ) (old new : K) : Type 0 where
+    pub bytes : List ℕ
+    pub front : (bytes ≡ []) ⊎ (bytes ≡ next)
+    pub ends : Ends outbound old new bytes
+
+  -- the bytes that were due next were put, or the writing ended so
+  abbrev pub Goes : Outbound → (next : List ℕ) → K → K → Type 0
+  Goes Done next old new = PutsTo old new next (Ok tt)
+  Goes WriteFault next old new = IsCut WriteFault next old new
+  Goes Memory next old new = IsCut Memory next old new
+
+  -- what is due for events in E, by a teller whose states are in S
+  module _ {S E R : Type 0} (t : Teller S E R) where
+    -- what is due next, where events come and then a closing
+    abbrev pub due_next : S → (closing : List ℕ) → List E → List ℕ
+    due_next s closing [] = closing
+    due_next s closing (event ∷ events) = t.told s event
+
+    -- all that is due for events was put, and leaves this state
+    pub record IsWriting (first : K) (events : List E) (state : S) (now : K) : Type 0 where
+      pub puts : PutsTo first now (told_along t t.start events) (Ok tt)
+      pub state_is : state ≡ state_behind t t.start events
+
+    -- What is due for the first events was put, and left such a state; and the writing ended so at
+    -- what was due next.
+    pub record HasStopped (outbound : Outbound) (closing : List ℕ) (first : K) (events : List E)
+        (Left : S → Type 0) (now : K) : Type 0 where
+      pub done : List E
+      pub rest : List E
+      pub joined : events ≡ done ++ rest
+      pub mid : K
+      pub puts : PutsTo first mid (told_along t t.start done) (Ok tt)
+      pub cut : IsCut outbound (due_next (state_behind t t.start done) closing rest) mid now
+      pub left : Left (state_behind t t.start done)
+
+    -- what was written of events, by what has become of the writing
+    abbrev pub Writes : Outbound → (first : K) → List E → (state : S) → (Left : S → Type 0) → K
+        → Type 0
+    Writes Done first events state Left now = IsWriting first events state now
+    Writes WriteFault first events state Left now =
+        HasStopped WriteFault [] first events Left now
+    Writes Memory first events state Left now = HasStopped Memory [] first events Left now
+
+    -- all that is due for events and a closing was put and is written
+    pub record HasWritten (closing : List ℕ) (first : K) (events : List E) (Left : S → Type 0)
+        (now : K) : Type 0 where
+      pub puts : PutsTo first now (told_along t t.start events ++ closing) (Ok tt)
+      pub left : Left (state_behind t t.start events)
+      pub emptied : held now ≡ []
+
+    -- what was written of events and a closing, by what has become of the writing at last
+    abbrev pub Wrote : Outbound → (closing : List ℕ) → (first : K) → List E → (Left : S → Type 0)
+        → K → Type 0
+    Wrote Done closing first events Left now = HasWritten closing first events Left now
+    Wrote WriteFault closing first events Left now =
+        HasStopped WriteFault closing first events Left now
+    Wrote Memory closing first events Left now = HasStopped Memory closing first events Left now

@@ -1,0 +1,68 @@
+//! The loop over the pieces that an input gives.
+
+ghost use Rattle.std.specs.Prelude.{◌≡◌, ℕ, List, [], map};
+ghost use Rattle.io_edges.specs.Faults.{CountsFaults};
+ghost use Rattle.stream_loop.specs.Answers.{EndsWithin};
+ghost use Rattle.stream_loop.specs.Edges.{input_at};
+ghost use Rattle.stream_follower.specs.Followed.{Follows};
+
+use crate::Listener;
+use crate::pieces::{self, Progress};
+use io_edges::Source;
+use std::alloc::Global;
+use stream_loop::ReadingEnd;
+
+/// How many bytes are taken at most at a time.
+const MOST_TAKEN: usize = 65_536;
+
+/// How the reading of a stream ended.
+#[derive(Clone, Copy, Debug, PartialEq, Eq, Drop)]
+pub enum Ending<R> {
+    /// The stream ended well, or it is refused so.
+    Judged(Option<R>),
+    /// The input failed.
+    ReadFault,
+    /// There was no memory to read on, or to hear an event.
+    Memory,
+}
+
+/// Reads the stream that the input gives to its end, by an end that has read nothing of it, and has
+/// each event heard by a listener that has heard none. The room for a piece, of 64 KiB, is made
+/// once.
+pub fn follow_stream<I: Source, E: ReadingEnd, O, L: Listener<E::Event, O>>(
+    alloc: Global,
+    end: &mut E,
+    listener: &mut L,
+    input: &mut I,
+    output: &mut O,
+) -> Ending<E::Refusal>
+    requires ends { EndsWithin (E.grammar end.old) E.ends (E.most end.old) }
+    requires fresh { E.stands end.old [] }
+    requires first { L.heard output.old [] listener.old output.old }
+    ensures follows { Follows (E.grammar end.old)
+        (λ events. L.heard output.old (map E.event_for events) listener.new output.new)
+        (input_at I.left I.taken I.faults I.empty_takes input.old)
+        (input_at I.left I.taken I.faults I.empty_takes input.new) result }
+    ensures counted { CountsFaults (I.faults input.old) (I.faults input.new)
+        (result ≡ Ending.ReadFault) }
+    ensures grammar { E.grammar end.new ≡ E.grammar end.old }
+    ensures settings { L.settings listener.new ≡ L.settings listener.old }
+{
+    let Ok(mut room) = vec![in alloc; 0u8; MOST_TAKEN] else {
+        return Ending::Memory;
+    };
+    loop {
+        listener.pause(output);
+        let Ok(n) = input.take(&mut room) else {
+            return Ending::ReadFault;
+        };
+        if n == 0 {
+            return Ending::Judged(end.end_of_input().err());
+        }
+        match pieces::hear_piece(end, listener, &room[..n], output) {
+            Progress::Going => {}
+            Progress::Judged(judged) => return Ending::Judged(judged),
+            Progress::Starved => return Ending::Memory,
+        }
+    }
+}
