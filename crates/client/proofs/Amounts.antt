@@ -1,0 +1,224 @@
+-- How many bytes of a call's session were written to the peer.
+use Rattle.std.proofs.Common.{◌≡◌, ℕ, ◌+◌, ◌⊎◌, inl, inr, List, [], ◌∷◌, ◌++◌, length, take, Bool, Option, Some, Result, Ok, Err, refl, sym, ap, ◌∙◌, subst, append_assoc, append-nil, arith}
+use Rattle.std.proofs.Math.Seq.{take-append_seam}
+use Rattle.io_edges.specs.Flow.{GrowsByPrefix}
+use Rattle.io_edges.proofs.Putting.{PutsAll-nothing}
+use Rattle.nbfx_values.specs.declared.content.Item.{Item}
+use Rattle.string_tables.specs.StringTable.{StringTable}
+use Rattle.nmf_records.specs.declared.frame.Frame.TheVariants.{End}
+use Rattle.nmf_records.specs.Writing.{frame_bytes_of}
+use Rattle.nbfx_encoder.specs.Envelopes.{UnfitAt, behind_bytes, envelope, envelope_then, envelopes_from}
+use Rattle.nbfx_encoder.specs.Placing.{Placed}
+use Rattle.nbfx_encoder.specs.Refusals.{told}
+use Rattle.nbfx_encoder.specs.Spelling.{Unfit, encoded}
+use Rattle.nbfx_encoder.proofs.LawFacts.{parted, sends_one_more}
+use Rattle.initiator_machine.specs.Opening.{opening_bytes}
+use Rattle.session_ends.specs.Sent.{first_table}
+use Rattle.stream_follower.specs.declared.writing.Outbound.{Outbound}
+use Rattle.stream_follower.specs.declared.writing.Outbound.TheVariants as outbounds
+use Rattle.stream_follower.specs.Writing.{IsCut, PutsTo}
+use Rattle.stream_follower.proofs.Amounts.{AllWritten, Grew, all_written, ends_grew, grew_more}
+use Rattle.client.specs.declared.caller.Ack.{Ack}
+use Rattle.client.specs.declared.caller.Ack.TheVariants.{Awaited, Read}
+use Rattle.client.specs.declared.outcome.ClientOut.{ClientOut}
+use Rattle.client.specs.declared.outcome.ClientOut.TheVariants as out
+use Rattle.client.specs.Called.{BreaksOpening, Sends, WritesCall}
+use Rattle.client.specs.Sent.{HasBroken, Sending, bytes_of, due_next, due_of, envelopes, sent_behind, sent_by, sent_of}
+
+module _ (x : Sending) where
+  -- behind documents that fit, one that doesn't is the first
+  unfit_from : (done : List (List Item)) (table behind : StringTable) (number : ℕ) (bytes : List ℕ)
+      (d : List Item) (rest : List (List Item)) (why : Unfit)
+      → envelopes_from x.limits x.kind x.mode table number done ≡ Ok (bytes, behind)
+      → encoded x.limits x.kind behind d ≡ Err why
+      → envelopes_from x.limits x.kind x.mode table number (done ++ d ∷ rest)
+      ≡ Err (record { number = number + length done; why = why })
+  unfit_from [] table behind number bytes d rest why is unfit =
+      let pair : ([], table) ≡ (bytes, behind) = cc is in
+      let same : table ≡ behind = ap (λ (p : Placed (List ℕ)). p.1) pair in
+      let counted : number ≡ number + 0 = omega arith in
+      ap (λ one. envelope_then x.mode number one
+      (λ t. envelopes_from x.limits x.kind x.mode t (number + 1) rest))
+      (ap (λ t. encoded x.limits x.kind t d) same ∙ unfit)
+      ∙ ap (λ n. Err (record { number = n; why = why })) counted
+  unfit_from (one ∷ done) table behind number bytes d rest why is unfit =
+      let p = parted x.mode number (encoded x.limits x.kind table one)
+      (λ t. envelopes_from x.limits x.kind x.mode t (number + 1) done) bytes behind is in
+      let more = unfit_from done p.payload.1 behind (number + 1) p.others d rest why p.rest_is unfit
+      in
+      let counted : number + 1 + length done ≡ number + length (one ∷ done) = omega arith in
+      ap (λ first. envelope_then x.mode number first
+      (λ t. envelopes_from x.limits x.kind x.mode t (number + 1) (done ++ d ∷ rest))) p.first_is
+      ∙ ap (behind_bytes (envelope x.mode p.payload.0)) more
+      ∙ ap (λ n. Err (record { number = n; why = why })) counted
+
+  pub unfit_at : (done : List (List Item)) (table : StringTable) (bytes : List ℕ) (d : List Item)
+      (rest : List (List Item)) (why : Unfit) → x.documents ≡ done ++ d ∷ rest
+      → envelopes x done ≡ Ok (bytes, table) → encoded x.limits x.kind table d ≡ Err why
+      → envelopes x x.documents ≡ Err (record { number = length done; why = why })
+  unfit_at done table bytes d rest why joined is unfit =
+      let counted : 0 + length done ≡ length done = omega arith in
+      ap (envelopes x) joined
+      ∙ unfit_from done (first_table x.statics) table 0 bytes d rest why is unfit
+      ∙ ap (λ n. Err (record { number = n; why = why })) counted
+
+  -- then the envelopes before it are sent
+  pub unfit_sent : (done : List (List Item)) (table : StringTable) (bytes : List ℕ) (d : List Item)
+      (rest : List (List Item)) (why : Unfit) → x.documents ≡ done ++ d ∷ rest
+      → envelopes x done ≡ Ok (bytes, table) → encoded x.limits x.kind table d ≡ Err why
+      → sent_behind x ≡ bytes
+  unfit_sent done table bytes d rest why joined is unfit =
+      ap (sent_of x) (unfit_at done table bytes d rest why joined is unfit)
+      ∙ ap (λ l. bytes_of (envelopes x (take (length done) l))) joined
+      ∙ ap (λ l. bytes_of (envelopes x l)) (take-append_seam done (d ∷ rest))
+      ∙ ap bytes_of is
+
+  pub all_sent : (table : StringTable) (bytes : List ℕ) → envelopes x x.documents ≡ Ok (bytes, table)
+      → sent_behind x ≡ bytes ++ frame_bytes_of End []
+  all_sent table bytes is = ap (sent_of x) is
+
+  -- what is sent goes on with what is due behind the envelopes of documents
+  abbrev GoesOn : (bytes due : List ℕ) → Type 0
+  GoesOn bytes due = (more : List ℕ) × (sent_behind x ≡ (bytes ++ due) ++ more)
+
+  module _ (d : List Item) (rest done : List (List Item)) (table : StringTable) (bytes : List ℕ)
+      (joined : x.documents ≡ done ++ d ∷ rest) (is : envelopes x done ≡ Ok (bytes, table)) where
+    -- with an envelope, behind which it goes on so
+    goes_on_with : ((table' : StringTable) (bytes' : List ℕ)
+        → envelopes x (done ++ d ∷ []) ≡ Ok (bytes', table')
+        → GoesOn bytes' (due_next x table' rest))
+        → (answer : Result (Placed (List ℕ)) Unfit) → encoded x.limits x.kind table d ≡ answer
+        → GoesOn bytes (due_of x.mode answer)
+    goes_on_with next (Err why) unfit = (
+      [],
+      unfit_sent done table bytes d rest why joined is unfit ∙ sym (append-nil bytes)
+          ∙ sym (append-nil (bytes ++ [])),
+    )
+    goes_on_with next (Ok payload) fits =
+        let one : envelopes x (done ++ d ∷ [])
+        ≡ Ok (bytes ++ envelope x.mode payload.0, payload.1) =
+        sends_one_more x.limits x.kind x.mode (first_table x.statics) table 0 done d bytes is
+        ∙ ap (λ one. behind_bytes bytes (envelope_then x.mode (0 + length done) one
+        (λ last. Ok ([], last)))) fits
+        ∙ ap (λ b. Ok (bytes ++ b, payload.1)) (append-nil (envelope x.mode payload.0)) in
+        let more = next payload.1 (bytes ++ envelope x.mode payload.0) one in (
+          due_next x payload.1 rest ++ more.0,
+          more.1 ∙ append_assoc (bytes ++ envelope x.mode payload.0) (due_next x payload.1 rest)
+              more.0,
+        )
+
+  pub goes_on : (rest done : List (List Item)) (table : StringTable) (bytes : List ℕ)
+      → x.documents ≡ done ++ rest → envelopes x done ≡ Ok (bytes, table)
+      → GoesOn bytes (due_next x table rest)
+  goes_on [] done table bytes joined is = (
+    [],
+    all_sent table bytes (ap (envelopes x) (joined ∙ append-nil done) ∙ is)
+        ∙ sym (append-nil (bytes ++ frame_bytes_of End [])),
+  )
+  goes_on (d ∷ rest) done table bytes joined is =
+      goes_on_with d rest done table bytes joined is
+      (λ table' bytes' one. goes_on rest (done ++ d ∷ []) table' bytes'
+      (joined ∙ sym (append_assoc done (d ∷ []) rest)) one)
+      (encoded x.limits x.kind table d) refl
+
+  module _ {K : Type 0} (written : K → Option (List ℕ)) (held : K → List ℕ) (faults : K → ℕ)
+      (may_want : K → Bool) (via : List ℕ) (first now : K) where
+    abbrev opening : List ℕ
+    opening = opening_bytes x.mode x.kind via
+
+    abbrev Grew' : List ℕ → Type 0
+    Grew' = Grew written held faults may_want first now
+
+    abbrev All' : List ℕ → Type 0
+    All' = AllWritten written held faults may_want first now
+
+    -- the writing ended at the opening
+    opening_grew : (o : Outbound) → IsCut written held faults may_want o opening first now
+        → Grew' opening
+    opening_grew o cut = by cut.bytes cut.front (ends_grew written held faults may_want o first first
+        now [] cut.bytes (PutsAll-nothing _ _ _ _) cut.ends) where
+          by : (bytes : List ℕ) → (bytes ≡ []) ⊎ (bytes ≡ opening) → Grew' bytes → Grew' opening
+          by bytes (inl e) grew = grew_more written held faults may_want first now [] opening
+              (subst Grew' e grew)
+          by bytes (inr e) grew = subst Grew' e grew
+
+    -- or behind envelopes
+    broken_grew : (o : Outbound) (sent : ℕ)
+        → HasBroken x written held faults may_want opening first o sent now
+        → Grew' (sent_by x via)
+    broken_grew o sent h =
+        let on = goes_on h.rest h.done h.table h.puts.bytes h.joined h.puts.spelled in
+        by h.cut.bytes h.cut.front on.0 on.1 (ends_grew written held faults may_want o first h.mid
+        now (opening ++ h.puts.bytes) h.cut.bytes h.puts.puts h.cut.ends) where
+          due : List ℕ
+          due = due_next x h.table h.rest
+
+          whole : (more : List ℕ) → sent_behind x ≡ (h.puts.bytes ++ due) ++ more
+              → (opening ++ h.puts.bytes) ++ (due ++ more) ≡ sent_by x via
+          whole more is =
+              append_assoc opening h.puts.bytes (due ++ more)
+              ∙ ap (λ l. opening ++ l) (sym (append_assoc h.puts.bytes due more) ∙ sym is)
+
+          by : (bytes : List ℕ) → (bytes ≡ []) ⊎ (bytes ≡ due) → (more : List ℕ)
+              → sent_behind x ≡ (h.puts.bytes ++ due) ++ more
+              → Grew' ((opening ++ h.puts.bytes) ++ bytes) → Grew' (sent_by x via)
+          by bytes (inl e) more is grew =
+              subst Grew' (whole more is) (grew_more written held faults may_want first now
+              (opening ++ h.puts.bytes) (due ++ more) (subst Grew' (ap (λ l. (opening ++ h.puts.bytes)
+              ++ l) e ∙ append-nil (opening ++ h.puts.bytes)) grew))
+          by bytes (inr e) more is grew =
+              subst Grew' (append_assoc (opening ++ h.puts.bytes) due more ∙ whole more is)
+              (grew_more written held faults may_want first now ((opening ++ h.puts.bytes) ++ due) more
+              (subst Grew' (ap (λ l. (opening ++ h.puts.bytes) ++ l) e) grew))
+
+    -- what is written of a call
+    abbrev Writes : Ack → ClientOut → ℕ → Type 0
+    Writes ack outbound sent = (w : List ℕ) → written first ≡ Some w → (w' : List ℕ)
+        × (written now ≡ Some w') × WritesCall x via (held first) w w' ack outbound sent
+
+    -- with a fact more, and with two
+    with_fact : (A : Type 0) (B : List ℕ → List ℕ → Type 0) → A
+        → ((w : List ℕ) → written first ≡ Some w → (w' : List ℕ) × (written now ≡ Some w') × B w w')
+        → (w : List ℕ) → written first ≡ Some w → (w' : List ℕ) × (written now ≡ Some w')
+        × (A × B w w')
+    with_fact A B a all w is = let k = all w is in (k.0, k.1, (a, k.2))
+
+    with_facts : (A C : Type 0) (B : List ℕ → List ℕ → Type 0) → A → C
+        → ((w : List ℕ) → written first ≡ Some w → (w' : List ℕ) × (written now ≡ Some w') × B w w')
+        → (w : List ℕ) → written first ≡ Some w → (w' : List ℕ) × (written now ≡ Some w')
+        × (A × C × B w w')
+    with_facts A C B a c all w is = let k = all w is in (k.0, k.1, (a, c, k.2))
+
+    pub sends_written : (ack : Ack) (outbound : ClientOut) (sent : ℕ)
+        → Sends written held faults may_want x via ack outbound sent first now
+        → Writes ack outbound sent
+    sends_written Awaited out.Done sent h = with_fact _ _ h.0 (all_written written held faults
+        may_want first now opening h.1 h.2)
+    sends_written Awaited (out.Unfit number fault) sent h = absurd h
+    sends_written Awaited out.WriteFault sent h =
+        with_fact _ _ h.0 (opening_grew outbounds.WriteFault h.1)
+    sends_written Awaited out.Memory sent h =
+        with_fact _ _ h.0 (opening_grew outbounds.Memory h.1)
+    sends_written Read out.Done sent h =
+        with_facts _ _ _ h.counted ((h.bytes, h.table), h.spelled)
+        (subst All' (ap (λ l. opening ++ l) (sym (all_sent h.table h.bytes h.spelled)))
+        (all_written written held faults may_want first now
+        (opening ++ (h.bytes ++ frame_bytes_of End [])) h.puts h.emptied))
+    sends_written Read (out.Unfit number fault) sent h =
+        let unfit = unfit_at h.done h.table h.puts.bytes h.document h.rest h.why h.joined
+        h.puts.spelled h.unfit in
+        let same = unfit_sent h.done h.table h.puts.bytes h.document h.rest h.why h.joined
+        h.puts.spelled h.unfit in
+        with_facts _ _ _ (h.counted ∙ sym h.number_is)
+        (record { number = length h.done; why = h.why }, unfit, h.number_is, h.fault_is)
+        (subst All' (ap (λ l. opening ++ l) (sym same))
+        (all_written written held faults may_want first now (opening ++ h.puts.bytes) h.puts.puts
+        h.emptied))
+    sends_written Read out.WriteFault sent (inl h) =
+        grew_more written held faults may_want first now opening (sent_behind x)
+        (opening_grew outbounds.WriteFault h.1)
+    sends_written Read out.WriteFault sent (inr h) = broken_grew outbounds.WriteFault sent h
+    sends_written Read out.Memory sent (inl h) =
+        grew_more written held faults may_want first now opening (sent_behind x)
+        (opening_grew outbounds.Memory h.1)
+    sends_written Read out.Memory sent (inr h) = broken_grew outbounds.Memory sent h

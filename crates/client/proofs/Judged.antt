@@ -1,0 +1,210 @@
+-- What is known of a call where the peer's bytes are known.
+use Rattle.std.proofs.Common.{◌≡◌, ℕ, ◌⊎◌, inl, inr, List, [], ◌++◌, Bool, Option, Some, None, map, refl, sym, ap, ◌∙◌, subst}
+use Rattle.std.proofs.lemmas.List.{append-nil}
+use Rattle.std.specs.Prelude.{⊤}
+use Rattle.unit_streams.specs.Grammar.{Grammar}
+use Rattle.unit_streams.specs.Judging.{events, events_of, offence}
+use Rattle.unit_streams.specs.Tellers.{report as report_by, state_behind, told_along}
+use Rattle.nbfx_values.specs.declared.refusals.Offence.{Offence}
+use Rattle.command_words.specs.declared.task.Detail.TheVariants.{Whole}
+use Rattle.stream_loop.specs.Answers.{written_by}
+use Rattle.stream_loop.specs.Edges.{Input}
+use Rattle.stream_reader.specs.Stream.{Situation, StreamEvent, StreamUnit, stream}
+use Rattle.stream_follower.specs.declared.writing.Outbound.{Outbound}
+use Rattle.stream_follower.specs.declared.writing.Outbound.TheVariants as outbounds
+use Rattle.stream_follower.specs.Followed.{AreFirst, Breaks, Decides, Follows, IsWhole, Starves}
+use Rattle.stream_follower.specs.Writing.{Wrote}
+use Rattle.stream_follower.proofs.Amounts.{AllWritten, Grew, all_written, first_told, grew_more, states_values, whole_told, wrote_grew}
+use Rattle.stream_follower.proofs.Counts.{heard_some}
+use Rattle.stream_follower.proofs.Knowing.{events_are, first_broken, first_starved, offence_of, whole_of}
+use Rattle.session_report.specs.declared.reporter.Outcome.{Outcome}
+use Rattle.session_report.specs.declared.reporter.Outcome.TheVariants as reached
+use Rattle.session_report.specs.Report.{last_line, lines_of, outcome}
+use Rattle.session_report.specs.Saying.{event_for, said_by}
+use Rattle.session_report.proofs.Saying.{lines_are}
+use Rattle.client.specs.declared.caller.Ack.{Ack}
+use Rattle.client.specs.declared.caller.Ack.TheVariants.{Awaited, Read}
+use Rattle.client.specs.declared.outcome.CallOutcome.{CallOutcome}
+use Rattle.client.specs.declared.outcome.ClientIn.{ClientIn}
+use Rattle.client.specs.declared.outcome.ClientIn.TheVariants.{Ended, Offended, PeerFault, ReadFault, Memory}
+use Rattle.client.specs.Called.{Calls, HasCalled, IsAckOf, Judges, ReportsOf, WritesCall, ack_along, answers_to, closing_of, dumped, ending_of, heard_of, inbound_by, reached_along}
+use Rattle.client.specs.Sent.{Sending}
+use Rattle.client.proofs.Amounts.{sends_written}
+
+-- which event ended a session, by what is said of its reading
+ended_well : (r : Outcome) → Ended ≡ inbound_by (ending_of Ended) r → r ≡ reached.Faulted → ⊥
+ended_well reached.Open is faulted = cc
+ended_well reached.Ended is faulted = cc
+ended_well reached.Faulted is faulted = cc
+
+ended_by_peer : (r : Outcome) → PeerFault ≡ inbound_by (ending_of PeerFault) r → r ≡ reached.Faulted
+ended_by_peer reached.Open is = cc
+ended_by_peer reached.Ended is = cc
+ended_by_peer reached.Faulted is = refl
+
+module _ {K : Type 0} (k_written : K → Option (List ℕ)) (k_held : K → List ℕ) (k_faults : K → ℕ)
+    (k_wants : K → Bool) {O : Type 0} (o_written : O → Option (List ℕ)) (o_held : O → List ℕ)
+    (o_faults : O → ℕ) (o_wants : O → Bool) (x : Sending) (via : List ℕ) (i i' : Input)
+    (sink sink' : K) (output output' : O) (bytes : List ℕ) (left : i.left ≡ Some bytes) where
+  abbrev y : Grammar Situation StreamUnit StreamEvent Offence
+  y = stream (answers_to x)
+
+  abbrev Called : CallOutcome → List StreamEvent → Type 0
+  Called = HasCalled k_written k_held k_faults k_wants o_written o_held o_faults o_wants x via sink
+      sink' output output'
+
+  abbrev Calls' : CallOutcome → Type 0
+  Calls' = Calls k_written k_held k_faults k_wants o_written o_held o_faults o_wants x via i i' sink
+      sink' output output'
+
+  -- how the session ended by all events
+  outcome_is : (es : List StreamEvent) (judged : Option Offence) → IsWhole y es judged bytes
+      → outcome Whole (answers_to x) bytes ≡ reached_along (map event_for es)
+  outcome_is es judged whole =
+      ap (state_behind (lines_of Whole) reached.Open) (events_are y es judged bytes whole)
+      ∙ ap (λ t. state_behind t reached.Open es) (sym (lines_are Whole))
+      ∙ states_values event_for (said_by Whole) es reached.Open
+
+  pub judges : (called : CallOutcome) → Calls' called → Judges x bytes called.inbound
+  judges called h = by called.inbound refl h.follows where
+    by : (inbound : ClientIn) → called.inbound ≡ inbound
+        → Follows y (Called called) i i' (ending_of inbound) → Judges x bytes inbound
+    by Ended is d =
+        let whole = whole_of y i i' bytes left (Called called) None d in
+        let r = reached_along (map event_for d.events) in (
+          offence_of y d.events None bytes whole,
+          λ faulted. ended_well r (rw is at d.heard.inbound_is)
+              (sym (outcome_is d.events None whole) ∙ faulted),
+        )
+    by PeerFault is d =
+        let whole = whole_of y i i' bytes left (Called called) None d in
+        let r = reached_along (map event_for d.events) in (
+          offence_of y d.events None bytes whole,
+          outcome_is d.events None whole ∙ ended_by_peer r (rw is at d.heard.inbound_is),
+        )
+    by (Offended o) is d =
+        offence_of y d.events (Some o) bytes (whole_of y i i' bytes left (Called called) (Some o) d)
+    by ReadFault is d = tt
+    by Memory is d = tt
+
+  -- ---- the report
+
+  abbrev told : List StreamEvent → List ℕ
+  told es = told_along (said_by Whole) reached.Open (map event_for es)
+
+  dumped_by : dumped x bytes ≡ report_by y (written_by event_for (said_by Whole)) bytes
+  dumped_by = ap (λ t. report_by y t bytes) (sym (lines_are Whole))
+
+  dumped_is : (es : List StreamEvent) (judged : Option Offence) → IsWhole y es judged bytes
+      → dumped x bytes ≡ told es ++ last_line (reached_along (map event_for es)) judged
+  dumped_is es judged whole =
+      dumped_by ∙ whole_told y event_for (said_by Whole) es judged bytes whole
+      ∙ ap (λ r. told es ++ last_line r judged)
+      (states_values event_for (said_by Whole) es reached.Open)
+
+  abbrev Grew' : List ℕ → Type 0
+  Grew' = Grew o_written o_held o_faults o_wants output output'
+
+  abbrev All' : List ℕ → Type 0
+  All' = AllWritten o_written o_held o_faults o_wants output output'
+
+  abbrev Wrote' : Outbound → List ℕ → List StreamEvent → Type 0
+  Wrote' report closing es = Wrote o_written o_held o_faults o_wants (said_by Whole) report closing
+      output (map event_for es) (λ s. ⊤) output'
+
+  abbrev Reports' : ClientIn → Outbound → Type 0
+  Reports' inbound report = (w : List ℕ) → o_written output ≡ Some w → (w' : List ℕ)
+      × (o_written output' ≡ Some w')
+      × ReportsOf (dumped x bytes) (o_held output) w w' inbound report
+
+  grew_dumped : (report : Outbound) (closing : List ℕ) (es : List StreamEvent) (behind : List ℕ)
+      → dumped x bytes ≡ (told es ++ closing) ++ behind → Wrote' report closing es
+      → Grew' (dumped x bytes)
+  grew_dumped report closing es behind is wrote =
+      subst Grew' (sym is) (grew_more o_written o_held o_faults o_wants output output'
+      (told es ++ closing) behind (wrote_grew o_written o_held o_faults o_wants (said_by Whole)
+      report closing output (map event_for es) (λ s. ⊤) output' wrote))
+
+  -- a stream that was read to its end
+  reports_judged : (inbound : ClientIn) → (All' (dumped x bytes) → Reports' inbound outbounds.Done)
+      → (Grew' (dumped x bytes) → Reports' inbound outbounds.WriteFault)
+      → (Grew' (dumped x bytes) → Reports' inbound outbounds.Memory)
+      → (report : Outbound) (closing : List ℕ) (es : List StreamEvent)
+      → dumped x bytes ≡ told es ++ closing → Wrote' report closing es → Reports' inbound report
+  reports_judged inbound wholly failed starved outbounds.Done closing es is wrote =
+      wholly (subst All' (sym is) (all_written o_written o_held o_faults o_wants output output'
+      (told es ++ closing) wrote.puts wrote.emptied))
+  reports_judged inbound wholly failed starved outbounds.WriteFault closing es is wrote =
+      failed (grew_dumped outbounds.WriteFault closing es []
+      (is ∙ sym (append-nil (told es ++ closing))) wrote)
+  reports_judged inbound wholly failed starved outbounds.Memory closing es is wrote =
+      starved (grew_dumped outbounds.Memory closing es []
+      (is ∙ sym (append-nil (told es ++ closing))) wrote)
+
+  -- one that wasn't
+  first_dumped : (report : Outbound) (es : List StreamEvent) → AreFirst y es bytes
+      → Wrote' report [] es → Grew' (dumped x bytes)
+  first_dumped report es front wrote =
+      let t = first_told y event_for (said_by Whole) es bytes front in
+      grew_dumped report [] es t.0
+      (dumped_by ∙ t.1 ∙ ap (λ l. l ++ t.0) (sym (append-nil (told es)))) wrote
+
+  pub reports : (called : CallOutcome) → Calls' called → Reports' called.inbound called.report
+  reports called h = by called.inbound refl h.follows where
+    by : (inbound : ClientIn) → called.inbound ≡ inbound
+        → Follows y (Called called) i i' (ending_of inbound) → Reports' inbound called.report
+    by Ended is d =
+        reports_judged Ended (λ all. all) (λ grew. grew) (λ grew. grew) called.report _ d.events
+        (dumped_is d.events None (whole_of y i i' bytes left (Called called) None d))
+        (rw is at d.heard.reported)
+    by PeerFault is d =
+        reports_judged PeerFault (λ all. all) (λ grew. grew) (λ grew. grew) called.report _ d.events
+        (dumped_is d.events None (whole_of y i i' bytes left (Called called) None d))
+        (rw is at d.heard.reported)
+    by (Offended o) is d =
+        reports_judged (Offended o) (λ all. all) (λ grew. grew) (λ grew. grew) called.report _
+        d.events (dumped_is d.events (Some o) (whole_of y i i' bytes left (Called called) (Some o)
+        d)) (rw is at d.heard.reported)
+    by ReadFault is d =
+        first_dumped called.report _ (first_broken y i i' bytes left (Called called) d)
+        (rw is at d.heard.reported)
+    by Memory is d =
+        first_dumped called.report d.events (first_starved y i i' bytes left (Called called) d)
+        (rw is at d.heard.reported)
+
+  -- ---- what is written to the peer
+
+  ack_is : (es : List StreamEvent) (judged : Option Offence) → IsWhole y es judged bytes
+      → ack_along Awaited (map event_for es) ≡ ack_along Awaited (heard_of x bytes)
+  ack_is es judged whole =
+      ap (λ (l : List StreamEvent). ack_along Awaited (map event_for l))
+      (sym (events_are y es judged bytes whole))
+
+  pub writes : (called : CallOutcome) → Calls' called → (w : List ℕ) → k_written sink ≡ Some w
+      → (w' : List ℕ) × (k_written sink' ≡ Some w') × (ack : Ack)
+      × IsAckOf x bytes called.inbound ack
+      × WritesCall x via (k_held sink) w w' ack called.outbound called.sent
+  writes called h w told_w = by called.inbound refl h.follows where
+    so : (inbound : ClientIn) (es : List StreamEvent) → Called called es
+        → IsAckOf x bytes inbound (ack_along Awaited (map event_for es))
+        → (w' : List ℕ) × (k_written sink' ≡ Some w') × (ack : Ack)
+        × IsAckOf x bytes inbound ack
+        × WritesCall x via (k_held sink) w w' ack called.outbound called.sent
+    so inbound es c acked =
+        let k = sends_written x k_written k_held k_faults k_wants via sink sink'
+        (ack_along Awaited (map event_for es)) called.outbound called.sent c.sends w told_w in
+        (k.0, k.1, ack_along Awaited (map event_for es), acked, k.2)
+
+    by : (inbound : ClientIn) → called.inbound ≡ inbound
+        → Follows y (Called called) i i' (ending_of inbound)
+        → (w' : List ℕ) × (k_written sink' ≡ Some w') × (ack : Ack)
+        × IsAckOf x bytes inbound ack
+        × WritesCall x via (k_held sink) w w' ack called.outbound called.sent
+    by Ended is d = so Ended d.events d.heard
+        (ack_is d.events None (whole_of y i i' bytes left (Called called) None d))
+    by PeerFault is d = so PeerFault d.events d.heard
+        (ack_is d.events None (whole_of y i i' bytes left (Called called) None d))
+    by (Offended o) is d = so (Offended o) d.events d.heard
+        (ack_is d.events (Some o) (whole_of y i i' bytes left (Called called) (Some o) d))
+    by ReadFault is d = so ReadFault _ d.heard tt
+    by Memory is d = so Memory d.events d.heard tt

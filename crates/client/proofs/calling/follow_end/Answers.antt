@@ -1,0 +1,75 @@
+use Rattle.std.proofs.Common.{List, ap, map, refl}
+use Rattle.stream_loop.specs.Edges.{Input, input_at}
+use Rattle.stream_reader.specs.Standing.{settings_of}
+use Rattle.stream_reader.specs.Stream.{StreamEvent, stream}
+use Rattle.stream_follower.proofs.Counts.{heard_some}
+use Rattle.stream_follower.proofs.Taking.{follows_as}
+use Rattle.session_report.proofs.Streams.{ends_within}
+use Rattle.session_report.specs.Saying.{event_for}
+use Rattle.stream_follower.specs.declared.writing.Outbound.{Outbound}
+use Rattle.client.specs.Calling.{HasHeard, IsAlong}
+use Rattle.client.specs.Sent.{Sending}
+use Rattle.client.proofs.Hearing.{heard_first}
+use Rattle.client.proofs.calling.follow_end.Given.{Over}
+use Rattle.client.proofs.calling.follow_end.Goals as goal
+
+module _ (g : Over) where
+  abbrev input_of : g.row.S.Denot → Input
+  input_of source = input_at g.S.Source.left g.S.Source.taken g.S.Source.faults
+      g.S.Source.empty_takes source
+
+pub follow_stream-requires-clause-ends : goal.follow_stream-requires-clause-ends
+follow_stream-requires-clause-ends g c =
+    ends_within (settings_of c.args.end.now.reader) c.args.end.now.good
+
+pub follow_stream-requires-clause-first : goal.follow_stream-requires-clause-first
+follow_stream-requires-clause-first g c = record {
+  same_sink = refl;
+  same_output = refl;
+  heard = heard_first g.K.Sink.written g.K.Sink.held g.K.Sink.faults g.K.Sink.may_want
+      g.O.Sink.written g.O.Sink.held g.O.Sink.faults g.O.Sink.may_want
+      c.args.outputs.now.sink.now c.args.outputs.now.report.now c.args.caller.now
+      c.requires.fresh;
+}
+
+pub returns-clause-follows : goal.returns-clause-follows
+returns-clause-follows g c =
+    let n = c.follow_stream.new in
+    let Along : List StreamEvent → Type 0 = λ events. IsAlong g.K.Sink.written g.K.Sink.held
+    g.K.Sink.faults g.K.Sink.may_want g.O.Sink.written g.O.Sink.held g.O.Sink.faults
+    g.O.Sink.may_want c.args.outputs.now (map event_for events) n.listener n.output in
+    let Heard : List StreamEvent → Type 0 = λ events. HasHeard g.K.Sink.written g.K.Sink.held
+    g.K.Sink.faults g.K.Sink.may_want g.O.Sink.written g.O.Sink.held g.O.Sink.faults
+    g.O.Sink.may_want c.args.outputs.now.sink.now c.args.outputs.now.report.now
+    (map event_for events) n.listener n.output.sink.now n.output.report.now in
+    follows_as (stream (settings_of c.args.end.now.reader)) Along Heard
+    (input_of g c.args.source.now) (input_of g n.input) c.follow_stream.result
+    (λ events along. along.heard) c.follow_stream.ensures.follows
+
+pub returns-clause-same_sink : goal.returns-clause-same_sink
+returns-clause-same_sink g c =
+    let n = c.follow_stream.new in
+    let Along : List StreamEvent → Type 0 = λ events. IsAlong g.K.Sink.written g.K.Sink.held
+    g.K.Sink.faults g.K.Sink.may_want g.O.Sink.written g.O.Sink.held g.O.Sink.faults
+    g.O.Sink.may_want c.args.outputs.now (map event_for events) n.listener n.output in
+    let some = heard_some (stream (settings_of c.args.end.now.reader)) Along
+    (input_of g c.args.source.now) (input_of g n.input) c.follow_stream.result
+    c.follow_stream.ensures.follows in
+    some.1.same_sink
+
+pub returns-clause-same_output : goal.returns-clause-same_output
+returns-clause-same_output g c =
+    let n = c.follow_stream.new in
+    let Along : List StreamEvent → Type 0 = λ events. IsAlong g.K.Sink.written g.K.Sink.held
+    g.K.Sink.faults g.K.Sink.may_want g.O.Sink.written g.O.Sink.held g.O.Sink.faults
+    g.O.Sink.may_want c.args.outputs.now (map event_for events) n.listener n.output in
+    let some = heard_some (stream (settings_of c.args.end.now.reader)) Along
+    (input_of g c.args.source.now) (input_of g n.input) c.follow_stream.result
+    c.follow_stream.ensures.follows in
+    some.1.same_output
+
+pub returns-clause-sending : goal.returns-clause-sending
+returns-clause-sending g c = ap (λ (p : Sending × Outbound). p.0) c.follow_stream.ensures.settings
+
+pub returns-clause-opened : goal.returns-clause-opened
+returns-clause-opened g c = ap (λ (p : Sending × Outbound). p.1) c.follow_stream.ensures.settings

@@ -1,0 +1,193 @@
+-- What was read, reported and sent by a call, however it ends.
+use Rattle.std.specs.Prelude.{◌≡◌, ⊤, ℕ, ◌⊎◌, List, [], ◌∷◌, ◌++◌, length, Bool, Option, Some, None, Result, Ok, Err, map}
+use Rattle.io_edges.specs.Faults.{CountsFaults}
+use Rattle.io_edges.specs.Flow.{GrowsByPrefix}
+use Rattle.unit_streams.specs.Judging.{events, offence}
+use Rattle.unit_streams.specs.Tellers.{state_behind}
+use Rattle.nbfx_values.specs.declared.refusals.Offence.{Offence}
+use Rattle.nbfx_encoder.specs.Envelopes.{UnfitAt}
+use Rattle.nbfx_encoder.specs.Placing.{Placed}
+use Rattle.nbfx_encoder.specs.Refusals.{told}
+use Rattle.initiator_machine.specs.Opening.{opening_bytes}
+use Rattle.command_words.specs.declared.task.Detail.TheVariants.{Whole}
+use Rattle.stream_loop.specs.Edges.{Input}
+use Rattle.stream_reader.specs.Stream.{Settings, StreamEvent, receivers, stream}
+use Rattle.stream_follower.specs.declared.following.Ending.{Ending}
+use Rattle.stream_follower.specs.declared.following.Ending.TheVariants as endings
+use Rattle.stream_follower.specs.declared.writing.Outbound.{Outbound}
+use Rattle.stream_follower.specs.declared.writing.Outbound.TheVariants as outbounds
+use Rattle.stream_follower.specs.Followed.{Follows}
+use Rattle.stream_follower.specs.Writing.{IsCut, PutsTo, Wrote}
+use Rattle.session_report.specs.declared.reading.Event.{Event}
+use Rattle.session_report.specs.declared.reading.Event.TheVariants as said
+use Rattle.session_report.specs.declared.reporter.Outcome.{Outcome}
+use Rattle.session_report.specs.declared.reporter.Outcome.TheVariants as reached
+use Rattle.session_report.specs.Report.{last_line, outcome, report}
+use Rattle.session_report.specs.Saying.{event_for, said_by}
+use Rattle.client.specs.declared.caller.Ack.{Ack}
+use Rattle.client.specs.declared.caller.Ack.TheVariants.{Awaited, Read}
+use Rattle.client.specs.declared.outcome.CallOutcome.{CallOutcome}
+use Rattle.client.specs.declared.outcome.ClientIn.{ClientIn}
+use Rattle.client.specs.declared.outcome.ClientIn.TheVariants.{Ended, Offended, PeerFault, ReadFault, Memory}
+use Rattle.client.specs.declared.outcome.ClientOut.{ClientOut}
+use Rattle.client.specs.declared.outcome.ClientOut.TheVariants as out
+use Rattle.client.specs.Sent.{HasBroken, HasSentAll, HasSentFitting, Sending, envelopes, sent_by}
+
+-- ---- the peer's stream
+
+-- the stream of a receiver that answers in this mode and encoding
+abbrev pub answers_to : Sending → Settings
+answers_to x = record {
+  side = receivers x.mode x.kind;
+  statics = x.statics;
+  limits = x.limits;
+}
+
+-- its report, with documents
+abbrev pub dumped : Sending → List ℕ → List ℕ
+dumped x bytes = report Whole (answers_to x) bytes
+
+-- whether the Ack was read, after an event
+abbrev pub ack_after : Ack → Event → Ack
+ack_after ack said.Accepted = Read
+ack_after ack event = ack
+
+-- and after events
+unfoldable pub ack_along : Ack → List Event → Ack
+ack_along ack [] = ack
+ack_along ack (event ∷ events) = ack_along (ack_after ack event) events
+
+-- the events of a stream, as they are said
+abbrev pub heard_of : Sending → List ℕ → List Event
+heard_of x bytes = map event_for (events (stream (answers_to x)) bytes)
+
+-- how the session has ended by events
+abbrev pub reached_along : List Event → Outcome
+reached_along heard = state_behind (said_by Whole) reached.Open heard
+
+-- how the reading of it ended
+abbrev pub inbound_by : Ending Offence → Outcome → ClientIn
+inbound_by (endings.Judged (Some offence)) reached = Offended offence
+inbound_by (endings.Judged None) reached.Faulted = PeerFault
+inbound_by (endings.Judged None) reached = Ended
+inbound_by endings.ReadFault reached = ReadFault
+inbound_by endings.Memory reached = Memory
+
+abbrev pub ending_of : ClientIn → Ending Offence
+ending_of Ended = endings.Judged None
+ending_of PeerFault = endings.Judged None
+ending_of (Offended offence) = endings.Judged (Some offence)
+ending_of ReadFault = endings.ReadFault
+ending_of Memory = endings.Memory
+
+-- the last line of the report: a stream that isn't judged has none
+abbrev pub closing_of : Ending Offence → Outcome → List ℕ
+closing_of (endings.Judged refusal) reached = last_line reached refusal
+closing_of endings.ReadFault reached = []
+closing_of endings.Memory reached = []
+
+-- a stream that was read to its end is judged as its bytes are
+abbrev pub Judges : Sending → (bytes : List ℕ) → ClientIn → Type 0
+Judges x bytes Ended = (offence (stream (answers_to x)) bytes ≡ None)
+    × (outcome Whole (answers_to x) bytes ≡ reached.Faulted → ⊥)
+Judges x bytes PeerFault = (offence (stream (answers_to x)) bytes ≡ None)
+    × (outcome Whole (answers_to x) bytes ≡ reached.Faulted)
+Judges x bytes (Offended o) = offence (stream (answers_to x)) bytes ≡ Some o
+Judges x bytes ReadFault = ⊤
+Judges x bytes Memory = ⊤
+
+-- What is written of its report, behind what was held: all of it, where the stream was read to its
+-- end and nothing has ended the writing; else first bytes of that.
+abbrev pub ReportsOf : (report held w w' : List ℕ) → ClientIn → Outbound → Type 0
+ReportsOf report held w w' Ended outbounds.Done = w' ≡ w ++ held ++ report
+ReportsOf report held w w' PeerFault outbounds.Done = w' ≡ w ++ held ++ report
+ReportsOf report held w w' (Offended o) outbounds.Done = w' ≡ w ++ held ++ report
+ReportsOf report held w w' inbound outbound = GrowsByPrefix w w' (held ++ report)
+
+-- ---- what is written to the peer
+
+-- whether an Ack was read, where a stream was read to its end
+abbrev pub IsAckOf : Sending → (bytes : List ℕ) → ClientIn → Ack → Type 0
+IsAckOf x bytes ReadFault ack = ⊤
+IsAckOf x bytes Memory ack = ⊤
+IsAckOf x bytes inbound ack = ack ≡ ack_along Awaited (heard_of x bytes)
+
+-- a document doesn't fit: by its number, and why
+abbrev pub IsUnfit : Sending → (number : ℕ) → UnfitAt → Type 0
+IsUnfit x number unfit = (envelopes x x.documents ≡ Err unfit) × (number ≡ unfit.number)
+
+-- What is written to the peer, behind what was held, by whether its Ack was read: the opening, and
+-- behind the Ack all that is sent of the documents; or first bytes of that.
+abbrev pub WritesCall : Sending → (via held w w' : List ℕ) → Ack → ClientOut → (sent : ℕ) → Type 0
+WritesCall x via held w w' Awaited out.Done sent =
+    (sent ≡ 0) × (w' ≡ w ++ held ++ opening_bytes x.mode x.kind via)
+WritesCall x via held w w' Awaited (out.Unfit number fault) sent = ⊥
+WritesCall x via held w w' Awaited outbound sent =
+    (sent ≡ 0) × GrowsByPrefix w w' (held ++ opening_bytes x.mode x.kind via)
+WritesCall x via held w w' Read out.Done sent = (sent ≡ length x.documents)
+    × ((all : Placed (List ℕ)) × (envelopes x x.documents ≡ Ok all))
+    × (w' ≡ w ++ held ++ sent_by x via)
+WritesCall x via held w w' Read (out.Unfit number fault) sent = (sent ≡ number)
+    × ((unfit : UnfitAt) × (envelopes x x.documents ≡ Err unfit) × (number ≡ unfit.number)
+    × (fault ≡ told unfit.why))
+    × (w' ≡ w ++ held ++ sent_by x via)
+WritesCall x via held w w' Read outbound sent =
+    GrowsByPrefix w w' (held ++ sent_by x via)
+
+-- ---- both
+
+module _ {K : Type 0} (written : K → Option (List ℕ)) (held : K → List ℕ) (faults : K → ℕ)
+    (may_want : K → Bool) (x : Sending) (via : List ℕ) where
+  -- the writing ended so at the opening
+  abbrev pub BreaksOpening : Outbound → (sent : ℕ) → K → K → Type 0
+  BreaksOpening outbound sent first now = (sent ≡ 0)
+      × IsCut written held faults may_want outbound (opening_bytes x.mode x.kind via) first now
+
+  -- what was put to a sink that was like the first, by whether the Ack was read, how the writing
+  -- ended, and how many envelopes were put
+  abbrev pub Sends : Ack → ClientOut → (sent : ℕ) → K → K → Type 0
+  Sends Awaited out.Done sent first now = (sent ≡ 0)
+      × PutsTo written held faults may_want first now (opening_bytes x.mode x.kind via) (Ok tt)
+      × (held now ≡ [])
+  Sends Awaited (out.Unfit number fault) sent first now = ⊥
+  Sends Awaited out.WriteFault sent first now =
+      BreaksOpening outbounds.WriteFault sent first now
+  Sends Awaited out.Memory sent first now = BreaksOpening outbounds.Memory sent first now
+  Sends Read out.Done sent first now = HasSentAll x written held faults may_want
+      (opening_bytes x.mode x.kind via) first sent now
+  Sends Read (out.Unfit number fault) sent first now = HasSentFitting x written held faults may_want
+      (opening_bytes x.mode x.kind via) first number fault sent now
+  Sends Read out.WriteFault sent first now = BreaksOpening outbounds.WriteFault sent first now
+      ⊎ HasBroken x written held faults may_want (opening_bytes x.mode x.kind via) first
+      outbounds.WriteFault sent now
+  Sends Read out.Memory sent first now = BreaksOpening outbounds.Memory sent first now
+      ⊎ HasBroken x written held faults may_want (opening_bytes x.mode x.kind via) first
+      outbounds.Memory sent now
+
+module _ {K : Type 0} (k_written : K → Option (List ℕ)) (k_held : K → List ℕ) (k_faults : K → ℕ)
+    (k_wants : K → Bool) {O : Type 0} (o_written : O → Option (List ℕ)) (o_held : O → List ℕ)
+    (o_faults : O → ℕ) (o_wants : O → Bool) (x : Sending) (via : List ℕ) where
+  -- These events of the peer's stream were heard. Their lines were reported, and the last line, or
+  -- the writing of the report ended at a part of it; the documents were sent where an Ack is among
+  -- them.
+  pub record HasCalled (sink sink' : K) (output output' : O) (called : CallOutcome)
+      (events : List StreamEvent) : Type 0 where
+    pub inbound_is : called.inbound
+        ≡ inbound_by (ending_of called.inbound) (reached_along (map event_for events))
+    pub reported : Wrote o_written o_held o_faults o_wants (said_by Whole) called.report
+        (closing_of (ending_of called.inbound) (reached_along (map event_for events))) output
+        (map event_for events) (λ s. ⊤) output'
+    pub sends : Sends k_written k_held k_faults k_wants x via
+        (ack_along Awaited (map event_for events)) called.outbound called.sent sink sink'
+
+  -- What is known of a call: what was read of the peer's stream, what was reported and sent, and
+  -- what the calls that failed by the outside left of the counts of source, sink and output.
+  pub record Calls (i i' : Input) (sink sink' : K) (output output' : O) (called : CallOutcome)
+      : Type 0 where
+    pub follows : Follows (stream (answers_to x)) (HasCalled sink sink' output output' called) i i'
+        (ending_of called.inbound)
+    pub reads_counted : CountsFaults i.faults i'.faults (called.inbound ≡ ReadFault)
+    pub writes_counted : CountsFaults (k_faults sink) (k_faults sink')
+        (called.outbound ≡ out.WriteFault)
+    pub reports_counted : CountsFaults (o_faults output) (o_faults output')
+        (called.report ≡ outbounds.WriteFault)

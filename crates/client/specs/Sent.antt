@@ -1,0 +1,130 @@
+-- What a client sends: an opening, an envelope for each document, and an End record (MC-NMF). What
+-- became of a sink that it was put to, however the writing ended.
+use Rattle.std.specs.Prelude.{◌≡◌, ⊤, ℕ, ◌⊎◌, List, [], ◌∷◌, ◌++◌, length, take, Bool, Option, Result, Ok, Err}
+use Rattle.nbfx_values.specs.Limits.{Limits}
+use Rattle.nbfx_values.specs.declared.content.Item.{Item}
+use Rattle.nbfx_values.specs.declared.session.Kind.{Kind}
+use Rattle.nbfx_values.specs.declared.session.Mode.{Mode}
+use Rattle.string_tables.specs.StaticStrings.{Entry}
+use Rattle.string_tables.specs.StringTable.{StringTable}
+use Rattle.nmf_records.specs.declared.frame.Frame.TheVariants.{End}
+use Rattle.nmf_records.specs.Writing.{frame_bytes_of}
+use Rattle.nbfx_encoder.specs.declared.faults.EncodeFault.{EncodeFault}
+use Rattle.nbfx_encoder.specs.Envelopes.{UnfitAt, envelope, envelopes_from}
+use Rattle.nbfx_encoder.specs.Placing.{Placed}
+use Rattle.nbfx_encoder.specs.Refusals.{told}
+use Rattle.nbfx_encoder.specs.Spelling.{Unfit, encoded}
+use Rattle.initiator_machine.specs.Opening.{opening_bytes}
+use Rattle.session_ends.specs.Sent.{first_table}
+use Rattle.stream_follower.specs.declared.writing.Outbound.{Outbound}
+use Rattle.stream_follower.specs.declared.writing.Outbound.TheVariants as outbounds
+use Rattle.stream_follower.specs.Writing.{IsCut, PutsTo}
+use Rattle.client.specs.declared.outcome.ClientOut.{ClientOut}
+use Rattle.client.specs.declared.outcome.ClientOut.TheVariants.{Done, Unfit as UnfitDocument, WriteFault, Memory}
+
+-- documents, and how they are sent: within which quotas, with which static strings, in which mode
+-- and encoding
+pub record Sending : Type 0 where
+  pub limits : Limits
+  pub statics : List Entry
+  pub mode : Mode
+  pub kind : Kind
+  pub documents : List (List Item)
+
+abbrev pub sending : Limits → List Entry → Mode → Kind → List (List Item) → Sending
+sending limits statics mode kind documents = record {
+  limits = limits;
+  statics = statics;
+  mode = mode;
+  kind = kind;
+  documents = documents;
+}
+
+-- the bytes of envelopes, where all documents fit
+abbrev pub bytes_of : Result (Placed (List ℕ)) UnfitAt → List ℕ
+bytes_of (Ok sent) = sent.0
+bytes_of (Err unfit) = []
+
+-- the bytes of an envelope, where its document fits
+abbrev pub due_of : Mode → Result (Placed (List ℕ)) Unfit → List ℕ
+due_of mode (Ok payload) = envelope mode payload.0
+due_of mode (Err why) = []
+
+module _ (x : Sending) where
+  -- the envelopes of documents, one behind the other; or the first that doesn't fit, and why
+  abbrev pub envelopes : List (List Item) → Result (Placed (List ℕ)) UnfitAt
+  envelopes documents =
+      envelopes_from x.limits x.kind x.mode (first_table x.statics) 0 documents
+
+  -- where all documents fit, their envelopes and End; else the envelopes before the first unfit one
+  abbrev pub sent_of : Result (Placed (List ℕ)) UnfitAt → List ℕ
+  sent_of (Ok sent) = sent.0 ++ frame_bytes_of End []
+  sent_of (Err unfit) = bytes_of (envelopes (take unfit.number x.documents))
+
+  -- what is sent behind the opening
+  abbrev pub sent_behind : List ℕ
+  sent_behind = sent_of (envelopes x.documents)
+
+  -- what is sent in all, to this Via
+  abbrev pub sent_by : (via : List ℕ) → List ℕ
+  sent_by via = opening_bytes x.mode x.kind via ++ sent_behind
+
+  -- what is due next under a table: an envelope where the document fits, and at last End
+  abbrev pub due_next : StringTable → List (List Item) → List ℕ
+  due_next table [] = frame_bytes_of End []
+  due_next table (document ∷ rest) = due_of x.mode (encoded x.limits x.kind table document)
+
+  -- of sinks, by what they tell
+  module _ {K : Type 0} (written : K → Option (List ℕ)) (held : K → List ℕ) (faults : K → ℕ)
+      (may_want : K → Bool) where
+    -- Of what was put to a sink that was like the first: these bytes, and then envelopes.
+    module _ (before : List ℕ) (first : K) where
+      -- the envelopes of these documents were put, and leave the table
+      pub record HasSent (done : List (List Item)) (table : StringTable) (now : K) : Type 0 where
+        pub bytes : List ℕ
+        pub spelled : envelopes done ≡ Ok (bytes, table)
+        pub puts : PutsTo written held faults may_want first now (before ++ bytes) (Ok tt)
+
+      -- all that is due was put, and is written
+      pub record HasSentAll (sent : ℕ) (now : K) : Type 0 where
+        pub bytes : List ℕ
+        pub table : StringTable
+        pub spelled : envelopes x.documents ≡ Ok (bytes, table)
+        pub counted : sent ≡ length x.documents
+        pub puts : PutsTo written held faults may_want first now
+            (before ++ (bytes ++ frame_bytes_of End [])) (Ok tt)
+        pub emptied : held now ≡ []
+
+      -- the envelopes before a document that doesn't fit were put, and are written
+      pub record HasSentFitting (number : ℕ) (fault : EncodeFault) (sent : ℕ) (now : K) : Type 0
+        where
+          pub done : List (List Item)
+          pub document : List Item
+          pub rest : List (List Item)
+          pub joined : x.documents ≡ done ++ document ∷ rest
+          pub counted : sent ≡ length done
+          pub number_is : number ≡ length done
+          pub table : StringTable
+          pub why : Unfit
+          pub unfit : encoded x.limits x.kind table document ≡ Err why
+          pub fault_is : fault ≡ told why
+          pub puts : HasSent done table now
+          pub emptied : held now ≡ []
+
+      -- the envelopes of the first documents were put, and the writing ended so at what was due next
+      pub record HasBroken (outbound : Outbound) (sent : ℕ) (now : K) : Type 0 where
+        pub done : List (List Item)
+        pub rest : List (List Item)
+        pub joined : x.documents ≡ done ++ rest
+        pub counted : sent ≡ length done
+        pub table : StringTable
+        pub mid : K
+        pub puts : HasSent done table mid
+        pub cut : IsCut written held faults may_want outbound (due_next table rest) mid now
+
+      -- what was put of the documents, by how the writing ended, and how many envelopes that is
+      abbrev pub SendsAll : ClientOut → (sent : ℕ) → K → Type 0
+      SendsAll Done sent now = HasSentAll sent now
+      SendsAll (UnfitDocument number fault) sent now = HasSentFitting number fault sent now
+      SendsAll WriteFault sent now = HasBroken outbounds.WriteFault sent now
+      SendsAll Memory sent now = HasBroken outbounds.Memory sent now

@@ -1,0 +1,233 @@
+//! What hears the events of the peer's stream, and answers and reports them.
+
+ghost use Rattle.std.specs.Prelude.{◌≡◌, List, ℕ, ⊤, Result};
+ghost use Rattle.stream_follower.specs.Writing.{Goes, Writes, Wrote, outbound_by};
+ghost use Rattle.io_edges.specs.declared.SinkFault.{SinkFault as Fault};
+ghost use Rattle.command_words.specs.declared.task.Detail.{Detail as Shown};
+ghost use Rattle.session_report.specs.declared.reading.Event.{Event as Heard};
+ghost use Rattle.session_report.specs.Saying.{said_by, said_lines, said_outcome};
+ghost use Rattle.client.specs.Called.{ack_after, closing_of};
+ghost use Rattle.client.specs.Calling.{IsFresh, Reports, SendsSo};
+ghost use Rattle.client.specs.Sending.{out_of, sending_of};
+
+use crate::outcome::ClientOut;
+use crate::outgoing::Outgoing;
+use crate::sending::{client_out, send_documents};
+use command_words::Detail;
+use io_edges::{Sink, SinkFault};
+use nbfx_values::Offence;
+use session_report::{Event, LineReporter, Outcome};
+use std::alloc::Global;
+use stream_follower::{Ending, Listener, Outbound, flush};
+use stream_loop::Reporter;
+use unit_streams::Memory;
+
+/// Whether the peer's Preamble Ack was read.
+#[derive(Clone, Copy, Debug, PartialEq, Eq)]
+pub enum Ack {
+    Awaited,
+    Read,
+}
+
+/// Where a call writes to: the peer, and the report.
+#[derive(Drop)]
+pub struct Outputs<'k, 'o, K, O> {
+    pub sink: &'k mut K,
+    pub report: &'o mut O,
+}
+
+/// Answers and reports the events of the peer's stream, and keeps what has become of the writing.
+#[derive(Drop)]
+pub struct Caller<'s, 'd> {
+    alloc: Global,
+    pub outgoing: Outgoing<'s, 'd>,
+    // How the writing of the opening ended.
+    opened: Outbound,
+    ack: Ack,
+    // How the peer's session has ended by its events.
+    pub reached: Outcome,
+    pub sent: u64,
+    pub outbound: ClientOut,
+    pub report: Outbound,
+}
+
+// How the session has ended after an event.
+fn reached_after(reached: Outcome, event: &Event) -> Outcome
+    ensures { result ≡ said_outcome reached event.now }
+{
+    match event {
+        Event::Ended { .. } => Outcome::Ended,
+        Event::PeerFault { .. } => Outcome::Faulted,
+        Event::Opened { .. } | Event::Accepted | Event::Message(_) => reached,
+    }
+}
+
+// What becomes of the writing at a put that was answered so.
+fn outbound_by(answer: Result<(), SinkFault>) -> Outbound
+    ensures { result ≡ outbound_by answer }
+{
+    match answer {
+        Ok(()) => Outbound::Done,
+        Err(fault) => match fault {
+            SinkFault::Failed => Outbound::WriteFault,
+            SinkFault::Memory => Outbound::Memory,
+        },
+    }
+}
+
+// Puts the lines of an event, with its document.
+fn put_lines<O: Sink>(reached: Outcome, event: &Event, output: &mut O) -> Outbound
+    ensures { Goes O.written O.held O.faults O.may_want result (said_lines Shown.Whole event.now)
+        output.old output.new }
+{
+    let mut reporter = LineReporter {
+        detail: Detail::Whole,
+        outcome: reached,
+    };
+    outbound_by(reporter.put_event(event, output))
+}
+
+// Puts the last line, where there is one: a stream that isn't judged has none.
+fn put_last<O: Sink>(ending: Ending<Offence>, reached: Outcome, output: &mut O) -> Outbound
+    ensures { Goes O.written O.held O.faults O.may_want result (closing_of ending reached)
+        output.old output.new }
+{
+    let Ending::Judged(refusal) = ending else {
+        return Outbound::Done;
+    };
+    let mut reporter = LineReporter {
+        detail: Detail::Whole,
+        outcome: reached,
+    };
+    outbound_by(reporter.put_ending(&refusal, output))
+}
+
+impl<'s, 'd> Caller<'s, 'd> {
+    /// Before the first event, where the writing of the opening ended so.
+    pub fn new(alloc: Global, outgoing: Outgoing<'s, 'd>, opened: Outbound) -> Self
+        ensures outgoing { result.outgoing ≡ outgoing.entry }
+        ensures opened { result.opened ≡ opened }
+        ensures fresh { IsFresh result }
+    {
+        Caller {
+            alloc,
+            outgoing,
+            opened,
+            ack: Ack::Awaited,
+            reached: Outcome::Open,
+            sent: 0,
+            outbound: client_out(opened),
+            report: Outbound::Done,
+        }
+    }
+
+    // Sends the documents at the first Ack, where the opening is written.
+    fn accept<K: Sink>(&mut self, sink: &mut K)
+        requires { self.old.ack ≡ Ack.Awaited }
+        ensures sends { (first : K) → SendsSo K.written K.held K.faults K.may_want
+            (sending_of self.old.outgoing) self.old.opened first Ack.Awaited self.old.outbound
+            self.old.sent sink.old
+            → SendsSo K.written K.held K.faults K.may_want (sending_of self.old.outgoing)
+            self.old.opened first Ack.Read self.new.outbound self.new.sent sink.new }
+        ensures ack { self.new.ack ≡ Ack.Read }
+        ensures outgoing { self.new.outgoing ≡ self.old.outgoing }
+        ensures opened { self.new.opened ≡ self.old.opened }
+        ensures reached { self.new.reached ≡ self.old.reached }
+        ensures report { self.new.report ≡ self.old.report }
+    {
+        self.ack = Ack::Read;
+        if !self.opened.is_going() {
+            return;
+        }
+        let sent = send_documents(self.alloc, &self.outgoing, sink);
+        self.sent = sent.count;
+        self.outbound = sent.outbound;
+    }
+
+    // Answers an event.
+    fn answer<K: Sink>(&mut self, event: &Event, sink: &mut K)
+        ensures sends { (first : K) → SendsSo K.written K.held K.faults K.may_want
+            (sending_of self.old.outgoing) self.old.opened first self.old.ack self.old.outbound
+            self.old.sent sink.old
+            → SendsSo K.written K.held K.faults K.may_want (sending_of self.old.outgoing)
+            self.old.opened first (ack_after self.old.ack event.now) self.new.outbound
+            self.new.sent sink.new }
+        ensures ack { self.new.ack ≡ ack_after self.old.ack event.now }
+        ensures outgoing { self.new.outgoing ≡ self.old.outgoing }
+        ensures opened { self.new.opened ≡ self.old.opened }
+        ensures reached { self.new.reached ≡ self.old.reached }
+        ensures report { self.new.report ≡ self.old.report }
+    {
+        let Event::Accepted = event else {
+            return;
+        };
+        match self.ack {
+            Ack::Awaited => self.accept(sink),
+            Ack::Read => {}
+        }
+    }
+
+    // Puts the lines of an event, unless the writing of the report has ended.
+    fn report<O: Sink>(&mut self, event: &Event, output: &mut O)
+        ensures reports { Reports O.written O.held O.faults O.may_want event.now
+            self.old.report self.new.report output.old output.new }
+        ensures reached { self.new.reached ≡ said_outcome self.old.reached event.now }
+        ensures outgoing { self.new.outgoing ≡ self.old.outgoing }
+        ensures opened { self.new.opened ≡ self.old.opened }
+        ensures ack { self.new.ack ≡ self.old.ack }
+        ensures sent { self.new.sent ≡ self.old.sent }
+        ensures outbound { self.new.outbound ≡ self.old.outbound }
+    {
+        if self.report.is_going() {
+            self.report = put_lines(self.reached, event, output);
+        }
+        self.reached = reached_after(self.reached, event);
+    }
+
+    /// Puts the last line and writes what the output holds, unless the writing of the report has
+    /// ended.
+    pub fn close<O: Sink>(&mut self, ending: Ending<Offence>, output: &mut O)
+        ensures closed { (first : O) (events : List Heard)
+            → Writes O.written O.held O.faults O.may_want (said_by Shown.Whole) self.old.report
+            first events self.old.reached (λ s. ⊤) output.old
+            → Wrote O.written O.held O.faults O.may_want (said_by Shown.Whole) self.new.report
+            (closing_of ending self.old.reached) first events (λ s. ⊤) output.new }
+        ensures reached { self.new.reached ≡ self.old.reached }
+        ensures sent { self.new.sent ≡ self.old.sent }
+        ensures outbound { self.new.outbound ≡ self.old.outbound }
+    {
+        if !self.report.is_going() {
+            return;
+        }
+        self.report = put_last(ending, self.reached, output);
+        if self.report.is_going() {
+            self.report = flush(output);
+        }
+    }
+}
+
+impl<'s, 'd, 'k, 'o, K: Sink, O: Sink> Listener<Event, Outputs<'k, 'o, K, O>> for Caller<'s, 'd> {
+    ghost use Rattle.client.specs.Sent.{Sending};
+    ghost use Rattle.client.specs.Sending.{sending_of};
+    ghost use Rattle.client.specs.Calling.{IsAlong};
+    ghost use Rattle.stream_follower.specs.declared.writing.Outbound.{Outbound as Stands};
+
+    ghost Settings = { Sending × Stands };
+
+    ghost settings = { λ caller. (sending_of caller.outgoing, caller.opened) };
+
+    ghost heard = { λ first events caller now. IsAlong K.written K.held K.faults K.may_want
+        O.written O.held O.faults O.may_want first events caller now };
+
+    fn hear(&mut self, event: Event, outputs: &mut Outputs<'k, 'o, K, O>) -> Result<Event, Memory> {
+        self.report(&event, outputs.report);
+        self.answer(&event, outputs.sink);
+        Ok(event)
+    }
+
+    fn pause(&mut self, outputs: &mut Outputs<'k, 'o, K, O>) {
+        if self.report.is_going() {
+            self.report = flush(outputs.report);
+        }
+    }
+}

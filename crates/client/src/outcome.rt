@@ -1,0 +1,57 @@
+//! What became of a call.
+
+ghost use Rattle.std.specs.Prelude.{◌≡◌, true, false};
+
+use nbfx_encoder::EncodeFault;
+use nbfx_values::Offence;
+use stream_follower::Outbound;
+
+/// How the reading of the peer's stream ended.
+#[derive(Clone, Copy, Debug, PartialEq, Eq)]
+pub enum ClientIn {
+    /// The session ended with End, or with the Ack alone where messages are one-way.
+    Ended,
+    /// The stream is refused so.
+    Offended(Offence),
+    /// The peer sent a Fault record, which ends the session.
+    PeerFault,
+    /// A read failed.
+    ReadFault,
+    /// There was no memory to read on.
+    Memory,
+}
+
+/// How the writing to the peer ended.
+#[derive(Clone, Copy, Debug, PartialEq, Eq)]
+pub enum ClientOut {
+    /// All that was due is written: the session, or its opening alone where no Ack was read.
+    Done,
+    /// The document with this number, from 0, doesn't fit. Nothing is written after the envelopes
+    /// before it. The fault isn't want of memory.
+    Unfit { number: u64, fault: EncodeFault },
+    /// A write failed.
+    WriteFault,
+    /// There was no memory to write on.
+    Memory,
+}
+
+impl ClientOut {
+    // Whether nothing has ended the writing.
+    pub(crate) fn is_done(self) -> bool
+        ensures done { result ≡ true → self ≡ ClientOut.Done }
+        ensures stopped { result ≡ false → self ≡ ClientOut.Done → ⊥ }
+    {
+        matches!(self, ClientOut::Done)
+    }
+}
+
+/// What became of a call.
+#[derive(Clone, Copy, Debug, PartialEq, Eq)]
+pub struct CallOutcome {
+    /// How many envelopes were put to the sink without a fault.
+    pub sent: u64,
+    pub inbound: ClientIn,
+    pub outbound: ClientOut,
+    /// How the writing of the report ended.
+    pub report: Outbound,
+}
