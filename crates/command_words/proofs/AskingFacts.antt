@@ -1,5 +1,5 @@
 -- What values ask for, computed.
-use Rattle.std.proofs.Common.{◌≡◌, ◌∙◌, ℕ, Bool, true, ◌&&◌, Option, Some, None, refl, sym, ap, subst, inl, inr, arith}
+use Rattle.std.proofs.Common.{◌≡◌, ◌≤◌, ◌∙◌, ℕ, length, Bool, true, ◌&&◌, Option, Some, None, refl, sym, ap, subst, inl, inr, arith}
 use Rattle.std.specs.Prelude.{if◌then◌else◌, nat_le, option_and_then, option_map}
 use Rattle.std.proofs.lemmas.Bool.{cases_Bool, le-leb, leb-true}
 use Rattle.std.proofs.lemmas.Option.{option_and_then_some}
@@ -7,16 +7,18 @@ use Rattle.clap.proofs.WalkLemmas.{both}
 use Rattle.nbfx_values.specs.Limits.{IsGood, Limits, limits, usual_limits}
 use Rattle.nbfx_values.specs.declared.session.Kind.{Kind}
 use Rattle.nbfx_values.specs.declared.session.Kind.TheVariants as kinds
+use Rattle.nbfx_values.specs.declared.session.Mode.{Mode}
+use Rattle.nbfx_values.specs.declared.session.Mode.TheVariants.{Duplex}
 use Rattle.command_words.specs.declared.action.Action.{Action}
-use Rattle.command_words.specs.declared.action.Action.TheVariants.{Check, Dump}
-use Rattle.command_words.specs.declared.option_name.OptionName.TheVariants.{Static, Replies, Encoding, Payload, Depth, Dictionary, Content, Session}
+use Rattle.command_words.specs.declared.action.Action.TheVariants.{Check, Dump, Build}
+use Rattle.command_words.specs.declared.option_name.OptionName.TheVariants.{Static, Replies, Via, Mode as ModeOption, Encoding, Payload, Depth, Dictionary, Content, Session}
 use Rattle.command_words.specs.declared.task.Detail.{Detail}
 use Rattle.command_words.specs.declared.task.Detail.TheVariants.{Summary, Whole}
 use Rattle.command_words.specs.declared.task.Origin.{Origin}
 use Rattle.command_words.specs.declared.task.Origin.TheVariants.{Initiator, Receiver}
 use Rattle.command_words.specs.Options.{Text}
-use Rattle.command_words.specs.Requests.{AreLimits, AskFor, AskForTask, AskToReport, Asked, IsOrigin, Values, usual_content}
-use Rattle.command_words.specs.Tasks.{Task, report}
+use Rattle.command_words.specs.Requests.{AreLimits, AskFor, AskForTask, AskToBuild, AskToReport, Asked, IsOpening, IsOrigin, Values, usual_content}
+use Rattle.command_words.specs.Tasks.{Opening, Task, report, build}
 use Rattle.command_words.proofs.ValueFacts.{kind_in, kinds_read, mode_in, modes, number_in, numbers, read_or, read_or-complete, read_or-sound}
 
 -- ---- limits
@@ -147,9 +149,24 @@ report_in detail value =
     option_and_then (λ kind. option_map (report detail) (origin_in (value Replies) kind))
     (read_or kind_in kinds.Session (value Encoding))
 
+abbrev short_alone : Text → Option Text
+short_alone via = if nat_le (length via) usual_limits.via then Some via else None
+
+abbrev opening : Text → Mode → Kind → Opening
+opening via mode kind = record { via = via; mode = mode; kind = kind }
+
+abbrev opening_in : Values → Option Opening
+opening_in value =
+    option_and_then (λ via.
+    option_and_then (λ mode.
+    option_map (opening via mode) (read_or kind_in kinds.Session (value Encoding)))
+    (read_or mode_in Duplex (value ModeOption)))
+    (option_and_then short_alone (value Via))
+
 abbrev task_in : Action → Values → Option Task
 task_in Check value = report_in Summary value
 task_in Dump value = report_in Whole value
+task_in Build value = option_map build (opening_in value)
 
 -- what an option holds is of a value that there is
 map-some : {A B : Type 0} (f : A → B) (o : Option A) (y : B) → option_map f o ≡ Some y
@@ -192,15 +209,66 @@ report-complete detail value task asks =
     let origin = origin-complete (value Replies) asks.kind asks.origin asks.replies in
     rw (kind, origin) (ap Some (sym asks.is))
 
+short-alone : (text via : Text) → short_alone text ≡ Some via
+    → (text ≡ via) × (length via ≤ usual_limits.via)
+short-alone text via e =
+    elim (cases_Bool (nat_le (length text) usual_limits.via)) [
+      | inl short ↦
+          let is : text ≡ via = cc (rw short at e) in
+          (is, subst (λ t. length t ≤ usual_limits.via) is (leb-true _ _ short))
+      | inr long ↦ cc (rw long at e)
+    ]
+
+opening-sound : (value : Values) (opens : Opening) → opening_in value ≡ Some opens
+    → IsOpening value opens
+opening-sound value opens e =
+    option_and_then_some _ _ opens e (λ via is_via e.
+    option_and_then_some _ _ opens e (λ mode is_mode e.
+    option_and_then_some _ _ via is_via (λ text is_text is_short.
+    let short = short-alone text via is_short in
+    let read = read_or kind_in kinds.Session (value Encoding) in
+    let kind = map-some (opening via mode) read opens e in
+    let is : IsOpening value (opening via mode kind.0) = record {
+      via = is_text ∙ ap Some short.0;
+      short = short.1;
+      mode = read_or-sound modes Duplex (value ModeOption) mode is_mode;
+      kind = read_or-sound kinds_read kinds.Session (value Encoding) kind.0 kind.1;
+    } in
+    subst (IsOpening value) kind.2 is)))
+
+opening-complete : (value : Values) (opens : Opening) → IsOpening value opens
+    → opening_in value ≡ Some opens
+opening-complete value opens is =
+    let mode = read_or-complete modes Duplex (value ModeOption) opens.mode tt is.mode in
+    let kind = read_or-complete kinds_read kinds.Session (value Encoding) opens.kind tt is.kind in
+    rw (is.via, le-leb (length opens.via) usual_limits.via is.short, mode, kind) refl
+
+build-sound : (value : Values) (task : Task) → option_map build (opening_in value) ≡ Some task
+    → AskToBuild value task
+build-sound value task e =
+    let opens = map-some build (opening_in value) task e in
+    record {
+      opening = opens.0;
+      opens = opening-sound value opens.0 opens.1;
+      is = sym opens.2;
+    }
+
+build-complete : (value : Values) (task : Task) → AskToBuild value task
+    → option_map build (opening_in value) ≡ Some task
+build-complete value task asks =
+    ap (option_map build) (opening-complete value asks.opening asks.opens) ∙ ap Some (sym asks.is)
+
 task-sound : (action : Action) (value : Values) (task : Task) → task_in action value ≡ Some task
     → AskForTask action value task
 task-sound Check value task e = report-sound Summary value task e
 task-sound Dump value task e = report-sound Whole value task e
+task-sound Build value task e = build-sound value task e
 
 task-complete : (action : Action) (value : Values) (task : Task) → AskForTask action value task
     → task_in action value ≡ Some task
 task-complete Check value task asks = report-complete Summary value task asks
 task-complete Dump value task asks = report-complete Whole value task asks
+task-complete Build value task asks = build-complete value task asks
 
 -- ---- requests
 

@@ -33,39 +33,54 @@ plain-begins (digit ∷ []) e =
     record { unsigned = λ plus. absurd (omega arith); some = omega arith; zero_alone = λ _. refl }
 plain-begins (digit ∷ next ∷ rest) e =
     let least = ltb-true 48 digit (both _ _ e).0 in
-    record { unsigned = λ plus. absurd (omega arith); some = omega arith; zero_alone = λ zero. absurd (omega arith) }
+    record {
+      unsigned = λ plus. absurd (omega arith);
+      some = omega arith;
+      zero_alone = λ zero.
+          absurd (omega arith);
+    }
 
-begins-plain : (text : Text) → 0 < length text → 48 < get_or text 0 0 → get_or text 0 0 ≤ 57 → begins_plain text ≡ true
+begins-plain : (text : Text) → 0 < length text → 48 < get_or text 0 0 → get_or text 0 0 ≤ 57
+    → begins_plain text ≡ true
 begins-plain [] some least most = absurd (omega arith)
-begins-plain (digit ∷ []) some least most = let above : 48 ≤ digit = omega arith in rw (le-leb 48 digit above, le-leb digit 57 most) refl
-begins-plain (digit ∷ next ∷ rest) some least most = rw (lt-ltb 48 digit least, le-leb digit 57 most) refl
+begins-plain (digit ∷ []) some least most = let above : 48 ≤ digit = omega arith in
+    rw (le-leb 48 digit above, le-leb digit 57 most) refl
+begins-plain (digit ∷ next ∷ rest) some least most =
+    rw (lt-ltb 48 digit least, le-leb digit 57 most) refl
 
 pub decimal-plain : (n : ℕ) → n < 2 ^ 64 → begins_plain (decimal n) ≡ true
 decimal-plain zero small = ap begins_plain (decimal_digit 0 (omega arith))
 decimal-plain (suc n) small =
     let numeral = decimal_is_IsNumeral (suc n) small in
-    begins-plain (decimal (suc n)) numeral.0.0 (first_decimal (suc n) (omega arith) small) (digit_at (decimal (suc n)) 0 numeral.0.1 numeral.0.0).1
+    begins-plain (decimal (suc n)) numeral.0.0 (first_decimal (suc n) (omega arith) small)
+    (digit_at (decimal (suc n)) 0 numeral.0.1 numeral.0.0).1
 
 own : IsNumeralModel (AllDigits 10) (digits_value 10)
 own = numerals_by_value (AllDigits 10) tells_digits
 
 -- a text that begins plain and is read is the decimal digits of its number, which are always read
-pub parsed-written : {E : Type 0} (text : Text) (r : Result ℕ E) → begins_plain text ≡ true → ParsesUnsigned 64 10 text r → IfSome (result_ok r) (λ n. text ≡ decimal n)
+pub parsed-written : {E : Type 0} (text : Text) (r : Result ℕ E) → begins_plain text ≡ true
+    → ParsesUnsigned 64 10 text r → IfSome (result_ok r) (λ n. text ≡ decimal n)
 parsed-written text (Err e) plain parses = tt
 parsed-written {E} text (Ok n) plain parses =
     let begins = plain-begins text plain in
     let is = parse_plain own {E = E} 64 text (Ok n) parses begins.unsigned in
-    sym (ap decimal is.1 ∙ decimal-digits_value own text is.0.0 begins.some begins.zero_alone is.0.2)
+    sym (ap decimal is.1 ∙ decimal-digits_value own text is.0.0 begins.some begins.zero_alone
+    is.0.2)
 
-pub parsed-none : {E : Type 0} (text : Text) (r : Result ℕ E) → ParsesUnsigned 64 10 text r → IfNone (result_ok r) ((n : ℕ) → n < 2 ^ 64 → text ≢ decimal n)
+pub parsed-none : {E : Type 0} (text : Text) (r : Result ℕ E) → ParsesUnsigned 64 10 text r
+    → IfNone (result_ok r) ((n : ℕ) → n < 2 ^ 64 → text ≢ decimal n)
 parsed-none text (Ok n) parses = tt
-parsed-none {E} text (Err e) parses = λ n small is. cc (parse-decimal {E = E} 64 n text (Err e) small small is parses)
+parsed-none {E} text (Err e) parses = λ n small is. cc
+    (parse-decimal {E = E} 64 n text (Err e) small small is parses)
 
 -- ---- numbers and limits
 
-pub IsNumber-unique : (value : Option Text) (usual one other : ℕ) → one < 2 ^ 64 → other < 2 ^ 64 → IsNumber value usual one → IsNumber value usual other → one ≡ other
+pub IsNumber-unique : (value : Option Text) (usual one other : ℕ) → one < 2 ^ 64 → other < 2 ^ 64
+    → IsNumber value usual one → IsNumber value usual other → one ≡ other
 IsNumber-unique None usual one other small_one small_other is_one is_other = is_one ∙ sym is_other
-IsNumber-unique (Some text) usual one other small_one small_other is_one is_other = decimal_injective one other small_one small_other (sym is_one ∙ is_other)
+IsNumber-unique (Some text) usual one other small_one small_other is_one is_other =
+    decimal_injective one other small_one small_other (sym is_one ∙ is_other)
 
 pub IsGood-payload : (l : Limits) → IsGood l → l.payload < 2 ^ 32
 IsGood-payload l good = omega (arith, good.payload_most)
@@ -74,38 +89,54 @@ pub IsGood-content : (l : Limits) → IsGood l → l.content < 2 ^ 32
 IsGood-content l good = omega (arith, good.content_most)
 
 -- a number that a smaller type doesn't hold
-pub small-none : {E : Type 0} (value : Option Text) (usual m : ℕ) (r : Result ℕ E) → OkIff r (m < 2 ^ 32) m → m < 2 ^ 64 → IsNumber value usual m
+pub small-none : {E : Type 0} (value : Option Text) (usual m : ℕ) (r : Result ℕ E)
+    → OkIff r (m < 2 ^ 32) m → m < 2 ^ 64 → IsNumber value usual m
     → IfNone (result_ok r) ((n : ℕ) → n < 2 ^ 32 → ¬ IsNumber value usual n)
 small-none value usual m (Ok n) converts fits is = tt
 small-none value usual m (Err e) converts fits is = λ n small is_n.
-    converts (subst (λ k. k < 2 ^ 32) (IsNumber-unique value usual n m (omega arith) fits is_n is) small)
+    converts (subst (λ k. k < 2 ^ 32) (IsNumber-unique value usual n m (omega arith) fits is_n is)
+    small)
 
 -- the payload of good limits that values set is the number read
-pub payload-same : (value : OptionName → Option Text) (l : Limits) (payload : ℕ) → AreLimits value l → IsGood l → payload < 2 ^ 64
+pub payload-same : (value : OptionName → Option Text) (l : Limits) (payload : ℕ) → AreLimits value l
+    → IsGood l → payload < 2 ^ 64
     → IsNumber (value Payload) usual_limits.payload payload → payload ≡ l.payload
 payload-same value l payload are good small is =
-    IsNumber-unique (value Payload) usual_limits.payload payload l.payload small (omega (arith, good.payload_most)) is are.payload
+    IsNumber-unique (value Payload) usual_limits.payload payload l.payload small
+    (omega (arith, good.payload_most)) is are.payload
 
 -- good limits that values set are the numbers read
-pub limits-same : (value : OptionName → Option Text) (l : Limits) (payload depth dictionary content session : ℕ) → AreLimits value l → IsGood l
+pub limits-same : (value : OptionName → Option Text) (l : Limits)
+    (payload depth dictionary content session : ℕ) → AreLimits value l → IsGood l
     → payload < 2 ^ 64 → depth < 2 ^ 64 → dictionary < 2 ^ 64 → content < 2 ^ 64 → session < 2 ^ 64
-    → IsNumber (value Payload) usual_limits.payload payload → IsNumber (value Depth) usual_limits.depth depth
-    → IsNumber (value Dictionary) usual_limits.dictionary dictionary → IsNumber (value Content) (usual_content payload) content
-    → IsNumber (value Session) usual_limits.session session → limits payload depth dictionary content usual_limits.via session ≡ l
-limits-same value l payload depth dictionary content session are good small_p small_d small_di small_c small_s is_p is_d is_di is_c is_s =
+    → IsNumber (value Payload) usual_limits.payload payload → IsNumber (value Depth)
+    usual_limits.depth depth
+    → IsNumber (value Dictionary) usual_limits.dictionary dictionary → IsNumber (value Content)
+    (usual_content payload) content
+    → IsNumber (value Session) usual_limits.session session → limits payload depth dictionary
+    content usual_limits.via session ≡ l
+limits-same value l payload depth dictionary content session are good small_p small_d small_di
+    small_c small_s is_p is_d is_di is_c is_s =
     let p = payload-same value l payload are good small_p is_p in
-    let d = IsNumber-unique (value Depth) usual_limits.depth depth l.depth small_d (omega (arith, good.depth_most)) is_d are.depth in
-    let di = IsNumber-unique (value Dictionary) usual_limits.dictionary dictionary l.dictionary small_di (omega (arith, good.dictionary_most, good.payload_most)) is_di are.dictionary in
-    let c = IsNumber-unique (value Content) (usual_content payload) content l.content small_c (omega (arith, good.content_most)) is_c
+    let d = IsNumber-unique (value Depth) usual_limits.depth depth l.depth small_d
+    (omega (arith, good.depth_most)) is_d are.depth in
+    let di = IsNumber-unique (value Dictionary) usual_limits.dictionary dictionary l.dictionary
+    small_di (omega (arith, good.dictionary_most, good.payload_most)) is_di are.dictionary in
+    let c = IsNumber-unique (value Content) (usual_content payload) content l.content small_c
+    (omega (arith, good.content_most)) is_c
     (subst (λ n. IsNumber (value Content) (usual_content n) l.content) (sym p) are.content) in
-    let s = IsNumber-unique (value Session) usual_limits.session session l.session small_s (omega (arith, good.session_most)) is_s are.session in
+    let s = IsNumber-unique (value Session) usual_limits.session session l.session small_s
+    (omega (arith, good.session_most)) is_s are.session in
     λ i. limits (p i) (d i) (di i) (c i) (sym are.via i) (s i)
 
 -- numbers that are no good limits
-pub none-good : {Q : Type 0} (r : Option Q) (value : OptionName → Option Text) (read : Limits) → (IsGood read → IsSome r)
-    → ((l : Limits) → AreLimits value l → IsGood l → read ≡ l) → IfNone r ((l : Limits) → AreLimits value l → ¬ IsGood l)
+pub none-good : {Q : Type 0} (r : Option Q) (value : OptionName → Option Text) (read : Limits)
+    → (IsGood read → IsSome r)
+    → ((l : Limits) → AreLimits value l → IsGood l → read ≡ l)
+    → IfNone r ((l : Limits) → AreLimits value l → ¬ IsGood l)
 none-good (Some quotas) value read found same = tt
-none-good None value read found same = λ l are good. let some = found (subst IsGood (sym (same l are good)) good) in cc some
+none-good None value read found same = λ l are good. let some = found
+    (subst IsGood (sym (same l are good)) good) in cc some
 
 -- ---- encodings
 

@@ -7,7 +7,7 @@ use Rattle.std.proofs.lemmas.Bool.{cases_Bool}
 use Rattle.std.proofs.lemmas.Slice.Eq.{bytes_eq-Decides}
 use Rattle.clap.proofs.WalkLemmas.{both}
 use Rattle.command_words.specs.declared.option_name.OptionName.{OptionName}
-use Rattle.command_words.specs.declared.option_name.OptionName.TheVariants.{Static, Replies, Encoding, Payload, Depth, Dictionary, Content, Session}
+use Rattle.command_words.specs.declared.option_name.OptionName.TheVariants.{Static, Replies, Via, Mode, Encoding, Payload, Depth, Dictionary, Content, Session}
 use Rattle.command_words.specs.Options.{Given, IsOnce, Text, is_empty, is_option, option_text, value_of}
 
 -- ---- options by their texts
@@ -17,6 +17,8 @@ abbrev pub named : Text → OptionName
 named text =
     if bytes_eq text (codes "static") then Static
     else if bytes_eq text (codes "replies") then Replies
+    else if bytes_eq text (codes "via") then Via
+    else if bytes_eq text (codes "mode") then Mode
     else if bytes_eq text (codes "encoding") then Encoding
     else if bytes_eq text (codes "payload") then Payload
     else if bytes_eq text (codes "depth") then Depth
@@ -27,6 +29,8 @@ named text =
 pub named-option_text : (option : OptionName) → named (option_text option) ≡ option
 named-option_text Static = refl
 named-option_text Replies = refl
+named-option_text Via = refl
+named-option_text Mode = refl
 named-option_text Encoding = refl
 named-option_text Payload = refl
 named-option_text Depth = refl
@@ -34,8 +38,10 @@ named-option_text Dictionary = refl
 named-option_text Content = refl
 named-option_text Session = refl
 
-pub option_text-injective : (one other : OptionName) → option_text one ≡ option_text other → one ≡ other
-option_text-injective one other e = sym (named-option_text one) ∙ ap named e ∙ named-option_text other
+pub option_text-injective : (one other : OptionName) → option_text one ≡ option_text other → one
+    ≡ other
+option_text-injective one other e = sym (named-option_text one) ∙ ap named e ∙ named-option_text
+    other
 
 pub bytes_eq-same : (text : Text) → bytes_eq text text ≡ true
 bytes_eq-same text = (bytes_eq-Decides text text).1 refl
@@ -44,9 +50,11 @@ pub is_option-same : (option : OptionName) → is_option option option ≡ true
 is_option-same option = bytes_eq-same (option_text option)
 
 pub same-is_option : (one other : OptionName) → is_option one other ≡ true → one ≡ other
-same-is_option one other e = option_text-injective one other ((bytes_eq-Decides (option_text one) (option_text other)).0 e)
+same-is_option one other e = option_text-injective one other
+    ((bytes_eq-Decides (option_text one) (option_text other)).0 e)
 
-pub is_option-flips : (one other : OptionName) → is_option one other ≡ false → is_option other one ≡ false
+pub is_option-flips : (one other : OptionName) → is_option one other ≡ false → is_option other one
+    ≡ false
 is_option-flips one other e = go (cases_Bool (is_option other one))
   where
     go : (is_option other one ≡ true) ⊎ (is_option other one ≡ false) → is_option other one ≡ false
@@ -62,15 +70,18 @@ pub IsNew : List Given → List Given → Type 0
 IsNew seen [] = Unit {0}
 IsNew seen (given ∷ more) = (value_of seen given.0 ≡ None) × IsNew (seen ++ given ∷ []) more
 
-pub IsNew-head : (seen : List Given) (given : Given) (more : List Given) → IsNew seen (given ∷ more) → value_of seen given.0 ≡ None
+pub IsNew-head : (seen : List Given) (given : Given) (more : List Given) → IsNew seen (given ∷ more)
+    → value_of seen given.0 ≡ None
 unfolding IsNew
 IsNew-head seen given more new = new.0
 
-pub IsNew-tail : (seen : List Given) (given : Given) (more : List Given) → IsNew seen (given ∷ more) → IsNew (seen ++ given ∷ []) more
+pub IsNew-tail : (seen : List Given) (given : Given) (more : List Given) → IsNew seen (given ∷ more)
+    → IsNew (seen ++ given ∷ []) more
 unfolding IsNew
 IsNew-tail seen given more new = new.1
 
-pub IsNew-cons : (seen : List Given) (given : Given) (more : List Given) → value_of seen given.0 ≡ None → IsNew (seen ++ given ∷ []) more → IsNew seen (given ∷ more)
+pub IsNew-cons : (seen : List Given) (given : Given) (more : List Given) → value_of seen given.0
+    ≡ None → IsNew (seen ++ given ∷ []) more → IsNew seen (given ∷ more)
 unfolding IsNew
 IsNew-cons seen given more first rest = (first, rest)
 
@@ -79,7 +90,8 @@ unfolding IsNew
 IsNew-nil seen = tt
 
 -- one more option leaves no value to another
-value_of-push : (seen : List Given) (given : Given) (option : OptionName) → value_of seen option ≡ None → is_option given.0 option ≡ false
+value_of-push : (seen : List Given) (given : Given) (option : OptionName) → value_of seen option
+    ≡ None → is_option given.0 option ≡ false
     → value_of (seen ++ given ∷ []) option ≡ None
 value_of-push [] given option none other = rw other refl
 value_of-push (one ∷ seen) given option none other =
@@ -88,7 +100,8 @@ value_of-push (one ∷ seen) given option none other =
       | inr different ↦ rw different (value_of-push seen given option (rw different at none) other)
     ]
 
-value_of-front : (seen : List Given) (given : Given) (option : OptionName) → value_of (seen ++ given ∷ []) option ≡ None
+value_of-front : (seen : List Given) (given : Given) (option : OptionName)
+    → value_of (seen ++ given ∷ []) option ≡ None
     → (value_of seen option ≡ None) × (is_option given.0 option ≡ false)
 value_of-front [] given option none =
     elim (cases_Bool (is_option given.0 option)) [
@@ -113,7 +126,8 @@ unfolding AreAbsent
 absent-nil [] = tt
 absent-nil (one ∷ given) = (refl, absent-nil given)
 
-absent-push : (seen : List Given) (one : Given) (given : List Given) → AreAbsent seen given → value_of given one.0 ≡ None → AreAbsent (seen ++ one ∷ []) given
+absent-push : (seen : List Given) (one : Given) (given : List Given) → AreAbsent seen given
+    → value_of given one.0 ≡ None → AreAbsent (seen ++ one ∷ []) given
 unfolding AreAbsent
 absent-push seen one [] absent none = tt
 absent-push seen one (other ∷ given) absent none =
@@ -125,7 +139,8 @@ absent-push seen one (other ∷ given) absent none =
       )
     ]
 
-absent-front : (seen : List Given) (one : Given) (given : List Given) → AreAbsent (seen ++ one ∷ []) given → AreAbsent seen given × (value_of given one.0 ≡ None)
+absent-front : (seen : List Given) (one : Given) (given : List Given) → AreAbsent (seen ++ one ∷ [])
+    given → AreAbsent seen given × (value_of given one.0 ≡ None)
 unfolding AreAbsent
 absent-front seen one [] absent = (tt, refl)
 absent-front seen one (other ∷ given) absent =
@@ -136,8 +151,11 @@ absent-front seen one (other ∷ given) absent =
 new-once : (seen given : List Given) → AreAbsent seen given → IsOnce given → IsNew seen given
 unfolding AreAbsent IsNew
 new-once seen [] absent once = tt
-new-once seen (one ∷ given) absent once =
-    (absent.0, new-once (seen ++ one ∷ []) given (absent-push seen one given absent.1 once.0) once.1)
+new-once seen (one ∷ given) absent once = (
+  absent.0,
+  new-once (seen ++ one ∷ []) given (absent-push seen one given absent.1 once.0)
+      once.1,
+)
 
 once-new : (seen given : List Given) → IsNew seen given → AreAbsent seen given × IsOnce given
 unfolding AreAbsent IsNew

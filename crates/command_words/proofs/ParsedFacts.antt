@@ -19,12 +19,18 @@ use Rattle.command_words.proofs.WordFacts.{long_of-dashed, long_of-joined}
 
 module _ {A : Type 0} where
   -- strings that may each be read
-  pub readable-words : (words : List (String A)) → All (λ word. IsReadable (string_bytes word)) words → AllByRecursion IsReadable (map string_bytes words)
+  pub readable-words : (words : List (String A)) → All (λ word. IsReadable (string_bytes word))
+      words → AllByRecursion IsReadable (map string_bytes words)
   readable-words [] readable = tt
-  readable-words (word ∷ words) readable = (readable 0 word (omega arith), readable-words words (λ k d lt. readable (suc k) d (omega arith)))
+  readable-words (word ∷ words) readable = (
+    readable 0 word (omega arith),
+    readable-words words
+        (λ k d lt. readable (suc k) d (omega arith)),
+  )
 
   -- one string more
-  pub readable-more : (words : List (String A)) (i : ℕ) (word : String A) → ((k : ℕ) (d : String A) → k < i → IsReadable (string_bytes (slice_index_or words k d)))
+  pub readable-more : (words : List (String A)) (i : ℕ) (word : String A)
+      → ((k : ℕ) (d : String A) → k < i → IsReadable (string_bytes (slice_index_or words k d)))
       → i < length words → word ≡ slice_index_or words i word → IsReadable (string_bytes word)
       → (k : ℕ) (d : String A) → k < i + 1 → IsReadable (string_bytes (slice_index_or words k d))
   readable-more words i word before lt at readable k d below =
@@ -32,18 +38,23 @@ module _ {A : Type 0} where
         | inl under ↦ before k d under
         | inr over ↦
             let here : k ≡ i = omega arith in
-            let is : slice_index_or words k d ≡ word = ap (λ n. slice_index_or words n d) here ∙ get_or_default words i d word lt ∙ sym at in
+            let is : slice_index_or words k d ≡ word = ap (λ n. slice_index_or words n d) here ∙
+            get_or_default words i d word lt ∙ sym at in
             subst (λ w. IsReadable (string_bytes w)) (sym is) readable
       ]
 
-  none-of : (words : List (String A)) (k : ℕ) (word : String A) → k < length words → slice_index_or words k word ≡ word → IsLoneHyphens (string_bytes word)
+  none-of : (words : List (String A)) (k : ℕ) (word : String A) → k < length words
+      → slice_index_or words k word ≡ word → IsLoneHyphens (string_bytes word)
       → AllByRecursion (λ w. ¬ IsLoneHyphens w) (map string_bytes words) → ⊥
   none-of [] k word lt at lone none = absurd (omega arith)
-  none-of (one ∷ words) zero word lt at lone none = none.0 (subst (λ w. IsLoneHyphens (string_bytes w)) (sym at) lone)
-  none-of (one ∷ words) (suc k) word lt at lone none = none-of words k word (omega arith) at lone none.1
+  none-of (one ∷ words) zero word lt at lone none = none.0
+      (subst (λ w. IsLoneHyphens (string_bytes w)) (sym at) lone)
+  none-of (one ∷ words) (suc k) word lt at lone none = none-of words k word (omega arith) at lone
+      none.1
 
 -- a word with a name isn't hyphens alone
-long-not_lone : (word : Text) (long : Text × Option Text) → long_of word ≡ Some long → ¬ IsLoneHyphens word
+long-not_lone : (word : Text) (long : Text × Option Text) → long_of word ≡ Some long
+    → ¬ IsLoneHyphens word
 long-not_lone word long is (inl one) = cc (rw one at is)
 long-not_lone word long is (inr two) = cc (rw two at is)
 
@@ -51,18 +62,26 @@ plain-not_lone : (word : Text) → begins_with_hyphen word ≡ false → ¬ IsLo
 plain-not_lone word plain (inl one) = cc (rw one at plain)
 plain-not_lone word plain (inr two) = cc (rw two at plain)
 
-spelled-not_lone : (given : List Given) (words : List Text) → SpellOptions words given → AllByRecursion (λ w. ¬ IsLoneHyphens w) words
+spelled-not_lone : (given : List Given) (words : List Text) → SpellOptions words given
+    → AllByRecursion (λ w. ¬ IsLoneHyphens w) words
 spelled-not_lone [] words none = subst (AllByRecursion (λ w. ¬ IsLoneHyphens w)) (sym none) tt
 spelled-not_lone (one ∷ given) words (rest, inl (is, plain), spelled) =
-    subst (AllByRecursion (λ w. ¬ IsLoneHyphens w)) (sym is)
-    (long-not_lone (dashed one.0) _ (long_of-dashed one.0), (plain-not_lone one.1 plain, spelled-not_lone given rest spelled))
+    subst (AllByRecursion (λ w. ¬ IsLoneHyphens w)) (sym is) (
+      long-not_lone (dashed one.0) _ (long_of-dashed one.0),
+      (plain-not_lone one.1 plain, spelled-not_lone given rest spelled),
+    )
 spelled-not_lone (one ∷ given) words (rest, inr is, spelled) =
-    subst (AllByRecursion (λ w. ¬ IsLoneHyphens w)) (sym is)
-    (long-not_lone (dashed one.0 ++ (codes "=" ++ one.1)) _ (long_of-joined one.0 one.1), spelled-not_lone given rest spelled)
+    subst (AllByRecursion (λ w. ¬ IsLoneHyphens w)) (sym is) (
+      long-not_lone (dashed one.0 ++ (codes "=" ++ one.1)) _ (long_of-joined one.0 one.1),
+      spelled-not_lone given rest spelled,
+    )
 
 -- words among which one is hyphens alone spell no options
-pub lone-refused : {A : Type 0} (words : List (String A)) (given : List Given) → Any (λ word. IsLoneHyphens (string_bytes word)) words → SpellOptions (map string_bytes words) given → ⊥
-lone-refused words given (k, word, lt, at, lone) spelled = none-of words k word lt at lone (spelled-not_lone given (map string_bytes words) spelled)
+pub lone-refused : {A : Type 0} (words : List (String A)) (given : List Given)
+    → Any (λ word. IsLoneHyphens (string_bytes word)) words → SpellOptions (map string_bytes words)
+    given → ⊥
+lone-refused words given (k, word, lt, at, lone) spelled = none-of words k word lt at lone
+    (spelled-not_lone given (map string_bytes words) spelled)
 
 pub memory≢not_understood : Memory ≡ NotUnderstood → ⊥
 memory≢not_understood e = cc e
@@ -70,14 +89,20 @@ memory≢not_understood e = cc e
 -- ---- the command and its options
 
 -- words with a program's name and a command
-pub words-cut : {A : Type 0} (words : List (String A)) (command : String A) → 2 ≤ length words → command ≡ slice_index_or words 1 command
-    → (program : Text) × (map string_bytes words ≡ program ∷ string_bytes command ∷ map string_bytes (take (length words - 2) (drop 2 words)))
+pub words-cut : {A : Type 0} (words : List (String A)) (command : String A) → 2 ≤ length words
+    → command ≡ slice_index_or words 1 command
+    → (program : Text) × (map string_bytes words ≡ program ∷ string_bytes command ∷ map string_bytes
+    (take (length words - 2) (drop 2 words)))
 words-cut [] command some at = absurd (omega arith)
 words-cut (first ∷ []) command some at = absurd (omega arith)
 words-cut (first ∷ second ∷ rest) command some at =
     let all : length (first ∷ second ∷ rest) - 2 ≡ length rest = omega arith in
-    let whole : take (length (first ∷ second ∷ rest) - 2) rest ≡ rest = ap (λ n. take n rest) all ∙ take_all (length rest) rest (omega arith) in
-    (string_bytes first, (λ i. string_bytes first ∷ string_bytes (sym at i) ∷ map string_bytes (sym whole i)))
+    let whole : take (length (first ∷ second ∷ rest) - 2) rest ≡ rest = ap (λ n. take n rest) all ∙
+    take_all (length rest) rest (omega arith) in (
+      string_bytes first,
+      (λ i. string_bytes first ∷ string_bytes (sym at i) ∷ map string_bytes
+          (sym whole i)),
+    )
 
 -- options of which none has an empty value
 pub found-from_taken : (action : Action) (words : List Text) (matches : ArgMatches)

@@ -8,7 +8,7 @@ use Rattle.std.proofs.lemmas.Option.{option_and_then_some}
 use Rattle.std.proofs.lemmas.Slice.Eq.{bytes_eq-Decides}
 use Rattle.clap.proofs.WalkLemmas.{both}
 use Rattle.command_words.specs.declared.action.Action.{Action}
-use Rattle.command_words.specs.declared.action.Action.TheVariants.{Check, Dump}
+use Rattle.command_words.specs.declared.action.Action.TheVariants.{Check, Dump, Build}
 use Rattle.command_words.specs.Commands.{options_of, word_of}
 use Rattle.command_words.specs.Options.{Given, IsOnce, Text, is_empty, is_option, value_of}
 use Rattle.command_words.specs.Requests.{Asked, IsRequest}
@@ -20,11 +20,14 @@ use Rattle.command_words.proofs.SpellFacts.{given_in, given_in-complete, given_i
 
 -- the command that has a word
 abbrev named : Text → Action
-named text = if bytes_eq text (codes "check") then Check else Dump
+named text =
+    if bytes_eq text (codes "check") then Check
+    else if bytes_eq text (codes "dump") then Dump else Build
 
 named-word_of : (action : Action) → named (word_of action) ≡ action
 named-word_of Check = refl
 named-word_of Dump = refl
+named-word_of Build = refl
 
 pub word_of-injective : (one other : Action) → word_of one ≡ word_of other → one ≡ other
 word_of-injective one other e =

@@ -71,7 +71,8 @@ Rests seen (naming name) = ⊥
 -- the state is that of known options
 abbrev pub Fits : List OptionName → State → Type 0
 Fits options resting = Unit {0}
-Fits options (holding given) = (list_any (is_option given.0) options ≡ true) × (begins_with_hyphen given.1 ≡ false)
+Fits options (holding given) = (list_any (is_option given.0) options ≡ true)
+    × (begins_with_hyphen given.1 ≡ false)
 Fits options (naming name) = list_any (is_option name) options ≡ true
 
 pub none-from_is_some : (value : Option Text) → is_some value ≡ false → value ≡ None
@@ -81,26 +82,34 @@ none-from_is_some (Some text) e = cc e
 module _ (options : List OptionName) where
   -- ---- settling
 
-  pub settle-rests : (seen : List Given) (state : State) → Fits options state → settle_fault (built_rules options) false (held_at seen state) ≡ [] → Rests seen state
+  pub settle-rests : (seen : List Given) (state : State) → Fits options state
+      → settle_fault (built_rules options) false (held_at seen state) ≡ [] → Rests seen state
   settle-rests seen resting fits e = tt
   settle-rests seen (holding given) fits e =
       let used = rw (arg_by_id-known options given.0 fits.0) at e in
       elim (cases_Bool (has_row (option_text given.0) (map row_for seen))) [
         | inl there ↦ cc (rw there at used)
-        | inr missing ↦ none-from_is_some (value_of seen given.0) (sym (has_row-given seen given.0) ∙ missing)
+        | inr missing ↦ none-from_is_some (value_of seen given.0)
+            (sym (has_row-given seen given.0) ∙ missing)
       ]
   settle-rests seen (naming name) fits e = cc (rw (arg_by_id-known options name fits) at e)
 
-  pub missing_row : (seen : List Given) (name : OptionName) → value_of seen name ≡ None → has_row (option_text name) (map row_for seen) ≡ false
+  pub missing_row : (seen : List Given) (name : OptionName) → value_of seen name ≡ None
+      → has_row (option_text name) (map row_for seen) ≡ false
   missing_row seen name new = has_row-given seen name ∙ ap is_some new
 
-  pub rests-settle : (seen : List Given) (state : State) → Fits options state → Rests seen state → settle_fault (built_rules options) false (held_at seen state) ≡ []
+  pub rests-settle : (seen : List Given) (state : State) → Fits options state → Rests seen state
+      → settle_fault (built_rules options) false (held_at seen state) ≡ []
   rests-settle seen resting fits rests = refl
-  rests-settle seen (holding given) fits rests = rw (arg_by_id-known options given.0 fits.0, missing_row seen given.0 rests) refl
+  rests-settle seen (holding given) fits rests =
+      rw (arg_by_id-known options given.0 fits.0, missing_row seen given.0 rests) refl
   rests-settle seen (naming name) fits rests = absurd rests
 
-  pub settled_rows-whole : (seen : List Given) (state : State) → Fits options state → Rests seen state
-      → settled_rows (built_rules options) (pending_of state) (map row_for seen) ≡ map row_for (whole seen state)
+  pub settled_rows-whole : (seen : List Given) (state : State) → Fits options state
+      → Rests seen state
+      → settled_rows (built_rules options) (pending_of state) (map row_for seen)
+      ≡ map row_for (whole seen state)
   settled_rows-whole seen resting fits rests = refl
-  settled_rows-whole seen (holding given) fits rests = rw (arg_by_id-known options given.0 fits.0) (used-new seen given rests)
+  settled_rows-whole seen (holding given) fits rests = rw (arg_by_id-known options given.0 fits.0)
+      (used-new seen given rests)
   settled_rows-whole seen (naming name) fits rests = absurd rests

@@ -5,7 +5,9 @@ use Rattle.std.specs.Prelude.{if◌then◌else◌}
 use Rattle.std.specs.Fmt.{digits}
 use Rattle.std.specs.List.{AllByRecursion}
 use Rattle.nbfx_values.specs.Limits.{Limits, limits, usual_limits}
+use Rattle.nbfx_values.specs.declared.session.Kind.{Kind}
 use Rattle.nbfx_values.specs.declared.session.Kind.TheVariants.{Plain, Session}
+use Rattle.nbfx_values.specs.declared.session.Mode.{Mode}
 use Rattle.nbfx_values.specs.declared.session.Mode.TheVariants.{Singleton, Duplex, Simplex}
 use Rattle.command_words.specs.declared.task.Detail.{Detail}
 use Rattle.command_words.specs.declared.task.Detail.TheVariants.{Summary, Whole}
@@ -13,7 +15,7 @@ use Rattle.command_words.specs.declared.task.Origin.{Origin}
 use Rattle.command_words.specs.declared.task.Origin.TheVariants.{Initiator, Receiver}
 use Rattle.command_words.specs.Options.{Text}
 use Rattle.command_words.specs.Requests.{Asked, IsRequest}
-use Rattle.command_words.specs.Tasks.{Task, report}
+use Rattle.command_words.specs.Tasks.{Opening, Task, report, build}
 use Rattle.command_words.proofs.RequestFacts.{request_in, request-complete, request-sound}
 
 -- the words of a line, the first of which has begun
@@ -145,6 +147,31 @@ are_replies : AreRequests replies
 unfolding digits
 are_replies = are-requests replies refl
 
+-- the session that documents are written as
+abbrev opening : Text → Mode → Kind → Opening
+opening via mode kind = record { via = via; mode = mode; kind = kind }
+
+abbrev written : Text → Mode → Kind → Asked
+written via mode kind = asks (codes "S") usual_limits (build (opening via mode kind))
+
+abbrev builds : List Row
+builds = (
+  codes "x build --static S --via net.tcp://h/e",
+  written (codes "net.tcp://h/e") Duplex Session,
+) ∷
+    (codes "x build --via=a=b --mode simplex --static=S", written (codes "a=b") Simplex Session) ∷ (
+      codes "x build --encoding 7 --static S --mode=singleton --via V",
+      written (codes "V") Singleton Plain,
+    ) ∷ (
+      codes "x build --encoding=8 --via=- --mode=duplex --static S",
+      written (codes "-") Duplex Session,
+    ) ∷
+    []
+
+are_builds : AreRequests builds
+unfolding digits
+are_builds = are-requests builds refl
+
 -- ---- none
 
 -- no command, or another word in its place
@@ -252,3 +279,23 @@ no_mode_or_encoding =
 no_mode_or_encoding_is : AreRefused no_mode_or_encoding
 unfolding digits
 no_mode_or_encoding_is = are-refused no_mode_or_encoding refl
+
+-- documents can't be written so
+abbrev no_builds : List Text
+no_builds =
+    codes "x build --static S" ∷
+    codes "x build --via V" ∷
+    codes "x build --static S --via=" ∷
+    codes "x build --static S --via -" ∷
+    codes "x build --static S --via V --via=V" ∷
+    codes "x build --static S --via V --mode full" ∷
+    codes "x build --static S --via V --mode=" ∷
+    codes "x build --static S --via V --encoding 3" ∷
+    codes "x build --static S --via V --replies duplex" ∷
+    codes "x check --static S --via V" ∷
+    codes "x dump --static S --mode duplex" ∷
+    []
+
+no_builds_is : AreRefused no_builds
+unfolding digits
+no_builds_is = are-refused no_builds refl

@@ -1,14 +1,15 @@
 -- The commands: the word of each, and its options.
 use Rattle.std.specs.Prelude.{List, [], ◌∷◌, codes}
 use Rattle.command_words.specs.declared.action.Action.{Action}
-use Rattle.command_words.specs.declared.action.Action.TheVariants.{Check, Dump}
+use Rattle.command_words.specs.declared.action.Action.TheVariants.{Check, Dump, Build}
 use Rattle.command_words.specs.declared.option_name.OptionName.{OptionName}
-use Rattle.command_words.specs.declared.option_name.OptionName.TheVariants.{Static, Replies, Encoding, Payload, Depth, Dictionary, Content, Session}
+use Rattle.command_words.specs.declared.option_name.OptionName.TheVariants.{Static, Replies, Via, Mode, Encoding, Payload, Depth, Dictionary, Content, Session}
 use Rattle.command_words.specs.Options.{Text}
 
 abbrev pub word_of : Action → Text
 word_of Check = codes "check"
 word_of Dump = codes "dump"
+word_of Build = codes "build"
 
 -- the options of every command
 abbrev pub common_options : List OptionName
@@ -17,3 +18,4 @@ common_options = Static ∷ Payload ∷ Depth ∷ Dictionary ∷ Content ∷ Ses
 abbrev pub options_of : Action → List OptionName
 options_of Check = Replies ∷ Encoding ∷ common_options
 options_of Dump = Replies ∷ Encoding ∷ common_options
+options_of Build = Via ∷ Mode ∷ Encoding ∷ common_options

@@ -4,7 +4,7 @@ use Rattle.std.specs.Prelude.{◌≡◌, ◌⊎◌, ℕ, Bool, false, true, not,
 use Rattle.std.specs.List.{list_all}
 use Rattle.std.specs.Str.{bytes_eq}
 use Rattle.command_words.specs.declared.option_name.OptionName.{OptionName}
-use Rattle.command_words.specs.declared.option_name.OptionName.TheVariants.{Static, Replies, Encoding, Payload, Depth, Dictionary, Content, Session}
+use Rattle.command_words.specs.declared.option_name.OptionName.TheVariants.{Static, Replies, Via, Mode, Encoding, Payload, Depth, Dictionary, Content, Session}
 
 abbrev pub Text : Type 0
 Text = List ℕ
@@ -13,6 +13,8 @@ Text = List ℕ
 abbrev pub option_text : OptionName → Text
 option_text Static = codes "static"
 option_text Replies = codes "replies"
+option_text Via = codes "via"
+option_text Mode = codes "mode"
 option_text Encoding = codes "encoding"
 option_text Payload = codes "payload"
 option_text Depth = codes "depth"

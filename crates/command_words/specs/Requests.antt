@@ -1,21 +1,21 @@
 -- What the values of options mean, and the words of a request.
-use Rattle.std.specs.Prelude.{◌≡◌, ℕ, ◌*◌, max, IsTrue, List, ◌∷◌, Option, Some, None}
+use Rattle.std.specs.Prelude.{◌≡◌, ◌≤◌, ℕ, ◌*◌, length, max, IsTrue, List, ◌∷◌, Option, Some, None}
 use Rattle.std.specs.List.{list_all, list_any}
 use Rattle.nbfx_values.specs.Limits.{IsGood, Limits, usual_limits}
 use Rattle.nbfx_values.specs.declared.session.Kind.{Kind}
 use Rattle.nbfx_values.specs.declared.session.Mode.{Mode}
 use Rattle.command_words.specs.declared.action.Action.{Action}
-use Rattle.command_words.specs.declared.action.Action.TheVariants.{Check, Dump}
+use Rattle.command_words.specs.declared.action.Action.TheVariants.{Check, Dump, Build}
 use Rattle.command_words.specs.declared.option_name.OptionName.{OptionName}
-use Rattle.command_words.specs.declared.option_name.OptionName.TheVariants.{Static, Replies, Encoding, Payload, Depth, Dictionary, Content, Session}
+use Rattle.command_words.specs.declared.option_name.OptionName.TheVariants.{Static, Replies, Via, Mode as ModeOption, Encoding, Payload, Depth, Dictionary, Content, Session}
 use Rattle.command_words.specs.declared.task.Detail.{Detail}
 use Rattle.command_words.specs.declared.task.Detail.TheVariants.{Summary, Whole}
 use Rattle.command_words.specs.declared.task.Origin.{Origin}
 use Rattle.command_words.specs.declared.task.Origin.TheVariants.{Initiator, Receiver}
 use Rattle.command_words.specs.Options.{Given, HaveValues, IsOnce, SpellOptions, Text, is_option, value_of}
 use Rattle.command_words.specs.Commands.{options_of, word_of}
-use Rattle.command_words.specs.Tasks.{Task, report}
-use Rattle.command_words.specs.Values.{IsKind, IsNumber, mode_name}
+use Rattle.command_words.specs.Tasks.{Opening, Task, report, build}
+use Rattle.command_words.specs.Values.{IsKind, IsMode, IsNumber, mode_name}
 
 -- what words ask for: what every command is told, and what is to be done
 pub record Asked : Type 0 where
@@ -58,10 +58,24 @@ pub record AskToReport (detail : Detail) (value : Values) (task : Task) : Type 0
   pub replies : IsOrigin (value Replies) kind origin
   pub is : task ≡ report detail origin
 
+-- the values say what a session is opened with
+pub record IsOpening (value : Values) (opening : Opening) : Type 0 where
+  pub via : value Via ≡ Some opening.via
+  pub short : length opening.via ≤ usual_limits.via
+  pub mode : IsMode (value ModeOption) opening.mode
+  pub kind : IsKind (value Encoding) opening.kind
+
+-- the values ask for documents to be written
+pub record AskToBuild (value : Values) (task : Task) : Type 0 where
+  pub opening : Opening
+  pub opens : IsOpening value opening
+  pub is : task ≡ build opening
+
 -- what the values ask of each command
 abbrev pub AskForTask : Action → Values → Task → Type 0
 AskForTask Check value task = AskToReport Summary value task
 AskForTask Dump value task = AskToReport Whole value task
+AskForTask Build value task = AskToBuild value task
 
 -- what they ask for, beside the command
 pub record AskFor (action : Action) (value : Values) (asked : Asked) : Type 0 where

@@ -22,6 +22,10 @@ mode_name Duplex = codes "duplex"
 mode_name Simplex = codes "simplex"
 mode_name Singleton = codes "singleton"
 
+-- the mode that a value names, or duplex where there is no value
+abbrev pub IsMode : Option Text → Mode → Type 0
+IsMode value mode = IsWritten mode_name Duplex value mode
+
 -- the number of an encoding
 abbrev pub kind_text : Kind → Text
 kind_text kind = decimal (kind_number kind)

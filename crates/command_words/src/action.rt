@@ -11,18 +11,28 @@ pub enum Action {
     Check,
     /// Reads a stream, reports it, and prints its documents.
     Dump,
+    /// Writes documents as a session.
+    Build,
 }
 
-static READING: [OptionName; 8] = [
-    OptionName::Replies,
-    OptionName::Encoding,
-    OptionName::Static,
-    OptionName::Payload,
-    OptionName::Depth,
-    OptionName::Dictionary,
-    OptionName::Content,
-    OptionName::Session,
-];
+// The options of a command: its own, and then those of every command.
+macro_rules! options {
+    ($($own:ident),+) => {
+        [
+            $(OptionName::$own,)+
+            OptionName::Static,
+            OptionName::Payload,
+            OptionName::Depth,
+            OptionName::Dictionary,
+            OptionName::Content,
+            OptionName::Session,
+        ]
+    };
+}
+
+static READING: [OptionName; 8] = options![Replies, Encoding];
+
+static BUILDING: [OptionName; 9] = options![Via, Mode, Encoding];
 
 /// The command that a word names.
 pub fn action_of(word: &str) -> Option<Action>
@@ -32,6 +42,7 @@ pub fn action_of(word: &str) -> Option<Action>
     match word {
         "check" => Some(Action::Check),
         "dump" => Some(Action::Dump),
+        "build" => Some(Action::Build),
         _ => None,
     }
 }
@@ -43,6 +54,7 @@ pub fn word_of(action: Action) -> &'static str
     match action {
         Action::Check => "check",
         Action::Dump => "dump",
+        Action::Build => "build",
     }
 }
 
@@ -52,5 +64,6 @@ pub fn options_of(action: Action) -> &'static [OptionName]
 {
     match action {
         Action::Check | Action::Dump => READING.as_slice(),
+        Action::Build => BUILDING.as_slice(),
     }
 }

@@ -1,22 +1,22 @@
 // What the values of options mean.
-ghost use Rattle.std.specs.Prelude.{◌≡◌, IfNone, IfSome};
+ghost use Rattle.std.specs.Prelude.{◌≡◌, ◌≤◌, ◌↔◌, IfNone, IfSome, IsTrue, length};
 ghost use Rattle.clap.specs.declared.parser.matches.ArgMatches.{ArgMatches};
-ghost use Rattle.nbfx_values.specs.Limits.{IsGood, Limits};
+ghost use Rattle.nbfx_values.specs.Limits.{usual_limits};
 ghost use Rattle.nbfx_values.specs.QuotasOf.{limits_of};
 ghost use Rattle.command_words.specs.Reading.{found_values, text_behind};
-ghost use Rattle.command_words.specs.Asking.{asked_of, task_of};
-ghost use Rattle.command_words.specs.Requests.{AreLimits, AskFor, AskForTask, AskToReport, Asked, IsOrigin};
-ghost use Rattle.command_words.specs.Tasks.{Task as AskedTask};
+ghost use Rattle.command_words.specs.Asking.{asked_of, opening_of, task_of};
+ghost use Rattle.command_words.specs.Requests.{AreLimits, AskFor, AskForTask, AskToBuild, AskToReport, Asked, IsOpening, IsOrigin};
+ghost use Rattle.command_words.specs.Tasks.{Opening as AskedOpening, Task as AskedTask};
 
 use crate::action::Action;
-use crate::naming::{kind_in, mode_named};
+use crate::naming::{kind_in, mode_in, mode_named};
 use crate::option_name::OptionName;
 use crate::parsed::value_of;
 use crate::quotas::quotas_of;
 use crate::request::Request;
-use crate::task::{Detail, Origin, Task};
+use crate::task::{Detail, Opening, Origin, Task};
 use clap::ArgMatches;
-use nbfx_values::Kind;
+use nbfx_values::{Kind, Quotas};
 
 // The end whose stream the values ask for.
 fn origin_in(replies: Option<&str>, kind: Kind) -> Option<Origin>
@@ -32,7 +32,7 @@ fn origin_in(replies: Option<&str>, kind: Kind) -> Option<Origin>
 }
 
 // The report that the values ask for.
-fn report_in(detail: Detail, matches: &ArgMatches<'_>) -> Option<Task>
+fn report_in<'w>(detail: Detail, matches: &ArgMatches<'w>) -> Option<Task<'w>>
     ensures meant { IfSome result
         (λ task. AskToReport detail (found_values matches.now) (task_of task)) }
     ensures none { IfNone result ((task : AskedTask)
@@ -43,8 +43,40 @@ fn report_in(detail: Detail, matches: &ArgMatches<'_>) -> Option<Task>
     Some(Task::Report { detail, origin })
 }
 
+// Whether a Via is within its quota.
+fn is_short(via: &str) -> bool
+    ensures { IsTrue result ↔ (length via.now ≤ usual_limits.via) }
+{
+    via.len() <= Quotas::usual().via as usize
+}
+
+// What the values open a session with.
+fn opening_in<'w>(matches: &ArgMatches<'w>) -> Option<Opening<'w>>
+    ensures opens { IfSome result
+        (λ opening. IsOpening (found_values matches.now) (opening_of opening)) }
+    ensures none { IfNone result ((opening : AskedOpening)
+        → ¬ IsOpening (found_values matches.now) opening) }
+{
+    let via = value_of(matches, OptionName::Via)?;
+    if !is_short(via) {
+        return None;
+    }
+    let mode = mode_in(value_of(matches, OptionName::Mode))?;
+    let kind = kind_in(value_of(matches, OptionName::Encoding))?;
+    Some(Opening { via, mode, kind })
+}
+
+// The writing of a session that the values ask for.
+fn build_in<'w>(matches: &ArgMatches<'w>) -> Option<Task<'w>>
+    ensures meant { IfSome result (λ task. AskToBuild (found_values matches.now) (task_of task)) }
+    ensures none { IfNone result ((task : AskedTask)
+        → ¬ AskToBuild (found_values matches.now) task) }
+{
+    Some(Task::Build(opening_in(matches)?))
+}
+
 // What the values ask a command to do.
-fn task_in(action: Action, matches: &ArgMatches<'_>) -> Option<Task>
+fn task_in<'w>(action: Action, matches: &ArgMatches<'w>) -> Option<Task<'w>>
     ensures meant { IfSome result
         (λ task. AskForTask action (found_values matches.now) (task_of task)) }
     ensures none { IfNone result ((task : AskedTask)
@@ -53,6 +85,7 @@ fn task_in(action: Action, matches: &ArgMatches<'_>) -> Option<Task>
     match action {
         Action::Check => report_in(Detail::Summary, matches),
         Action::Dump => report_in(Detail::Whole, matches),
+        Action::Build => build_in(matches),
     }
 }
 

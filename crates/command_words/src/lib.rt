@@ -14,7 +14,8 @@
 //!
 //! `check` and `dump` have `--replies` with a mode, where a receiver's stream is read, and
 //! `--encoding` with 7 or 8, which is 8 where it is missing, and has no effect on an initiator's
-//! stream, whose own records name one.
+//! stream, whose own records name one. `build` has `--via`, which has to be there and is of at most
+//! 2,048 bytes, `--mode` with a mode, which is duplex where it is missing, and `--encoding`.
 //!
 //! `read` answers the one request that the words are, or that they are none. The definitions don't
 //! speak of how words are read: `specs/Options` has the options and the two ways to spell one,
@@ -38,7 +39,7 @@ mod task;
 mod words;
 
 pub use request::Request;
-pub use task::{Detail, Origin, Task};
+pub use task::{Detail, Opening, Origin, Task};
 pub use words::{WordsFault, read};
 
 #[cfg(test)]

@@ -1,7 +1,7 @@
 // The modes and encodings that values name.
 ghost use Rattle.std.specs.Prelude.{◌≡◌, ◌≢◌, IfNone, IfSome};
 ghost use Rattle.command_words.specs.Reading.{text_behind};
-ghost use Rattle.command_words.specs.Values.{IsKind, kind_text, mode_name};
+ghost use Rattle.command_words.specs.Values.{IsKind, IsMode, kind_text, mode_name};
 
 use nbfx_values::{Kind, Mode};
 
@@ -15,6 +15,17 @@ pub fn mode_named(name: &str) -> Option<Mode>
         "simplex" => Some(Mode::Simplex),
         "singleton" => Some(Mode::Singleton),
         _ => None,
+    }
+}
+
+/// The mode that a value names, or duplex where there is no value.
+pub fn mode_in(value: Option<&str>) -> Option<Mode>
+    ensures named { IfSome result (IsMode (text_behind value.entry)) }
+    ensures none { IfNone result ((mode : Mode) → ¬ IsMode (text_behind value.entry) mode) }
+{
+    match value {
+        Some(name) => mode_named(name),
+        None => Some(Mode::Duplex),
     }
 }
 

@@ -9,6 +9,10 @@ pub enum OptionName {
     Static,
     /// The mode of a session whose replies are read.
     Replies,
+    /// The Via of a session that is opened.
+    Via,
+    /// The mode of a session that is opened.
+    Mode,
     /// The encoding of a session's envelopes.
     Encoding,
     /// The greatest payload.
@@ -30,6 +34,8 @@ pub fn option_text(option: OptionName) -> &'static str
     match option {
         OptionName::Static => "static",
         OptionName::Replies => "replies",
+        OptionName::Via => "via",
+        OptionName::Mode => "mode",
         OptionName::Encoding => "encoding",
         OptionName::Payload => "payload",
         OptionName::Depth => "depth",

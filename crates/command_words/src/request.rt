@@ -11,5 +11,5 @@ pub struct Request<'w> {
     /// What the command admits.
     pub quotas: Quotas,
     /// What it is to do.
-    pub task: Task,
+    pub task: Task<'w>,
 }

@@ -20,9 +20,20 @@ pub enum Origin {
     Receiver { mode: Mode, kind: Kind },
 }
 
+/// What an initiator opens a session with.
+#[derive(Clone, Copy, Debug, PartialEq, Eq)]
+pub struct Opening<'w> {
+    /// The Via, of at most 2,048 bytes.
+    pub via: &'w str,
+    pub mode: Mode,
+    pub kind: Kind,
+}
+
 /// What a command is to do.
 #[derive(Clone, Copy, Debug, PartialEq, Eq)]
-pub enum Task {
+pub enum Task<'w> {
     /// To read a stream and report it: `check`, and `dump` with the documents.
     Report { detail: Detail, origin: Origin },
+    /// To write documents as an initiator's session: `build`.
+    Build(Opening<'w>),
 }

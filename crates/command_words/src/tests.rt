@@ -1,5 +1,5 @@
 // Words of each form and of none, with ample memory.
-use crate::{Detail, Origin, Request, Task, WordsFault, read};
+use crate::{Detail, Opening, Origin, Request, Task, WordsFault, read};
 use nbfx_values::{Kind, Mode, Quotas};
 use std::alloc::{AllocError, Global};
 use std::process::Abort;
@@ -106,7 +106,9 @@ fn origin_of(alloc: Global, options: &[&str]) -> Result<Option<Origin>, Fail> {
     }
     match read(alloc, words.as_slice()) {
         Ok(request) => {
-            let Task::Report { origin, .. } = request.task;
+            let Task::Report { origin, .. } = request.task else {
+                return Ok(None);
+            };
             Ok(Some(origin))
         }
         Err(WordsFault::NotUnderstood) => Ok(None),
@@ -140,6 +142,67 @@ fn origins(rt: HostRuntime) -> Result<(), Fail> {
         (["--replies=duplex", "--encoding=07"], None),
     ] {
         assert_eq!(rt; origin_of(alloc, options.as_slice())?, origin);
+    }
+    Ok(())
+}
+
+// What a `build` with these options opens a session with.
+fn assert_opens(
+    rt: &impl Abort,
+    alloc: Global,
+    options: &[&str],
+    opening: Opening,
+) -> Result<(), Fail> {
+    let mut words = words_of(alloc, &["nettcp", "build", "--static=a"])?;
+    for option in options {
+        words.push(String::from_str(alloc, *option)?)?;
+    }
+    assert!(rt; read(alloc, words.as_slice())?.task == Task::Build(opening));
+    Ok(())
+}
+
+#[test]
+fn openings(rt: HostRuntime) -> Result<(), Fail> {
+    let alloc = rt.alloc();
+    for (options, mode, kind) in [
+        (["--via", "net.tcp://h/e"], Mode::Duplex, Kind::Session),
+        (
+            ["--via=net.tcp://h/e", "--mode=simplex"],
+            Mode::Simplex,
+            Kind::Session,
+        ),
+        (
+            ["--encoding=7", "--via=net.tcp://h/e"],
+            Mode::Duplex,
+            Kind::Plain,
+        ),
+    ] {
+        let via = "net.tcp://h/e";
+        assert_opens(&rt, alloc, options.as_slice(), Opening { via, mode, kind })?;
+    }
+    Ok(())
+}
+
+// Whether a Via of so many bytes is taken.
+fn takes_via(alloc: Global, length: usize) -> Result<bool, Fail> {
+    let mut option = String::from_str(alloc, "--via=")?;
+    for _ in 0..length {
+        option.push('v')?;
+    }
+    let mut words = words_of(alloc, &["nettcp", "build", "--static=a"])?;
+    words.push(option)?;
+    match read(alloc, words.as_slice()) {
+        Ok(_) => Ok(true),
+        Err(WordsFault::NotUnderstood) => Ok(false),
+        Err(fault) => Err(Fail::from(fault)),
+    }
+}
+
+#[test]
+fn lengths_of_vias(rt: HostRuntime) -> Result<(), Fail> {
+    let alloc = rt.alloc();
+    for (length, is_taken) in [(0, false), (1, true), (2_048, true), (2_049, false)] {
+        assert_eq!(rt; takes_via(alloc, length)?, is_taken);
     }
     Ok(())
 }

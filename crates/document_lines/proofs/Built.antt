@@ -24,24 +24,24 @@ use Rattle.document_lines.specs.declared.InputFault.{InputFault}
 use Rattle.document_lines.proofs.Lines.{readable, cut_line}
 
 -- a reader of lines that hasn't failed
-abbrev IsGoing : Standing → Type 0
+abbrev pub IsGoing : Standing → Type 0
 IsGoing (failed fault) = ⊥
 IsGoing (going n items array) = Unit {0}
 
 -- what is written of the documents of units
 module _ (x : Settings) where
-  abbrev g : Grammar Situation (List ℕ) (List ℕ) InputFault
+  abbrev pub g : Grammar Situation (List ℕ) (List ℕ) InputFault
   g = lines_of_documents x
 
-  abbrev lines_of : List (Counted (List ℕ)) → List (List ℕ)
+  abbrev pub lines_of : List (Counted (List ℕ)) → List (List ℕ)
   lines_of units = map (λ (one : Counted (List ℕ)). one.unit) units
 
   -- the envelopes that events bring
-  abbrev joined : List (List ℕ) → List ℕ
+  abbrev pub joined : List (List ℕ) → List ℕ
   joined es = flat_map (λ e. e) es
 
   -- the lines bring documents, whose envelopes are the events
-  abbrev Writes : Situation → ℕ → List (Counted (List ℕ)) → Situation → Type 0
+  abbrev pub Writes : Situation → ℕ → List (Counted (List ℕ)) → Situation → Type 0
   Writes z from units z' =
       envelopes_from x.limits x.kind x.mode z.table z.documents
       (documents_from z.lines (lines_of units)) ≡ Ok (
@@ -50,7 +50,7 @@ module _ (x : Settings) where
       )
 
   -- what lines have left
-  abbrev at : Standing → StringTable → ℕ → Situation
+  abbrev pub at : Standing → StringTable → ℕ → Situation
   at lines table k = record { lines = lines; table = table; documents = k }
 
   -- after the document that a line completes
@@ -58,7 +58,7 @@ module _ (x : Settings) where
   behind n table k v = at (going n [] None) (table_of x table v) (k + 1)
 
   -- what is known of the units after a line
-  abbrev Later : List (Counted (List ℕ)) → ℕ → List ℕ → Situation → List ℕ → Type 0
+  abbrev pub Later : List (Counted (List ℕ)) → ℕ → List ℕ → Situation → List ℕ → Type 0
   Later units from bytes z' rest = (lines : Standing) (table : StringTable) (k : ℕ) → IsGoing lines
       → UnitsLead g (at lines table k) from units bytes z' rest → Writes (at lines table k) from
       units z'
@@ -101,7 +101,7 @@ module _ (x : Settings) where
       from units bytes z' rest later (payload_at x (at lines table k) doc) none l
   leads n lines table k from units bytes z' rest later (Err kind) none l = cc
 
-  walk : (units : List (Counted (List ℕ))) (from : ℕ) (bytes : List ℕ) (z' : Situation)
+  pub walk : (units : List (Counted (List ℕ))) (from : ℕ) (bytes : List ℕ) (z' : Situation)
       (rest : List ℕ) → Later units from bytes z' rest
   unfolding UnitsLead events_along
   walk [] from bytes z' rest lines table k on_way l = ap (λ (z : Situation). Ok ([], z.table)) l.0
@@ -112,7 +112,7 @@ module _ (x : Settings) where
       (outcome items array one.unit) l.1 l.2
 
   -- the units are the lines of the bytes
-  cuts : (units : List (Counted (List ℕ))) (z : Situation) (from : ℕ) (bytes : List ℕ)
+  pub cuts : (units : List (Counted (List ℕ))) (z : Situation) (from : ℕ) (bytes : List ℕ)
       (z' : Situation) (rest : List ℕ) → UnitsLead g z from units bytes z' rest
       → cut bytes ≡ (lines_of units ++ (cut rest).0, (cut rest).1)
   unfolding UnitsLead

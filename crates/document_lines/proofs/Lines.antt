@@ -1,16 +1,15 @@
 -- A line is known by its own bytes, and input by the session quota has an end.
-use Rattle.std.proofs.Common.{◌≡◌, ℕ, suc, ◌+◌, ◌≤◌, ◌⊎◌, inl, inr, List, [], ◌∷◌, ◌++◌, length, drop, Bool, true, false, Option, Some, None, refl, sym, ap, ◌∙◌, arith}
+use Rattle.std.proofs.Common.{◌≡◌, ℕ, suc, ◌+◌, ◌<◌, ◌≤◌, ◌⊎◌, inl, inr, List, [], ◌∷◌, ◌++◌, length, drop, Bool, true, false, Option, Some, None, refl, sym, ap, ◌∙◌, arith}
 use Rattle.std.specs.Prelude.{◌==◌, nat_le, if◌then◌else◌}
-use Rattle.std.specs.Option.{option_or}
-use Rattle.std.proofs.lemmas.Bool.{leb-false, lt-leb}
-use Rattle.unit_streams.specs.Front.{Front, begun, whole, wrong, wrong_of}
-use Rattle.unit_streams.specs.Grammar.{IsReadable, next_unit, standing}
-use Rattle.unit_streams.specs.Judging.{given_at, refusal_at}
+use Rattle.std.proofs.lemmas.Bool.{leb-false, le-leb, lt-leb}
+use Rattle.unit_streams.specs.Front.{Front, begun, whole, wrong}
+use Rattle.unit_streams.specs.Grammar.{IsReadable, standing}
+use Rattle.unit_streams.specs.Judging.{refusal_at}
 use Rattle.unit_streams.proofs.Peeling.{extent, peels_front}
 use Rattle.unit_streams.proofs.Passing.{going_at, going_refusal, refusal_from}
 use Rattle.unit_streams.proofs.Pending.{pending_unrefused}
 use Rattle.unit_streams.proofs.Standing.{standing_nothing}
-use Rattle.line_notation.specs.Lines.{cut, cut_before}
+use Rattle.line_notation.specs.Lines.{cut, cut_before, has_no_feed}
 use Rattle.document_lines.specs.Input.{Settings, with_byte, line_at, lines_of_documents}
 use Rattle.document_lines.specs.Laws.{InputIsClosed, InputMayBegin, InputIsBounded}
 use Rattle.document_lines.specs.declared.InputFault.{InputFault}
@@ -140,6 +139,38 @@ cut_line (b ∷ bytes) line n e = by_feed (cut_line bytes) (b == 10) refl where
       ∙ ap (λ l. and_more l (suc v.1) (b ∷ bytes)) (sym v.3)
       ∙ ap (λ m. and_more line m (b ∷ bytes)) (sym v.4)
 
+-- a line that has begun has no line feed
+pub begun_no_feed : (b : List ℕ) → line_at b ≡ begun → has_no_feed b ≡ true
+begun_no_feed [] e = refl
+begun_no_feed (c ∷ b) e = by_feed (begun_no_feed b) (c == 10) refl e where
+  by_feed : (line_at b ≡ begun → has_no_feed b ≡ true) → (v : Bool) → (c == 10) ≡ v
+      → line_at (c ∷ b) ≡ begun → has_no_feed (c ∷ b) ≡ true
+  by_feed more true is e = absurd (let h = sym (feed_line c b is) ∙ e in cc)
+  by_feed more false is e =
+      rw is (more (longer_begun c (line_at b) (sym (other_line c b is) ∙ e)))
+
+-- bytes without one begin a line
+pub no_feed_begun : (b : List ℕ) → has_no_feed b ≡ true → line_at b ≡ begun
+no_feed_begun [] e = refl
+no_feed_begun (c ∷ b) e = by_feed (no_feed_begun b) (c == 10) refl e where
+  by_feed : (has_no_feed b ≡ true → line_at b ≡ begun) → (v : Bool) → (c == 10) ≡ v
+      → has_no_feed (c ∷ b) ≡ true → line_at (c ∷ b) ≡ begun
+  by_feed more true is e = absurd (let h = rw is at e in cc)
+  by_feed more false is e = other_line c b is ∙ ap (with_byte c) (more (rw is at e))
+
+-- up to the first they are one
+pub feed_whole : (a rest : List ℕ) → has_no_feed a ≡ true
+    → line_at (a ++ 10 ∷ rest) ≡ whole a (length a + 1)
+feed_whole [] rest e = refl
+feed_whole (c ∷ a) rest e = by_feed (feed_whole a rest) (c == 10) refl e where
+  by_feed : (has_no_feed a ≡ true → line_at (a ++ 10 ∷ rest) ≡ whole a (length a + 1)) → (v : Bool)
+      → (c == 10) ≡ v → has_no_feed (c ∷ a) ≡ true
+      → line_at ((c ∷ a) ++ 10 ∷ rest) ≡ whole (c ∷ a) (length (c ∷ a) + 1)
+  by_feed more true is e = absurd (let h = rw is at e in cc)
+  by_feed more false is e =
+      other_line c (a ++ 10 ∷ rest) is ∙ ap (with_byte c) (more (rw is at e))
+      ∙ ap (whole (c ∷ a)) (omega arith)
+
 -- input of no bytes isn't refused
 pub begins : InputMayBegin
 unfolding refusal_at
@@ -150,12 +181,21 @@ begins x some =
 
 -- input that may go on is shorter than the session quota
 few_bytes : (most n : ℕ)
-    → ◌≡◌ {A = Option InputFault} (if nat_le most n then Some TooLong else None) None → n ≤ most
+    → ◌≡◌ {A = Option InputFault} (if nat_le most n then Some TooLong else None) None → n < most
 few_bytes most n none = by_test (nat_le most n) refl none where
   by_test : (b : Bool) → nat_le most n ≡ b
-      → ◌≡◌ {A = Option InputFault} (if b then Some TooLong else None) None → n ≤ most
+      → ◌≡◌ {A = Option InputFault} (if b then Some TooLong else None) None → n < most
   by_test true is e = cc
-  by_test false is e = let less = leb-false most n is in omega (arith, less)
+  by_test false is e = leb-false most n is
+
+-- and so it isn't too long
+pub short_enough : (most n : ℕ) → n < most
+    → ◌≡◌ {A = Option InputFault} (if nat_le most n then Some TooLong else None) None
+short_enough most n lt = rw (lt-leb most n lt) refl
+
+pub long_enough : (most n : ℕ) → most ≤ n
+    → ◌≡◌ {A = Option InputFault} (if nat_le most n then Some TooLong else None) (Some TooLong)
+long_enough most n le = rw (le-leb most n le) refl
 
 pub bounded : InputIsBounded
 bounded x bytes pending =

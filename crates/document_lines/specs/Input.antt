@@ -10,7 +10,8 @@ use Rattle.nbfx_values.specs.declared.session.Mode.{Mode}
 use Rattle.nbfx_values.specs.declared.session.Mode.TheVariants.{Singleton}
 use Rattle.string_tables.specs.StaticStrings.{Entry}
 use Rattle.string_tables.specs.StringTable.{StringTable}
-use Rattle.line_notation.specs.Standing.{Standing, failed, going, at_start, after, answer}
+use Rattle.line_notation.specs.Between.{is_between, next_line}
+use Rattle.line_notation.specs.Standing.{Standing, at_start, after, answer}
 use Rattle.line_notation.specs.declared.reader.LineFault.{LineFault}
 use Rattle.line_notation.specs.declared.reader.LineFault.TheVariants.{Bad, Memory}
 use Rattle.line_notation.specs.declared.reader.LineKind.TheVariants.{Cut, WrongCount}
@@ -47,16 +48,6 @@ with_byte b (wrong fault n) = wrong fault (n + 1)
 abbrev pub line_at : List ℕ → Front (List ℕ) InputFault
 line_at [] = begun
 line_at (b ∷ bytes) = if b == 10 then whole [] 1 else with_byte b (line_at bytes)
-
--- no document has begun that isn't ended
-abbrev pub is_between : Standing → Bool
-is_between (going n [] None) = true
-is_between _ = false
-
--- the number of the next line
-abbrev pub next_line : Standing → ℕ
-next_line (going n items array) = n + 1
-next_line (failed fault) = 0
 
 abbrev pub is_singleton : Mode → Bool
 is_singleton Singleton = true
@@ -118,14 +109,18 @@ module _ (x : Settings) where
       else if is_singleton x.mode && (z.documents == 0)
       then Some (Line (next_line z.lines) WrongCount) else None
 
+  -- before the first line
+  abbrev pub start_of : Situation
+  start_of = record {
+    lines = at_start;
+    table = record { statics = x.statics; strings = [] };
+    documents = 0;
+  }
+
   -- the grammar of lines of documents
   abbrev pub lines_of_documents : Grammar Situation (List ℕ) (List ℕ) InputFault
   lines_of_documents = record {
-    start = record {
-      lines = at_start;
-      table = record { statics = x.statics; strings = [] };
-      documents = 0;
-    };
+    start = start_of;
     unit_at = λ z from bytes. line_at bytes;
     after = λ z from line. behind_line z (after z.lines line) (answer z.lines line);
     refused = λ z from line. refused_line z (after z.lines line) (answer z.lines line);

@@ -1,13 +1,21 @@
 -- What holds of lines of documents by the definitions alone.
-use Rattle.std.specs.Prelude.{◌≡◌, ℕ, ◌≤◌, List, [], ◌∷◌, ◌++◌, length, false, None, Ok}
+use Rattle.std.specs.Prelude.{◌≡◌, ℕ, ◌+◌, ◌<◌, ◌≤◌, List, [], ◌∷◌, ◌++◌, length, true, false, Option, Some, None, Ok, Err}
 use Rattle.unit_streams.specs.Going.{IsPending}
 use Rattle.unit_streams.specs.Judging.{offence, refusal_at}
 use Rattle.unit_streams.specs.Tellers.{Closes, report}
-use Rattle.line_notation.specs.Lines.{cut}
-use Rattle.line_notation.specs.Standing.{documents_of}
+use Rattle.line_notation.specs.Lines.{AreLinesOf, cut}
+use Rattle.line_notation.specs.Standing.{answer, documents_of, standing}
+use Rattle.line_notation.specs.declared.reader.LineStep.TheVariants.{Done}
+use Rattle.nbfx_values.specs.declared.content.Item.{Item}
+use Rattle.string_tables.specs.StringTable.{StringTable}
+use Rattle.nbfx_encoder.specs.declared.faults.EncodeFault.{EncodeFault}
+use Rattle.nbfx_encoder.specs.Refusals.{told}
+use Rattle.nbfx_encoder.specs.Spelling.{Unfit, encoded}
 use Rattle.nbfx_encoder.specs.Envelopes.{envelopes_from}
 use Rattle.nbfx_encoder.specs.Placing.{Placed}
-use Rattle.document_lines.specs.Input.{Settings, lines_of_documents, envelopes_and_end}
+use Rattle.document_lines.specs.Input.{Settings, lines_of_documents, envelopes_and_end, is_singleton}
+use Rattle.document_lines.specs.declared.InputFault.{InputFault}
+use Rattle.document_lines.specs.declared.InputFault.TheVariants.{Line, Unfit as DoesNotFit, TooLong}
 
 -- no event ends the input, and each line is known by its own bytes
 abbrev pub InputIsClosed : Type 0
@@ -18,10 +26,10 @@ abbrev pub InputMayBegin : Type 0
 InputMayBegin = (x : Settings) → 1 ≤ x.limits.session
     → refusal_at (lines_of_documents x) [] ≡ None
 
--- input that may go on has no more bytes than the session quota
+-- input that may go on has fewer bytes than the session quota
 abbrev pub InputIsBounded : Type 0
 InputIsBounded = (x : Settings) (bytes : List ℕ) → IsPending (lines_of_documents x) bytes
-    → length bytes ≤ x.limits.session
+    → length bytes < x.limits.session
 
 -- what is written of some input: the envelopes of the documents of its lines, and an End record
 pub record IsBuilt (x : Settings) (bytes : List ℕ) : Type 0 where
@@ -36,3 +44,44 @@ pub record IsBuilt (x : Settings) (bytes : List ℕ) : Type 0 where
 abbrev pub AcceptedIsBuilt : Type 0
 AcceptedIsBuilt = (x : Settings) (bytes : List ℕ)
     → offence (lines_of_documents x) bytes ≡ None → IsBuilt x bytes
+
+-- the next line ends a document that doesn't fit, after lines that have left such a table
+pub record EndsUnfit (x : Settings) (lines more : List (List ℕ)) (table : StringTable)
+    (why : EncodeFault) : Type 0 where
+  pub line : List ℕ
+  pub rest : List (List ℕ)
+  pub next : more ≡ line ∷ rest
+  pub doc : List Item
+  pub ends : answer (standing lines) line ≡ Ok (Done doc)
+  pub unfit : Unfit
+  pub not_fitting : encoded x.limits x.kind table doc ≡ Err unfit
+  pub why_is : why ≡ told unfit
+
+-- what is known by why input is refused after these lines, or that it isn't
+abbrev pub Explains : Settings → (bytes : List ℕ) → (lines more : List (List ℕ)) → StringTable
+    → Option InputFault → Type 0
+Explains x bytes lines more table None = (more ≡ []) × ((cut bytes).1 ≡ [])
+    × AreLinesOf (documents_of lines) lines
+    × (is_singleton x.mode ≡ true → length (documents_of lines) ≡ 1)
+Explains x bytes lines more table (Some (Line n kind)) = n ≡ length lines + 1
+Explains x bytes lines more table (Some (DoesNotFit number why)) =
+    (number ≡ length (documents_of lines)) × EndsUnfit x lines more table why
+Explains x bytes lines more table (Some TooLong) = x.limits.session ≤ length bytes
+
+-- What is written of any input: the envelopes of the documents of its first lines, and where
+-- nothing is refused an End record. A refusal names the line after them, or the document that it
+-- ends, or says that there are as many bytes as the session quota.
+pub record IsWritten (x : Settings) (bytes : List ℕ) : Type 0 where
+  pub lines : List (List ℕ)
+  pub more : List (List ℕ)
+  pub lines_are : (cut bytes).0 ≡ lines ++ more
+  pub envelopes : Placed (List ℕ)
+  pub all_fit : envelopes_from x.limits x.kind x.mode
+      (record { statics = x.statics; strings = [] }) 0 (documents_of lines) ≡ Ok envelopes
+  pub written : report (lines_of_documents x) envelopes_and_end bytes
+      ≡ envelopes.0 ++ envelopes_and_end.ends tt (offence (lines_of_documents x) bytes)
+  pub why : Explains x bytes lines more envelopes.1 (offence (lines_of_documents x) bytes)
+
+-- any input is written so
+abbrev pub InputIsWritten : Type 0
+InputIsWritten = (x : Settings) (bytes : List ℕ) → IsWritten x bytes

@@ -1,7 +1,7 @@
 //! What holds of lines of documents by the definitions alone. Each function does nothing: its
 //! contract is a law, which a caller has where it calls the function.
 
-ghost use Rattle.document_lines.specs.Laws.{InputIsClosed, InputMayBegin, InputIsBounded, AcceptedIsBuilt};
+ghost use Rattle.document_lines.specs.Laws.{InputIsClosed, InputMayBegin, InputIsBounded, AcceptedIsBuilt, InputIsWritten};
 
 /// Input is read by its bytes alone, line by line, and nothing but its end ends it.
 pub fn input_is_closed()
@@ -9,7 +9,7 @@ pub fn input_is_closed()
 {}
 
 /// Input of no bytes isn't refused where the session quota admits a byte, and input that may go on
-/// has at most as many bytes as that quota.
+/// has fewer bytes than that quota.
 pub fn input_is_bounded()
     ensures begins { InputMayBegin }
     ensures bounded { InputIsBounded }
@@ -20,4 +20,13 @@ pub fn input_is_bounded()
 /// an End record.
 pub fn accepted_is_built()
     ensures { AcceptedIsBuilt }
+{}
+
+/// What is written of any input is the envelopes of the documents of its first lines, in their
+/// order, and an End record where nothing is refused: in singleton mode there is one document then.
+/// A refused line is the next one, by its number from 1; a document that doesn't fit is the next
+/// one too, by its number from 0; and input is too long where it has as many bytes as the session
+/// quota.
+pub fn input_is_written()
+    ensures { InputIsWritten }
 {}

@@ -8,13 +8,22 @@
 //! the order of refusals, what is written before one, and that pieces don't matter need no
 //! definition of their own.
 //!
-//! `specs/Input` has the grammar. No reader reads by it yet.
+//! A [`DocumentReader`] reads such input in any pieces, and answers what the grammar does: the
+//! envelope of a document at its last line, or the first refusal. `specs/Input` has the grammar,
+//! `specs/Standing` what a reader stands for, and `specs/Laws` what holds by the definitions alone,
+//! which [`laws`] carries.
 #![tactic(auto)]
 
+mod envelope;
 pub mod laws;
+mod line_encoder;
+mod reader;
+mod reading_end;
 
+pub use envelope::Envelope;
 use line_notation::LineKind;
 use nbfx_encoder::EncodeFault;
+pub use reader::DocumentReader;
 
 /// Why lines of documents are refused.
 #[derive(Clone, Copy, Debug, PartialEq, Eq)]
@@ -26,3 +35,6 @@ pub enum InputFault {
     /// As many bytes as the session quota were read, and the input hasn't ended.
     TooLong,
 }
+
+#[cfg(test)]
+mod tests;

@@ -1,26 +1,33 @@
--- The statuses of a run that reads nothing, the file, and the notes.
+-- The statuses of a run that reads nothing, the file, and what holds of the task that is asked for.
 use Rattle.std.proofs.Common.{◌≡◌, ℕ, ◌⊎◌, inl, inr, List, [], ◌++◌, Option, Some, None, refl, sym, ap, ◌∙◌, subst, arith}
 use Rattle.io_edges.specs.Faults.{Rose}
-use Rattle.io_edges.specs.Flow.{GrowsByPrefix, Told}
 use Rattle.io_edges.specs.Store.{Store}
 use Rattle.string_tables.specs.StaticStrings.{Entry}
-use Rattle.command_words.specs.Asking.{task_of}
-use Rattle.command_words.specs.Requests.{Asked}
-use Rattle.command_words.specs.declared.task.Task.{Task as TaskTaken}
-use Rattle.command_words.specs.declared.task.Task.TheVariants.{Report}
-use Rattle.command_words.specs.Tasks.{Task, report}
-use Rattle.command_words.specs.declared.task.Detail.{Detail}
-use Rattle.command_words.specs.declared.task.Origin.{Origin}
+use Rattle.command_words.specs.Options.{value_of}
+use Rattle.command_words.specs.Requests.{AskForTask, Asked, IsRequest, Values}
+use Rattle.command_words.specs.Tasks.{Task}
+use Rattle.command_words.specs.declared.action.Action.{Action}
+use Rattle.command_words.specs.declared.action.Action.TheVariants.{Check, Dump, Build}
 use Rattle.command_words.specs.declared.words.WordsFault.{WordsFault}
 use Rattle.command_words.specs.declared.words.WordsFault.TheVariants as words
-use Rattle.stream_loop.proofs.Writing.{told_as}
-use Rattle.stream_reader.specs.Stream.{Settings}
+use Rattle.nbfx_values.specs.Limits.{Limits}
 use Rattle.dump_replay.specs.declared.statics.FileFault.{FileFault}
 use Rattle.dump_replay.specs.declared.statics.FileFault.TheVariants as files_faults
-use Rattle.dump_replay.specs.Reporting.{IsReportStatus}
-use Rattle.dump_replay.specs.Running.{IsNoTable, IsNote, IsStatus, IsUnread, note_of}
-use Rattle.dump_replay.specs.Statics.{Has, StaticFile, UnderFile, bad, missing, settings_for, static_file, table}
-use Rattle.dump_replay.specs.Reading.{TellsFile, status_of_fault, status_of_words}
+use Rattle.dump_replay.specs.Running.{HasNoTable, IsNoTable, IsUnread}
+use Rattle.dump_replay.specs.Statics.{Has, UnderFile, bad, missing, static_file, table}
+use Rattle.dump_replay.specs.Working.{IsPossible}
+use Rattle.dump_replay.specs.Noting.{IsNote}
+use Rattle.dump_replay.specs.Reading.{TellsFile, note_of_fault, status_of_fault, status_of_words}
+
+-- what words ask for can be done
+possible_so : (a : Action) (value : Values) (t : Task) → AskForTask a value t → IsPossible t
+possible_so Check value t h = subst IsPossible (sym h.is) tt
+possible_so Dump value t h = subst IsPossible (sym h.is) tt
+possible_so Build value t h = subst IsPossible (sym h.is) h.opens.short
+
+pub possible : (words : List (List ℕ)) (asked : Asked) → IsRequest words asked
+    → IsPossible asked.task
+possible words asked h = possible_so h.action (value_of h.given) asked.task h.meant.task
 
 -- what a shelf that tells has under a name
 module _ (files : Option Store) (store : Store) (name : List ℕ) (entries : List Entry)
@@ -42,108 +49,59 @@ words_two words.NotUnderstood e = refl
 words_two words.Memory e = cc
 
 -- a file that isn't read
-pub unread_status : (fault : FileFault) (faults faults' : ℕ)
-    → (fault ≡ files_faults.Failed → Rose faults faults')
-    → IsUnread faults faults' (status_of_fault fault)
-unread_status files_faults.Missing f f' rose = inr (inr refl)
-unread_status (files_faults.Bad row kind) f f' rose = inr (inr refl)
-unread_status files_faults.Failed f f' rose = inl (refl, rose refl)
-unread_status files_faults.Memory f f' rose = inr (inl refl)
+pub unread_status : (fault : FileFault) (files : Option Store) (asked : Asked) (faults faults' : ℕ)
+    → TellsFile files asked.statics fault → (fault ≡ files_faults.Failed → Rose faults faults')
+    → IsUnread files asked faults faults' (status_of_fault fault)
+unread_status files_faults.Missing files asked f f' tells rose =
+    inr (inr (refl, record { file = missing; has = tells; no_table = tt }))
+unread_status (files_faults.Bad row kind) files asked f f' tells rose =
+    inr (inr (refl, record { file = bad row kind; has = tells; no_table = tt }))
+unread_status files_faults.Failed files asked f f' tells rose = inl (refl, rose refl)
+unread_status files_faults.Memory files asked f f' tells rose = inr (inl refl)
 
 -- a file that gives no table, where the status says so
 pub bad_file : (fault : FileFault) → status_of_fault fault ≡ 6
-    → (files : Option Store) (name : List ℕ) → TellsFile files name fault
-    → (file : StaticFile) × Has files name file × IsNoTable file
-bad_file files_faults.Missing e files name tells = (missing, tells, tt)
-bad_file (files_faults.Bad row kind) e files name tells = (bad row kind, tells, tt)
-bad_file files_faults.Failed e files name tells = cc
-bad_file files_faults.Memory e files name tells = cc
+    → (files : Option Store) (asked : Asked) → TellsFile files asked.statics fault
+    → HasNoTable files asked
+bad_file files_faults.Missing e files asked tells =
+    record { file = missing; has = tells; no_table = tt }
+bad_file (files_faults.Bad row kind) e files asked tells =
+    record { file = bad row kind; has = tells; no_table = tt }
+bad_file files_faults.Failed e files asked tells = cc
+bad_file files_faults.Memory e files asked tells = cc
 
--- the note that goes with a status by itself
-module _ (words : List (List ℕ)) (files : Option Store) (status : ℕ) (other : status ≡ 6 → ⊥)
-    (w w' : Option (List ℕ)) (h : List ℕ) where
-  pub note_grows : Told w w' (λ w w'. GrowsByPrefix w w' (h ++ note_of status))
-      → Told w w' (λ w w'. (text : List ℕ) × IsNote words files status text
-      × GrowsByPrefix w w' (h ++ text))
-  note_grows grows =
-      told_as (λ l l'. GrowsByPrefix l l' (h ++ note_of status))
-      (λ l l'. (text : List ℕ) × IsNote words files status text × GrowsByPrefix l l' (h ++ text))
-      w w' grows (λ l l' k. (note_of status, inr (other, refl), k))
+-- the note of a file that isn't read
+pub file_noted : (fault : FileFault) (words : List (List ℕ)) (files : Option Store)
+    (asked : Asked) → IsRequest words asked → TellsFile files asked.statics fault
+    → IsNote words files (status_of_fault fault) (note_of_fault asked.statics fault)
+file_noted files_faults.Missing words files asked is tells = inl (
+  refl,
+  record {
+    asked = asked;
+    is_request = is;
+    none = record { file = missing; has = tells; no_table = tt };
+    says = refl;
+  },
+)
+file_noted (files_faults.Bad row kind) words files asked is tells = inl (
+  refl,
+  record {
+    asked = asked;
+    is_request = is;
+    none = record { file = bad row kind; has = tells; no_table = tt };
+    says = refl;
+  },
+)
+file_noted files_faults.Failed words files asked is tells = inr (inr (λ six. cc, refl))
+file_noted files_faults.Memory words files asked is tells = inr (inr (λ six. cc, refl))
 
-  pub note_is_whole : Told w w' (λ w w'. (w' ≡ w ++ h ++ note_of status) ⊎ (note_of status ≡ []))
-      → Told w w' (λ w w'. (text : List ℕ) × IsNote words files status text
-      × ((w' ≡ w ++ h ++ text) ⊎ (text ≡ [])))
-  note_is_whole whole =
-      told_as (λ l l'. (l' ≡ l ++ h ++ note_of status) ⊎ (note_of status ≡ []))
-      (λ l l'. (text : List ℕ) × IsNote words files status text
-      × ((l' ≡ l ++ h ++ text) ⊎ (text ≡ [])))
-      w w' whole (λ l l' k. (note_of status, inr (other, refl), k))
-
--- ---- the report that the words ask for
-
-abbrev detail_in : Task → Detail
-detail_in (report detail origin) = detail
-
-abbrev origin_in : Task → Origin
-origin_in (report detail origin) = origin
-
-abbrev pub detail_taken : TaskTaken → Detail
-detail_taken (Report detail origin) = detail
-
-abbrev pub origin_taken : TaskTaken → Origin
-origin_taken (Report detail origin) = origin
-
-pub task_taken : (t : TaskTaken) → task_of t ≡ report (detail_taken t) (origin_taken t)
-task_taken (Report detail origin) = refl
-
-pub task_is : (t : TaskTaken) → t ≡ Report (detail_taken t) (origin_taken t)
-task_is (Report detail origin) = refl
-
--- what holds of the report that one request asks for holds of the other, which is the same
-pub reported_as : (files : Option Store) (own asked : Asked) (entries : List Entry)
-    (of_own detail : Detail) (from_own origin : Origin) (Holds : Detail → Settings → Type 0)
-    → own ≡ asked → own.task ≡ report of_own from_own → asked.task ≡ report detail origin
-    → Has files own.statics (table entries)
-    → Holds of_own (settings_for from_own entries own.limits)
-    → UnderFile files asked origin (Holds detail)
-reported_as files own asked entries of_own detail from_own origin Holds one own_task task has
-    holds =
-    let same = sym own_task ∙ ap (λ (a : Asked). a.task) one ∙ task in record {
-      entries = entries;
-      has = subst (λ (a : Asked). Has files a.statics (table entries)) one has;
-      holds = subst (λ (a : Asked). Holds detail (settings_for origin entries a.limits)) one
-          (subst (λ (d : Detail). Holds d (settings_for origin entries own.limits))
-          (ap detail_in same)
-          (subst (λ (o : Origin). Holds of_own (settings_for o entries own.limits))
-          (ap origin_in same) holds));
-    }
-
--- the status of a report is one of a run
-pub report_status : (n : ℕ) → IsReportStatus n → IsStatus n
-report_status n (inl judged) = inl judged
-report_status n (inr (inl three)) = inr (inr (inl three))
-report_status n (inr (inr (inl four))) = inr (inr (inr (inl four)))
-report_status n (inr (inr (inr five))) = inr (inr (inr (inr (inl five))))
-
--- and not that of other words, nor of a file
-pub never_two : (n : ℕ) → IsReportStatus n → n ≡ 2 → ⊥
-never_two n (inl (inl h)) e = omega (arith, h, e)
-never_two n (inl (inr (inl h))) e = omega (arith, h, e)
-never_two n (inl (inr (inr (inl h)))) e = omega (arith, h, e)
-never_two n (inl (inr (inr (inr h)))) e = omega (arith, h, e)
-never_two n (inr (inl h)) e = omega (arith, h, e)
-never_two n (inr (inr (inl h))) e = omega (arith, h, e)
-never_two n (inr (inr (inr h))) e = omega (arith, h, e)
-
-pub never_six : (n : ℕ) → IsReportStatus n → n ≡ 6 → ⊥
-never_six n (inl (inl h)) e = omega (arith, h, e)
-never_six n (inl (inr (inl h))) e = omega (arith, h, e)
-never_six n (inl (inr (inr (inl h)))) e = omega (arith, h, e)
-never_six n (inl (inr (inr (inr h)))) e = omega (arith, h, e)
-never_six n (inr (inl h)) e = omega (arith, h, e)
-never_six n (inr (inr (inl h))) e = omega (arith, h, e)
-never_six n (inr (inr (inr h))) e = omega (arith, h, e)
-
-pub never_either : (n : ℕ) → IsReportStatus n → (n ≡ 2) ⊎ (n ≡ 6) → ⊥
-never_either n is (inl two) = never_two n is two
-never_either n is (inr six) = never_six n is six
+-- what holds of the task of one request holds of that of the other, which is the same
+pub done_as : (files : Option Store) (own asked : Asked) (entries : List Entry) (t : Task)
+    (Holds : Task → Limits → Type 0) → own ≡ asked → asked.task ≡ t
+    → Has files own.statics (table entries) → Holds own.task own.limits
+    → Has files asked.statics (table entries) × Holds t asked.limits
+done_as files own asked entries t Holds one task has holds = (
+  subst (λ (a : Asked). Has files a.statics (table entries)) one has,
+  subst (λ (u : Task). Holds u asked.limits) task
+      (subst (λ (a : Asked). Holds a.task a.limits) one holds),
+)

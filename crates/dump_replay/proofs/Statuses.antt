@@ -12,17 +12,41 @@ use Rattle.stream_loop.specs.declared.reporting.Ending.{Ending}
 use Rattle.stream_loop.specs.declared.reporting.Ending.TheVariants as endings
 use Rattle.stream_loop.proofs.Writing.{counted_with}
 use Rattle.stream_reader.specs.Judging.{offence}
-use Rattle.stream_reader.specs.Sessions.{IsClosed}
+use Rattle.stream_reader.specs.Sessions.{IsClosed, Parts, conversation, answer, lone_ack, broken_off, turned_down}
 use Rattle.stream_reader.specs.Stream.{Settings, StreamEvent, stream}
 use Rattle.stream_reader.proofs.Closed.{closed_or_refused}
 use Rattle.command_words.specs.declared.task.Detail.{Detail}
-use Rattle.dump_replay.specs.declared.reporting.Outcome.{Outcome}
-use Rattle.dump_replay.specs.declared.reporting.Outcome.TheVariants.{Open, Ended, Faulted}
+use Rattle.session_report.specs.declared.reporter.Outcome.{Outcome}
+use Rattle.session_report.specs.declared.reporter.Outcome.TheVariants.{Open, Ended, Faulted}
 use Rattle.dump_replay.specs.Reading.{status_at}
-use Rattle.dump_replay.specs.Report.{lines_of, outcome, report}
-use Rattle.dump_replay.specs.Reporting.{IsEnded, IsFaulted, IsOffended, IsReportStatus, Reports, closing_status}
+use Rattle.session_report.specs.Report.{lines_of, outcome, report}
+use Rattle.dump_replay.specs.Reporting.{IsEnded, IsFaulted, IsOffended, IsReportStatus, Reports, closing_status, ends_by_fault}
 use Rattle.dump_replay.specs.Running.{IsJudged, is_session_too_long, status_of}
-use Rattle.dump_replay.proofs.Sessions.{closed_outcome, nine_parts, outcome_of, status_closing, unoffended, zero_parts}
+use Rattle.session_report.proofs.Sessions.{closed_outcome, outcome_of, unoffended}
+
+-- how a session has ended gives the status
+status_closing : (parts : Parts) → status_of None (outcome_of parts) ≡ closing_status parts
+status_closing (conversation mode kind via carried) = refl
+status_closing (answer carried) = refl
+status_closing lone_ack = refl
+status_closing (broken_off carried text) = refl
+status_closing (turned_down text) = refl
+
+zero_parts : (parts : Parts) → status_of None (outcome_of parts) ≡ 0
+    → ends_by_fault parts ≡ false
+zero_parts (conversation mode kind via carried) e = refl
+zero_parts (answer carried) e = refl
+zero_parts lone_ack e = refl
+zero_parts (broken_off carried text) e = cc
+zero_parts (turned_down text) e = cc
+
+nine_parts : (parts : Parts) → status_of None (outcome_of parts) ≡ 9
+    → ends_by_fault parts ≡ true
+nine_parts (conversation mode kind via carried) e = cc
+nine_parts (answer carried) e = cc
+nine_parts lone_ack e = cc
+nine_parts (broken_off carried text) e = refl
+nine_parts (turned_down text) e = refl
 
 -- an offence has one of two statuses
 offence_status_is : (o : Offence) (end : Outcome) (n : ℕ) → status_of (Some o) end ≡ n

@@ -1,30 +1,94 @@
--- What holds of reports by their definitions alone, whatever the settings and the detail.
-use Rattle.std.specs.Prelude.{◌≡◌, ℕ, List, [], ◌++◌, length}
+-- What holds of sessions that are written of documents, by the definitions alone.
+use Rattle.std.specs.Prelude.{◌≡◌, ℕ, ◌≤◌, ◌⊎◌, List, [], ◌++◌, length, map, true, IsUtf8, Option, Some, None}
 use Rattle.std.specs.List.{flat_map}
-use Rattle.unit_streams.specs.Judging.{events}
-use Rattle.nbfx_values.specs.Limits.{IsGood}
+use Rattle.io_edges.specs.Faults.{Rose}
+use Rattle.unit_streams.specs.Judging.{offence}
+use Rattle.unit_streams.specs.Tellers.{report as report_by}
+use Rattle.nbfx_values.specs.Limits.{IsGood, Limits}
+use Rattle.nbfx_values.specs.declared.content.Item.{Item}
+use Rattle.string_tables.specs.StaticStrings.{Entry, IsStaticMap}
+use Rattle.nbfx_encoder.specs.Reading.{AdmitsAsMuch}
+use Rattle.line_notation.specs.Lines.{AreLinesOf, cut}
+use Rattle.document_lines.specs.Input.{envelopes_and_end, lines_of_documents}
+use Rattle.document_lines.specs.declared.InputFault.{InputFault}
+use Rattle.stream_loop.specs.Edges.{Input, Output}
+use Rattle.stream_loop.specs.declared.reporting.Ending.{Ending}
+use Rattle.stream_reader.specs.Sessions.{Carried, IsSession, conversation, session_events}
+use Rattle.stream_reader.specs.Stream.{Settings, initiators, serves}
+use Rattle.command_words.specs.Tasks.{Opening}
 use Rattle.command_words.specs.declared.task.Detail.{Detail}
-use Rattle.stream_reader.specs.Judging.{offence}
-use Rattle.stream_reader.specs.Sessions.{IsSession, MayFollow, Parts, lone_ack, session_events}
-use Rattle.stream_reader.specs.Stream.{Settings, stream}
-use Rattle.dump_replay.specs.Report.{ended_line, last_line, outcome, report, told_of}
+use Rattle.dump_replay.specs.Building.{Builds, preamble_of, settings_for_building, status_of_building, status_of_input_fault}
+use Rattle.session_report.specs.Report.{report, told_of}
 
--- a report is the lines of each event, in their order, and then the last line
-abbrev pub ReportsEvents : Type 0
-ReportsEvents = (d : Detail) (x : Settings) (bytes : List ℕ)
-    → report d x bytes
-    ≡ flat_map (told_of d) (events (stream x) bytes) ++ last_line (outcome d x bytes)
-    (offence x bytes)
+module _ (opening : Opening) (statics : List Entry) (limits : Limits) where
+  -- why the input is refused, if it is
+  abbrev pub input_offence : List ℕ → Option InputFault
+  input_offence bytes =
+      offence (lines_of_documents (settings_for_building opening statics limits)) bytes
 
--- the line that says how long a session was, where none of its events does
-abbrev pub closing_line : Parts → ℕ → List ℕ
-closing_line lone_ack n = ended_line n
-closing_line parts n = []
+  -- what is written of it: the preamble, the envelopes before a refusal, and without one an End
+  abbrev pub session_of : List ℕ → List ℕ
+  session_of bytes = preamble_of opening
+      ++ report_by (lines_of_documents (settings_for_building opening statics limits))
+      envelopes_and_end bytes
 
--- Where a session closes a stream, its parts are the report, whatever follows it.
-abbrev pub ReportsSessions : Type 0
-ReportsSessions = (d : Detail) (x : Settings) → IsGood x.limits
-    → (parts : Parts) (session rest : List ℕ) → IsSession x parts session → MayFollow parts rest
-    → report d x (session ++ rest)
-    ≡ flat_map (told_of d) (session_events parts (length session))
-    ++ closing_line parts (length session)
+  -- whoever reads that session as an initiator's, with the same static strings and quotas as great
+  pub record ReadsAsMuch (x : Settings) (bytes : List ℕ) : Type 0 where
+    pub endpoint : Option (List ℕ)
+    pub side : x.side ≡ initiators endpoint
+    pub served : serves x.side opening.via ≡ true
+    pub good : IsGood x.limits
+    pub statics_are : x.statics ≡ statics
+    pub admits : AdmitsAsMuch x.limits limits
+    pub via : length opening.via ≤ x.limits.via
+    pub session : length (session_of bytes) ≤ x.limits.session
+
+  -- the bytes are a session of just these documents, and its report is that of these
+  pub record IsSessionOf (x : Settings) (documents : List (List Item)) (bytes : List ℕ)
+      : Type 0 where
+    pub carried : List Carried
+    pub documents_are : map (λ (one : Carried). one.items) carried ≡ documents
+    pub is_session : IsSession x (conversation opening.mode opening.kind opening.via carried) bytes
+    pub reported : (d : Detail) → report d x bytes ≡ flat_map (told_of d)
+        (session_events (conversation opening.mode opening.kind opening.via carried)
+        (length bytes))
+
+  -- the input is lines of documents, and what is written of it is such a session of them
+  pub record IsBuiltOf (x : Settings) (bytes : List ℕ) : Type 0 where
+    pub lines : List (List ℕ)
+    pub documents : List (List Item)
+    pub lines_are : cut bytes ≡ (lines, [])
+    pub documents_are : AreLinesOf documents lines
+    pub is_session : IsSessionOf x documents (session_of bytes)
+
+-- What is written of input that isn't refused is a session of its documents, for whoever admits as
+-- much, and its report shows them.
+abbrev pub BuiltAreSessions : Type 0
+BuiltAreSessions = (opening : Opening) (statics : List Entry) (limits : Limits) (x : Settings)
+    (bytes : List ℕ) → IsGood limits → IsStaticMap statics → IsUtf8 opening.via
+    → ReadsAsMuch opening statics limits x bytes
+    → input_offence opening statics limits bytes ≡ None
+    → IsBuiltOf opening statics limits x bytes
+
+-- the status of a run that has read all of the input, or met a refusal
+abbrev pub status_of_input : Option InputFault → ℕ
+status_of_input None = 0
+status_of_input (Some fault) = status_of_input_fault fault
+
+-- a session was written of all of this input, and nothing of the outside failed or wanted memory
+pub record IsBuiltWell (opening : Opening) (statics : List Entry) (limits : Limits)
+    (bytes : List ℕ) (o o' : Output) (status : ℕ) : Type 0 where
+  pub status_is : status ≡ status_of_input (input_offence opening statics limits bytes)
+  pub written : (w : List ℕ) → o.written ≡ Some w
+      → o'.written ≡ Some (w ++ o.held ++ session_of opening statics limits bytes)
+
+-- Where no count of faults rose, the status is that of the input, and all that is written of it is
+-- written; or it is 5, for want of memory.
+abbrev pub BuildsAreComplete : Type 0
+BuildsAreComplete = (opening : Opening) (statics : List Entry) (limits : Limits) (i i' : Input)
+    (o o' : Output) (ending : Ending InputFault)
+    → Builds opening statics limits i i' o o' ending
+    → (bytes : List ℕ) → i.left ≡ Some bytes
+    → (Rose i.faults i'.faults → ⊥) → (Rose o.faults o'.faults → ⊥)
+    → IsBuiltWell opening statics limits bytes o o' (status_of_building ending)
+    ⊎ (status_of_building ending ≡ 5)

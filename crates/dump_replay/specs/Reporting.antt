@@ -10,8 +10,8 @@ use Rattle.stream_loop.specs.Reported.{Breaks, Decides, Reaches}
 use Rattle.stream_reader.specs.Judging.{offence}
 use Rattle.stream_reader.specs.Sessions.{IsClosed, Parts, broken_off, turned_down}
 use Rattle.stream_reader.specs.Stream.{Settings, stream}
-use Rattle.dump_replay.specs.declared.reporting.Outcome.{Outcome}
-use Rattle.dump_replay.specs.Report.{lines_of, outcome, report}
+use Rattle.session_report.specs.declared.reporter.Outcome.{Outcome}
+use Rattle.session_report.specs.Report.{lines_of, outcome, report}
 use Rattle.dump_replay.specs.Running.{IsJudged, is_session_too_long, status_of}
 
 -- a session of these parts ends with a receiver's Fault

@@ -7,11 +7,11 @@ use Rattle.nbfx_values.specs.declared.refusals.Offence.{Offence}
 use Rattle.nbfx_values.specs.declared.refusals.Reason.{Reason}
 use Rattle.nbfx_values.specs.declared.refusals.Reason.TheVariants.{SessionTooLong}
 use Rattle.command_words.specs.Requests.{Asked, IsRequest}
-use Rattle.command_words.specs.Tasks.{report}
+use Rattle.command_words.specs.Tasks.{Opening, report, build}
 use Rattle.command_words.specs.declared.task.Detail.{Detail}
 use Rattle.command_words.specs.declared.task.Origin.{Origin}
-use Rattle.dump_replay.specs.declared.reporting.Outcome.{Outcome}
-use Rattle.dump_replay.specs.declared.reporting.Outcome.TheVariants.{Faulted}
+use Rattle.session_report.specs.declared.reporter.Outcome.{Outcome}
+use Rattle.session_report.specs.declared.reporter.Outcome.TheVariants.{Faulted}
 use Rattle.dump_replay.specs.Statics.{Has, StaticFile, bad, kind_name, missing, table}
 
 -- this holds of what the words ask for, if they are a request
@@ -22,6 +22,11 @@ WhereAsked words Holds = (asked : Asked) → IsRequest words asked → Holds ask
 abbrev pub WhereReported : List (List ℕ) → (Asked → Detail → Origin → Type 0) → Type 0
 WhereReported words Holds = WhereAsked words (λ asked. (detail : Detail) (origin : Origin)
     → asked.task ≡ report detail origin → Holds asked detail origin)
+
+-- this holds of the session that the words ask to write, if they ask for one
+abbrev pub WhereBuilt : List (List ℕ) → (Asked → Opening → Type 0) → Type 0
+WhereBuilt words Holds = WhereAsked words (λ asked. (opening : Opening)
+    → asked.task ≡ build opening → Holds asked opening)
 
 abbrev pub is_session_too_long : Reason → Bool
 is_session_too_long SessionTooLong = true
@@ -40,14 +45,13 @@ status_of None outcome = 0
 abbrev pub IsJudged : ℕ → Type 0
 IsJudged n = (n ≡ 0) ⊎ (n ≡ 1) ⊎ (n ≡ 9) ⊎ (n ≡ 10)
 
+-- and those of them that come without a note, whatever the command
+abbrev pub IsSilent : ℕ → Type 0
+IsSilent n = (n ≡ 0) ⊎ (n ≡ 1) ⊎ (n ≡ 9)
+
 -- the statuses that there are
 abbrev pub IsStatus : ℕ → Type 0
-IsStatus n = IsJudged n ⊎ (n ≡ 2) ⊎ (n ≡ 3) ⊎ (n ≡ 4) ⊎ (n ≡ 5) ⊎ (n ≡ 6)
-
--- those of a run that hasn't begun to read the input: the shelf failed, memory ran out, or there is
--- no such file or a bad one
-abbrev pub IsUnread : (faults faults' : ℕ) → ℕ → Type 0
-IsUnread faults faults' n = ((n ≡ 3) × Rose faults faults') ⊎ (n ≡ 5) ⊎ (n ≡ 6)
+IsStatus n = IsJudged n ⊎ (n ≡ 2) ⊎ (n ≡ 3) ⊎ (n ≡ 4) ⊎ (n ≡ 5) ⊎ (n ≡ 6) ⊎ (n ≡ 7)
 
 -- the note that goes with a status by itself
 abbrev pub note_of : ℕ → List ℕ
@@ -67,16 +71,14 @@ abbrev pub IsNoTable : StaticFile → Type 0
 IsNoTable (table entries) = ⊥
 IsNoTable _ = Unit {0}
 
--- the words ask for a file that gives no table, of which this is the note
-pub record NotesFile (words : List (List ℕ)) (files : Option Store) (text : List ℕ) : Type 0 where
-  pub asked : Asked
+-- the shelf has no such file as is asked for, or one that gives no table
+pub record HasNoTable (files : Option Store) (asked : Asked) : Type 0 where
   pub file : StaticFile
-  pub is_request : IsRequest words asked
   pub has : Has files asked.statics file
   pub no_table : IsNoTable file
-  pub says : text ≡ file_note asked.statics file
 
--- the note that goes with a status
-abbrev pub IsNote : List (List ℕ) → Option Store → ℕ → List ℕ → Type 0
-IsNote words files status text =
-    ((status ≡ 6) × NotesFile words files text) ⊎ ((status ≢ 6) × (text ≡ note_of status))
+-- the status of a run that hasn't begun to read the input: the shelf failed, memory ran out, or
+-- there is no such file or a bad one
+abbrev pub IsUnread : Option Store → Asked → (faults faults' : ℕ) → ℕ → Type 0
+IsUnread files asked faults faults' n =
+    ((n ≡ 3) × Rose faults faults') ⊎ (n ≡ 5) ⊎ ((n ≡ 6) × HasNoTable files asked)

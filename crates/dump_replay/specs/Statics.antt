@@ -45,13 +45,12 @@ abbrev pub settings_for : Origin → List Entry → Limits → Settings
 settings_for origin statics limits =
     record { side = side_for origin; statics = statics; limits = limits }
 
--- this holds of such a stream, with the static strings of the file that is asked for and within the
--- quotas
-pub record UnderFile (files : Option Store) (asked : Asked) (origin : Origin)
-    (Holds : Settings → Type 0) : Type 0 where
+-- this holds with the static strings of the file that is asked for
+pub record UnderFile (files : Option Store) (asked : Asked) (Holds : List Entry → Type 0)
+    : Type 0 where
   pub entries : List Entry
   pub has : Has files asked.statics (table entries)
-  pub holds : Holds (settings_for origin entries asked.limits)
+  pub holds : Holds entries
 
 abbrev pub kind_name : TableKind → List ℕ
 kind_name kinds.Header = codes "Header"

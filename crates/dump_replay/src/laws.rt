@@ -1,17 +1,19 @@
-//! What holds of reports by their definitions alone. Each function does nothing: its contract is a
-//! law, which a caller has where it calls the function. What holds of streams stands in
-//! `stream_reader::laws`.
+//! What holds of sessions that are written, by their definitions alone. Each function does nothing:
+//! its contract is a law, which a caller has where it calls the function. What holds of streams
+//! stands in `stream_reader::laws`, and what holds of reports in `session_report::laws`.
 
-ghost use Rattle.dump_replay.specs.Laws.{ReportsEvents, ReportsSessions};
+ghost use Rattle.dump_replay.specs.Laws.{BuildsAreComplete, BuiltAreSessions};
 
-/// A stream's report is the lines of each of its events, in their order, and then the line of its
-/// offence where it has one.
-pub fn reports()
-    ensures { ReportsEvents }
+/// What is written of lines of documents that aren't refused is a session of just these documents,
+/// for any reader that serves the Via and whose quotas are as great, and that reader's report is
+/// these documents, in lines where it shows them.
+pub fn built_sessions()
+    ensures { BuiltAreSessions }
 {}
 
-/// The report of a stream that a session closes is the session's: a line for its preamble or its
-/// Ack, the lines of each of its documents, and a line that says how long it was, whatever follows.
-pub fn session_reports()
-    ensures { ReportsSessions }
+/// Where nothing of the outside failed, the status of writing documents is 5, for want of memory,
+/// or the one of the input, 0 where it isn't refused; and then all that is written of the input is
+/// written, whether it is refused or not.
+pub fn complete_builds()
+    ensures { BuildsAreComplete }
 {}

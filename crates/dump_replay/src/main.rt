@@ -2,17 +2,19 @@
 //! `dump` read a net.tcp stream (MC-NMF) of either end of a session, in each mode, with the
 //! documents that its envelopes carry, and print what comes in it, and what refuses the stream or
 //! how the session ended: `check` a line for each event, `dump` the lines of each document too.
+//! `build` reads documents in such lines, and writes an initiator's session of them.
 //!
 //! The one idea: a command reads a stream by a reading end and writes about it by a reporter, and
-//! the loop over both is `stream_loop`'s, so that what is written is a function of the bytes. Here
-//! are the end that reads a stream and owns the texts of its events (`reading`), the reporter that
-//! writes lines (`reporting`, `report`), and the file of static strings, the statuses and the notes
-//! of a run; the words are read by `command_words`. The main contract is the one of `run`: what each
-//! status means, when it comes, and what the output holds then.
+//! the loop over both is `stream_loop`'s, so that what is written is a function of the bytes. The
+//! report of a stream is `session_report`'s, the reader of documents in lines is `document_lines`',
+//! and the words are read by `command_words`. Here are the writer of envelopes (`building`), the
+//! file of static strings, the statuses and the notes of a run, and what goes by the task that the
+//! words ask for (`working`). The main contract is the one of `run`: what each status means, when it
+//! comes, and what the output holds then.
 //!
-//! The definitions are in `specs/`: `Report` has the lines, `Statics` what the file gives,
-//! `Running` the statuses and notes, `Reporting` what a command that reports leaves, by its status,
-//! `Laws` what holds of reports alone.
+//! The definitions are in `specs/`: `Statics` has what the file gives, `Running` the statuses,
+//! `Noting` the notes, `Reporting` and `Building` what the commands leave, by how they ended,
+//! `Working` the clauses of each, `Laws` what holds of sessions that are written.
 #![tactic(auto)]
 
 ghost use Rattle.std.specs.Prelude.{◌≡◌, ◌≢◌, [], IfOk, IfErr, IsErr, IsOkAnd};
@@ -20,13 +22,13 @@ ghost use Rattle.std.specs.IoError.{error_kind};
 ghost use Rattle.std.specs.Process.{exit_status};
 ghost use Rattle.std.specs.Vec.Iter.{into_iter_items};
 
+mod building;
 pub mod laws;
 mod notes;
-mod reading;
-mod report;
 mod reporting;
 pub mod run;
 mod statics;
+mod working;
 
 use io_edges::{FileShelf, ReadSource, WriteSink};
 use std::alloc::{AllocError, Global};

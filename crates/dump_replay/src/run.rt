@@ -6,15 +6,18 @@ ghost use Rattle.io_edges.specs.Faults.{Rose, one_more};
 ghost use Rattle.io_edges.specs.Flow.{Told, GrowsByPrefix};
 ghost use Rattle.io_edges.specs.Store.{Store};
 ghost use Rattle.stream_loop.specs.Edges.{input_at, output_at};
-ghost use Rattle.command_words.specs.Requests.{Asked, IsRequest};
+ghost use Rattle.dump_replay.specs.Noting.{IsNote};
+ghost use Rattle.dump_replay.specs.Noting.{Notes};
 ghost use Rattle.dump_replay.specs.Reading.{status_of_fault, status_of_words};
 ghost use Rattle.dump_replay.specs.Reporting.{Reports};
-ghost use Rattle.dump_replay.specs.Running.{IsJudged, IsNoTable, IsNote, IsStatus, IsUnread, WhereAsked, WhereReported};
-ghost use Rattle.dump_replay.specs.Statics.{Has, StaticFile, UnderFile, static_file};
+ghost use Rattle.dump_replay.specs.Running.{HasNoTable, IsJudged, IsNoTable, IsSilent, IsStatus, IsUnread, WhereAsked, WhereBuilt, WhereReported};
+ghost use Rattle.dump_replay.specs.Statics.{UnderFile, settings_for, static_file};
+ghost use Rattle.dump_replay.specs.Working.{Built};
 
+use crate::notes;
 use crate::statics::{FileFault, read_statics};
-use crate::{notes, reporting};
-use command_words::{Task, WordsFault};
+use crate::working::work;
+use command_words::WordsFault;
 use io_edges::{Shelf, Sink, Source};
 use std::alloc::Global;
 
@@ -34,7 +37,15 @@ pub struct Ran<I, O> {
 /// options set, and writes its report to the output; `dump` does too, with the lines of each
 /// document after its envelope's. The status is 0 where the session ended, 1 where the stream is
 /// refused, 9 where the receiver's Fault ended the session, and 10 where the stream's bytes reach
-/// the session quota first. It is 2 where the words are none of the program's, 3 where a read
+/// the session quota first.
+///
+/// `build` reads documents in lines from the input, and writes an initiator's session of them to
+/// the output: the preamble first, each document's envelope when its last line was read, and End.
+/// The status is 0 where all of that is written, 6 where a line is refused, 7 where a document
+/// doesn't fit, and 10 where the input's bytes reach the session quota first; each of these three
+/// with a note, and with the preamble and the envelopes of the documents before it on the output.
+///
+/// Of both the status is 2 where the words are none of the program's, 3 where a read
 /// failed, 4 where a write failed, 5 where memory ran out, and 6 where the shelf has no such file,
 /// or one with a bad row. With 2 to 6 a note says so; that a note can't be put changes nothing
 /// else.
@@ -52,15 +63,13 @@ pub fn run<F: Shelf, I: Source, O: Sink + Send, N: Sink>(
     ensures no_request { WhereAsked (map string_bytes words.now) (λ asked. ⊥)
         → ((result.status ≡ 2) ⊎ (result.status ≡ 5)) × (shelf.new ≡ shelf.old)
         × (result.input ≡ input) × (result.output ≡ output) }
-    ensures no_file { result.status ≡ 6 → (asked : Asked) × (file : StaticFile)
-        × IsRequest (map string_bytes words.now) asked
-        × Has (F.files shelf.old) asked.statics file × IsNoTable file }
+    ensures no_file { result.status ≡ 6 → WhereReported (map string_bytes words.now)
+        (λ asked detail origin. HasNoTable (F.files shelf.old) asked) }
     ensures fetched_once { (F.fetches shelf.new ≡ F.fetches shelf.old)
         ⊎ (F.fetches shelf.new ≡ one_more (F.fetches shelf.old)) }
     ensures asked_once { (I.empty_takes result.input ≡ I.empty_takes input)
         ⊎ (I.empty_takes result.input ≡ one_more (I.empty_takes input)) }
-    ensures untouched { (result.status ≡ 2) ⊎ (result.status ≡ 6)
-        → (result.input ≡ input) × (result.output ≡ output) }
+    ensures untouched { result.status ≡ 2 → (result.input ≡ input) × (result.output ≡ output) }
     ensures read_fault { result.status ≡ 3
         → Rose (I.faults input) (I.faults result.input)
         ⊎ Rose (F.faults shelf.old) (F.faults shelf.new) }
@@ -82,7 +91,7 @@ pub fn run<F: Shelf, I: Source, O: Sink + Send, N: Sink>(
         → Told (N.written notes.old) (N.written notes.new) (λ w w'. (text : List ℕ)
         × IsNote (map string_bytes words.now) (F.files shelf.old) result.status text
         × ((w' ≡ w ++ N.held notes.old ++ text) ⊎ (text ≡ []))) }
-    ensures unnoted { IsJudged result.status → notes.new ≡ notes.old }
+    ensures unnoted { IsSilent result.status → notes.new ≡ notes.old }
     ensures notes_faults { N.faults notes.old ≤ N.faults notes.new }
 
     // Where the words are a request: the file of static strings.
@@ -95,9 +104,24 @@ pub fn run<F: Shelf, I: Source, O: Sink + Send, N: Sink>(
 
     // Where they ask for a report.
     ensures reports { WhereReported (map string_bytes words.now) (λ asked detail origin.
-        (IsUnread (F.faults shelf.old) (F.faults shelf.new) result.status
+        (IsUnread (F.files shelf.old) asked (F.faults shelf.old) (F.faults shelf.new) result.status
         × (result.input ≡ input) × (result.output ≡ output))
-        ⊎ UnderFile (F.files shelf.old) asked origin (λ x. Reports detail x
+        ⊎ UnderFile (F.files shelf.old) asked (λ entries. Reports detail
+        (settings_for origin entries asked.limits)
+        (input_at I.left I.taken I.faults I.empty_takes input)
+        (input_at I.left I.taken I.faults I.empty_takes result.input)
+        (output_at O.written O.held O.faults output)
+        (output_at O.written O.held O.faults result.output) result.status
+        × (IsJudged result.status → notes.new ≡ notes.old))) }
+
+    // Where they ask for a session to be written.
+    ensures builds { WhereBuilt (map string_bytes words.now) (λ asked opening.
+        (IsUnread (F.files shelf.old) asked (F.faults shelf.old) (F.faults shelf.new) result.status
+        × (result.input ≡ input) × (result.output ≡ output))
+        ⊎ UnderFile (F.files shelf.old) asked (λ entries. Built
+        (λ text. Notes N.written N.held N.faults N.may_want notes.old notes.new text
+        × (text ≡ [] → notes.new ≡ notes.old))
+        opening entries asked.limits
         (input_at I.left I.taken I.faults I.empty_takes input)
         (input_at I.left I.taken I.faults I.empty_takes result.input)
         (output_at O.written O.held O.faults output)
@@ -127,13 +151,15 @@ pub fn run<F: Shelf, I: Source, O: Sink + Send, N: Sink>(
         }
     };
     let mut input = input;
-    let (status, output) = match request.task {
-        Task::Report { detail, origin } => {
-            let quotas = request.quotas;
-            reporting::report_input(alloc, detail, origin, &table, quotas, &mut input, output)
-        }
-    };
-    notes::note_status(status, notes);
+    let (status, output) = work(
+        alloc,
+        request.task,
+        &table,
+        request.quotas,
+        &mut input,
+        output,
+        notes,
+    );
     Ran {
         status,
         input,

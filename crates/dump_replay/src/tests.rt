@@ -6,6 +6,7 @@ use std::collections::BTreeMap;
 use std::process::Abort;
 use std::test::Fail;
 
+mod building;
 mod captures;
 mod modes;
 mod read_back;

@@ -1,6 +1,8 @@
 -- cited by public contracts: the words of a line (Words, Quoted, Numerals, Scalars, Values), its
 -- form (Forms), the lines of documents (Lines), what a form is refused for and says (Judging),
--- where a reader stands (Standing), what is put (Puts), and the laws (Laws, Refusals)
+-- where a reader stands (Standing) and what it says of that (Between), what is put (Puts), and the
+-- laws (Laws, Refusals)
+pub mod Between
 pub mod Forms
 pub mod Judging
 pub mod Laws

@@ -1,5 +1,6 @@
 // Documents out of lines.
 ghost use Rattle.std.specs.Prelude.{◌≡◌, [], IsErrOf};
+ghost use Rattle.line_notation.specs.Between.{IsUnrefused, is_between, next_line};
 ghost use Rattle.line_notation.specs.Placing.{fault_of};
 ghost use Rattle.line_notation.specs.Standing.{HasFailed, HasReadFew, StandsBehind, UnlessMemory, after, answer, ended, ending};
 
@@ -102,6 +103,29 @@ impl LineReader {
             array: None,
             lines: 0,
             fault: None,
+        }
+    }
+
+    /// Whether no document has begun that isn't ended.
+    pub fn is_between(&self) -> bool
+        ensures { result ≡ is_between self.now }
+    {
+        self.fault.is_none() && self.array.is_none() && self.builder.items().len() == 0
+    }
+
+    /// The number of the next line, from 1, where no line was refused.
+    pub fn next_line(&self) -> u64
+        ensures { IsUnrefused self.now → result ≡ next_line self.now }
+    {
+        self.lines + 1
+    }
+
+    /// Hands back a document that is done with, whose room serves the next one.
+    pub fn reuse(&mut self, doc: Doc)
+        ensures { self.new ≡ self.old }
+    {
+        if self.is_between() {
+            self.builder.begin_in(doc);
         }
     }
 

@@ -9,9 +9,12 @@ pub loop-option-preserved : goal.loop-option-preserved
 loop-option-preserved c =
     let at = c.loop-option.option-index in
     let before = c.loop-option.invariant in
-    let in_range : at < length (options_of c.args.action) = subst (λ options. at < length options) before.items c.loop-option-test.true in
+    let in_range : at < length (options_of c.args.action) = subst (λ options. at < length options)
+    before.items c.loop-option-test.true in
     record {
       items = before.items;
-      told = c.in_ok-command.ensures ∙ ap₂ with_option before.told (ap (λ options. slice_index_or options at Static) before.items)
-          ∙ sym (fold_more with_option (app_without_options (word_of c.args.action)) (options_of c.args.action) at Static in_range);
+      told = c.in_ok-command.ensures ∙ ap₂ with_option before.told
+          (ap (λ options. slice_index_or options at Static) before.items)
+          ∙ sym (fold_more with_option (app_without_options (word_of c.args.action))
+          (options_of c.args.action) at Static in_range);
     }

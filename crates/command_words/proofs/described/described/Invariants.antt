@@ -8,5 +8,6 @@ use Rattle.command_words.proofs.described.described.Given as goal
 abbrev pub invariant-loop-option : goal.invariant-loop-option
 invariant-loop-option l = record {
   items : l.option-items ≡ options_of l.fn.action;
-  told : app_of l.command ≡ fold with_option (app_without_options (word_of l.fn.action)) (take l.option-index (options_of l.fn.action));
+  told : app_of l.command ≡ fold with_option (app_without_options (word_of l.fn.action))
+      (take l.option-index (options_of l.fn.action));
 }

@@ -10,8 +10,11 @@ returns-then-not-begins_plain-clause-none c n small is =
 
 pub returns-clause-written : goal.returns-clause-written
 returns-clause-written c =
-    let plain = ap begins_plain (sym c.as_bytes.ensures.value) ∙ (sym c.begins_plain.ensures ∙ c.if-not-begins_plain.false) in
-    rw c.ok.ensures.value (parsed-written c.args.text.now c.parse.result plain c.parse.ensures.value.0)
+    let plain = ap begins_plain (sym c.as_bytes.ensures.value) ∙
+    (sym c.begins_plain.ensures ∙ c.if-not-begins_plain.false) in
+    rw c.ok.ensures.value (parsed-written c.args.text.now c.parse.result plain
+    c.parse.ensures.value.0)
 
 pub returns-clause-none : goal.returns-clause-none
-returns-clause-none c = rw c.ok.ensures.value (parsed-none c.args.text.now c.parse.result c.parse.ensures.value.0)
+returns-clause-none c = rw c.ok.ensures.value
+    (parsed-none c.args.text.now c.parse.result c.parse.ensures.value.0)

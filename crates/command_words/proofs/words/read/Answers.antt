@@ -19,6 +19,8 @@ returns-clause-refused c is asked request =
     let words = c.args.words.now in
     let options = map string_bytes (take (length words - 2) (drop 2 words)) in
     let cut = words-cut words c.command-item.result c.in-len2-up.len_at_least c.command-item.is in
-    let begins = cut.1 ∙ ap (λ word. cut.0 ∷ word ∷ options) (sym c.as_str.ensures.value ∙ c.in-Some.ensures.named) in
+    let begins = cut.1 ∙ ap (λ word. cut.0 ∷ word ∷ options)
+    (sym c.as_str.ensures.value ∙ c.in-Some.ensures.named) in
     c.in-None.ensures.none asked
-    (request-asks (map string_bytes words) options cut.0 c.in-Some.action c.in_ok-matches.matches asked begins c.in_ok-matches.ensures.found request)
+    (request-asks (map string_bytes words) options cut.0 c.in-Some.action c.in_ok-matches.matches
+    asked begins c.in_ok-matches.ensures.found request)

@@ -8,16 +8,16 @@ use Rattle.stream_loop.specs.Reported.{EndsAs}
 use Rattle.stream_loop.specs.declared.reporting.Ending.TheVariants as endings
 use Rattle.stream_reader.specs.Standing.{settings_of}
 use Rattle.stream_reader.specs.Stream.{Settings, Side, StreamEvent, ends, stream}
-use Rattle.dump_replay.specs.declared.reporting.LineReporter.{LineReporter}
-use Rattle.dump_replay.specs.declared.reporting.Outcome.{Outcome}
-use Rattle.dump_replay.specs.declared.reporting.Outcome.TheVariants.{Open}
-use Rattle.dump_replay.specs.Reading.{event_for, said_by}
-use Rattle.dump_replay.specs.Report.{lines_of}
+use Rattle.session_report.specs.declared.reporter.LineReporter.{LineReporter}
+use Rattle.session_report.specs.declared.reporter.Outcome.{Outcome}
+use Rattle.session_report.specs.declared.reporter.Outcome.TheVariants.{Open}
+use Rattle.session_report.specs.Saying.{event_for, said_by}
+use Rattle.session_report.specs.Report.{lines_of}
 use Rattle.dump_replay.specs.Statics.{settings_for}
 use Rattle.dump_replay.proofs.Beginnings.{ends_under, not_begun}
-use Rattle.dump_replay.proofs.Saying.{lines_are}
+use Rattle.session_report.proofs.Saying.{lines_are}
 use Rattle.dump_replay.proofs.Statuses.{reports_by}
-use Rattle.dump_replay.proofs.Streams.{ends_within}
+use Rattle.session_report.proofs.Streams.{ends_within}
 use Rattle.dump_replay.proofs.reporting.report_input.Goals as goal
 
 pub returns-in_default : goal.returns-in_default

@@ -1,0 +1,173 @@
+-- What an encoder of lines answers and is, by where the line led.
+use Rattle.std.proofs.Common.{◌≡◌, ℕ, ◌+◌, inl, inr, List, true, false, Option, Some, None, Result, Ok, Err, refl, sym, ap, ◌∙◌, subst, arith}
+use Rattle.std.specs.Prelude.{◌==◌, ◌&&◌, not, if◌then◌else◌}
+use Rattle.std.proofs.lemmas.Bool.{cases_Bool, ne_eqb}
+use Rattle.nbfx_values.specs.declared.content.Item.{Item}
+use Rattle.nbfx_values.specs.declared.session.Mode.{Mode}
+use Rattle.nbfx_values.specs.declared.session.Mode.TheVariants.{Singleton, Duplex, Simplex}
+use Rattle.line_notation.specs.Between.{IsUnrefused, is_between, next_line}
+use Rattle.line_notation.specs.Standing.{after, answer}
+use Rattle.line_notation.specs.declared.reader.LineFault.{LineFault}
+use Rattle.line_notation.specs.declared.reader.LineFault.TheVariants.{Bad}
+use Rattle.line_notation.specs.declared.reader.LineKind.{LineKind}
+use Rattle.line_notation.specs.declared.reader.LineKind.TheVariants.{WrongCount}
+use Rattle.line_notation.specs.declared.reader.LineStep.{LineStep}
+use Rattle.line_notation.specs.declared.reader.LineStep.TheVariants.{More, Done}
+use Rattle.nbfx_encoder.specs.Sending.{KeepsSettings, behind_message, first_state, kind_in, limits_in, mode_in, names_in, state_in}
+use Rattle.nbfx_encoder.specs.Spelling.{encoded}
+use Rattle.nbfx_encoder.specs.declared.sender.SendState.TheVariants.{Ready, Spent}
+use Rattle.nbfx_encoder.specs.declared.sender.Side.TheVariants.{Initiator}
+use Rattle.stream_loop.specs.declared.reading_end.FeedFault.{FeedFault}
+use Rattle.stream_loop.specs.declared.reading_end.FeedFault.TheVariants.{Refused, Memory}
+use Rattle.document_lines.specs.Input.{Settings, Situation, behind_line, completed_line, is_full, is_singleton, payload_at, refused_line}
+use Rattle.document_lines.specs.Standing.{IsAt, IsSent, LineAnswers, SendAnswers}
+use Rattle.document_lines.specs.declared.InputFault.{InputFault}
+use Rattle.document_lines.specs.declared.InputFault.TheVariants.{Line}
+use Rattle.document_lines.specs.declared.line_encoder.LineEncoder.{LineEncoder}
+use Rattle.document_lines.proofs.Standings.{done_leads, more_leads, no_lone}
+
+-- before the first document a message may be sent
+pub ready_first : (mode : Mode)
+    → first_state mode Initiator ≡ (if is_singleton mode && not (0 == 0) then Spent else Ready)
+ready_first Singleton = refl
+ready_first Duplex = refl
+ready_first Simplex = refl
+
+-- and in singleton mode before no other
+pub none_full : (mode : Mode) → (is_singleton mode && not (0 == 0)) ≡ false
+none_full Singleton = refl
+none_full Duplex = refl
+none_full Simplex = refl
+
+state_behind : (mode : Mode) (n : ℕ)
+    → behind_message mode ≡ (if is_singleton mode && not (n + 1 == 0) then Spent else Ready)
+state_behind Singleton n = rw (ne_eqb (n + 1) 0 (λ e. omega (arith, e))) refl
+state_behind Duplex n = refl
+state_behind Simplex n = refl
+
+module _ (x : Settings) (z : Situation) (old new : LineEncoder) (at : IsAt x z old)
+    (line : List ℕ) (lines : new.lines ≡ after z.lines line)
+  where
+    abbrev Answered : Result (Option (List ℕ)) (FeedFault InputFault) → Type 0
+    Answered = LineAnswers x z line new
+
+    -- a line that completes a document
+    module _ (doc : List Item) (a : answer z.lines line ≡ Ok (Done doc))
+        (kept : KeepsSettings old.sender new.sender) (mode : new.mode ≡ old.mode)
+        (documents : new.documents ≡ old.documents + 1)
+      where
+        not_full : is_full x z ≡ false
+        not_full =
+            elim (cases_Bool (is_full x z)) [
+              | inl t ↦ absurd (no_lone z.lines line doc (at.full t) a)
+              | inr f ↦ f
+            ]
+
+        pub may_send : state_in old.sender ≡ Ready
+        may_send = at.state ∙ rw not_full refl
+
+        -- written
+        module _ (bytes : List ℕ) (sent : IsSent (payload_at x z doc) x.mode bytes new) where
+          there : IsAt x (record {
+            lines = after z.lines line;
+            table = sent.placed.1;
+            documents = z.documents + 1;
+          }) new
+          there =
+              let leads = done_leads z.lines line doc a in
+              let between : is_between (after z.lines line) ≡ true = rw leads.1 refl in record {
+                limits = kept.limits ∙ at.limits;
+                kind = kept.kind ∙ at.kind;
+                mode = mode ∙ at.mode;
+                sends = kept.mode ∙ at.sends;
+                lines = lines;
+                table = sent.table;
+                documents = documents ∙ ap (λ n. n + 1) at.documents;
+                state = sent.state ∙ state_behind x.mode z.documents;
+                unrefused = subst IsUnrefused (sym leads.1) tt;
+                full = λ full. between;
+              }
+
+          written : Answered (Ok (Some bytes))
+          written =
+              let P : Result LineStep LineFault → Type 0
+              = λ r. (refused_line x z (after z.lines line) r ≡ None)
+              × (completed_line x z r ≡ Some bytes)
+              × IsAt x (behind_line x z (after z.lines line) r) new in
+              subst P (sym a) (rw sent.payload_is (refl, ap Some (sym sent.bytes_are), there))
+
+        answered : (result : Result (Option (List ℕ)) (FeedFault InputFault))
+            → SendAnswers (payload_at x z doc) x.mode z.documents new result → Answered result
+        answered (Ok None) s = absurd s
+        answered (Ok (Some bytes)) s = written bytes s
+        answered (Err (Refused fault)) s =
+            let P : Result LineStep LineFault → Type 0
+            = λ r. refused_line x z (after z.lines line) r ≡ Some fault in
+            subst P (sym a) (rw s.1 (ap Some (sym s.2)))
+        answered (Err Memory) s = tt
+
+        pub line_done : (result : Result (Option (List ℕ)) (FeedFault InputFault))
+            → (state_in old.sender ≡ Ready → SendAnswers
+            (encoded (limits_in old.sender) (kind_in old.sender) (names_in old.sender) doc)
+            (mode_in old.sender) old.documents new result)
+            → Answered result
+        line_done result sent =
+            answered result (rw (at.limits, at.kind, at.table, at.sends, at.documents) at
+            (sent may_send))
+
+    -- one that doesn't
+    module _ (a : answer z.lines line ≡ Ok More) (sender : new.sender ≡ old.sender)
+        (mode : new.mode ≡ old.mode) (documents : new.documents ≡ old.documents)
+      where
+        -- a second document begins in singleton mode
+        pub line_full : (number : ℕ) → (is_singleton old.mode && not (old.documents == 0)) ≡ true
+            → is_between new.lines ≡ false → number ≡ next_line z.lines
+            → Answered (Err (Refused (Line number WrongCount)))
+        line_full number full begun count =
+            let is : is_full x z ≡ true = rw (sym at.mode, sym at.documents) full in
+            let behind : is_between (after z.lines line) ≡ false = rw (sym lines) begun in
+            let P : Result LineStep LineFault → Type 0
+            = λ r. refused_line x z (after z.lines line) r ≡ Some (Line number WrongCount) in
+            subst P (sym a) (rw (is, at.full is, behind, count) refl)
+
+        pub line_more : ((is_singleton old.mode && not (old.documents == 0)) ≡ true
+            → is_between new.lines ≡ true) → Answered (Ok None)
+        line_more full =
+            let still : is_full x z ≡ true → is_between (after z.lines line) ≡ true
+            = λ is. rw (sym lines) (full (rw (at.mode, at.documents) is)) in
+            let P : Result LineStep LineFault → Type 0
+            = λ r. (refused_line x z (after z.lines line) r ≡ None)
+            × (completed_line x z r ≡ None)
+            × IsAt x (behind_line x z (after z.lines line) r) new in
+            subst P (sym a) (
+              unrefused still,
+              refl,
+              record {
+                limits = ap limits_in sender ∙ at.limits;
+                kind = ap kind_in sender ∙ at.kind;
+                mode = mode ∙ at.mode;
+                sends = ap mode_in sender ∙ at.sends;
+                lines = lines;
+                table = ap names_in sender ∙ at.table;
+                documents = documents ∙ at.documents;
+                state = ap state_in sender ∙ at.state;
+                unrefused = more_leads z.lines line a;
+                full = still;
+              },
+            )
+          where
+            unrefused : (is_full x z ≡ true → is_between (after z.lines line) ≡ true)
+                → refused_line x z (after z.lines line) (Ok More) ≡ None
+            unrefused still =
+                elim (cases_Bool (is_full x z)) [
+                  | inl t ↦ rw (t, still t, at.full t) refl
+                  | inr f ↦ rw f refl
+                ]
+
+    -- one that is refused
+    pub line_bad : (n : ℕ) (kind : LineKind) → answer z.lines line ≡ Err (Bad n kind)
+        → Answered (Err (Refused (Line n kind)))
+    line_bad n kind a =
+        let P : Result LineStep LineFault → Type 0
+        = λ r. refused_line x z (after z.lines line) r ≡ Some (Line n kind) in
+        subst P (sym a) refl

@@ -1,0 +1,368 @@
+-- What is written of any input, and why it is refused.
+use Rattle.std.proofs.Common.{◌≡◌, ℕ, ◌+◌, ◌≤◌, inl, inr, List, [], ◌∷◌, ◌++◌, length, take, drop, Bool, true, false, Option, Some, None, Result, Ok, Err, refl, sym, ap, ◌∙◌, subst, arith, length-append}
+use Rattle.std.specs.Prelude.{◌==◌, ◌&&◌, ◌||◌, not, nat_lt, if◌then◌else◌}
+use Rattle.std.proofs.lemmas.Bool.{cases_Bool, eqb-false, eqb-true, ltb-false}
+use Rattle.std.proofs.lemmas.List.{append-nil, nil_from_length}
+use Rattle.unit_streams.specs.Front.{begun, whole}
+use Rattle.unit_streams.specs.Grammar.{Grammar}
+use Rattle.unit_streams.specs.Judging.{History, history, history_from, led_by, offence, only}
+use Rattle.unit_streams.specs.Units.{Counted, UnitsLead, events_along, size_of}
+use Rattle.unit_streams.specs.Tellers.{report, told_along}
+use Rattle.unit_streams.proofs.Accepted.{leads_length}
+use Rattle.unit_streams.proofs.Pieces.{told_flat}
+use Rattle.unit_streams.proofs.Units.{Brings, between_first, short_below, units_bring}
+use Rattle.nbfx_values.specs.declared.content.Item.{Item}
+use Rattle.nbfx_encoder.specs.Placing.{Placed}
+use Rattle.nbfx_encoder.specs.Spelling.{Unfit, encoded}
+use Rattle.line_notation.specs.Between.{IsUnrefused, is_between, next_line}
+use Rattle.line_notation.specs.Lines.{AreLinesOf, cut}
+use Rattle.line_notation.specs.Standing.{Standing as LineStanding, failed, going, after, answer, answer_of, at_start, document_of, documents_from, documents_of, ending, ends as ends_document, on as leads_on, outcome, Placed as PlacedLine, standing_from, standing_of}
+use Rattle.line_notation.specs.declared.reader.LineFault.{LineFault}
+use Rattle.line_notation.specs.declared.reader.LineKind.{LineKind}
+use Rattle.line_notation.specs.declared.reader.LineKind.TheVariants.{Cut, WrongCount}
+use Rattle.line_notation.specs.declared.reader.LineStep.{LineStep}
+use Rattle.line_notation.specs.declared.reader.LineStep.TheVariants.{More, Done}
+use Rattle.line_notation.proofs.LinesAre.{read-documents}
+use Rattle.document_lines.specs.Input.{Settings, Situation, lines_of_documents, envelopes_and_end, line_at, behind_line, ending_fault, fault_of, is_full, is_singleton, refused_line, start_of}
+use Rattle.document_lines.specs.declared.InputFault.{InputFault}
+use Rattle.document_lines.specs.declared.InputFault.TheVariants.{Line, TooLong}
+use Rattle.document_lines.proofs.Built.{lines_of, joined, cuts, walk as envelopes_of}
+use Rattle.document_lines.proofs.Lines.{cut_line, readable, short_enough}
+use Rattle.document_lines.proofs.Standings.{no_lone}
+use Rattle.document_lines.specs.Laws.{Explains, InputIsWritten, IsWritten}
+use Rattle.document_lines.proofs.Walking.{Stop, Walk, at_quota, at_refusal, at_the_end, fills, goes_out, refuses, walk}
+
+-- lines may end between documents
+between_ends : (s : LineStanding) → is_between s ≡ true → ending s ≡ Ok tt
+between_ends (failed fault) e = cc
+between_ends (going n [] None) e = refl
+between_ends (going n [] (Some array)) e = cc
+between_ends (going n (item ∷ items) array) e = cc
+
+module _ (x : Settings) where
+  abbrev g : Grammar Situation (List ℕ) (List ℕ) InputFault
+  g = lines_of_documents x
+
+  -- ---- where units of lines lead
+
+  behind_lines : (z : Situation) (b : LineStanding) (a : Result LineStep LineFault)
+      → (behind_line x z b a).lines ≡ b
+  behind_lines z b (Ok (Done doc)) = refl
+  behind_lines z b (Ok More) = refl
+  behind_lines z b (Err fault) = refl
+
+  behind_documents : (z : Situation) (b : LineStanding) (a : Result LineStep LineFault)
+      → (behind_line x z b a).documents ≡ z.documents + length (document_of a)
+  behind_documents z b (Ok (Done doc)) = omega arith
+  behind_documents z b (Ok More) = omega arith
+  behind_documents z b (Err fault) = omega arith
+
+  pub led_lines : (units : List (Counted (List ℕ))) (z : Situation) (from : ℕ) (bytes : List ℕ)
+      (z' : Situation) (rest : List ℕ) → UnitsLead g z from units bytes z' rest
+      → z'.lines ≡ standing_from z.lines (lines_of x units)
+  unfolding UnitsLead
+  led_lines [] z from bytes z' rest l = ap (λ (y : Situation). y.lines) (sym l.0)
+  led_lines (one ∷ units) z from bytes z' rest l =
+      led_lines units (g.after z from one.unit) (from + one.size) (drop one.size bytes) z' rest l.2
+      ∙ ap (λ (b : LineStanding). standing_from b (lines_of x units))
+      (behind_lines z (after z.lines one.unit) (answer z.lines one.unit))
+
+  pub led_documents : (units : List (Counted (List ℕ))) (z : Situation) (from : ℕ) (bytes : List ℕ)
+      (z' : Situation) (rest : List ℕ) → UnitsLead g z from units bytes z' rest
+      → z'.documents ≡ z.documents + length (documents_from z.lines (lines_of x units))
+  unfolding UnitsLead
+  led_documents [] z from bytes z' rest l =
+      ap (λ (y : Situation). y.documents) (sym l.0) ∙ omega arith
+  led_documents (one ∷ units) z from bytes z' rest l =
+      let b : LineStanding = after z.lines one.unit in
+      let a : Result LineStep LineFault = answer z.lines one.unit in
+      let later = led_documents units (g.after z from one.unit) (from + one.size)
+      (drop one.size bytes) z' rest l.2 in
+      let same = ap (λ (s : LineStanding). length (documents_from s (lines_of x units)))
+      (behind_lines z b a) in
+      let first = behind_documents z b a in
+      let both = length-append (document_of a) (documents_from b (lines_of x units)) in
+      omega (arith, later, same, first, both)
+
+  -- a line that isn't refused is one line more
+  next_by : (z : Situation) (n : ℕ) (o : Result PlacedLine LineKind)
+      → refused_line x z (standing_of n o) (answer_of n o) ≡ None
+      → IsUnrefused (standing_of n o) × (next_line (standing_of n o) ≡ n + 1)
+  next_by z n (Ok (leads_on items array)) none = (tt, refl)
+  next_by z n (Ok (ends_document doc)) none = (tt, refl)
+  next_by z n (Err kind) none = cc
+
+  next_of : (z : Situation) (s : LineStanding) (line : List ℕ) → IsUnrefused s
+      → refused_line x z (after s line) (answer s line) ≡ None
+      → IsUnrefused (after s line) × (next_line (after s line) ≡ next_line s + 1)
+  next_of z (failed fault) line on none = absurd on
+  next_of z (going n items array) line on none =
+      next_by z (n + 1) (outcome items array line) none
+
+  led_next : (units : List (Counted (List ℕ))) (z : Situation) (from : ℕ) (bytes : List ℕ)
+      (z' : Situation) (rest : List ℕ) → UnitsLead g z from units bytes z' rest
+      → IsUnrefused z.lines
+      → IsUnrefused z'.lines
+      × (next_line z'.lines ≡ next_line z.lines + length (lines_of x units))
+  unfolding UnitsLead
+  led_next [] z from bytes z' rest l on = (
+    subst (λ (y : Situation). IsUnrefused y.lines) l.0 on,
+    ap (λ (y : Situation). next_line y.lines) (sym l.0) ∙ omega arith,
+  )
+  led_next (one ∷ units) z from bytes z' rest l on =
+      let b : LineStanding = after z.lines one.unit in
+      let a : Result LineStep LineFault = answer z.lines one.unit in
+      let is = behind_lines z b a in
+      let step = next_of z z.lines one.unit on l.1 in
+      let later = led_next units (g.after z from one.unit) (from + one.size) (drop one.size bytes)
+      z' rest l.2 (subst IsUnrefused (sym is) step.0) in
+      let same = ap next_line is in
+      let count = step.1 in
+      let more = later.1 in
+      (later.0, omega (arith, more, same, count))
+
+  -- in singleton mode there is one document at most
+  abbrev AtMostOne : Situation → Type 0
+  AtMostOne z = (is_full x z ≡ true → is_between z.lines ≡ true)
+      × (is_singleton x.mode ≡ true → z.documents ≤ 1)
+
+  none_before : (n : ℕ) (single : Bool) → single ≡ true → (single && not (n == 0)) ≡ false → n ≡ 0
+  none_before n single is e = eqb-true n 0 (by_count (n == 0) (rw is at e)) where
+    by_count : (v : Bool) → not v ≡ false → v ≡ true
+    by_count true e = refl
+    by_count false e = cc
+
+  most_by : (z : Situation) (n : ℕ) (o : Result PlacedLine LineKind) → AtMostOne z
+      → ((doc : List Item) → o ≡ Ok (ends_document doc) → is_full x z ≡ false)
+      → refused_line x z (standing_of n o) (answer_of n o) ≡ None
+      → AtMostOne (behind_line x z (standing_of n o) (answer_of n o))
+  most_by z n (Ok (leads_on items array)) most lone none = (
+    λ is. elim (cases_Bool (is_between (going n items array))) [
+      | inl t ↦ t
+      | inr f ↦ let no = rw (is, most.0 is, f) at none in cc
+    ],
+    most.1,
+  )
+  most_by z n (Ok (ends_document doc)) most lone none = (
+    λ is. refl,
+    λ single.
+        let zero = none_before z.documents (is_singleton x.mode) single (lone doc refl) in
+        omega (arith, zero),
+  )
+  most_by z n (Err kind) most lone none = cc
+
+  most_of : (z : Situation) (line : List ℕ) → AtMostOne z → (s : LineStanding) → z.lines ≡ s
+      → IsUnrefused s → refused_line x z (after s line) (answer s line) ≡ None
+      → AtMostOne (behind_line x z (after s line) (answer s line))
+  most_of z line most (failed fault) is on none = absurd on
+  most_of z line most (going n items array) is on none =
+      most_by z (n + 1) (outcome items array line) most
+      (λ doc o. elim (cases_Bool (is_full x z)) [
+        | inl t ↦ absurd (no_lone z.lines line doc (most.0 t)
+            (ap (λ (s : LineStanding). answer s line) is ∙ ap (answer_of (n + 1)) o))
+        | inr f ↦ f
+      ]) none
+
+  led_most : (units : List (Counted (List ℕ))) (z : Situation) (from : ℕ) (bytes : List ℕ)
+      (z' : Situation) (rest : List ℕ) → UnitsLead g z from units bytes z' rest
+      → IsUnrefused z.lines → AtMostOne z → AtMostOne z'
+  unfolding UnitsLead
+  led_most [] z from bytes z' rest l on most = subst AtMostOne l.0 most
+  led_most (one ∷ units) z from bytes z' rest l on most =
+      let is = behind_lines z (after z.lines one.unit) (answer z.lines one.unit) in
+      led_most units (g.after z from one.unit) (from + one.size) (drop one.size bytes) z' rest l.2
+      (subst IsUnrefused (sym is) (next_of z z.lines one.unit on l.1).0)
+      (most_of z one.unit most z.lines refl on l.1)
+
+  -- ---- all of it
+
+  module _ (bytes : List ℕ) where
+    w : Walk x (start_of x) 0 bytes
+    w = walk x (length bytes) (start_of x) 0 bytes (omega arith) (omega arith)
+
+    abbrev written_lines : List (List ℕ)
+    written_lines = lines_of x w.units
+
+    abbrev es : List (List ℕ)
+    es = events_along g (start_of x) 0 w.units
+
+    abbrev z : Situation
+    z = w.situation
+
+    brought : Brings g (readable x) [] (start_of x) 0 w.units bytes z w.rest
+    brought = units_bring g (readable x) w.units [] (start_of x) 0 bytes z w.rest
+        (between_first g (readable x)) w.lead
+        (short_below g (readable x) x.limits.session
+        (λ y from n lt. short_enough x.limits.session n lt) w.units (start_of x) 0 w.within)
+
+    all_cut : cut bytes ≡ (written_lines ++ (cut w.rest).0, (cut w.rest).1)
+    all_cut = cuts x w.units (start_of x) 0 bytes z w.rest w.lead
+
+    total : length bytes ≡ size_of w.units + length w.rest
+    total = leads_length g (readable x) w.units (start_of x) 0 bytes z w.rest w.lead
+
+    next : IsUnrefused z.lines × (next_line z.lines ≡ 0 + 1 + length written_lines)
+    next = led_next w.units (start_of x) 0 bytes z w.rest w.lead tt
+
+    count : next_line z.lines ≡ length written_lines + 1
+    count = let n = next.1 in omega (arith, n)
+
+    documents : z.documents ≡ length (documents_of written_lines)
+    documents =
+        let n = led_documents w.units (start_of x) 0 bytes z w.rest w.lead in omega (arith, n)
+
+    leads_to : z.lines ≡ standing_from at_start written_lines
+    leads_to = led_lines w.units (start_of x) 0 bytes z w.rest w.lead
+
+    most : AtMostOne z
+    most = led_most w.units (start_of x) 0 bytes z w.rest w.lead tt
+        (λ full. refl, λ single. omega arith)
+
+    abbrev Why : Option InputFault → Type 0
+    Why o = Explains x bytes written_lines (cut w.rest).0 z.table o
+
+    -- a line that is refused
+    module _ (line : List ℕ) (n : ℕ) (is : line_at w.rest ≡ whole line n) where
+      unfit_by : (doc : List Item) → answer z.lines line ≡ Ok (Done doc)
+          → (v : Result (Placed (List ℕ)) Unfit) → encoded x.limits x.kind z.table doc ≡ v
+          → (fault : InputFault) → fault_of x z.documents v ≡ Some fault → Why (Some fault)
+      unfit_by doc ends (Ok payload) e fault refused = cc
+      unfit_by doc ends (Err why) e fault refused = subst Why refused (
+        documents,
+        record {
+          line = line;
+          rest = (cut (drop n w.rest)).0;
+          next = ap (λ (c : List (List ℕ) × List ℕ). c.0) (cut_line w.rest line n is);
+          doc = doc;
+          ends = ap (λ (s : LineStanding). answer s line) (sym leads_to) ∙ ends;
+          unfit = why;
+          not_fitting = e;
+          why_is = refl;
+        },
+      )
+
+      refused_by : (m : ℕ) (o : Result PlacedLine LineKind) → m ≡ next_line z.lines
+          → answer z.lines line ≡ answer_of m o → (fault : InputFault)
+          → refused_line x z (standing_of m o) (answer_of m o) ≡ Some fault → Why (Some fault)
+      refused_by m (Ok (leads_on items array)) number a fault refused =
+          by_count (is_full x z && (is_between z.lines && not (is_between (going m items array))))
+          refl
+        where
+          by_count : (v : Bool) → (is_full x z && (is_between z.lines
+              && not (is_between (going m items array)))) ≡ v → Why (Some fault)
+          by_count true e = subst Why (rw e at refused) count
+          by_count false e = let none = rw e at refused in cc
+      refused_by m (Ok (ends_document doc)) number a fault refused =
+          unfit_by doc a (encoded x.limits x.kind z.table doc) refl fault refused
+      refused_by m (Err kind) number a fault refused = subst Why refused (number ∙ count)
+
+      why_refused : (s : LineStanding) → z.lines ≡ s → IsUnrefused s → (fault : InputFault)
+          → refused_line x z (after s line) (answer s line) ≡ Some fault → Why (Some fault)
+      why_refused (failed other) e on fault refused = absurd on
+      why_refused (going m items array) e on fault refused =
+          refused_by (m + 1) (outcome items array line) (sym (ap next_line e))
+          (ap (λ (s : LineStanding). answer s line) e) fault refused
+
+    -- the end of the input
+    module _ (is : line_at w.rest ≡ begun) where
+      abbrev from : ℕ
+      from = 0 + size_of w.units
+
+      abbrev within_line : Bool
+      within_line = nat_lt from (from + length w.rest)
+
+      nothing_left : within_line ≡ false → w.rest ≡ []
+      nothing_left e =
+          let le = ltb-false from (from + length w.rest) e in
+          nil_from_length w.rest (omega (arith, le))
+
+      why_ended : Why (ending_fault x within_line z)
+      why_ended = by_cut (within_line || not (is_between z.lines)) refl
+          (is_singleton x.mode && (z.documents == 0)) refl
+        where
+          or_left : (a b : Bool) → (a || b) ≡ false → a ≡ false
+          or_left true b e = cc
+          or_left false b e = refl
+
+          or_not : (a b : Bool) → (a || not b) ≡ false → b ≡ true
+          or_not true b e = cc
+          or_not false true e = refl
+          or_not false false e = cc
+
+          ends_between : (within_line || not (is_between z.lines)) ≡ false
+              → AreLinesOf (documents_of written_lines) written_lines
+          ends_between e = read-documents written_lines (documents_of written_lines) refl
+              (ap ending (sym leads_to)
+              ∙ between_ends z.lines (or_not within_line (is_between z.lines) e))
+
+          one : (is_singleton x.mode && (z.documents == 0)) ≡ false → is_singleton x.mode ≡ true
+              → length (documents_of written_lines) ≡ 1
+          one some single =
+              let few = most.1 single in
+              let other : (z.documents == 0) ≡ false = rw single at some in
+              let never = eqb-false z.documents 0 other in
+              let same = documents in
+              omega (arith, few, never, same)
+
+          by_cut : (a : Bool) → (within_line || not (is_between z.lines)) ≡ a → (b : Bool)
+              → (is_singleton x.mode && (z.documents == 0)) ≡ b
+              → Why (if a then Some (Line (next_line z.lines) Cut)
+              else if b then Some (Line (next_line z.lines) WrongCount) else None)
+          by_cut true at_cut b at_count = count
+          by_cut false at_cut true at_count = count
+          by_cut false at_cut false at_count =
+              let none = nothing_left (or_left within_line (not (is_between z.lines)) at_cut) in (
+                ap (λ (r : List ℕ). (cut r).0) none,
+                ap (λ (c : List (List ℕ) × List ℕ). c.1) all_cut ∙ ap (λ (r : List ℕ). (cut r).1)
+                    none,
+                ends_between at_cut,
+                one at_count,
+              )
+
+    -- what comes of the rest, and why
+    record Rest : Type 0 where
+      fault : Option InputFault
+      brings : history_from g ([] ++ take (size_of w.units) bytes) w.rest ≡ only fault
+      why : Why fault
+
+    of_rest : Stop x z (0 + size_of w.units) w.rest → Rest
+    of_rest (refuses line n fault is fits refused) = record {
+      fault = Some fault;
+      brings = at_refusal x _ z _ brought.between w.rest line n fault is fits refused;
+      why = why_refused line n is z.lines refl next.0 fault refused;
+    }
+    of_rest (fills k within free full) = record {
+      fault = Some TooLong;
+      brings = at_quota x _ z _ brought.between w.rest k within free full;
+      why = let n = total in omega (arith, n, within, full);
+    }
+    of_rest (goes_out is less) = record {
+      fault = ending_fault x (nat_lt (0 + size_of w.units) (0 + size_of w.units + length w.rest)) z;
+      brings = at_the_end x _ z _ brought.between w.rest is less;
+      why = why_ended is;
+    }
+
+    all_of : Rest → IsWritten x bytes
+    unfolding report offence history
+    all_of r =
+        let h : history_from g [] bytes ≡ record { events = es ++ []; offence = r.fault }
+        = brought.history ∙ ap (led_by es) r.brings in
+        let o = ap (λ (v : History (List ℕ) InputFault). v.offence) h in record {
+          lines = written_lines;
+          more = (cut w.rest).0;
+          lines_are = ap (λ (c : List (List ℕ) × List ℕ). c.0) all_cut;
+          envelopes = (joined x es, z.table);
+          all_fit = envelopes_of x w.units 0 bytes z w.rest at_start
+              (record { statics = x.statics; strings = [] }) 0 tt w.lead;
+          written =
+              ap (λ (v : History (List ℕ) InputFault). told_along envelopes_and_end tt v.events
+              ++ envelopes_and_end.ends tt v.offence) h
+              ∙ ap (λ l. l ++ envelopes_and_end.ends tt r.fault)
+              (told_flat envelopes_and_end (λ e. e) (λ s e. refl) (es ++ []) tt
+              ∙ ap (joined x) (append-nil es))
+              ∙ ap (λ v. joined x es ++ envelopes_and_end.ends tt v) (sym o);
+          why = subst Why (sym o) r.why;
+        }
+
+pub written : InputIsWritten
+written x bytes = all_of x bytes (of_rest x bytes (w x bytes).stop)

@@ -1,0 +1,10 @@
+use Rattle.std.proofs.Common.{ap}
+use Rattle.document_lines.specs.Standing.{said_at_end}
+use Rattle.document_lines.proofs.reader.DocumentReader.end_of_input.Goals as goal
+
+pub returns-in-Some-fault_at_end-clause-answers : goal.returns-in-Some-fault_at_end-clause-answers
+returns-in-Some-fault_at_end-clause-answers c =
+    λ p h. rw c.fail.ensures.same (ap said_at_end (c.in-Some-fault_at_end.ensures p h))
+
+pub returns-in-None-clause-answers : goal.returns-in-None-clause-answers
+returns-in-None-clause-answers c = λ p h. ap said_at_end (c.in-None.ensures p h)

@@ -1,0 +1,169 @@
+//! Lines, one after the other, as the envelopes of the documents that they complete.
+
+ghost use Rattle.std.specs.Prelude.{◌≡◌, ◌+◌, ◌<◌, ◌≤◌, ◌^◌, ◌==◌, ◌&&◌, not, []};
+ghost use Rattle.line_notation.specs.Between.{next_line};
+ghost use Rattle.line_notation.specs.Standing.{HasReadFew};
+ghost use Rattle.nbfx_values.specs.QuotasOf.{limits_of};
+ghost use Rattle.nbfx_encoder.specs.Sending.{KeepsSettings, kind_in, limits_in, mode_in, names_in, state_in};
+ghost use Rattle.nbfx_encoder.specs.Spelling.{encoded};
+ghost use Rattle.document_lines.specs.Input.{Settings, Situation, ending_fault, is_singleton, start_of};
+
+use crate::InputFault;
+use crate::envelope::Envelope;
+use line_notation::{LineFault, LineKind, LineReader, LineStep};
+use nbfx_encoder::{EncodeFault, SendFault, SendState, Sender, Side};
+use nbfx_values::{Doc, Kind, Mode, Quotas};
+use static_dictionary::StaticTable;
+use std::alloc::Global;
+use std::mem;
+use stream_loop::FeedFault;
+
+// A line with this number begins a second document in singleton mode, or would be the first of one.
+fn wrong_count(line: u64) -> InputFault
+    ensures { result ≡ InputFault.Line line LineKind.WrongCount }
+{
+    InputFault::Line {
+        line,
+        kind: LineKind::WrongCount,
+    }
+}
+
+/// Reads whole lines, and writes the document that a line completes.
+#[derive(Drop)]
+pub struct LineEncoder<'s> {
+    pub alloc: Global,
+    pub lines: LineReader,
+    pub sender: Sender<'s>,
+    pub mode: Mode,
+    /// How many documents were completed.
+    pub documents: u64,
+    /// The room of the next envelope.
+    pub room: Vec<u8>,
+}
+
+impl<'s> LineEncoder<'s> {
+    ghost use Rattle.document_lines.specs.Standing.{IsAt, KeepsAll, KeepsSet, LineAnswers, SendAnswers};
+
+    /// Before the first line.
+    pub fn new(
+        alloc: Global,
+        statics: &'s StaticTable,
+        quotas: Quotas,
+        kind: Kind,
+        mode: Mode,
+    ) -> Self
+        ensures { let x : Settings = record {
+          limits = limits_of quotas;
+          kind = kind;
+          mode = mode;
+          statics = statics.now;
+        } in IsAt x (start_of x) result }
+    {
+        LineEncoder {
+            alloc,
+            lines: LineReader::new(alloc),
+            sender: Sender::new(alloc, statics, quotas, kind, mode, Side::Initiator),
+            mode,
+            documents: 0,
+            room: Vec::new(alloc),
+        }
+    }
+
+    // Whether no other document may begin.
+    fn is_full(&self) -> bool
+        ensures { result ≡ (is_singleton self.now.mode && not (self.now.documents == 0)) }
+    {
+        match self.mode {
+            Mode::Singleton => self.documents != 0,
+            Mode::Duplex | Mode::Simplex => false,
+        }
+    }
+
+    /// Reads a line, which is given without its line feed, and writes the document that it
+    /// completes, if it completes one.
+    pub fn line(&mut self, line: &[u8]) -> Result<Option<Envelope>, FeedFault<InputFault>>
+        requires lines { HasReadFew self.old.lines }
+        requires documents { self.old.documents < 2 ^ 63 }
+        ensures answers { (x : Settings) (z : Situation) → IsAt x z self.old
+            → LineAnswers x z line.now self.new result }
+        ensures lines { next_line self.new.lines ≤ next_line self.old.lines + 1 }
+        ensures documents { self.new.documents ≤ self.old.documents + 1 }
+        ensures set { KeepsSet self.old self.new }
+    {
+        let number = self.lines.next_line();
+        match self.lines.line(line) {
+            Ok(LineStep::Done(doc)) => self.send(number, doc),
+            Ok(LineStep::More) if self.is_full() && !self.lines.is_between() => {
+                Err(FeedFault::Refused(wrong_count(number)))
+            }
+            Ok(LineStep::More) => Ok(None),
+            Err(LineFault::Bad { line, kind }) => {
+                Err(FeedFault::Refused(InputFault::Line { line, kind }))
+            }
+            Err(LineFault::Memory) => Err(FeedFault::Memory),
+        }
+    }
+
+    // Writes a document, which the line of this number completes.
+    fn send(&mut self, line: u64, doc: Doc) -> Result<Option<Envelope>, FeedFault<InputFault>>
+        requires { self.old.documents < 2 ^ 63 }
+        ensures sent { state_in self.old.sender ≡ SendState.Ready → SendAnswers
+            (encoded (limits_in self.old.sender) (kind_in self.old.sender)
+            (names_in self.old.sender) doc)
+            (mode_in self.old.sender) self.old.documents self.new result }
+        ensures kept { KeepsSettings self.old.sender self.new.sender }
+        ensures mode { self.new.mode ≡ self.old.mode }
+        ensures lines { self.new.lines ≡ self.old.lines }
+        ensures documents { self.new.documents ≡ self.old.documents + 1 }
+    {
+        let number = self.documents;
+        self.documents += 1;
+        let mut bytes = self.take_room();
+        let sent = self.sender.message(&doc, &mut bytes);
+        self.lines.reuse(doc);
+        match sent {
+            Ok(()) => Ok(Some(Envelope::of(bytes))),
+            Err(SendFault::Refused(EncodeFault::Memory)) => Err(FeedFault::Memory),
+            Err(SendFault::Refused(why)) => {
+                Err(FeedFault::Refused(InputFault::Unfit { number, why }))
+            }
+            Err(SendFault::WrongMoment { .. }) => Err(FeedFault::Refused(wrong_count(line))),
+        }
+    }
+
+    // The room of an envelope, in which nothing stands.
+    fn take_room(&mut self) -> Vec<u8>
+        ensures nothing { result.items ≡ [] }
+        ensures kept { KeepsAll self.old self.new }
+    {
+        let mut bytes = mem::replace(&mut self.room, Vec::new(self.alloc));
+        bytes.clear();
+        bytes
+    }
+
+    /// Takes back an envelope that is done with, whose room serves the next one.
+    pub fn reuse(&mut self, envelope: Envelope)
+        ensures { KeepsAll self.old self.new }
+    {
+        self.room = envelope.into_bytes();
+    }
+
+    /// Why the input may not end here: it ends within a line, or within a document, or in singleton
+    /// mode without one.
+    pub fn fault_at_end(&self, within_line: bool) -> Option<InputFault>
+        ensures { (x : Settings) (z : Situation) → IsAt x z self.now
+            → result ≡ ending_fault x within_line z }
+    {
+        let line = self.lines.next_line();
+        if within_line || !self.lines.is_between() {
+            return Some(InputFault::Line {
+                line,
+                kind: LineKind::Cut,
+            });
+        }
+        if self.mode == Mode::Singleton && self.documents == 0 {
+            return Some(wrong_count(line));
+        }
+        None
+    }
+}

@@ -1,0 +1,50 @@
+use Rattle.std.proofs.Common.{◌≡◌, List, ◌++◌, ap, sym, ◌∙◌, subst}
+use Rattle.nbfx_values.specs.QuotasOf.{limits_of}
+use Rattle.command_words.specs.Asking.{opening_of}
+use Rattle.stream_loop.specs.Edges.{input_at, output_at}
+use Rattle.command_words.specs.Tasks.{Opening}
+use Rattle.stream_loop.specs.Reported.{EndsAs}
+use Rattle.document_lines.specs.Input.{Settings, envelopes_and_end, lines_of_documents}
+use Rattle.document_lines.specs.Standing.{has_good_quotas, settings_of}
+use Rattle.dump_replay.specs.Building.{with_preamble}
+use Rattle.dump_replay.proofs.BuildEndings.{built_under, lines_end_within, unbegun}
+use Rattle.dump_replay.proofs.building.build_input.Goals as goal
+
+pub returns-in_default : goal.returns-in_default
+returns-in_default g c =
+    unbegun c.args.statics.now (limits_of c.args.quotas) (opening_of c.args.wanted)
+    c.args.quotas.good
+    (input_at g.I.Source.left g.I.Source.taken g.I.Source.faults g.I.Source.empty_takes
+    c.args.input.now)
+    (output_at g.O.Sink.written g.O.Sink.held g.O.Sink.faults c.args.output)
+
+pub returns-in_default-gathering_room : goal.returns-in_default-gathering_room
+returns-in_default-gathering_room g c =
+    unbegun c.args.statics.now (limits_of c.args.quotas) (opening_of c.args.wanted)
+    c.args.quotas.good
+    (input_at g.I.Source.left g.I.Source.taken g.I.Source.faults g.I.Source.empty_takes
+    c.args.input.now)
+    (output_at g.O.Sink.written g.O.Sink.held g.O.Sink.faults c.args.output)
+
+pub report_stream-ending-requires-clause-ends : goal.report_stream-ending-requires-clause-ends
+report_stream-ending-requires-clause-ends g c =
+    lines_end_within (settings_of c.new-reader.result) (has_good_quotas c.new-reader.result)
+
+pub returns : goal.returns
+returns g c =
+    let opening : Opening = opening_of c.args.wanted in
+    let i = input_at g.I.Source.left g.I.Source.taken g.I.Source.faults g.I.Source.empty_takes
+    c.args.input.now in
+    let i' = input_at g.I.Source.left g.I.Source.taken g.I.Source.faults g.I.Source.empty_takes
+    c.report_stream-ending.new.input in
+    let o = output_at g.O.Sink.written g.O.Sink.held g.O.Sink.faults c.args.output in
+    let o' = output_at g.O.Sink.written g.O.Sink.held g.O.Sink.faults c.into_sink.result in
+    let ending = c.report_stream-ending.result in
+    let beneath = built_under g.O.Sink.written g.O.Sink.held g.O.Sink.faults
+    (settings_of c.new-reader.result) opening i i' ending c.args.output
+    c.holding-gathered.result.sink c.report_stream-ending.new.output.sink c.into_sink.result
+    c.holding-gathered.result.gathered _ c.holding-gathered.ensures.sink
+    (c.holding-gathered.ensures.gathered ∙ c.deref.ensures.value ∙ c.in-Ok.ensures.bytes) c.into_sink.ensures
+    c.report_stream-ending.ensures.reported in
+    subst (λ (s : Settings). EndsAs (lines_of_documents s) envelopes_and_end i i'
+    (with_preamble opening o) o' tt ending) c.new-reader.ensures.settings beneath

@@ -1,5 +1,0 @@
-use Rattle.dump_replay.proofs.Sessions.{reports_events}
-use Rattle.dump_replay.proofs.laws.reports.Goals as goal
-
-pub returns : goal.returns
-returns c = λ d x bytes. reports_events d x bytes

@@ -1,7 +1,0 @@
-use Rattle.dump_replay.proofs.Sessions.{reports_sessions}
-use Rattle.dump_replay.proofs.laws.session_reports.Goals as goal
-
-pub returns : goal.returns
-returns c =
-    λ d x good parts session rest is follow. reports_sessions d x good parts session rest is
-    follow

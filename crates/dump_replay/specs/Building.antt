@@ -1,0 +1,94 @@
+-- What the command that writes documents as an initiator's session leaves, by how it ended.
+use Rattle.std.specs.Prelude.{ℕ, List, [], ◌∷◌, ◌++◌, Some, None, codes}
+use Rattle.std.specs.Fmt.{decimal}
+use Rattle.std.specs.List.{flat_map}
+use Rattle.nbfx_values.specs.Limits.{Limits}
+use Rattle.string_tables.specs.StaticStrings.{Entry}
+use Rattle.nbfx_encoder.specs.declared.faults.EncodeFault.{EncodeFault}
+use Rattle.nbfx_encoder.specs.declared.faults.EncodeFault.TheVariants as unfit
+use Rattle.line_notation.specs.declared.reader.LineKind.{LineKind}
+use Rattle.line_notation.specs.declared.reader.LineKind.TheVariants.{NotALine, BadText, OutOfRange, OutOfPlace, Cut, WrongCount}
+use Rattle.stream_loop.specs.Edges.{Input, Output}
+use Rattle.stream_loop.specs.Reported.{EndsAs}
+use Rattle.stream_loop.specs.declared.reporting.Ending.{Ending}
+use Rattle.stream_loop.specs.declared.reporting.Ending.TheVariants.{Judged, ReadFault, WriteFault, Memory}
+use Rattle.document_lines.specs.Input.{Settings, lines_of_documents, envelopes_and_end}
+use Rattle.document_lines.specs.declared.InputFault.{InputFault}
+use Rattle.document_lines.specs.declared.InputFault.TheVariants.{Line, Unfit, TooLong}
+use Rattle.initiator_machine.specs.Opening.{opening_bytes}
+use Rattle.command_words.specs.Tasks.{Opening}
+use Rattle.dump_replay.specs.Running.{note_of}
+
+-- how documents are written, with these static strings and within these quotas
+abbrev pub settings_for_building : Opening → List Entry → Limits → Settings
+settings_for_building opening statics limits =
+    record { limits = limits; kind = opening.kind; mode = opening.mode; statics = statics }
+
+-- the preamble of the session
+abbrev pub preamble_of : Opening → List ℕ
+preamble_of opening = opening_bytes opening.mode opening.kind opening.via
+
+-- the output, as if it held the preamble too, which is written first
+abbrev pub with_preamble : Opening → Output → Output
+with_preamble opening o = record o { held = o.held ++ preamble_of opening }
+
+-- ---- statuses and notes
+
+abbrev pub status_of_input_fault : InputFault → ℕ
+status_of_input_fault (Line n kind) = 6
+status_of_input_fault (Unfit number why) = 7
+status_of_input_fault TooLong = 10
+
+-- the status of a run that ends so
+abbrev pub status_of_building : Ending InputFault → ℕ
+status_of_building (Judged None) = 0
+status_of_building (Judged (Some fault)) = status_of_input_fault fault
+status_of_building ReadFault = 3
+status_of_building WriteFault = 4
+status_of_building Memory = 5
+
+abbrev pub line_kind_name : LineKind → List ℕ
+line_kind_name NotALine = codes "NotALine"
+line_kind_name BadText = codes "BadText"
+line_kind_name OutOfRange = codes "OutOfRange"
+line_kind_name OutOfPlace = codes "OutOfPlace"
+line_kind_name Cut = codes "Cut"
+line_kind_name WrongCount = codes "WrongCount"
+
+-- why a document doesn't fit, with the number that says so
+abbrev pub unfit_words : EncodeFault → List (List ℕ)
+unfit_words (unfit.TooDeep depth) = codes "depth " ∷ decimal depth ∷ []
+unfit_words (unfit.TooMuchContent size) = codes "content " ∷ decimal size ∷ []
+unfit_words (unfit.NoIdForQName item) = codes "qname at item " ∷ decimal item ∷ []
+unfit_words (unfit.TooLarge size) = codes "payload " ∷ decimal size ∷ []
+unfit_words unfit.Memory = []
+
+-- texts, one right behind the other
+abbrev pub joined : List (List ℕ) → List ℕ
+joined = flat_map (λ text. text)
+
+-- the note of why documents are refused; a document that there is no memory for is none of these
+abbrev pub input_note : InputFault → List ℕ
+input_note (Line n kind) = joined
+    (codes "input: line " ∷ decimal n ∷ codes " " ∷ line_kind_name kind ∷ codes "\n" ∷ [])
+input_note (Unfit number unfit.Memory) = note_of 5
+input_note (Unfit number why) = joined (codes "document " ∷ decimal number
+    ∷ codes " does not fit: " ∷ (unfit_words why ++ codes "\n" ∷ []))
+input_note TooLong = codes "input too long\n"
+
+-- the note of a run that ends so
+abbrev pub note_of_building : Ending InputFault → List ℕ
+note_of_building (Judged None) = []
+note_of_building (Judged (Some fault)) = input_note fault
+note_of_building ReadFault = note_of 3
+note_of_building WriteFault = note_of 4
+note_of_building Memory = note_of 5
+
+-- what is known of documents that are written so, where that ends so: of all that the input gives,
+-- where it tells that; what was read, and that the preamble and the envelopes are written; how
+-- often the input was asked at its end; and what failed calls left of the counts
+abbrev pub Builds : Opening → List Entry → Limits → (i i' : Input) (o o' : Output)
+    → Ending InputFault → Type 0
+Builds opening statics limits i i' o o' ending =
+    EndsAs (lines_of_documents (settings_for_building opening statics limits)) envelopes_and_end
+    i i' (with_preamble opening o) o' tt ending
