@@ -13,5 +13,6 @@ mod lines;
 mod reading;
 mod reporter;
 
+pub use lines::put_offence;
 pub use reading::{Event, Received, StreamEnd};
 pub use reporter::{LineReporter, Outcome};

@@ -53,6 +53,7 @@ fn put_line<K: Sink>(event: &Event, output: &mut K) -> Result<(), SinkFault>
 }
 
 // Puts the lines of the document that an event brings.
+#[inline(never)]
 fn put_document<K: Sink>(event: &Event, output: &mut K) -> Result<(), SinkFault>
     ensures { Puts K.written K.held K.faults K.may_want output.old output.new
         (said_document event.now) result }

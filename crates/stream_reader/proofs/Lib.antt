@@ -44,7 +44,13 @@ pub mod Closed
 pub mod Bounded
 pub mod ReaderFacts
 pub mod PayloadSteps
+pub mod FailedFeeds
 pub mod PayloadFeeds
+-- and short chunks at once
+pub mod RunFacts
+pub mod ChunkBytes
+pub mod RunBytes
+pub mod RunFeeds
 pub mod Texts
 pub mod MadePayloads
 pub mod Behind

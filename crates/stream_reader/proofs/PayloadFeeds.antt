@@ -7,18 +7,14 @@ use Rattle.unit_streams.specs.Grammar.{standing}
 use Rattle.unit_streams.specs.Judging.{refusal_at, ending_at, event_at, is_over_at, goes_on, offends}
 use Rattle.unit_streams.specs.Going.{IsQuiet, IsQuietBefore}
 use Rattle.unit_streams.proofs.Answers.{answers_are_first}
-use Rattle.unit_streams.proofs.Pending.{pending_unrefused}
-use Rattle.string_tables.specs.SessionStrings.{used_cost}
 use Rattle.nmf_records.specs.declared.frame.Expect.{Expect}
 use Rattle.nmf_records.specs.declared.reader.FrameReader.{FrameReader}
 use Rattle.nmf_records.specs.Reader.{StandsFor as FrameStandsFor, ShowsText as FramesShowText}
 use Rattle.nmf_records.specs.declared.script.Direction.{Direction}
 use Rattle.nbfx_decoder.specs.Payload.{Refusal, refusal, payload, Settings as PayloadSettings}
-use Rattle.nbfx_decoder.specs.declared.decoder.Decoder.{Decoder}
 use Rattle.nbfx_decoder.specs.declared.faults.DecodeFault.{DecodeFault}
 use Rattle.nbfx_decoder.specs.declared.faults.DecodeFault.TheVariants as faults
 use Rattle.nbfx_decoder.specs.Standing.{settings_of as decoder_settings, situation_of, StandsFor as DecoderStandsFor, FailedBehind as DecoderFailedBehind, FailedWithin, FeedAnswers}
-use Rattle.nbfx_decoder.proofs.StandsFacts.{stands_as}
 use Rattle.stream_reader.specs.declared.awaited.Awaited.{Awaited}
 use Rattle.stream_reader.specs.declared.awaited.Awaited.TheVariants as awaits
 use Rattle.stream_reader.specs.declared.awaited.PayloadLeft.{PayloadLeft}
@@ -30,18 +26,9 @@ use Rattle.stream_reader.specs.Stream.{OpenPayload, Settings, Situation, Stage, 
 use Rattle.stream_reader.specs.Standing.{Awaits, DecideNothing, Failed, HasBegun, HasPart, HasPayloads, IsIn, Reached, ReadsPayload, ShowsTable, ShowsStrings, ShowsText, failure_of, form_of, messages_of, taken_of}
 use Rattle.stream_reader.specs.Stepping.{BehindAnswers, HasDecoded, UnitAnswers, more_shown, step_of, refusal_told}
 use Rattle.stream_reader.proofs.Ending.{payload_goes_on}
+use Rattle.stream_reader.proofs.FailedFeeds.{StaysWith, failed_with, same_grammar, some_refused, unrefused_so}
 use Rattle.stream_reader.proofs.Outcomes.{more_behind, refused_eventless, refused_messages, strings_behind, text_behind}
 use Rattle.stream_reader.proofs.PayloadBytes.{IsWithin, bytes_event, bytes_going, bytes_refused, bytes_stand, more_refusal, between_refusal, last_refusal, payload_behind, payload_quiet, payload_quiet_before, stands_so, within_open}
-use Rattle.stream_reader.proofs.ReaderFacts.{cost_within}
-
--- q shows what p does, but for the strings of these bytes of its payload
-pub record StaysWith (r : StreamReader) (x : Settings) (p q bytes : List ℕ) : Type 0 where
-  pub text : (standing (stream x) q).situation.text ≡ (standing (stream x) p).situation.text
-  pub messages : (standing (stream x) q).situation.messages
-      ≡ (standing (stream x) p).situation.messages
-  pub strings : strings_in (standing (stream x) q).situation
-      ≡ (situation_of (payloads x (standing (stream x) p).situation.kind)
-      (standing (stream x) p).situation.strings bytes).strings
 
 -- a reader of records that has begun none
 pub none_begun : (direction : Direction) (a : Awaited) (frames : FrameReader)
@@ -99,10 +86,6 @@ module _ (r : StreamReader) (x : Settings) (p : List ℕ) (h : Reached r x p) (l
       subst (λ (a : Awaited). HasBegun (direction_of x.side) a r.frames
       (standing (stream x) p).begun)
       is h.frames
-
-  same_grammar : (A : PayloadSettings → Type 0) → A (decoder_settings r.decoder)
-      → A (payloads x (standing (stream x) p).situation.kind)
-  same_grammar A a = subst A h.at.decodes a
 
   -- some bytes of the piece, of those that are to come
   module _ (c : List ℕ) (n : ℕ) (within : n ≤ length c) (few : n ≤ left.left)
@@ -212,7 +195,7 @@ module _ (r : StreamReader) (x : Settings) (p : List ℕ) (h : Reached r x p) (l
               ∙ ap (λ v. option_or v (ending_at (payload_in x z) (bytes ++ take k c))) e
 
       -- they bring no document
-      stays_by : (behind_payload x z (there k)).messages ≡ z.messages → StaysWith r x p
+      stays_by : (behind_payload x z (there k)).messages ≡ z.messages → StaysWith x p
           (p ++ take k c) (bytes ++ take k c)
       stays_by e = record {
         text = text_there;
@@ -321,12 +304,12 @@ module _ (r : StreamReader) (x : Settings) (p : List ℕ) (h : Reached r x p) (l
           })
 
     -- no byte more
-    stays_none : StaysWith r x p (p ++ take 0 c) (bytes ++ take 0 c)
+    stays_none : StaysWith x p (p ++ take 0 c) (bytes ++ take 0 c)
     stays_none =
         let none : p ≡ p ++ take 0 c = sym (append-nil p) in
         let none_own : bytes ≡ bytes ++ take 0 c = sym (append-nil bytes) in
-        subst (λ (q : List ℕ). StaysWith r x p q (bytes ++ take 0 c)) none
-        (subst (λ (b : List ℕ). StaysWith r x p p b) none_own (record {
+        subst (λ (q : List ℕ). StaysWith x p q (bytes ++ take 0 c)) none
+        (subst (λ (b : List ℕ). StaysWith x p p b) none_own (record {
           text = refl;
           messages = refl;
           strings = ap (strings_at z) found.1 ∙ ap (λ (s : PayloadStanding). s.situation.strings)
@@ -336,33 +319,13 @@ module _ (r : StreamReader) (x : Settings) (p : List ℕ) (h : Reached r x p) (l
     -- fewer than are to come
     stays_below : (j : ℕ) → j ≤ n → length bytes + j < o.size
         → ((i : ℕ) → i < j → refusal_at (payload_in x (standing (stream x) p).situation)
-        (own.bytes ++ take i c) ≡ None) → StaysWith r x p (p ++ take j c) (bytes ++ take j c)
+        (own.bytes ++ take i c) ≡ None) → StaysWith x p (p ++ take j c) (bytes ++ take j c)
     stays_below zero le more none = stays_none
     stays_below (suc j) le more none =
         stays_by (suc j) (omega arith) le none
         (ap (λ (s : Situation). s.messages)
         (more_behind x z (there (suc j)) (let m = taken (suc j) le in let n = length-append bytes
         (take (suc j) c) in omega (arith, m, n, more))))
-
-    -- what a decoder shows that has failed behind some
-    shows_failed : (d : Decoder) (fault : DecodeFault) (b : List ℕ) → decoder_settings d
-        ≡ decoder_settings r.decoder → DecoderFailedBehind d fault z.strings b
-        → ShowsTable d (situation_of (payloads x z.kind) z.strings b).strings
-    shows_failed d fault b same failed =
-        let is_set : decoder_settings d ≡ payloads x z.kind = same ∙ h.at.decodes in
-        record {
-          before = z.strings;
-          bytes = b;
-          there = inr (fault, failed);
-          same = ap (λ (s : PayloadSettings). (situation_of s z.strings b).strings) is_set;
-          within =
-              subst (λ (s : PayloadSettings). used_cost
-              (situation_of (payloads x z.kind) z.strings b).strings ≤ s.limits.dictionary)
-              (sym is_set)
-              (cost_within (payloads x z.kind) z.strings b
-              (same_grammar (λ s. used_cost z.strings ≤ s.limits.dictionary)
-              (stands_as r.decoder z.strings bytes own.stands_for).before));
-        }
 
     -- what is read from the bytes that are fed
     same_bytes : (k : ℕ) → k ≤ n → take k (take n c) ≡ take k c
@@ -376,7 +339,8 @@ module _ (r : StreamReader) (x : Settings) (p : List ℕ) (h : Reached r x p) (l
         → (i : ℕ) → i < k
         → refusal_at (payload_in x (standing (stream x) p).situation) (own.bytes ++ take i c) ≡ None
     none_in g is k le none i lt =
-        same_grammar (λ s. refusal_at (payload s z.strings) (bytes ++ take i c) ≡ None)
+        same_grammar r x p h bytes own.stands_for
+        (λ s. refusal_at (payload s z.strings) (bytes ++ take i c) ≡ None)
         (subst (λ (s : PayloadSettings). refusal_at (payload s z.strings) (bytes ++ take i c)
         ≡ None) is (ap (λ d. refusal_at (payload g z.strings) (bytes ++ d))
         (sym (same_bytes i (omega (arith, lt, le)))) ∙ none i lt))
@@ -419,28 +383,6 @@ module _ (r : StreamReader) (x : Settings) (p : List ℕ) (h : Reached r x p) (l
     module _ (new : StreamReader) (told : ReadRefusal) (same : decoder_settings new.decoder
         ≡ decoder_settings r.decoder) (failure : new.failure ≡ Some told)
         (frames : new.frames ≡ r.frames) (messages : new.messages ≡ r.messages) where
-      failed_with : (fault : DecodeFault) (count : ℕ) (q b : List ℕ) → new.taken ≡ count
-          → StaysWith r x p q b → DecoderFailedBehind new.decoder fault z.strings b
-          → Failed new x told count q
-      unfolding failure_of taken_of messages_of ShowsText ShowsStrings
-      failed_with fault count q b taken stays failed = record {
-        failure = failure;
-        taken_is = taken;
-        text = subst (λ (f : FrameReader). FramesShowText f (standing (stream x) q).situation.text)
-            (sym frames) (subst (FramesShowText r.frames) (sym stays.text) h.text);
-        messages = messages ∙ h.at.messages ∙ sym stays.messages;
-        strings = subst (ShowsTable new.decoder) (sym stays.strings)
-            (shows_failed new.decoder fault b same failed);
-      }
-
-      -- of these bytes some are refused
-      some_refused : (g : PayloadSettings) → refusal_at (payload g z.strings) bytes ≡ None
-          → (k : ℕ) (why : Refusal) → refusal_at (payload g z.strings) (bytes ++ take k (take n c))
-          ≡ Some why → 0 < k
-      some_refused g none zero why e = let same = ap (refusal_at (payload g z.strings))
-          (append-nil bytes) in let bad = sym none ∙ sym same ∙ e in cc
-      some_refused g none (suc k) why e = omega arith
-
       pub feed_fails : (fault : DecodeFault) → FeedAnswers (decoder_settings r.decoder)
           (standing (stream x) p).situation.strings own.bytes (take n c) (Err fault)
           → FailedWithin new.decoder fault (standing (stream x) p).situation.strings own.bytes
@@ -454,12 +396,11 @@ module _ (r : StreamReader) (x : Settings) (p : List ℕ) (h : Reached r x p) (l
           let le : k ≤ n = let w = means.0.within in omega (arith, w, size_fed) in
           let same_count : failed.count ≡ k = let shown = failed.shown in omega
           (arith, shown, answers.2) in
-          let some = some_refused g
-          (pending_unrefused (payload g z.strings) bytes
-          (stands_as r.decoder z.strings bytes own.stands_for).pending) k (refusal at reason)
-          means.1 in
+          let some = some_refused g z.strings bytes (take n c)
+          (unrefused_so r x p h bytes own.stands_for) k (refusal at reason) means.1 in
           let none = none_in g refl k le means.0.unrefused in
-          let refused = same_grammar (λ s. refusal_at (payload s z.strings) (bytes ++ take k c)
+          let refused = same_grammar r x p h bytes own.stands_for
+          (λ s. refusal_at (payload s z.strings) (bytes ++ take k c)
           ≡ Some (refusal at reason)) (ap (λ d. refusal_at (payload g z.strings) (bytes ++ d))
           (sym (same_bytes k le)) ∙ means.1) in
           let refuses = refusal_is k some le none (refusal at reason) refused in
@@ -468,7 +409,8 @@ module _ (r : StreamReader) (x : Settings) (p : List ℕ) (h : Reached r x p) (l
           (ap (λ m. take m (take n c)) same_count ∙ same_bytes k le) failed.behind in
           refused_so k some le none new told (refusal at reason) refuses
           (is ∙ ap (λ m. Refused (offence_in m (refusal at reason))) h.at.messages)
-          (failed_with (faults.Payload at reason shown_by) (length p + k) (p ++ take k c)
+          (failed_with r x p h bytes own.stands_for new told same failure frames messages
+          (faults.Payload at reason shown_by) (length p + k) (p ++ take k c)
           (bytes ++ take k c)
           (omega (arith, taken_is, h.taken, answers.2, own.counted, left_is, size_is))
           (stays_by k some le none (refused_messages x z (there k) (refusal at reason) refuses))
@@ -514,7 +456,7 @@ module _ (r : StreamReader) (x : Settings) (p : List ℕ) (h : Reached r x p) (l
             quiet.unrefused failed.count (omega arith),
           )
 
-          stays : StaysWith r x p (p ++ take failed.count c) (bytes ++ take failed.count c)
+          stays : StaysWith x p (p ++ take failed.count c) (bytes ++ take failed.count c)
           stays = stays_below failed.count (omega (arith, lt)) (omega (arith, lt, in_size))
               (λ i less. none i (omega (arith, less)))
 
@@ -524,7 +466,8 @@ module _ (r : StreamReader) (x : Settings) (p : List ℕ) (h : Reached r x p) (l
             nothing,
             has_payloads,
             subst (λ (t : ReadRefusal). Failed new x t new.taken (p ++ take failed.count c)) is
-                (failed_with faults.Memory new.taken (p ++ take failed.count c)
+                (failed_with r x p h bytes own.stands_for new told same failure frames messages
+                faults.Memory new.taken (p ++ take failed.count c)
                 (bytes ++ take failed.count c) refl stays
                 (subst (λ (b : List ℕ). DecoderFailedBehind new.decoder faults.Memory z.strings
                 (bytes ++ b)) (same_bytes failed.count (omega (arith, lt))) failed.behind)),

@@ -12,3 +12,4 @@ pub mod Calls
 -- cited by a reader's own state and by private calls
 pub mod Bounds
 pub mod Stepping
+pub mod Runs

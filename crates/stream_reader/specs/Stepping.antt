@@ -63,6 +63,10 @@ with_size p chunk = record p {
 abbrev pub joined_with : PayloadLeft → ℕ → PayloadLeft → Type 0
 joined_with p chunk joined = p.size + chunk < 2 ^ 32 → joined ≡ with_size p chunk
 
+-- one with so many bytes more in chunks that are whole
+abbrev pub joined_more : PayloadLeft → ℕ → PayloadLeft → Type 0
+joined_more p more joined = p.size + more < 2 ^ 32 → joined ≡ record p { size = p.size + more }
+
 -- the payload that the head of an envelope begins which begins at this offset
 abbrev pub begun_by : ℕ → Frame → Option PayloadLeft
 begun_by from (frames.SizedEnvelope size) = Some (begun_with from size forms.Sized)

@@ -1,7 +1,7 @@
 //! What comes next in a stream.
 
 ghost use Rattle.std.specs.Prelude.{◌≡◌};
-ghost use Rattle.stream_reader.specs.Stepping.{begun_with, due_after, is_chunked_form, joined_with};
+ghost use Rattle.stream_reader.specs.Stepping.{begun_with, due_after, is_chunked_form, joined_more, joined_with};
 
 use nbfx_decoder::DecodeFault;
 use nmf_records::Due;
@@ -76,6 +76,16 @@ impl PayloadLeft {
             size: self.size.saturating_add(chunk),
             left: chunk,
             form,
+            ..self
+        }
+    }
+
+    /// The payload with so many bytes more in chunks that are whole.
+    pub(crate) fn with_more(self, content: u32) -> PayloadLeft
+        ensures { joined_more self content result }
+    {
+        PayloadLeft {
+            size: self.size.saturating_add(content),
             ..self
         }
     }

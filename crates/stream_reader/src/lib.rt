@@ -18,6 +18,7 @@ mod awaited;
 mod judging;
 pub mod laws;
 mod reader;
+mod runs;
 mod side;
 mod stepping;
 

@@ -87,7 +87,7 @@ impl<'s> StreamReader<'s> {
     }
 
     // Fails for good by a payload.
-    fn refuse_payload(&mut self, fault: DecodeFault) -> ReadRefusal
+    pub(crate) fn refuse_payload(&mut self, fault: DecodeFault) -> ReadRefusal
         ensures told { result ≡ refusal_told self.old.messages fault }
         ensures failure { self.new.failure ≡ Some result }
         ensures taken { self.new.taken ≡ self.old.taken }
@@ -138,12 +138,11 @@ impl<'s> StreamReader<'s> {
         ensures within { IfOk result (λ answer. answer.0 ≤ length bytes.now) }
         ensures taken { IfOk result (λ answer. self.new.taken ≡ self.old.taken + answer.0) }
     {
-        let due = match self.awaited {
-            Awaited::Payload(payload) => return self.payload(payload, bytes),
-            Awaited::Chunk(_) => Due::Chunk,
-            Awaited::Record(due) => due,
-        };
-        self.record(due, bytes)
+        match self.awaited {
+            Awaited::Payload(payload) => self.payload(payload, bytes),
+            Awaited::Chunk(payload) => self.chunks(payload, bytes),
+            Awaited::Record(due) => self.record(due, bytes),
+        }
     }
 
     // Takes bytes of the payload, as far as they are its own.
@@ -254,7 +253,11 @@ impl<'s> StreamReader<'s> {
 
     // Takes bytes of a record, or of a chunk's size.
     #[inline(never)]
-    fn record(&mut self, due: Due, bytes: &[u8]) -> Result<(usize, StreamStep), ReadRefusal>
+    pub(crate) fn record(
+        &mut self,
+        due: Due,
+        bytes: &[u8],
+    ) -> Result<(usize, StreamStep), ReadRefusal>
         requires awaited { due_of self.old.awaited ≡ Some due }
         requires some { 0 < length bytes.now }
         requires fits { self.old.taken + length bytes.now ≤ self.old.quotas.session }

@@ -1,4 +1,4 @@
-use Rattle.std.proofs.Common.{◌≡◌, ◌∙◌, [], subst, ap, arith, sym, refl}
+use Rattle.std.proofs.Common.{◌≡◌, [], subst, ap, arith, sym, refl}
 use Rattle.std.proofs.Math.Logic.{∥∥₁_map}
 use Rattle.nbfx_decoder.specs.declared.decoder.Decoder.{Decoder}
 use Rattle.nbfx_decoder.specs.Standing.{settings_of as decoder_settings, FailedBehind as DecoderFailedBehind}

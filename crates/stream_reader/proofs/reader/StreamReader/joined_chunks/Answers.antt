@@ -1,0 +1,160 @@
+use Rattle.std.proofs.Common.{◌≡◌, ℕ, ◌+◌, ◌≤◌, List, ◌++◌, length, Ok, Err, refl, sym, ap, ◌∙◌, subst, arith}
+use Rattle.std.proofs.Math.Logic.{∥∥₁_map}
+use Rattle.unit_streams.specs.Grammar.{standing}
+use Rattle.nbfx_decoder.specs.declared.decoder.Decoder.{Decoder}
+use Rattle.nbfx_decoder.specs.Standing.{settings_of as decoder_settings, FailedWithin, FeedAnswers, StandsFor as DecoderStandsFor}
+use Rattle.stream_reader.specs.declared.awaited.Awaited.{Awaited}
+use Rattle.stream_reader.specs.declared.awaited.Awaited.TheVariants as awaits
+use Rattle.stream_reader.specs.declared.awaited.PayloadLeft.{PayloadLeft}
+use Rattle.stream_reader.specs.declared.reader.StreamReader.{StreamReader}
+use Rattle.stream_reader.specs.Bounds.{IsBounded, size_of, to_come}
+use Rattle.stream_reader.specs.Runs.{place_in as place_of}
+use Rattle.stream_reader.specs.Standing.{StandsFor, failure_of, settings_of}
+use Rattle.stream_reader.specs.Stepping.{UnitAnswers}
+use Rattle.stream_reader.specs.Stream.{Settings, stream}
+use Rattle.stream_reader.proofs.Bounded.{bounded_at, bounded_fed, bounded_refused, failed_within, may_take}
+use Rattle.stream_reader.proofs.ReaderFacts.{same_settings}
+use Rattle.stream_reader.proofs.RunFeeds.{chunk_part, run_fails, run_took}
+use Rattle.stream_reader.proofs.reader.StreamReader.joined_chunks.Goals as goal
+
+-- a payload of which so many bytes more are to come is within the quota too
+abbrev grown : PayloadLeft → ℕ → Awaited
+grown p n = awaits.Payload (record p { size = p.size + n; left = n })
+
+grows : (r : StreamReader) (p : PayloadLeft) (n : ℕ) → r.awaited ≡ awaits.Chunk p
+    → p.size + n ≤ r.quotas.payload → IsBounded r.decoder r.quotas r.awaited
+    → IsBounded r.decoder r.quotas (grown p n)
+grows r p n is fits b =
+    let size = ap size_of is in
+    let come = ap to_come is in
+    bounded_at r.quotas r.decoder r.awaited (grown p n) fits (omega (arith, size, come)) b
+
+pub feed-requires : goal.feed-requires
+feed-requires c = λ none.
+    may_take c.args.self.now.quotas c.args.self.now.decoder
+    (grown c.args.payload (length c.args.content.now)) (length c.args.content.now)
+    (∥∥₁_map c.args.self.now.bounded (grows c.args.self.now c.args.payload
+    (length c.args.content.now) c.requires.awaited c.requires.room)) (omega arith) none
+
+pub invariant_of-self : goal.invariant_of-self
+invariant_of-self c = record {
+  limit = c.args.self.now.limit;
+  bounded =
+      ∥∥₁_map c.args.self.now.bounded
+      (λ (b : IsBounded _ _ _). bounded_refused _ _ _ _ c.feed.ensures.settings b c.feed.result
+      c.feed.ensures.repeated c.feed.ensures.unchanged
+      (λ strings p stands. failed_within _ strings p _ c.feed.result c.in-Err.fault c.in-Err.is
+      (c.feed.ensures.failed strings p stands)));
+}
+
+pub returns-in-Err-clause-refused : goal.returns-in-Err-clause-refused
+unfolding failure_of
+returns-in-Err-clause-refused c = c.refuse_payload.ensures.failure
+
+pub returns-in-Err-clause-settings : goal.returns-in-Err-clause-settings
+unfolding settings_of
+returns-in-Err-clause-settings c = same_settings c.args.self.now c.refuse_payload.new.self
+    c.refuse_payload.ensures.shown.side c.refuse_payload.ensures.shown.statics
+    c.refuse_payload.ensures.shown.quotas
+
+pub returns-clause-settings : goal.returns-clause-settings
+unfolding settings_of
+returns-clause-settings c = refl
+
+pub invariant_of-self-2 : goal.invariant_of-self-2
+invariant_of-self-2 c =
+    let small = c.args.self.now.quotas.good.payload_most in
+    let now_is = c.with_more.ensures (omega (arith, c.requires.room, small)) in
+    record {
+      limit = c.args.self.now.limit;
+      bounded =
+          ∥∥₁_map c.args.self.now.bounded
+          (λ (b : IsBounded _ _ _). bounded_fed _ _ _ _ c.feed.ensures.settings
+          (grows c.args.self.now c.args.payload (length c.args.content.now) c.requires.awaited
+          c.requires.room b) c.feed.result c.feed.ensures.repeated c.feed.ensures.unchanged
+          (awaits.Chunk c.with_more.result) c.args.content.now
+          (ap (λ (n : PayloadLeft). n.size) now_is) (omega arith) c.in_default.not-Err
+          c.feed.ensures.stands);
+    }
+
+-- what its quotas are
+session_is : (r : StreamReader) → (settings_of r).limits.session ≡ r.quotas.session
+unfolding settings_of
+session_is r = refl
+
+payload_is : (r : StreamReader) → (settings_of r).limits.payload ≡ r.quotas.payload
+unfolding settings_of
+payload_is r = refl
+
+pub returns-in-Err-clause-answers : goal.returns-in-Err-clause-answers
+unfolding StandsFor
+returns-in-Err-clause-answers c = λ p h.
+    let r : StreamReader = c.args.self.now in
+    let x : Settings = settings_of c.args.self.now in
+    let run = c.requires.joined in
+    let part = chunk_part r x p h c.args.payload c.requires.awaited c.requires.between in
+    let decoder = sym c.refuse_payload.ensures.shown.decoder in
+    let session = session_is r in
+    let quota = payload_is r in
+    let content_size = ap length run.content_is in
+    let run_size = ap length run.run_is in
+    subst (λ (bytes : List ℕ). UnitAnswers x p bytes c.refuse_payload.new.self
+    (Err c.refuse_payload.result)) (sym run.run_is)
+    (run_fails r x p h c.args.payload c.requires.awaited c.requires.between run.contents run.short
+    (omega (arith, c.requires.room, quota, content_size))
+    (omega (arith, c.requires.fits, h.taken, session, run_size)) c.refuse_payload.new.self
+    c.refuse_payload.result
+    (subst (λ (d : Decoder). decoder_settings d ≡ decoder_settings r.decoder) decoder
+    c.in-Err.ensures.settings) c.refuse_payload.ensures.failure
+    c.refuse_payload.ensures.shown.frames c.refuse_payload.ensures.shown.messages c.in-Err.fault
+    (subst (λ (b : List ℕ). FeedAnswers (decoder_settings r.decoder)
+    (standing (stream x) p).situation.strings part.bytes b (Err c.in-Err.fault)) run.content_is
+    (c.in-Err.ensures.answers _ part.bytes part.stands_for))
+    (subst (λ (b : List ℕ). FailedWithin c.refuse_payload.new.self.decoder c.in-Err.fault
+    (standing (stream x) p).situation.strings part.bytes b) run.content_is
+    (subst (λ (d : Decoder). FailedWithin d c.in-Err.fault (standing (stream x) p).situation.strings
+    part.bytes c.args.content.now) decoder
+    (c.in-Err.ensures.failed _ part.bytes part.stands_for))) c.refuse_payload.ensures.told
+    (λ few place_few.
+    let most = r.quotas.good.session_most in
+    let place = c.place_in-shown.ensures run.contents run.run_is
+    (omega (arith, few, c.more_shown.ensures)) in
+    let shown = ap (λ n. place_of run.contents n) c.more_shown.ensures in
+    omega (
+      arith,
+      c.refuse_payload.ensures.taken,
+      c.saturating_add-self.ensures,
+      place,
+      shown,
+      place_few,
+      run_size,
+      c.requires.fits,
+      most,
+    )))
+
+pub returns-clause-answers : goal.returns-clause-answers
+unfolding StandsFor
+returns-clause-answers c = λ p h.
+    let r : StreamReader = c.args.self.now in
+    let x : Settings = settings_of c.args.self.now in
+    let run = c.requires.joined in
+    let part = chunk_part r x p h c.args.payload c.requires.awaited c.requires.between in
+    let session = session_is r in
+    let quota = payload_is r in
+    let small = c.args.self.now.quotas.good.payload_most in
+    let content_size = ap length run.content_is in
+    let run_size = ap length run.run_is in
+    run_took r x p h c.args.payload c.requires.awaited c.requires.between run.contents run.short
+    (omega (arith, c.requires.room, quota, content_size))
+    (omega (arith, c.requires.fits, h.taken, session, run_size))
+    (omega (arith, c.requires.some, run_size))
+    (subst (λ (b : List ℕ). FeedAnswers (decoder_settings r.decoder)
+    (standing (stream x) p).situation.strings part.bytes b (Ok tt)) run.content_is
+    (c.in_default.ensures.answers _ part.bytes part.stands_for)) _ c.with_more.result refl
+    (c.with_more.ensures (omega (arith, c.requires.room, small))
+    ∙ ap (λ n. record c.args.payload { size = c.args.payload.size + n }) content_size)
+    refl refl refl refl c.in_default.ensures.settings
+    (subst (λ (b : List ℕ). DecoderStandsFor c.feed.new.self
+    (standing (stream x) p).situation.strings (part.bytes ++ b)) run.content_is
+    (c.in_default.ensures.stands _ part.bytes part.stands_for))
+    (ap (λ n. r.taken + n) run_size) (ap (λ n. r.taken + n) run_size) refl c.args.chunks.now run.run_is
