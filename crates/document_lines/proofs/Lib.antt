@@ -11,6 +11,7 @@ pub mod LineSteps
 pub mod FeedSteps
 -- the envelopes that documents bring (specs/Laws)
 pub mod Built
--- how far lines lead, and what is written of any input (specs/Laws)
+-- how far lines lead, what is written of any input, and which input isn't refused (specs/Laws)
 pub mod Walking
 pub mod Written
+pub mod Fitting

@@ -100,11 +100,11 @@ closes x = record {
 }
 
 -- input by its lines
-feed_cut : (b : ℕ) (bytes : List ℕ) → (b == 10) ≡ true → cut (b ∷ bytes)
+pub feed_cut : (b : ℕ) (bytes : List ℕ) → (b == 10) ≡ true → cut (b ∷ bytes)
     ≡ ([] ∷ (cut bytes).0, (cut bytes).1)
 feed_cut b bytes is = rw is refl
 
-other_cut : (b : ℕ) (bytes : List ℕ) → (b == 10) ≡ false → cut (b ∷ bytes) ≡ cut_before b
+pub other_cut : (b : ℕ) (bytes : List ℕ) → (b == 10) ≡ false → cut (b ∷ bytes) ≡ cut_before b
     (cut bytes)
 other_cut b bytes is = rw is refl
 

@@ -85,3 +85,20 @@ pub record IsWritten (x : Settings) (bytes : List ℕ) : Type 0 where
 -- any input is written so
 abbrev pub InputIsWritten : Type 0
 InputIsWritten = (x : Settings) (bytes : List ℕ) → IsWritten x bytes
+
+-- lines of documents that fit, as many as the mode takes and short enough
+pub record MayBeBuilt (x : Settings) (bytes : List ℕ) : Type 0 where
+  pub lines : List (List ℕ)
+  pub documents : List (List Item)
+  pub sent : Placed (List ℕ)
+  pub lines_are : cut bytes ≡ (lines, [])
+  pub documents_are : AreLinesOf documents lines
+  pub all_fit : envelopes_from x.limits x.kind x.mode
+      (record { statics = x.statics; strings = [] }) 0 documents ≡ Ok sent
+  pub count : is_singleton x.mode ≡ true → length documents ≡ 1
+  pub short : length bytes < x.limits.session
+
+-- such input isn't refused
+abbrev pub FittingIsAccepted : Type 0
+FittingIsAccepted = (x : Settings) (bytes : List ℕ) → MayBeBuilt x bytes
+    → offence (lines_of_documents x) bytes ≡ None

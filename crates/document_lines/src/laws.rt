@@ -1,7 +1,7 @@
 //! What holds of lines of documents by the definitions alone. Each function does nothing: its
 //! contract is a law, which a caller has where it calls the function.
 
-ghost use Rattle.document_lines.specs.Laws.{InputIsClosed, InputMayBegin, InputIsBounded, AcceptedIsBuilt, InputIsWritten};
+ghost use Rattle.document_lines.specs.Laws.{InputIsClosed, InputMayBegin, InputIsBounded, AcceptedIsBuilt, FittingIsAccepted, InputIsWritten};
 
 /// Input is read by its bytes alone, line by line, and nothing but its end ends it.
 pub fn input_is_closed()
@@ -30,3 +30,11 @@ pub fn accepted_is_built()
 pub fn input_is_written()
     ensures { InputIsWritten }
 {}
+
+/// Lines of documents that can be written, of which there is one in singleton mode, aren't refused
+/// where they have fewer bytes than the session quota.
+pub fn fitting_is_accepted()
+    ensures { FittingIsAccepted }
+{
+    line_notation::laws::documents();
+}

@@ -1,6 +1,6 @@
 //! Lines, one after the other, as the envelopes of the documents that they complete.
 
-ghost use Rattle.std.specs.Prelude.{◌≡◌, ◌+◌, ◌<◌, ◌≤◌, ◌^◌, ◌==◌, ◌&&◌, not, []};
+ghost use Rattle.std.specs.Prelude.{◌≡◌, ◌+◌, ◌<◌, ◌≤◌, ◌^◌, ◌==◌, ◌&&◌, not, [], Err};
 ghost use Rattle.line_notation.specs.Between.{next_line};
 ghost use Rattle.line_notation.specs.Standing.{HasReadFew};
 ghost use Rattle.nbfx_values.specs.QuotasOf.{limits_of};
@@ -26,6 +26,14 @@ fn wrong_count(line: u64) -> InputFault
         line,
         kind: LineKind::WrongCount,
     }
+}
+
+// Refuses the input, apart from the code for lines that aren't refused.
+#[inline(never)]
+fn refused(fault: InputFault) -> Result<Option<Envelope>, FeedFault<InputFault>>
+    ensures { result ≡ Err (FeedFault.Refused fault) }
+{
+    Err(FeedFault::Refused(fault))
 }
 
 /// Reads whole lines, and writes the document that a line completes.
@@ -94,17 +102,16 @@ impl<'s> LineEncoder<'s> {
         match self.lines.line(line) {
             Ok(LineStep::Done(doc)) => self.send(number, doc),
             Ok(LineStep::More) if self.is_full() && !self.lines.is_between() => {
-                Err(FeedFault::Refused(wrong_count(number)))
+                refused(wrong_count(number))
             }
             Ok(LineStep::More) => Ok(None),
-            Err(LineFault::Bad { line, kind }) => {
-                Err(FeedFault::Refused(InputFault::Line { line, kind }))
-            }
+            Err(LineFault::Bad { line, kind }) => refused(InputFault::Line { line, kind }),
             Err(LineFault::Memory) => Err(FeedFault::Memory),
         }
     }
 
     // Writes a document, which the line of this number completes.
+    #[inline(never)]
     fn send(&mut self, line: u64, doc: Doc) -> Result<Option<Envelope>, FeedFault<InputFault>>
         requires { self.old.documents < 2 ^ 63 }
         ensures sent { state_in self.old.sender ≡ SendState.Ready → SendAnswers
@@ -124,10 +131,8 @@ impl<'s> LineEncoder<'s> {
         match sent {
             Ok(()) => Ok(Some(Envelope::of(bytes))),
             Err(SendFault::Refused(EncodeFault::Memory)) => Err(FeedFault::Memory),
-            Err(SendFault::Refused(why)) => {
-                Err(FeedFault::Refused(InputFault::Unfit { number, why }))
-            }
-            Err(SendFault::WrongMoment { .. }) => Err(FeedFault::Refused(wrong_count(line))),
+            Err(SendFault::Refused(why)) => refused(InputFault::Unfit { number, why }),
+            Err(SendFault::WrongMoment { .. }) => refused(wrong_count(line)),
         }
     }
 

@@ -9,7 +9,8 @@ pub mod DecimalFacts
 pub mod PrintFacts
 pub mod PutsFacts
 pub mod QuotedFacts
--- reading and judging at once: words (WordsFacts), texts (TextsFacts), numbers (NumeralsFacts), values
+-- reading and judging at once: words (WordsFacts), texts (TextsFacts), those that stand in the line itself
+-- (PlainFacts), numbers (NumeralsFacts), values
 -- (PartsFacts, TokenFacts, ValuesFacts, ValueFacts), all values of a line (GatherFacts, GatherSteps), the
 -- words behind a keyword (ReadingFacts), what records can hold (ValidFacts, HeldFacts), and where a line
 -- leads (PlacingFacts)
@@ -19,6 +20,7 @@ pub mod HeldFacts
 pub mod NumeralsFacts
 pub mod PartsFacts
 pub mod PlacingFacts
+pub mod PlainFacts
 pub mod ReadingFacts
 pub mod TextsFacts
 pub mod TokenFacts

@@ -2,7 +2,7 @@
 use Rattle.std.specs.List.{list_all, prefix_len}
 use Rattle.std.proofs.lemmas.Bool.{and_parts}
 use Rattle.std.proofs.lemmas.List.Folds.{length-prefix_len}
-use Rattle.std.proofs.Common.{arith, get_or, ◌≡◌, ◌∙◌, ◌<◌, ◌+◌, ℕ, suc, List, [], ◌∷◌, length, take, take_while, Bool, true, false, if◌then◌else◌, refl, sym, ap, flat_map}
+use Rattle.std.proofs.Common.{arith, get_or, ◌≡◌, ◌∙◌, ◌<◌, ◌≤◌, ◌+◌, ℕ, zero, suc, List, [], ◌∷◌, length, take, drop, take_while, Bool, true, false, if◌then◌else◌, refl, sym, ap, flat_map}
 use Rattle.line_notation.specs.Quoted.{is_plain, quoted_byte, escape}
 
 -- a plain byte, and another one
@@ -40,3 +40,27 @@ all-shown [] h = refl
 all-shown (b ∷ bytes) h =
     let p = and_parts (is_plain b) (list_all is_plain bytes) h in
     rw (quoted_byte-plain b p.0) (ap (λ l. b ∷ l) (all-shown bytes p.1))
+
+-- so many at the front are plain, and those behind them are counted
+count-front : (n : ℕ) (bytes : List ℕ) → n ≤ length bytes → list_all is_plain (take n bytes) ≡ true → n + prefix_len is_plain (drop n bytes) ≡ prefix_len is_plain bytes
+count-front zero bytes within h = omega arith
+count-front (suc n) [] within h = absurd (omega arith)
+count-front (suc n) (b ∷ bytes) within h =
+    let p = and_parts (is_plain b) (list_all is_plain (take n bytes)) h in
+    let more = count-front n bytes (omega arith) p.1 in
+    rw p.0 (omega (arith, more))
+
+pub plain-behind : (n : ℕ) (bytes : List ℕ) → n ≤ length bytes → list_all is_plain (take n bytes) ≡ true
+    → n + length (take_while is_plain (drop n bytes)) ≡ length (take_while is_plain bytes)
+plain-behind n bytes within h =
+    ap (λ k. n + k) (length-prefix_len is_plain (drop n bytes)) ∙ count-front n bytes within h ∙ sym (length-prefix_len is_plain bytes)
+
+-- so many more are plain
+pub more-plain : (n m : ℕ) (bytes : List ℕ) → list_all is_plain (take n bytes) ≡ true → list_all is_plain (take m (drop n bytes)) ≡ true
+    → list_all is_plain (take (n + m) bytes) ≡ true
+more-plain zero m bytes h g = let e : 0 + m ≡ m = omega arith in rw e g
+more-plain (suc n) m [] h g = let e : suc n + m ≡ suc (n + m) = omega arith in rw e refl
+more-plain (suc n) m (b ∷ bytes) h g =
+    let p = and_parts (is_plain b) (list_all is_plain (take n bytes)) h in
+    let e : suc n + m ≡ suc (n + m) = omega arith in
+    rw (e, p.0) (more-plain n m bytes p.1 g)

@@ -59,7 +59,7 @@ closes within [] = not within
 closes within (b ∷ word) = not (b == 32 && not within) && closes (goes_on_within within b) word
 
 -- a closed word in front
-closed-ends : (within : Bool) (word : List ℕ) → closes within word ≡ true → words_from within word ≡ word ∷ []
+pub closed-ends : (within : Bool) (word : List ℕ) → closes within word ≡ true → words_from within word ≡ word ∷ []
 closed-ends within [] h = refl
 closed-ends within (b ∷ word) h =
     let p = and_parts (not (b == 32 && not within)) (closes (goes_on_within within b) word) h in
@@ -70,7 +70,7 @@ closed-ends within (b ∷ word) h =
     negated true e = absurd cc
     negated false e = refl
 
-closed-goes_on : (within : Bool) (word rest : List ℕ) → closes within word ≡ true → words_from within (word ++ 32 ∷ rest) ≡ word ∷ words_of rest
+pub closed-goes_on : (within : Bool) (word rest : List ℕ) → closes within word ≡ true → words_from within (word ++ 32 ∷ rest) ≡ word ∷ words_of rest
 closed-goes_on true [] rest h = absurd cc
 closed-goes_on false [] rest h = refl
 closed-goes_on within (b ∷ word) rest h =

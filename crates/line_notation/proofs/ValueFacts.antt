@@ -15,7 +15,7 @@ use Rattle.line_notation.specs.declared.words.Stop.{Stop}
 use Rattle.line_notation.specs.declared.words.Stop.TheVariants.{NotALine, Memory}
 use Rattle.line_notation.specs.Judging.{are_scalars, has_good_text, have_good_texts, scalars_of}
 use Rattle.line_notation.specs.Options.{◌>>=◌}
-use Rattle.line_notation.specs.Parts.{gathered_in, judged_scalar, judged_scalars, judged_token, judged_token_at, judged_value, judged_value_in, kept, mapped, value_from}
+use Rattle.line_notation.specs.Parts.{gathered_in, judged_scalar, judged_scalars, judged_token, judged_token_at, judged_value, judged_value_in, kept, mapped, value_behind, value_from}
 use Rattle.line_notation.specs.Steps.{Finds, Stops}
 use Rattle.line_notation.specs.Values.{Token, scalar, listed, Written, no_more, one, list, behind, first, how_many, if_one, taken, token_at, tokens_within, values_in}
 use Rattle.line_notation.proofs.GatherFacts.{Few, eqb-other, how_many-behind, put}
@@ -115,7 +115,7 @@ put-one_of t (Some more) few = put-one t more few
 
 -- the token in front, and all values behind it
 pub value-step : (words rest : List (List ℕ)) (token : JudgedToken) → judged_token_at (token_at words) ≡ Some (token, rest) → length words ≤ 2 ^ 63
-    → judged_value_in words ≡ (gathered_in holders.List rest >>= λ all. value_from token all.0 all.1)
+    → judged_value_in words ≡ value_behind token rest
 value-step [] rest token e few = absurd cc
 value-step (word ∷ words) rest token e few =
     let j = is_judged (token_at (word ∷ words)) token rest e in
@@ -140,10 +140,15 @@ pub value-stops : (stop : Stop) (words : List (List ℕ)) → Stops stop (judged
 value-stops NotALine words h = value-none words h
 value-stops Memory words h = tt
 
-pub values-stop : (stop : Stop) (words rest : List (List ℕ)) (token : JudgedToken) → judged_token_at (token_at words) ≡ Some (token, rest) → length words ≤ 2 ^ 63
-    → Stops stop (gathered_in holders.List rest) → Stops stop (judged_value_in words)
-values-stop NotALine words rest token e few h = value-step words rest token e few ∙ ap (λ read. read >>= λ all. value_from token all.0 all.1) h
-values-stop Memory words rest token e few h = tt
+pub values-stop : (stop : Stop) (token : JudgedToken) (rest : List (List ℕ)) → Stops stop (gathered_in holders.List rest) → Stops stop (value_behind token rest)
+values-stop NotALine token rest h = ap (λ read. read >>= λ all. value_from token all.0 all.1) h
+values-stop Memory token rest h = tt
+
+-- a value that is no list, behind which there are no words
+pub value-alone : (words rest : List (List ℕ)) (s : Result Scalar LineKind) → judged_token_at (token_at words) ≡ Some (tokens.Scalar s, rest) → length words ≤ 2 ^ 63
+    → rest ≡ [] → judged_value_in words ≡ Some (mapped One s)
+unfolding tokens_within
+value-alone words rest s e few none = value-step words rest (tokens.Scalar s) e few ∙ ap (value_behind (tokens.Scalar s)) none
 
 -- what is found, or else no line
 pub finds-ok_or : {X : Type 0} (found read : Option X) → read ≡ found → Finds (λ x. x) (ok_or found NotALine) read

@@ -1,9 +1,13 @@
 -- The words of a line.
 use Rattle.std.specs.Prelude.{◌↔◌}
-use Rattle.std.proofs.Common.{Option, None, Some, IsTrue, is_some, option_map, ◌≡◌, ◌∙◌, ◌<◌, ◌≤◌, ◌+◌, ◌^◌, ◌==◌, ℕ, suc, List, [], ◌∷◌, ◌++◌, length, take, drop, get_or, Bool, true, false, not, ◌&&◌, if◌then◌else◌, refl, sym, ap, append-nil, drop-cons, arith}
+use Rattle.std.specs.List.{prefix_len}
+use Rattle.std.proofs.Common.{Option, None, Some, IsTrue, is_some, option_map, ◌≡◌, ◌∙◌, ◌<◌, ◌≤◌, ◌+◌, ◌^◌, ◌==◌, ◌⊎◌, inl, inr, ℕ, suc, List, [], ◌∷◌, ◌++◌, length, take, drop, take_while, get_or, Bool, true, false, not, ◌&&◌, if◌then◌else◌, refl, sym, ap, subst, append-nil, drop-cons, arith}
+use Rattle.std.proofs.lemmas.Bool.{and_parts, cases_lt, eqb-true, not-true}
 use Rattle.std.proofs.lemmas.List.{drop_all}
+use Rattle.std.proofs.lemmas.List.Folds.{length-prefix_len}
+use Rattle.std.proofs.lemmas.List.Sums.{prefix_len-le-length, prefix_len_stops}
 use Rattle.line_notation.specs.Steps.{CutsWord, words_behind}
-use Rattle.line_notation.specs.Words.{goes_on_within, onto_first, words_from, words_left, words_of}
+use Rattle.line_notation.specs.Words.{goes_on_within, is_bare, onto_first, words_from, words_left, words_of}
 
 -- bytes before the first word
 abbrev pub prepended : List ℕ → List (List ℕ) → List (List ℕ)
@@ -85,3 +89,48 @@ words_from-length within (b ∷ line) = go (b == 32 && not within) (words_from (
 
 pub words_of-few : (line : List ℕ) → length line < 2 ^ 63 → length (words_of line) ≤ 2 ^ 63
 words_of-few line few = omega (arith, words_from-length false line)
+
+-- bytes in front that neither end the word nor open quotes belong to it
+onto_first-within : (b : ℕ) (front : List ℕ) (words : List (List ℕ)) → onto_first b (prepended front words) ≡ prepended (b ∷ front) words
+onto_first-within b front [] = refl
+onto_first-within b front (word ∷ words) = refl
+
+bare-within : (line : List ℕ) → words_of line ≡ prepended (take_while is_bare line) (words_from false (drop (prefix_len is_bare line) line))
+bare-within [] = refl
+bare-within (b ∷ line) = go (is_bare b) refl (bare-within line)
+  where
+    go : (t : Bool) → is_bare b ≡ t → words_of line ≡ prepended (take_while is_bare line) (words_from false (drop (prefix_len is_bare line) line))
+        → words_of (b ∷ line) ≡ prepended (take_while is_bare (b ∷ line)) (words_from false (drop (prefix_len is_bare (b ∷ line)) (b ∷ line)))
+    go true e h =
+        let p = and_parts (not (b == 32)) (not (b == 34)) e in
+        let one : 1 + prefix_len is_bare line ≡ suc (prefix_len is_bare line) = omega arith in
+        rw (e, one) (rw (not-true (b == 32) p.0, not-true (b == 34) p.1) (ap (onto_first b) h ∙ onto_first-within b (take_while is_bare line) _))
+    go false e h = rw e (words_from-prepended false (b ∷ line))
+
+within-bare : (line : List ℕ) (n : ℕ) → n ≡ length (take_while is_bare line) → WithinWord line false n
+within-bare line n e =
+    let same : n ≡ prefix_len is_bare line = e ∙ length-prefix_len is_bare line in
+    record { words = rw same (bare-within line) }
+
+-- the first that isn't such is a quote or a space
+space-or-quote : (b : ℕ) → is_bare b ≡ false → (b ≡ 34 → ⊥) → b ≡ 32
+space-or-quote b bare quote = go (b == 32) (b == 34) refl refl bare
+  where
+    go : (s q : Bool) → (b == 32) ≡ s → (b == 34) ≡ q → (not s && not q) ≡ false → b ≡ 32
+    go true q e f h = eqb-true b 32 e
+    go false true e f h = absurd (quote (eqb-true b 34 f))
+    go false false e f h = absurd cc
+
+pub bare-ends : (line : List ℕ) (n : ℕ) → n ≡ length (take_while is_bare line) → (n < length line → get_or line n 0 ≡ 34 → ⊥) → CutsWord line n
+bare-ends line n e other = go (cases_lt n (length line))
+  where
+    same : n ≡ prefix_len is_bare line
+    same = e ∙ length-prefix_len is_bare line
+
+    go : (n < length line) ⊎ (length line ≤ n) → CutsWord line n
+    go (inl below) =
+        let bare : is_bare (get_or line n 0) ≡ false = rw same (prefix_len_stops is_bare line 0 (let b = below in omega (arith, b, same))) in
+        word-ends line false n below (space-or-quote (get_or line n 0) bare (other below)) refl (within-bare line n e)
+    go (inr end) =
+        let most : n ≤ length line = rw same (prefix_len-le-length is_bare line) in
+        subst (CutsWord line) (let f : length line ≡ n = omega (arith, end, most) in f) (line-ends line false n most end (within-bare line n e))

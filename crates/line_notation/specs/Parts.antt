@@ -188,5 +188,10 @@ value_from (tokens.Scalar s) n values = if n == 0 then Some (mapped One s) else 
 value_from (tokens.Count (Ok m)) n values = if n == m then Some (mapped ListOf values) else None
 value_from (tokens.Count (Err refusal)) n values = None
 
+-- the same by the words behind the token
+abbrev pub value_behind : JudgedToken → List (List ℕ) → Option (Result Value LineKind)
+value_behind token words =
+    gathered_in holders.List words >>= λ all. value_from token all.0 all.1
+
 abbrev pub judged_value_in : List (List ℕ) → Option (Result Value LineKind)
 judged_value_in words = value_in words >>= λ written. Some (judged_value written)

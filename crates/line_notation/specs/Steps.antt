@@ -1,8 +1,10 @@
 -- What a step of reading a line gives.
-use Rattle.std.specs.Prelude.{◌≡◌, ◌≤◌, ℕ, List, [], ◌∷◌, Option, None, Some, Result, Ok, Err, length, take, drop}
+use Rattle.std.specs.Prelude.{◌≡◌, ◌≤◌, ℕ, List, [], ◌∷◌, ◌++◌, true, Option, None, Some, Result, Ok, Err, length, take, drop}
+use Rattle.std.specs.List.{list_all}
 use Rattle.line_notation.specs.declared.words.Stop.{Stop}
 use Rattle.line_notation.specs.declared.words.Stop.TheVariants.{NotALine, Memory}
-use Rattle.line_notation.specs.Words.{words_of}
+use Rattle.line_notation.specs.Quoted.{is_plain}
+use Rattle.line_notation.specs.Words.{words_left, words_of}
 
 abbrev pub Stops : {A : Type 0} → Stop → Option A → Type 0
 Stops NotALine read = read ≡ None
@@ -29,3 +31,13 @@ words_behind (b ∷ line) = words_of line
 pub record CutsWord (line : List ℕ) (at : ℕ) : Type 0 where
   pub within : at ≤ length line
   pub words : words_of line ≡ take at line ∷ words_behind (drop at line)
+
+-- the first word has plain bytes between quotes, and this is left of the line behind it
+pub record CutsShown (line shown : List ℕ) (left : Option (List ℕ)) : Type 0 where
+  pub plain : list_all is_plain shown ≡ true
+  pub words : words_of line ≡ (34 ∷ shown ++ 34 ∷ []) ∷ words_left left
+
+-- the next word was taken, which has these plain bytes between quotes
+pub record TakesShown (shown : List ℕ) (old new : List (List ℕ)) : Type 0 where
+  pub plain : list_all is_plain shown ≡ true
+  pub words : old ≡ (34 ∷ shown ++ 34 ∷ []) ∷ new

@@ -15,6 +15,10 @@ abbrev pub onto_first : ℕ → List (List ℕ) → List (List ℕ)
 onto_first b [] = (b ∷ []) ∷ []
 onto_first b (word ∷ words) = (b ∷ word) ∷ words
 
+-- a byte that neither ends a word nor opens quotes
+abbrev pub is_bare : ℕ → Bool
+is_bare b = not (b == 32) && not (b == 34)
+
 -- whether the byte behind one is in quotes
 abbrev pub goes_on_within : Bool → ℕ → Bool
 goes_on_within within b = if b == 34 then not within else within

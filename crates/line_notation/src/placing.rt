@@ -99,8 +99,9 @@ fn with_attribute(array: ArrayItem, one: AttrItem) -> Result<ArrayItem, Memory>
     Ok(array)
 }
 
-// What a line does that says this, where an array is open or none is.
-fn place(
+// What a line does that says this, whether an array is open or none is.
+#[inline(never)]
+fn place_by_array(
     builder: &mut DocBuilder,
     array: &mut Option<ArrayItem>,
     line: Line,
@@ -127,6 +128,24 @@ fn place(
         (None, Line::Values(_)) | (Some(_), Line::Array(_)) => {
             Err(Refusal::Kind(LineKind::OutOfPlace))
         }
+    }
+}
+
+// What a line does that says this, where an array is open or none is. Most lines are of an item in
+// no array, for which nothing is moved but the item.
+fn place(
+    builder: &mut DocBuilder,
+    array: &mut Option<ArrayItem>,
+    line: Line,
+) -> Result<LineStep, Refusal>
+    requires open { IsOpen array.old }
+    requires held { IsHeld (kind_of array.old) line }
+    ensures places { Places result (placed builder.old array.old line) builder.new array.new }
+    ensures open { IsOpen array.new }
+{
+    match line {
+        Line::Item(item) if array.is_none() => place_item(builder, item),
+        other => place_by_array(builder, array, other),
     }
 }
 

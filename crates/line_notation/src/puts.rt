@@ -1,5 +1,5 @@
 // Words that go out.
-ghost use Rattle.std.specs.Prelude.{◌≡◌, ◌≤◌, ◌<◌, ◌^◌, ◌∷◌, ◌++◌, ◌+◌, [], false, length, take_while, All};
+ghost use Rattle.std.specs.Prelude.{◌≡◌, ◌≤◌, ◌<◌, ◌^◌, ◌∷◌, ◌++◌, ◌+◌, [], false, true, length, take, take_while, All};
 ghost use Rattle.std.specs.Fmt.{digit_glyph};
 ghost use Rattle.std.specs.List.{flat_map, list_all};
 ghost use Rattle.hex.specs.Hex.{encode_lower};
@@ -75,13 +75,6 @@ fn put_escape<K: Sink>(byte: u8, sink: &mut K) -> Result<(), SinkFault>
     put_bytes(&[b'\\', digit(byte / 16), digit(byte % 16)], sink)
 }
 
-// How many bytes at the front are plain.
-pub fn plain_count(bytes: &[u8]) -> usize
-    ensures { result ≡ length (take_while is_plain bytes.now) }
-{
-    bytes.iter().take_while(|byte| is_plain(**byte)).count()
-}
-
 // Whether a quoted text shows each byte as it is. No byte ends the loop, so that it goes over many
 // at a time.
 #[inline(always)]
@@ -95,7 +88,38 @@ fn each_is_plain(bytes: &[u8]) -> bool
     plain
 }
 
-// The same, by so many bytes at the front and so many at the end. Some may be among both.
+// Plain bytes at the front, eight of them at a time.
+fn plain_eights(bytes: &[u8]) -> usize
+    ensures within { result ≤ length bytes.now }
+    ensures plain { list_all is_plain (take result bytes.now) ≡ true }
+{
+    let mut count = 0;
+    while bytes.len() - count >= 8 {
+        if !each_is_plain(&bytes[count..count + 8]) {
+            return count;
+        }
+        count += 8;
+    }
+    count
+}
+
+// How many bytes at the front are plain, one after the other.
+fn plain_ones(bytes: &[u8]) -> usize
+    ensures { result ≡ length (take_while is_plain bytes.now) }
+{
+    bytes.iter().take_while(|byte| is_plain(**byte)).count()
+}
+
+// How many bytes at the front are plain.
+pub fn plain_count(bytes: &[u8]) -> usize
+    ensures { result ≡ length (take_while is_plain bytes.now) }
+{
+    let eights = plain_eights(bytes);
+    let (_, rest) = bytes.split_at(eights);
+    eights + plain_ones(rest)
+}
+
+// Whether a quoted text shows each byte as it is, by so many bytes at the front and so many at the end. Some may be among both.
 #[inline(always)]
 fn ends_are_plain(bytes: &[u8], front: usize, back: usize) -> bool
     requires within { (front ≤ length bytes.now) × (back ≤ length bytes.now) }

@@ -143,7 +143,9 @@ impl LineReader {
         }
         self.lines += 1;
         match read_placed(self.alloc, &mut self.builder, &mut self.array, line) {
-            Ok(step) => Ok(step),
+            // Moved apart, so that nothing is where no document is whole.
+            Ok(LineStep::More) => Ok(LineStep::More),
+            Ok(LineStep::Done(doc)) => Ok(LineStep::Done(doc)),
             Err(refusal) => {
                 let fault = refusal.of_line(self.lines);
                 self.fault = Some(fault);

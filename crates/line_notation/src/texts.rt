@@ -1,5 +1,5 @@
 // Texts out of words.
-ghost use Rattle.std.specs.Prelude.{◌≡◌, ◌≤◌, IfSome, length};
+ghost use Rattle.std.specs.Prelude.{◌≡◌, ◌≤◌, IfSome, Some, length};
 ghost use Rattle.std.specs.Option.{option_copied};
 ghost use Rattle.line_notation.specs.Parts.{escape_at, judged_text, judged_text_in, judged_texts_at};
 ghost use Rattle.line_notation.specs.Quoted as spec;
@@ -13,6 +13,7 @@ use crate::reader::LineKind;
 use crate::words::{Stop, Words};
 use nbfx_values::Txt;
 use std::alloc::Global;
+use std::str;
 
 // The value of a hexadecimal digit, of which a letter is lower-case.
 pub fn digit_value(byte: u8) -> Option<u8>
@@ -78,6 +79,17 @@ pub fn between_quotes(word: &[u8]) -> Option<&[u8]>
     }
 }
 
+// The text of bytes that stand in the line itself.
+#[inline(always)]
+fn shown_text(alloc: Global, bytes: &[u8]) -> Result<Judged<Txt>, Stop>
+    ensures { Finds (λ text. text) result (Some (judged_text bytes.now)) }
+{
+    match str::from_utf8(bytes) {
+        Ok(text) => Ok(Ok(Txt::of(alloc, text)?)),
+        Err(_) => Ok(Err(LineKind::BadText)),
+    }
+}
+
 fn judged_text(bytes: Vec<u8>) -> Judged<Txt>
     ensures { result ≡ judged_text bytes.items }
 {
@@ -87,13 +99,25 @@ fn judged_text(bytes: Vec<u8>) -> Judged<Txt>
     }
 }
 
-// The text in quotes that is the next word.
-pub fn text(alloc: Global, words: &mut Words) -> Result<Judged<Txt>, Stop>
+// The text in quotes that is the next word, which has escapes, or is none.
+#[inline(never)]
+fn escaped_text(alloc: Global, words: &mut Words) -> Result<Judged<Txt>, Stop>
     ensures { Gives (λ text. text) result words.new (one_word judged_text_in words.old) }
 {
     let word = words.next()?;
     let pieces = between_quotes(word).ok_or(Stop::NotALine)?;
     Ok(judged_text(unescaped(alloc, pieces)?))
+}
+
+// The text in quotes that is the next word.
+#[inline(always)]
+pub fn text(alloc: Global, words: &mut Words) -> Result<Judged<Txt>, Stop>
+    ensures { Gives (λ text. text) result words.new (one_word judged_text_in words.old) }
+{
+    match words.next_shown() {
+        Some(shown) => shown_text(alloc, shown),
+        None => escaped_text(alloc, words),
+    }
 }
 
 // The two texts in quotes that are the next words.

@@ -1,7 +1,7 @@
 // Values out of the words of a line.
 ghost use Rattle.std.specs.Prelude.{◌≡◌, ◌≤◌, ◌<◌, ◌^◌, ◌-◌, IfOk, IfNone, IfSome, IsErrOf, Some, length};
 ghost use Rattle.line_notation.specs.Parts as spec;
-ghost use Rattle.line_notation.specs.Parts.{IsTooMuch, gathered_in, holder_of, no_values, judged_token_at, judged_value_in, may_hold_a_list, refit, tallied, with_list, with_scalar, with_token};
+ghost use Rattle.line_notation.specs.Parts.{IsTooMuch, gathered_in, holder_of, no_values, judged_token_at, judged_value_in, mapped, may_hold_a_list, refit, tallied, value_behind, with_list, with_scalar, with_token};
 ghost use Rattle.line_notation.specs.Steps.{Finds, Gives};
 ghost use Rattle.line_notation.specs.Values.{plain_at, token_at};
 
@@ -200,12 +200,21 @@ pub fn gathered(alloc: Global, holder: Holder, words: &mut Words) -> Result<Gath
     Ok(so_far)
 }
 
+fn one_value(scalar: Judged<Scalar>) -> Judged<Value>
+    ensures { result ≡ mapped Value.One scalar }
+{
+    match scalar {
+        Ok(scalar) => Ok(Value::One(scalar)),
+        Err(kind) => Err(kind),
+    }
+}
+
 // A value, by its first token and all that is behind it.
 fn value_from(token: JudgedToken, all: Gathering) -> Option<Judged<Value>>
     ensures { result ≡ spec.value_from token all.tally.count all.values }
 {
     match token {
-        JudgedToken::Scalar(scalar) if all.tally.count == 0 => Some(scalar.map(Value::One)),
+        JudgedToken::Scalar(scalar) if all.tally.count == 0 => Some(one_value(scalar)),
         JudgedToken::Count(Ok(count)) if all.tally.count as u128 == count => {
             Some(all.values.map(Value::List))
         }
@@ -213,11 +222,21 @@ fn value_from(token: JudgedToken, all: Gathering) -> Option<Judged<Value>>
     }
 }
 
+// The one value of a first token and those in all words behind it.
+#[inline(never)]
+fn value_behind(alloc: Global, first: JudgedToken, words: &mut Words) -> Result<Judged<Value>, Stop>
+    ensures { Finds (λ value. value) result (value_behind first words.old) }
+{
+    let all = gathered(alloc, Holder::List, words)?;
+    value_from(first, all).ok_or(Stop::NotALine)
+}
+
 // The one value that all words write.
 pub fn value(alloc: Global, words: &mut Words) -> Result<Judged<Value>, Stop>
     ensures { Finds (λ value. value) result (judged_value_in words.old) }
 {
-    let token = token(alloc, words)?;
-    let all = gathered(alloc, Holder::List, words)?;
-    value_from(token, all).ok_or(Stop::NotALine)
+    match token(alloc, words)? {
+        JudgedToken::Scalar(scalar) if words.is_empty() => Ok(one_value(scalar)),
+        first => value_behind(alloc, first, words),
+    }
 }

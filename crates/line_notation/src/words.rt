@@ -1,8 +1,10 @@
 // The words of a line, one after the other.
-ghost use Rattle.std.specs.Prelude.{◌≡◌, ◌≤◌, ◌<◌, ◌^◌, ◌↔◌, [], length, IsTrue};
-ghost use Rattle.line_notation.specs.Steps.{Gives, CutsWord};
-ghost use Rattle.line_notation.specs.Words.{goes_on_within, next_in, words_of};
+ghost use Rattle.std.specs.Prelude.{◌≡◌, ◌≤◌, ◌<◌, ◌^◌, ◌↔◌, [], length, take_while, IfNone, IfSome, IsTrue};
+ghost use Rattle.std.specs.Option.{option_copied};
+ghost use Rattle.line_notation.specs.Steps.{CutsShown, CutsWord, Gives, TakesShown};
+ghost use Rattle.line_notation.specs.Words.{goes_on_within, is_bare, next_in, words_of};
 
+use crate::puts::plain_count;
 use std::alloc::{AllocError, AllocFailed};
 use std::marker::Model;
 use unit_streams::Memory;
@@ -83,8 +85,9 @@ fn is_in_quotes(in_quotes: bool, byte: u8) -> bool
     if byte == b'"' { !in_quotes } else { in_quotes }
 }
 
-// Where the first word ends: at the first space that is in no quotes.
-fn first_word_end(line: &[u8]) -> usize
+// Where the first word ends that may have quotes: at the first space that is in none.
+#[inline(never)]
+fn quoted_word_end(line: &[u8]) -> usize
     ensures { CutsWord line.now result }
 {
     let mut in_quotes = false;
@@ -95,6 +98,51 @@ fn first_word_end(line: &[u8]) -> usize
         in_quotes = is_in_quotes(in_quotes, *byte);
     }
     line.len()
+}
+
+// Whether a byte is neither a space nor a quote.
+fn is_bare(byte: u8) -> bool
+    ensures { result ≡ is_bare byte }
+{
+    byte != b' ' && byte != b'"'
+}
+
+// How many bytes at the front are neither spaces nor quotes.
+fn bare_count(line: &[u8]) -> usize
+    ensures { result ≡ length (take_while is_bare line.now) }
+{
+    line.iter().take_while(|byte| is_bare(**byte)).count()
+}
+
+// Where the first word ends. Most words but texts have no quotes.
+fn first_word_end(line: &[u8]) -> usize
+    ensures { CutsWord line.now result }
+{
+    let end = bare_count(line);
+    if end == line.len() {
+        return end;
+    }
+    if line[end] == b'"' {
+        quoted_word_end(line)
+    } else {
+        end
+    }
+}
+
+// The plain bytes that the first word has between quotes, if it is such, and what is left of the line
+// behind its space.
+fn shown_first(line: &[u8]) -> Option<(&[u8], Option<&[u8]>)>
+    ensures { IfSome result (λ cut. CutsShown line.now cut.0.now (option_copied cut.1)) }
+{
+    let [b'"', behind @ ..] = line else {
+        return None;
+    };
+    let (shown, closing) = behind.split_at(plain_count(behind));
+    match closing {
+        [b'"'] => Some((shown, None)),
+        [b'"', b' ', left @ ..] => Some((shown, Some(left))),
+        _ => None,
+    }
 }
 
 impl<'a> Words<'a> {
@@ -112,6 +160,16 @@ impl<'a> Words<'a> {
         ensures few { length self.now ≤ 2 ^ 63 }
     {
         self.rest.is_none()
+    }
+
+    // What the next word has between quotes, if it is plain bytes in quotes. Any other isn't taken.
+    pub fn next_shown(&mut self) -> Option<&'a [u8]>
+        ensures shown { IfSome result (λ shown. TakesShown shown.now self.old self.new) }
+        ensures unchanged { IfNone result (self.new ≡ self.old) }
+    {
+        let (shown, left) = shown_first(self.rest?)?;
+        self.rest = left;
+        Some(shown)
     }
 
     // The next word, if there is one.

@@ -1,5 +1,5 @@
 use Rattle.line_notation.proofs.WordsFacts.{WithinWord}
-use Rattle.line_notation.proofs.words.first_word_end.Given as goal
+use Rattle.line_notation.proofs.words.quoted_word_end.Given as goal
 
 abbrev pub invariant-loop-at : goal.invariant-loop-at
 invariant-loop-at l = WithinWord l.line l.in_quotes l.at

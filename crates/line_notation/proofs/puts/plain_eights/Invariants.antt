@@ -1,0 +1,13 @@
+use Rattle.std.proofs.Common.{◌≡◌, ◌≤◌, ◌-◌, length, take, true}
+use Rattle.std.specs.List.{list_all}
+use Rattle.line_notation.specs.Quoted.{is_plain}
+use Rattle.line_notation.proofs.puts.plain_eights.Given as goal
+
+abbrev pub invariant-loop-count : goal.invariant-loop-count
+invariant-loop-count l = record {
+  within : l.count ≤ length l.bytes;
+  plain : list_all is_plain (take l.count l.bytes) ≡ true;
+}
+
+abbrev pub decreases-loop-count : goal.decreases-loop-count
+decreases-loop-count l = length l.bytes - l.count
