@@ -1,5 +1,5 @@
 -- A fault counts at least what its names do.
-use Rattle.std.proofs.Common.{◌≡◌, ◌≤◌, ◌+◌, ℕ, false, List, [], ◌∷◌, ◌++◌, Bool, true, arith, codes, inl, inr, length}
+use Rattle.std.proofs.Common.{◌≤◌, List, [], ◌∷◌, ◌++◌, arith, inl, inr}
 use Rattle.std.specs.List.{flat_map}
 use Rattle.std.proofs.lemmas.Bool.{cases_Bool, le-leb, leb-true}
 use Rattle.std.proofs.lemmas.List.Sums.{sum_by-append, sum_by-cons}
@@ -7,7 +7,7 @@ use Rattle.nbfx_values.specs.declared.content.Item.{Item}
 use Rattle.nbfx_values.specs.Measures.{content_of, item_content}
 use Rattle.soap_envelope.specs.declared.report.FaultReport.{FaultReport}
 use Rattle.soap_envelope.specs.Faults.{fault_action, fault_body, fault_items, not_understood_block}
-use Rattle.soap_envelope.specs.Fitting.{fits, name_content, names_content, names_fit}
+use Rattle.soap_envelope.specs.Fitting.{fits, name_content, names_content}
 use Rattle.soap_envelope.specs.Laws.{UnfitNamesAreUnfit}
 use Rattle.soap_envelope.specs.Making.{action_block, ending, middle, opening, relates_block}
 use Rattle.soap_envelope.specs.Qualified.{Name}

@@ -21,8 +21,11 @@ pub mod Renamed
 pub mod Declarations
 pub mod Contents
 pub mod Suffixes
-mod Worked
+pub mod Worked
 mod WorkedMade
-mod WorkedRefusals
+mod WorkedNames
+pub mod WorkedRefusals
 pub mod WorkedPlaces
-mod WorkedStructure
+pub mod WorkedStructure
+mod WorkedHeaders
+mod WorkedContents

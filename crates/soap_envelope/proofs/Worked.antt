@@ -46,7 +46,7 @@ an_echo = refl
 abbrev Told : Type 0 → Type 0
 Told X = List Item × Result X SoapFault
 
-abbrev told : {X : Type 0} → (View → X) → Result View SoapFault → Result X SoapFault
+abbrev pub told : {X : Type 0} → (View → X) → Result View SoapFault → Result X SoapFault
 told f (Ok v) = Ok (f v)
 told f (Err fault) = Err fault
 
@@ -61,10 +61,11 @@ AllTold {X} f rows =
 abbrev flags : View → List (Bool × Bool)
 flags v = map (λ (b : Block). (b.must_understand, b.targeted)) v.blocks
 
-block : List Item → List Item
+abbrev pub block : List Item → List Item
 block inner = with_blocks (a (codes "Sec") inner)
 
-flags_of_blocks : AllTold flags (
+abbrev pub flagged : List (List Item × List (Bool × Bool))
+flagged =
     (block [], (false, true) ∷ [])
     ∷ (block (must (codes "1") ∷ []), (true, true) ∷ [])
     ∷ (block (must (codes "true") ∷ []), (true, true) ∷ [])
@@ -102,8 +103,10 @@ flags_of_blocks : AllTold flags (
       (false, true) ∷ (false, true) ∷ [],
     )
     ∷ (with_blocks (s (codes "Action") [] ++ action), (false, true) ∷ (true, true) ∷ [])
-    ∷ [])
-unfolding envelopes_on_literals block
+    ∷ []
+
+flags_of_blocks : AllTold flags flagged
+unfolding envelopes_on_literals
 flags_of_blocks = refl
 
 -- the names of blocks: by a prefix that the block, Header or the root declares, by one that the block
@@ -238,13 +241,14 @@ unfolding envelopes_on_literals
 passed = refl
 
 -- the declarations that children of Body need, by the order of their prefixes
-declaring : List Item → List Item
+abbrev pub declaring : List Item → List Item
 declaring inner =
     s (codes "Envelope")
     (Xmlns (codes "s") soap ∷ Xmlns (codes "z") (codes "urn:z") ∷ Xmlns (codes "a") (codes "urn:a")
     ∷ s (codes "Body") (Xmlns (codes "b") (codes "urn:b") ∷ Xmlns [] (codes "urn:d") ∷ inner))
 
-bodies : AllTold (λ v. v.body) (
+abbrev pub contents : List (List Item × List Item)
+contents =
     (declaring [], [])
     ∷ (
       enveloped (s (codes "Header") (Xmlns (codes "q") [] ∷ []) ++ s (codes "Body") (x [] ++ x [])),
@@ -287,13 +291,15 @@ bodies : AllTold (λ v. v.body) (
           (codes "urn:s") ∷ Start (codes "e") (codes "Body") ∷ (x [] ++ Close ∷ Close ∷ []),
       x (Xmlns (codes "e") soap ∷ Xmlns (codes "s") (codes "urn:s") ∷ []),
     )
-    ∷ [])
-unfolding envelopes_on_literals declaring
+    ∷ []
+
+bodies : AllTold (λ v. v.body) contents
+unfolding envelopes_on_literals
 bodies = refl
 
 -- whether the content of Body fits: it counts 24 bytes, of which its declarations are 23
 fitting_bodies : map (λ quota. told (λ v. fits quota v.body) (view (declaring (x []))))
     (24 ∷ 23 ∷ [])
     ≡ map seen (true ∷ false ∷ [])
-unfolding envelopes_on_literals declaring
+unfolding envelopes_on_literals
 fitting_bodies = refl

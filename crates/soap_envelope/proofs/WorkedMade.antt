@@ -1,5 +1,5 @@
 -- Worked cases: replies and faults, item by item, and which names a fault reports.
-use Rattle.std.proofs.Common.{◌≡◌, ℕ, List, [], ◌∷◌, ◌++◌, codes, map, refl, Result, Ok, Err, Bool, true, false}
+use Rattle.std.proofs.Common.{◌≡◌, ℕ, List, [], ◌∷◌, ◌++◌, codes, map, refl, Result, Ok, Err, true, false}
 use Rattle.nbfx_values.specs.declared.content.Item.{Item}
 use Rattle.nbfx_values.specs.declared.content.Item.TheVariants.{Start, Xmlns, Close}
 use Rattle.soap_envelope.specs.declared.report.Code.TheVariants.{VersionMismatch, MustUnderstand, Sender, Receiver}

@@ -12,7 +12,7 @@ use Rattle.soap_envelope.specs.View.{View, view}
 use Rattle.soap_envelope.proofs.Documents.{a, action, array, attribute, enveloped, must, role, s, with_blocks, with_body, words, x}
 use Rattle.soap_envelope.proofs.OnLiterals.{envelopes_on_literals}
 
-abbrev Row : Type 0
+abbrev pub Row : Type 0
 Row = List Item × SoapFault
 
 abbrev refused : SoapFault → Result View SoapFault
@@ -95,7 +95,8 @@ unfolding envelopes_on_literals
 children = refl
 
 -- blocks that stand once: a repeated one goes before other faults of Header
-repeated_blocks : AllRefused (
+abbrev pub repetitions : List Row
+repetitions =
     (with_blocks (action ++ action), RepeatedHeader 8)
     ∷ (with_blocks (a (codes "To") [] ++ a (codes "To") []), RepeatedHeader 6)
     ∷ (
@@ -111,15 +112,18 @@ repeated_blocks : AllRefused (
           ++ a (codes "To") []),
       RepeatedHeader 8,
     )
-    ∷ [])
+    ∷ []
+
+repeated_blocks : AllRefused repetitions
 unfolding envelopes_on_literals
 repeated_blocks = refl
 
 -- what stands in Header and isn't as the standards have it
-address : List ℕ → List Item
+abbrev pub address : List ℕ → List Item
 address text = a (codes "Address") (words text ∷ [])
 
-headers : AllRefused (
+abbrev pub bad_headers : List Row
+bad_headers =
     (with_blocks (words (codes "hi") ∷ []), BadHeader 4)
     ∷ (with_blocks (array [] [] ∷ []), BadHeader 4)
     ∷ (with_blocks (x []), BadHeader 4)
@@ -162,8 +166,10 @@ headers : AllRefused (
     ∷ (with_blocks (a (codes "ReplyTo") (address [] ++ address [])), BadHeader 4)
     ∷ (with_blocks (a (codes "ReplyTo") (a (codes "Address") (x []))), BadHeader 4)
     ∷ (with_blocks (a (codes "Sec") [] ++ a (codes "To") (x []) ++ x []), BadHeader 6)
-    ∷ [])
-unfolding envelopes_on_literals address
+    ∷ []
+
+headers : AllRefused bad_headers
+unfolding envelopes_on_literals
 headers = refl
 
 -- names go before the root, the root before its children, and those before Header

@@ -17,46 +17,46 @@ use Rattle.soap_envelope.proofs.OnLiterals.{envelopes_on_literals}
 use Rattle.soap_envelope.proofs.WorkedPlaces.{scope_at}
 
 -- how many elements are open after items
-abbrev opened : ℕ → List Item → ℕ
+abbrev pub opened : ℕ → List Item → ℕ
 opened n [] = n
 opened n (Start prefix local ∷ more) = opened (n + 1) more
 opened n (Close ∷ more) = opened (n - 1) more
 opened n (item ∷ more) = opened n more
 
 -- and before a place
-abbrev level : List Item → ℕ → ℕ
+abbrev pub level : List Item → ℕ → ℕ
 level items at = opened 0 (take at items)
 
 -- so many places from one on
-abbrev places_from : ℕ → ℕ → List ℕ
+abbrev pub places_from : ℕ → ℕ → List ℕ
 places_from at zero = []
 places_from at (suc more) = at ∷ places_from (at + 1) more
 
-abbrev places : List Item → List ℕ
+abbrev pub places : List Item → List ℕ
 places items = places_from 0 (length items)
 
 abbrev starts : List Item → List ℕ
 starts items = filter (λ at. is_start (slice_get items at)) (places items)
 
 -- the first of places that passes
-abbrev first_at : (ℕ → Bool) → List ℕ → ℕ
+abbrev pub first_at : (ℕ → Bool) → List ℕ → ℕ
 first_at test [] = 0
 first_at test (at ∷ more) = cond (test at) at (first_at test more)
 
-abbrev behind_start : List Item → ℕ → List ℕ
+abbrev pub behind_start : List Item → ℕ → List ℕ
 behind_start items at = drop (at + 1) (places items)
 
 -- an element ends where no more are open after an item than before it began
-abbrev close_by_level : List Item → ℕ → ℕ
+abbrev pub close_by_level : List Item → ℕ → ℕ
 close_by_level items at =
     first_at (λ other. level items (other + 1) == level items at) (behind_start items at)
 
 -- its children stand before that, with one more open
-abbrev is_child_at : Option Item → Bool
+abbrev pub is_child_at : Option Item → Bool
 is_child_at None = false
 is_child_at (Some item) = is_child item
 
-abbrev children_by_level : List Item → ℕ → List ℕ
+abbrev pub children_by_level : List Item → ℕ → List ℕ
 children_by_level items at =
     filter (λ other. nat_lt other (close_by_level items at)
     && (level items other == level items at + 1 && is_child_at (slice_get items other)))
@@ -95,12 +95,12 @@ abbrev by_view : List Item → ℕ → List Seen
 by_view items header =
     map (λ (b : Block). (b.name, b.from, b.to)) (blocks_of items (Some header))
 
+abbrev pub name_at : List Item → ℕ → Name
+name_at items at =
+    unwrap_or (name_by (scope_at items at) (slice_get items at)) (qualified_name [] [])
+
 abbrev block_at : List Item → ℕ → Seen
-block_at items at = (
-  unwrap_or (name_by (scope_at items at) (slice_get items at)) (qualified_name [] []),
-  at,
-  close_by_level items at,
-)
+block_at items at = (name_at items at, at, close_by_level items at)
 
 abbrev by_places : List Item → ℕ → List Seen
 by_places items header =

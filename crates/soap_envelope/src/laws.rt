@@ -1,7 +1,19 @@
 //! What holds of views by the definitions alone. Each function does nothing: its contract is a law,
 //! which a caller has where it calls the function.
 
+ghost use Rattle.std.specs.Prelude.{◌≡◌};
 ghost use Rattle.soap_envelope.specs.Laws.{BodiesStand, FaultsAreViewed, PrefixesAreFree, RelatesAreKept, RepliesAreViewed, UnfitNamesAreUnfit};
+ghost use Rattle.soap_envelope.specs.Names.{addressing, anonymous_address, no_address};
+
+use crate::namespaces::{ADDRESSING, ANONYMOUS_ADDRESS, NO_ADDRESS};
+
+/// The names in `namespaces` are spelled as the standard has them.
+#[tactic(auto, unfolding(crate::specs::Names::addressing, crate::specs::Names::no_address, crate::specs::Names::anonymous_address))]
+pub fn names()
+    ensures addressing { ADDRESSING.now ≡ addressing }
+    ensures nobody { NO_ADDRESS.now ≡ no_address }
+    ensures sender { ANONYMOUS_ADDRESS.now ≡ anonymous_address }
+{}
 
 /// A reply is an envelope whose Action is the request's followed by `Response`, whose RelatesTo has
 /// the texts and whose Body the content that were put there. The content's names have to be good

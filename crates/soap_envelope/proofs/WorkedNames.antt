@@ -1,0 +1,17 @@
+-- The names of the standards, as these publish them.
+use Rattle.std.proofs.Common.{◌≡◌, [], ◌∷◌, codes, refl}
+use Rattle.soap_envelope.specs.Names.{addressing, addressing_fault, anonymous_address, no_address, role_next, role_ultimate_receiver, soap, soap_fault, xml_namespace}
+use Rattle.soap_envelope.proofs.OnLiterals.{envelopes_on_literals}
+
+names : soap ∷ role_next ∷ role_ultimate_receiver ∷ xml_namespace ∷ addressing ∷ no_address
+    ∷ anonymous_address ∷ addressing_fault ∷ soap_fault ∷ []
+    ≡ codes "http://www.w3.org/2003/05/soap-envelope"
+    ∷ codes "http://www.w3.org/2003/05/soap-envelope/role/next"
+    ∷ codes "http://www.w3.org/2003/05/soap-envelope/role/ultimateReceiver"
+    ∷ codes "http://www.w3.org/XML/1998/namespace" ∷ codes "http://www.w3.org/2005/08/addressing"
+    ∷ codes "http://www.w3.org/2005/08/addressing/none"
+    ∷ codes "http://www.w3.org/2005/08/addressing/anonymous"
+    ∷ codes "http://www.w3.org/2005/08/addressing/fault"
+    ∷ codes "http://www.w3.org/2005/08/addressing/soap/fault" ∷ []
+unfolding envelopes_on_literals
+names = refl
