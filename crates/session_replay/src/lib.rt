@@ -11,4 +11,7 @@ mod replaying;
 mod responding;
 
 pub use replaying::{Replayed, replay_stream};
-pub use responding::{ActionsFault, Responder, read_actions};
+pub use responding::{Responder, read_actions};
+
+#[cfg(test)]
+mod tests;

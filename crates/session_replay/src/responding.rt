@@ -2,12 +2,13 @@
 
 ghost use Rattle.std.specs.Prelude.{◌≡◌, ℕ, ◌≤◌, IfOk, IfErr, IsErrOf};
 ghost use Rattle.io_edges.specs.Faults.{CountsFaults, one_more};
-ghost use Rattle.action_dispatch.specs.Services.{MayStand};
-ghost use Rattle.session_replay.specs.Responding.{GivesTexts, TellsActions};
+ghost use Rattle.shelf_files.specs.Files.{Tells};
+ghost use Rattle.session_replay.specs.Responding.{GivesTexts, file_fault, reading_actions};
 
 use action_dispatch::{ActionFault, ActionKind, EchoService, Served, Service, TableService};
-use io_edges::{Shelf, ShelfFault};
+use io_edges::Shelf;
 use nbfx_values::Items;
+use shelf_files::{FileFault, fetch_file};
 use std::alloc::Global;
 use unit_streams::Memory;
 
@@ -40,28 +41,12 @@ impl Service for Responder {
     }
 }
 
-/// Why a file gives no texts of actions.
-#[derive(Clone, Copy, Debug, PartialEq, Eq)]
-pub enum ActionsFault {
-    /// The shelf has no file of that name.
-    Missing,
-    /// The first row that fails, and what is wrong with it.
-    Bad { row: u64, kind: ActionKind },
-    /// The shelf failed.
-    Failed,
-    Memory,
-}
-
-impl From<ActionFault> for ActionsFault {
-    ghost use Rattle.session_replay.specs.Responding.{actions_fault};
-
-    ghost from_gives = { λ fault told. told ≡ actions_fault fault };
-
-    fn from(fault: ActionFault) -> ActionsFault {
-        match fault {
-            ActionFault::Bad { row, kind } => ActionsFault::Bad { row, kind },
-            ActionFault::Memory => ActionsFault::Memory,
-        }
+fn file_fault(fault: ActionFault) -> FileFault<ActionKind>
+    ensures { result ≡ file_fault fault }
+{
+    match fault {
+        ActionFault::Bad { row, kind } => FileFault::Bad { row, kind },
+        ActionFault::Memory => FileFault::Memory,
     }
 }
 
@@ -70,20 +55,17 @@ pub fn read_actions<F: Shelf>(
     alloc: Global,
     shelf: &mut F,
     name: &str,
-) -> Result<Responder, ActionsFault>
+) -> Result<Responder, FileFault<ActionKind>>
     ensures texts { IfOk result (GivesTexts (F.files shelf.old) name.now) }
-    ensures fault { IfErr result (TellsActions (F.files shelf.old) name.now) }
+    ensures fault { IfErr result (Tells reading_actions (F.files shelf.old) name.now) }
     ensures kept { F.files shelf.new ≡ F.files shelf.old }
     ensures fetched { F.fetches shelf.new ≡ one_more (F.fetches shelf.old) }
     ensures counted { CountsFaults (F.faults shelf.old) (F.faults shelf.new)
-        (IsErrOf result ActionsFault.Failed) }
+        (IsErrOf result FileFault.Failed) }
 {
-    let bytes = match shelf.fetch(name) {
-        Ok(Some(bytes)) => bytes,
-        Ok(None) => return Err(ActionsFault::Missing),
-        Err(ShelfFault::Failed) => return Err(ActionsFault::Failed),
-        Err(ShelfFault::Memory) => return Err(ActionsFault::Memory),
-    };
-    let table = TableService::read(alloc, &bytes)?;
-    Ok(Responder::Texts(table))
+    let bytes = fetch_file(shelf, name)?;
+    match TableService::read(alloc, &bytes) {
+        Ok(table) => Ok(Responder::Texts(table)),
+        Err(fault) => Err(file_fault(fault)),
+    }
 }
