@@ -1,0 +1,47 @@
+-- Worked lines, by computation.
+use Rattle.std.proofs.Common.{◌≡◌, [], ◌∷◌, refl}
+use Rattle.std.specs.Prelude.{codes}
+use Rattle.std.specs.Fmt.{digits}
+use Rattle.nbfx_values.specs.declared.refusals.Place.TheVariants.{Frame}
+use Rattle.nbfx_values.specs.declared.refusals.Reason.TheVariants.{BadMode}
+use Rattle.stream_follower.specs.declared.writing.Outbound.TheVariants as outbounds
+use Rattle.duplex_server.specs.declared.outcome.Inbound.TheVariants as inbounds
+use Rattle.duplex_server.specs.declared.outcome.Outcome.{Outcome}
+use Rattle.connection_server.specs.Lines.{connection_line, lines_from}
+
+answered : Outcome
+answered = record {
+  messages = 2;
+  answers = 2;
+  inbound = inbounds.Ended;
+  outbound = outbounds.Done;
+}
+
+refused : Outcome
+refused = record {
+  messages = 0;
+  answers = 0;
+  inbound = inbounds.Offended (record { place = Frame 3; reason = BadMode });
+  outbound = outbounds.WriteFault;
+}
+
+broken : Outcome
+broken = record {
+  messages = 10;
+  answers = 9;
+  inbound = inbounds.ReadFault;
+  outbound = outbounds.Memory;
+}
+
+starved : Outcome
+starved = record {
+  messages = 0;
+  answers = 0;
+  inbound = inbounds.Memory;
+  outbound = outbounds.Memory;
+}
+
+four_lines : lines_from 8 (answered ∷ refused ∷ broken ∷ starved ∷ [])
+    ≡ codes "connection 8 messages 2 answers 2 in ended out done\nconnection 9 messages 0 answers 0 in offence-5 out write-fault\nconnection 10 messages 10 answers 9 in read-fault out memory\nconnection 11 messages 0 answers 0 in memory out memory\n"
+unfolding connection_line lines_from digits answered refused broken starved
+four_lines = refl

@@ -1,0 +1,39 @@
+use Rattle.std.proofs.Common.{Option, List, ℕ, refl}
+use Rattle.nbfx_values.specs.QuotasOf.{limits_of}
+use Rattle.stream_reader.specs.Sides.{endpoint_of}
+use Rattle.duplex_server.specs.Owed.{Answering, answering}
+use Rattle.connection_server.specs.Served.{Network, network_at}
+use Rattle.connection_server.proofs.Turns.{met, serves_one}
+use Rattle.connection_server.proofs.connection.serve_next.Given.{Over}
+use Rattle.connection_server.proofs.connection.serve_next.Goals as goal
+
+module _ (g : Over) where
+  abbrev seen : g.row.W.Denot → Network g.row.W-Reader.Denot g.row.W-Writer.Denot
+  seen wire = network_at g.W.Wire.waiting g.W.Wire.closed g.W.Wire.out g.W.Wire.faults
+      g.W.Wire.end_faults wire
+
+pub returns : goal.returns
+returns g c =
+    let s = c.args.server.now in
+    let r = g.W.Reader.Source in
+    let w = g.W.Writer.Sink in
+    let x : Answering = answering (g.V.Service.served s.service.now) s.statics.now
+    (limits_of s.quotas.now) in
+    let endpoint : Option (List ℕ) = endpoint_of s.endpoint.now in
+    let a = c.in_ok-ends.ensures in
+    let found = c.in-Some.is in
+    let first = c.in-Some.ends in
+    let served = c.serve_ends-writer in
+    let last : g.row.W-Reader.Denot × g.row.W-Writer.Denot = (served.new.source, served.result.1) in
+    let outcome = served.result.0 in
+    let closed = c.close.ensures in (
+      met x endpoint r.left r.taken r.faults r.empty_takes w.written w.held w.faults w.may_want
+          first last outcome,
+      refl,
+      serves_one x endpoint r.left r.taken r.faults r.empty_takes w.written w.held w.faults
+          w.may_want (seen g c.args.wire.now) (seen g c.accept.new.self)
+          (seen g c.close.new.self) first last outcome served.ensures
+          (rw found at a.handed) (rw found at a.out) (rw found at a.reader)
+          (rw found at a.writer) (a.counted.same (λ e. cc)) a.ended closed.closed closed.out
+          closed.waiting closed.counted closed.faults,
+    )
