@@ -1,0 +1,158 @@
+-- What a reader has read behind bytes of a line and behind its end, and what that says of a piece.
+use Rattle.std.proofs.Common.{◌≡◌, ℕ, ◌+◌, ◌<◌, ◌≤◌, List, [], ◌∷◌, ◌++◌, length, take, drop, true, Result, Ok, Err, sym, ap, ◌∙◌, subst, append_assoc, length-append, arith}
+use Rattle.std.specs.Prelude.{⊤}
+use Rattle.std.proofs.lemmas.List.{append-nil, take-append-drop}
+use Rattle.line_notation.specs.Between.{IsUnrefused}
+use Rattle.line_notation.specs.Lines.{cut, has_no_feed}
+use Rattle.line_notation.specs.Standing.{after, answer, document_of, documents_of, standing}
+use Rattle.line_notation.specs.declared.reader.LineFault.TheVariants.{Bad}
+use Rattle.line_notation.proofs.StandingFacts.{standing-more}
+use Rattle.document_lines.specs.declared.InputFault.TheVariants.{TooLong}
+use Rattle.document_lists.specs.Documents.{documents_in, documents_within}
+use Rattle.document_lists.specs.Reader.{HasRead, ReadsOn, ReadsPiece, ReadsTo}
+use Rattle.document_lists.specs.Reading.{IsWhy, ReadsLine}
+use Rattle.document_lists.specs.Taking.{Says}
+use Rattle.document_lists.specs.declared.reading.ListFault.{ListFault}
+use Rattle.document_lists.specs.declared.reading.ListFault.TheVariants.{Refused, ReadFault, Memory}
+use Rattle.document_lists.specs.declared.reading.ListReader.{ListReader}
+use Rattle.document_lists.proofs.Cutting.{begun_behind, line_behind}
+use Rattle.document_lists.proofs.Leading.{documents_more, refused_leads, short_within, too_long, why_within}
+
+module _ (old new : ListReader) (p bytes : List ℕ) (h : HasRead old p)
+    (free : has_no_feed bytes ≡ true) where
+  -- bytes of the unfinished line
+  pub begun_more : new.lines ≡ old.lines → new.docs ≡ old.docs
+      → new.begun.items ≡ old.begun.items ++ bytes → new.taken ≡ old.taken + length bytes
+      → HasRead new (p ++ bytes)
+  begun_more lines docs begun taken =
+      let c = sym (begun_behind p bytes free) in record {
+        lines = lines ∙ h.lines ∙ ap (λ (m : List (List ℕ) × List ℕ). standing m.0) c;
+        begun = begun ∙ ap (λ l. l ++ bytes) h.begun
+            ∙ ap (λ (m : List (List ℕ) × List ℕ). m.1) c;
+        docs = docs ∙ h.docs ∙ ap (λ (m : List (List ℕ) × List ℕ). documents_of m.0) c;
+        taken = let len = length-append p bytes in let t = h.taken in omega (arith, taken, t, len);
+        unrefused = subst IsUnrefused (sym lines) h.unrefused;
+      }
+
+  -- the line that they end
+  abbrev line : List ℕ
+  line = old.begun.items ++ bytes
+
+  abbrev lines_then : List (List ℕ)
+  lines_then = (cut p).0 ++ ((cut p).1 ++ bytes) ∷ []
+
+  line_is : line ≡ (cut p).1 ++ bytes
+  line_is = ap (λ l. l ++ bytes) h.begun
+
+  after_is : after old.lines line ≡ standing lines_then
+  after_is =
+      ap (λ z. after z line) h.lines ∙ ap (λ l. after (standing (cut p).0) l) line_is
+      ∙ sym (standing-more (cut p).0 ((cut p).1 ++ bytes))
+
+  abbrev to : List ℕ
+  to = p ++ bytes ++ 10 ∷ []
+
+  cut_is : cut to ≡ (lines_then, [])
+  cut_is = line_behind p bytes free
+
+  pub line_read : (result : Result ⊤ ListFault)
+      → ReadsLine old.lines old.docs line new.lines new.docs result
+      → new.begun.items ≡ [] → new.taken ≡ old.taken + length bytes + 1 → ReadsTo new to result
+  line_read (Ok done) r begun taken = record {
+    lines = r.0 ∙ after_is ∙ ap (λ (m : List (List ℕ) × List ℕ). standing m.0) (sym cut_is);
+    begun = begun ∙ ap (λ (m : List (List ℕ) × List ℕ). m.1) (sym cut_is);
+    docs = r.2 ∙ ap (λ d. d ++ document_of (answer old.lines line)) h.docs
+        ∙ ap (λ z. documents_of (cut p).0 ++ document_of (answer z line)) h.lines
+        ∙ ap (λ l. documents_of (cut p).0 ++ document_of (answer (standing (cut p).0) l)) line_is
+        ∙ sym (documents_more (cut p).0 ((cut p).1 ++ bytes))
+        ∙ ap (λ (m : List (List ℕ) × List ℕ). documents_of m.0) (sym cut_is);
+    taken = let len = length-append (p ++ bytes) (10 ∷ []) in
+        let len' = length-append p bytes in let t = h.taken in omega (arith, taken, t, len, len');
+    unrefused = r.1;
+  }
+  line_read (Err (Refused fault)) r begun taken = record {
+    number = r.0;
+    kind = r.1;
+    fault_is = r.2;
+    stands = ap (λ (m : List (List ℕ) × List ℕ). standing m.0) cut_is ∙ sym after_is
+        ∙ refused_leads old.lines line (Bad r.0 r.1) r.3;
+  }
+  line_read (Err ReadFault) r begun taken = r
+  line_read (Err Memory) r begun taken = tt
+
+-- ---- lines of some bytes, one after the other
+
+module _ (new : ListReader) (p bytes front : List ℕ) where
+  -- a line that is refused, behind others
+  pub refused_behind : (a more : List ℕ) (fault : ListFault) → bytes ≡ front ++ a ++ 10 ∷ more
+      → ReadsTo new ((p ++ front) ++ a ++ 10 ∷ []) (Err fault) → ReadsOn new p bytes (Err fault)
+  refused_behind a more (Refused fault) split why = record {
+    front = front ++ a ++ 10 ∷ [];
+    more = more;
+    split = split ∙ sym (append_assoc (front ++ a) (10 ∷ []) more);
+    why = subst (IsWhy fault) (ap (λ l. l ++ 10 ∷ []) (append_assoc p front a)
+        ∙ append_assoc p (front ++ a) (10 ∷ [])) why;
+  }
+  refused_behind a more ReadFault split why = why
+  refused_behind a more Memory split why = tt
+
+  -- the bytes behind the last line
+  pub last_behind : (rest : List ℕ) (result : Result ⊤ ListFault) → bytes ≡ front ++ rest
+      → ReadsTo new ((p ++ front) ++ rest) result → ReadsOn new p bytes result
+  last_behind rest (Ok done) split read =
+      subst (HasRead new) (append_assoc p front rest ∙ ap (λ l. p ++ l) (sym split)) read
+  last_behind rest (Err (Refused fault)) split why = record {
+    front = bytes;
+    more = [];
+    split = sym (append-nil bytes);
+    why = subst (IsWhy fault) (append_assoc p front rest ∙ ap (λ l. p ++ l) (sym split)) why;
+  }
+  last_behind rest (Err ReadFault) split why = why
+  last_behind rest (Err Memory) split why = tt
+
+-- ---- a piece
+
+module _ (quota : ℕ) (new : ListReader) (p piece : List ℕ) (w : ℕ) where
+  abbrev here : List ℕ
+  here = take w piece
+
+  -- what is behind the front of what was read
+  grouped : (front more behind : List ℕ) → here ≡ front ++ more
+      → (p ++ piece) ++ behind ≡ (p ++ front) ++ more ++ drop w piece ++ behind
+  grouped front more behind split =
+      ap (λ l. (p ++ l) ++ behind) (sym (take-append-drop w piece) ∙ ap (λ l. l ++ drop w piece) split)
+      ∙ simp append_assoc
+
+  -- a line of it is refused
+  pub refused_piece : length p + length here ≤ quota → (fault : ListFault)
+      → ReadsOn new p here (Err fault) → ReadsPiece quota new p piece (Err fault)
+  refused_piece le (Refused fault) why = λ behind.
+      let len = length-append p why.front in
+      let len' = length-append why.front why.more in
+      let same = ap length why.split in
+      ap (documents_within quota) (grouped why.front why.more behind why.split
+      ∙ simp append_assoc)
+      ∙ why_within quota fault (p ++ why.front) (why.more ++ (drop w piece ++ behind)) why.why
+      (omega (arith, len, len', same, le))
+  refused_piece le ReadFault why = why
+  refused_piece le Memory why = tt
+
+  -- it is as long as is admitted
+  pub long_piece : HasRead new (p ++ here) → new.taken ≡ quota
+      → ReadsPiece quota new p piece (Err (Refused TooLong))
+  long_piece h full = λ behind.
+      let is : length (p ++ here) ≡ quota = sym h.taken ∙ full in
+      ap (documents_within quota) (ap (λ l. (p ++ l) ++ behind) (sym (take-append-drop w piece))
+      ∙ simp append_assoc)
+      ∙ ap (λ n. documents_within n ((p ++ here) ++ (drop w piece ++ behind))) (sym is)
+      ∙ too_long (p ++ here) (drop w piece ++ behind) (subst IsUnrefused h.lines h.unrefused)
+
+-- of lines that are one piece
+pub said_at_once : (quota : ℕ) (new : ListReader) (text : List ℕ) (fault : ListFault)
+    → length text < quota → ReadsPiece quota new [] text (Err fault)
+    → Says (documents_in text) (Err fault)
+said_at_once quota new text (Refused fault) short reads =
+    sym (short_within quota text short)
+    ∙ ap (documents_within quota) (sym (append-nil text)) ∙ reads []
+said_at_once quota new text ReadFault short reads = absurd reads
+said_at_once quota new text Memory short reads = tt

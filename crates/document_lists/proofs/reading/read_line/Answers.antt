@@ -1,0 +1,51 @@
+use Rattle.std.proofs.Common.{◌≡◌, ℕ, ◌+◌, ◌≤◌, List, ◌++◌, Ok, sym, ap, ◌∙◌, subst}
+use Rattle.std.proofs.lemmas.List.{append-nil}
+use Rattle.line_notation.specs.Between.{IsUnrefused, next_line}
+use Rattle.line_notation.specs.Standing.{Standing, after, answer, document_of}
+use Rattle.line_notation.specs.declared.reader.LineStep.TheVariants.{Done, More}
+use Rattle.document_lines.proofs.Standings.{done_leads, more_leads, next_after}
+use Rattle.document_lists.proofs.reading.read_line.Goals as goal
+
+-- the next line behind one
+next_behind : (old new : Standing) (line : List ℕ) → new ≡ after old line
+    → next_line new ≤ next_line old + 1
+next_behind old new line is =
+    subst (λ z. next_line z ≤ next_line old + 1) (sym is) (next_after old line)
+
+pub returns-in-Ok-More-clause-reads : goal.returns-in-Ok-More-clause-reads
+returns-in-Ok-More-clause-reads c =
+    let z = c.args.lines.now in
+    let e : answer z c.args.line.now ≡ Ok More = sym c.in-Ok-More.ensures.answer
+    ∙ ap Ok c.in-Ok-More.field-0-is in (
+      c.in-Ok-More.ensures.stands,
+      subst IsUnrefused (sym c.in-Ok-More.ensures.stands) (more_leads z c.args.line.now e),
+      sym (append-nil c.args.docs.now) ∙ ap (λ a. c.args.docs.now ++ document_of a) (sym e),
+    )
+
+pub returns-in-Ok-More-clause-next : goal.returns-in-Ok-More-clause-next
+returns-in-Ok-More-clause-next c =
+    next_behind c.args.lines.now c.line.new.self c.args.line.now c.in-Ok-More.ensures.stands
+
+pub returns-in-Ok-clause-reads : goal.returns-in-Ok-clause-reads
+returns-in-Ok-clause-reads c =
+    let z = c.args.lines.now in
+    let e : answer z c.args.line.now ≡ Ok (Done c.in-Ok-Done.doc) = sym c.in-Ok-Done.ensures.answer
+    ∙ ap Ok c.in-Ok-Done.field-0-is in
+    let d = done_leads z c.args.line.now c.in-Ok-Done.doc e in (
+      c.in-Ok-Done.ensures.stands,
+      subst IsUnrefused (sym (c.in-Ok-Done.ensures.stands ∙ d.1)) tt,
+      c.in-Ok.ensures.pushed ∙ ap (λ a. c.args.docs.now ++ document_of a) (sym e),
+    )
+
+pub returns-in-Ok-clause-next : goal.returns-in-Ok-clause-next
+returns-in-Ok-clause-next c =
+    next_behind c.args.lines.now c.line.new.self c.args.line.now c.in-Ok-Done.ensures.stands
+
+pub returns-in-Err-clause-next : goal.returns-in-Err-clause-next
+returns-in-Err-clause-next c =
+    next_behind c.args.lines.now c.line.new.self c.args.line.now c.in-Ok-Done.ensures.stands
+
+pub returns-in-Err-Bad-clause-next : goal.returns-in-Err-Bad-clause-next
+returns-in-Err-Bad-clause-next c =
+    let stands = rw c.in-Err-Bad.field-0-is at c.in-Err-Bad.ensures.stands in
+    next_behind c.args.lines.now c.line.new.self c.args.line.now stands

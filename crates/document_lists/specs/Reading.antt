@@ -1,0 +1,36 @@
+-- What a line is answered with, and why the lines of bytes are refused.
+use Rattle.std.specs.Prelude.{◌≡◌, ⊤, ℕ, List, ◌++◌, Result, Ok, Err}
+use Rattle.line_notation.specs.Between.{IsUnrefused}
+use Rattle.line_notation.specs.Lines.{cut}
+use Rattle.line_notation.specs.Standing.{Standing, after, answer, document_of, failed, standing}
+use Rattle.line_notation.specs.declared.reader.LineFault.TheVariants.{Bad}
+use Rattle.line_notation.specs.declared.reader.LineKind.{LineKind}
+use Rattle.nbfx_values.specs.declared.content.Item.{Item}
+use Rattle.document_lines.specs.declared.InputFault.{InputFault}
+use Rattle.document_lines.specs.declared.InputFault.TheVariants.{Line}
+use Rattle.document_lists.specs.declared.reading.ListFault.{ListFault}
+use Rattle.document_lists.specs.declared.reading.ListFault.TheVariants.{Refused, ReadFault, Memory}
+
+-- this is why one of the lines of these bytes is refused
+pub record IsWhy (fault : InputFault) (p : List ℕ) : Type 0 where
+  pub number : ℕ
+  pub kind : LineKind
+  pub fault_is : fault ≡ Line number kind
+  pub stands : standing (cut p).0 ≡ failed (Bad number kind)
+
+-- this is why one of the lines is refused of which the last ends within bytes behind p
+pub record IsWhyWithin (fault : InputFault) (p bytes : List ℕ) : Type 0 where
+  pub front : List ℕ
+  pub more : List ℕ
+  pub split : bytes ≡ front ++ more
+  pub why : IsWhy fault (p ++ front)
+
+-- what a line is answered with, behind which a reader stands so and has these documents
+abbrev pub ReadsLine : (old : Standing) → (docs : List (List Item)) → (line : List ℕ)
+    → (new : Standing) → (docs' : List (List Item)) → Result ⊤ ListFault → Type 0
+ReadsLine old docs line new docs' (Ok done) = (new ≡ after old line) × IsUnrefused new
+    × (docs' ≡ docs ++ document_of (answer old line))
+ReadsLine old docs line new docs' (Err (Refused fault)) = (number : ℕ) × (kind : LineKind)
+    × (fault ≡ Line number kind) × (answer old line ≡ Err (Bad number kind))
+ReadsLine old docs line new docs' (Err ReadFault) = ⊥
+ReadsLine old docs line new docs' (Err Memory) = ⊤

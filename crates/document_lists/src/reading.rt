@@ -1,0 +1,192 @@
+//! Documents, as their lines come.
+
+ghost use Rattle.std.specs.Prelude.{◌≡◌, ℕ, ◌+◌, ◌<◌, ◌≤◌, ◌^◌, List, [], ◌∷◌, ◌++◌, length, true, Err, OnOk, IfErr, IfSome, IsNone};
+ghost use Rattle.line_notation.specs.Between.{next_line};
+ghost use Rattle.line_notation.specs.Lines.{has_no_feed};
+ghost use Rattle.line_notation.specs.Standing.{HasReadFew};
+ghost use Rattle.document_lists.specs.Documents.{documents_in, documents_within};
+ghost use Rattle.document_lists.specs.Taking.{Says};
+ghost use Rattle.document_lists.specs.Reading.{ReadsLine};
+
+use document_lines::InputFault;
+use line_notation::{LineFault, LineKind, LineReader, LineStep};
+use memchr::memchr;
+use nbfx_values::Docs;
+use std::alloc::Global;
+use unit_streams::Memory;
+
+const LINE_FEED: u8 = b'\n';
+
+/// More bytes than there are in memory.
+const NO_QUOTA: u64 = 1 << 63;
+
+/// Why there are no documents.
+#[derive(Clone, Copy, Debug, PartialEq, Eq)]
+pub enum ListFault {
+    /// Their lines are refused so, or are too long.
+    Refused(InputFault),
+    /// A read failed.
+    ReadFault,
+    /// There was no memory.
+    Memory,
+}
+
+/// Reads documents out of lines, in whatever pieces their bytes come. Of the bytes it holds those
+/// of the unfinished line.
+#[derive(Drop)]
+pub struct ListReader {
+    /// As many bytes are too long.
+    pub quota: u64,
+    /// How many bytes were read.
+    pub taken: u64,
+    pub lines: LineReader,
+    /// The bytes of the unfinished line.
+    pub begun: Vec<u8>,
+    pub docs: Docs,
+    ghost few: { quota ≤ 2 ^ 63 },
+    ghost within: { taken ≤ quota },
+    ghost counted: { next_line lines ≤ taken + 1 },
+}
+
+impl ListReader {
+    ghost use Rattle.document_lists.specs.Reader.{HasRead, ReadsOn, ReadsPiece, ReadsTo};
+
+    /// Before the first byte.
+    pub fn new(alloc: Global, quota: u64) -> Self
+        requires { quota ≤ 2 ^ 63 }
+        ensures read { HasRead result [] }
+        ensures quota { result.quota ≡ quota }
+    {
+        ListReader {
+            quota,
+            taken: 0,
+            lines: LineReader::new(alloc),
+            begun: Vec::new(alloc),
+            docs: Docs::new(alloc),
+        }
+    }
+
+    /// Reads a piece, as far as the quota admits.
+    pub fn read_piece(&mut self, piece: &[u8]) -> Result<(), ListFault>
+        ensures reads { (p : List ℕ) → HasRead self.old p
+            → ReadsPiece self.old.quota self.new p piece.now result }
+        ensures quota { self.new.quota ≡ self.old.quota }
+    {
+        let left = self.quota - self.taken;
+        let within = piece.len().min(left as usize);
+        self.read_on(&piece[..within])?;
+        if self.taken >= self.quota {
+            return Err(ListFault::Refused(InputFault::TooLong));
+        }
+        Ok(())
+    }
+
+    /// The documents, where the bytes may end here.
+    pub fn finish(self) -> Result<Docs, ListFault>
+        ensures says { (p : List ℕ) → HasRead self p → length p < self.quota
+            → Says (documents_within self.quota p) result }
+        ensures read { result ≡ Err ListFault.ReadFault → ⊥ }
+    {
+        if self.begun.is_empty() && self.lines.is_between() {
+            return Ok(self.docs);
+        }
+        Err(ListFault::Refused(InputFault::Line {
+            line: self.lines.next_line(),
+            kind: LineKind::Cut,
+        }))
+    }
+
+    // Reads bytes that the quota admits.
+    fn read_on(&mut self, bytes: &[u8]) -> Result<(), ListFault>
+        requires { self.old.taken + length bytes.now ≤ self.old.quota }
+        ensures reads { (p : List ℕ) → HasRead self.old p
+            → ReadsOn self.new p bytes.now result }
+        ensures taken { OnOk result (self.new.taken ≡ self.old.taken + length bytes.now) }
+        ensures quota { self.new.quota ≡ self.old.quota }
+    {
+        let mut rest = bytes;
+        while let Some((line, behind)) = split_line(rest) {
+            self.end_line(line)?;
+            rest = behind;
+        }
+        self.begin(rest)
+    }
+
+    // Takes bytes of the unfinished line.
+    fn begin(&mut self, bytes: &[u8]) -> Result<(), ListFault>
+        requires { self.old.taken + length bytes.now ≤ self.old.quota }
+        ensures reads { (p : List ℕ) → HasRead self.old p → has_no_feed bytes.now ≡ true
+            → ReadsTo self.new (p ++ bytes.now) result }
+        ensures taken { self.new.taken ≡ self.old.taken + length bytes.now }
+        ensures quota { self.new.quota ≡ self.old.quota }
+        ensures refused { IfErr result (λ fault. fault ≡ ListFault.Memory) }
+    {
+        self.taken += bytes.len() as u64;
+        match self.begun.extend_from_slice(bytes) {
+            Ok(()) => Ok(()),
+            Err(_) => Err(ListFault::Memory),
+        }
+    }
+
+    // Reads the line that ends with these bytes, behind which its line feed stands.
+    fn end_line(&mut self, bytes: &[u8]) -> Result<(), ListFault>
+        requires { self.old.taken + length bytes.now < self.old.quota }
+        ensures reads { (p : List ℕ) → HasRead self.old p → has_no_feed bytes.now ≡ true
+            → ReadsTo self.new (p ++ bytes.now ++ 10 ∷ []) result }
+        ensures taken { self.new.taken ≡ self.old.taken + length bytes.now + 1 }
+        ensures quota { self.new.quota ≡ self.old.quota }
+    {
+        self.taken += bytes.len() as u64 + 1;
+        if self.begun.is_empty() {
+            return read_line(&mut self.lines, &mut self.docs, bytes);
+        }
+        if self.begun.extend_from_slice(bytes).is_err() {
+            return Err(ListFault::Memory);
+        }
+        let answer = read_line(&mut self.lines, &mut self.docs, &self.begun);
+        self.begun.clear();
+        answer
+    }
+}
+
+// The first line of some bytes, without its line feed, and what comes behind that; or none, where
+// no line ends in them.
+fn split_line(bytes: &[u8]) -> Option<(&[u8], &[u8])>
+    ensures split { IfSome result (λ parts. (bytes.now ≡ parts.0.now ++ 10 ∷ parts.1.now)
+        × (has_no_feed parts.0.now ≡ true)) }
+    ensures none { IsNone result → has_no_feed bytes.now ≡ true }
+{
+    let Some(end) = memchr(LINE_FEED, bytes) else {
+        return None;
+    };
+    Some((&bytes[..end], &bytes[end + 1..]))
+}
+
+// Reads a line, and adds the document that it completes.
+fn read_line(lines: &mut LineReader, docs: &mut Docs, line: &[u8]) -> Result<(), ListFault>
+    requires { HasReadFew lines.old }
+    ensures reads { ReadsLine lines.old docs.old line.now lines.new docs.new result }
+    ensures next { next_line lines.new ≤ next_line lines.old + 1 }
+{
+    match lines.line(line) {
+        Ok(LineStep::More) => Ok(()),
+        Ok(LineStep::Done(doc)) => match docs.push(doc) {
+            Ok(()) => Ok(()),
+            Err(Memory) => Err(ListFault::Memory),
+        },
+        Err(LineFault::Bad { line, kind }) => {
+            Err(ListFault::Refused(InputFault::Line { line, kind }))
+        }
+        Err(LineFault::Memory) => Err(ListFault::Memory),
+    }
+}
+
+/// Reads the documents of all these lines.
+pub fn read_documents(alloc: Global, text: &[u8]) -> Result<Docs, ListFault>
+    ensures says { Says (documents_in text.now) result }
+    ensures read { result ≡ Err ListFault.ReadFault → ⊥ }
+{
+    let mut reader = ListReader::new(alloc, NO_QUOTA);
+    reader.read_piece(text)?;
+    reader.finish()
+}

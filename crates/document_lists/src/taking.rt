@@ -1,0 +1,62 @@
+//! Documents out of the lines that a source gives.
+
+ghost use Rattle.std.specs.Prelude.{◌≡◌, ◌<◌, []};
+ghost use Rattle.nbfx_values.specs.QuotasOf.{limits_of};
+ghost use Rattle.stream_loop.specs.Edges.{input_at};
+ghost use Rattle.document_lists.specs.Reader.{HasRead};
+ghost use Rattle.document_lists.specs.Taken.{TakesLines};
+ghost use Rattle.document_lists.specs.Taking.{TakesDocuments};
+
+use crate::reading::{ListFault, ListReader};
+use io_edges::Source;
+use nbfx_values::{Docs, Quotas};
+use std::alloc::Global;
+
+/// How many bytes are taken at most at a time.
+const MOST_TAKEN: usize = 65_536;
+
+// Takes lines from the source to their end, and has them read by a reader that has read none.
+fn take_lines<S: Source>(
+    alloc: Global,
+    reader: &mut ListReader,
+    source: &mut S,
+) -> Result<(), ListFault>
+    requires some { 0 < reader.old.quota }
+    requires fresh { HasRead reader.old [] }
+    ensures takes { TakesLines reader.old.quota
+        (input_at S.left S.taken S.faults S.empty_takes source.old)
+        (input_at S.left S.taken S.faults S.empty_takes source.new) reader.new result }
+    ensures quota { reader.new.quota ≡ reader.old.quota }
+{
+    let Ok(mut room) = vec![in alloc; 0u8; MOST_TAKEN] else {
+        return Err(ListFault::Memory);
+    };
+    loop {
+        let Ok(n) = source.take(&mut room) else {
+            return Err(ListFault::ReadFault);
+        };
+        if n == 0 {
+            return Ok(());
+        }
+        reader.read_piece(&room[..n])?;
+    }
+}
+
+/// Takes lines from the source to their end, or to the first that is refused, and reads their
+/// documents. Bytes that are as many as the session quota are too long. The room for a piece, of
+/// 64 KiB, is made once.
+pub fn take_documents<S: Source>(
+    alloc: Global,
+    quotas: &Quotas,
+    source: &mut S,
+) -> Result<Docs, ListFault>
+    ensures { TakesDocuments (limits_of quotas.now).session
+        (input_at S.left S.taken S.faults S.empty_takes source.old)
+        (input_at S.left S.taken S.faults S.empty_takes source.new) result }
+{
+    let mut reader = ListReader::new(alloc, quotas.session);
+    match take_lines(alloc, &mut reader, source) {
+        Ok(()) => reader.finish(),
+        Err(fault) => Err(fault),
+    }
+}

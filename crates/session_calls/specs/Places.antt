@@ -1,0 +1,78 @@
+-- What is left of a wire and of an output where a place was called.
+use Rattle.std.specs.Prelude.{◌≡◌, ⊤, ℕ, List, [], ◌∷◌, ◌++◌, Option, Some}
+use Rattle.io_edges.specs.Faults.{CountsFaults}
+use Rattle.io_edges.specs.Flow.{Told}
+use Rattle.io_edges.specs.Wires.{Fresh, added_up}
+use Rattle.session_ends.specs.Sent.{MayBeSent}
+use Rattle.stream_loop.specs.Edges.{Input, Output}
+use Rattle.client.specs.declared.outcome.CallOutcome.{CallOutcome}
+use Rattle.client.specs.Sent.{Sending}
+use Rattle.session_calls.specs.declared.called.Called.{Called}
+use Rattle.session_calls.specs.declared.called.Called.TheVariants.{WrongCount, Starved, Unconnected, Closed}
+use Rattle.session_calls.specs.Peers.{CallsPeer}
+
+-- what is seen of a wire at one moment: the connections to come and what was taken from and written
+-- to each ended one, where these are told; how many connections are handed out and not closed; and
+-- how many faults its calls met, and the ends of ended connections
+pub record Network (R K : Type 0) : Type 0 where
+  pub waiting : Option (List (R × K))
+  pub closed : Option (List (List ℕ × List ℕ))
+  pub out : ℕ
+  pub faults : ℕ
+  pub end_faults : ℕ
+
+abbrev pub network_at : {W R K : Type 0} → (waiting : W → Option (List (R × K)))
+    → (closed : W → Option (List (List ℕ × List ℕ))) → (out faults end_faults : W → ℕ) → W
+    → Network R K
+network_at waiting closed out faults end_faults wire = record {
+  waiting = waiting wire;
+  closed = closed wire;
+  out = out wire;
+  faults = faults wire;
+  end_faults = end_faults wire;
+}
+
+-- ends through which nothing has moved, and which have met no fault; they tell what moves where the
+-- wire tells what the ended connections left
+pub record AreNew (told : Option (List (List ℕ × List ℕ))) (i : Input) (k : Output) : Type 0 where
+  pub unread : i.faults ≡ 0
+  pub nothing_taken : Fresh told i.taken
+  pub unwritten : k.faults ≡ 0
+  pub nothing_written : Fresh told k.written
+  pub nothing_held : k.held ≡ []
+
+-- what is seen of the ends of connections
+module _ {R K : Type 0} (input_of : R → Input) (output_of : K → Output) (x : Sending)
+    (via : List ℕ) (line : ℕ → List ℕ) (n n' : Network R K) (o o' : Output) where
+  -- One connection was handed out, its peer was called over it, and it is closed.
+  pub record CallsOne (outcome : CallOutcome) : Type 0 where
+    pub ends : R × K
+    pub left : R × K
+    pub handed : Told n.waiting n'.waiting (λ before after. before ≡ ends ∷ after)
+    pub begins : AreNew n.closed (input_of ends.0) (output_of ends.1)
+    pub calls : CallsPeer x via (line outcome.sent) (input_of ends.0) (input_of left.0)
+        (output_of ends.1) (output_of left.1) o o' outcome
+    pub closed : Told n.closed n'.closed (λ before after. (pair : List ℕ × List ℕ)
+        × (after ≡ before ++ pair ∷ []) × ((input_of left.0).taken ≡ Some pair.0)
+        × ((output_of left.1).written ≡ Some pair.1))
+    pub end_faults : n'.end_faults
+        ≡ added_up n.end_faults (input_of left.0).faults (output_of left.1).faults
+    pub out : n'.out ≡ n.out
+    pub faults : n'.faults ≡ n.faults
+
+  -- The wire made no connection.
+  pub record CallsNone : Type 0 where
+    pub waiting : Told n.waiting n'.waiting (λ before after. after ≡ before)
+    pub closed : n'.closed ≡ n.closed
+    pub end_faults : n'.end_faults ≡ n.end_faults
+    pub out : n'.out ≡ n.out
+    pub counted : CountsFaults n.faults n'.faults ⊤
+    pub unwritten : o' ≡ o
+
+  -- What is known where a place was called, however that ended. No connection is asked for where
+  -- the documents may not be sent in one session, or where there was no memory to begin.
+  abbrev pub CallsPlace : Called → Type 0
+  CallsPlace WrongCount = (MayBeSent x.mode x.documents → ⊥) × (n' ≡ n) × (o' ≡ o)
+  CallsPlace Starved = (n' ≡ n) × (o' ≡ o)
+  CallsPlace Unconnected = CallsNone
+  CallsPlace (Closed outcome) = CallsOne outcome

@@ -1,0 +1,30 @@
+-- What a call sends, and how its report ends, for private calls.
+use Rattle.std.specs.Prelude.{◌≡◌, ⊤, ℕ, List, [], Bool, Option, Result, OnOk}
+use Rattle.io_edges.specs.declared.SinkFault.{SinkFault}
+use Rattle.nbfx_values.specs.QuotasOf.{limits_of}
+use Rattle.stream_follower.specs.declared.writing.Outbound.{Outbound}
+use Rattle.stream_follower.specs.declared.writing.Outbound.TheVariants.{Done}
+use Rattle.stream_follower.specs.Writing.{PutsTo, outbound_by}
+use Rattle.client.specs.Sent.{Sending, sending}
+use Rattle.session_calls.specs.declared.peers.Call.{Call}
+use Rattle.session_calls.specs.Tags.{sent_line}
+
+-- the documents of a call, and how they are sent
+abbrev pub sending_of : Call → Sending
+sending_of c =
+    sending (limits_of c.quotas.now) c.statics.now c.opening.mode c.opening.kind c.docs.now
+
+-- the line of what was sent of them
+abbrev pub line_of : Call → (sent : ℕ) → List ℕ
+line_of c sent = sent_line c.counts.first c.counts.second sent
+
+module _ {O : Type 0} (written : O → Option (List ℕ)) (held : O → List ℕ) (faults : O → ℕ)
+    (may_want : O → Bool) (line : List ℕ) where
+  -- where the report was all written, a line was put behind it and is written too, or the writing
+  -- ended at that; else nothing was put
+  pub record Finishes (report report' : Outbound) (old new : O) : Type 0 where
+    pub goes : report ≡ Done → (answer : Result ⊤ SinkFault)
+        × PutsTo written held faults may_want old new line answer
+        × (report' ≡ outbound_by answer) × OnOk answer (held new ≡ [])
+    pub stays : (report ≡ Done → ⊥) → report' ≡ report
+    pub untouched : (report ≡ Done → ⊥) → new ≡ old
