@@ -1,5 +1,6 @@
 -- What values ask for, computed.
-use Rattle.std.proofs.Common.{◌≡◌, ◌≤◌, ◌∙◌, ℕ, length, Bool, true, ◌&&◌, Option, Some, None, refl, sym, ap, subst, inl, inr, arith}
+use Rattle.std.proofs.Common.{◌≡◌, ◌<◌, ◌≤◌, ◌^◌, ◌∙◌, ℕ, length, Bool, true, ◌&&◌, Option, Some, None, refl, sym, ap, subst, inl, inr, arith}
+use Rattle.std.specs.Fmt.{decimal}
 use Rattle.std.specs.Prelude.{if◌then◌else◌, nat_le, option_and_then, option_map}
 use Rattle.std.proofs.lemmas.Bool.{cases_Bool, le-leb, leb-true}
 use Rattle.std.proofs.lemmas.Option.{option_and_then_some}
@@ -10,16 +11,16 @@ use Rattle.nbfx_values.specs.declared.session.Kind.TheVariants as kinds
 use Rattle.nbfx_values.specs.declared.session.Mode.{Mode}
 use Rattle.nbfx_values.specs.declared.session.Mode.TheVariants.{Duplex}
 use Rattle.command_words.specs.declared.action.Action.{Action}
-use Rattle.command_words.specs.declared.action.Action.TheVariants.{Check, Dump, Build}
-use Rattle.command_words.specs.declared.option_name.OptionName.TheVariants.{Static, Replies, Via, Mode as ModeOption, Encoding, Payload, Depth, Dictionary, Content, Session}
+use Rattle.command_words.specs.declared.action.Action.TheVariants.{Check, Dump, Build, Replay, Serve, Call, Gen}
+use Rattle.command_words.specs.declared.option_name.OptionName.TheVariants.{Static, Replies, Via, Mode as ModeOption, Encoding, Listen, Connections, Connect, Second, Seed, Count, Payload, Depth, Dictionary, Content, Session}
 use Rattle.command_words.specs.declared.task.Detail.{Detail}
 use Rattle.command_words.specs.declared.task.Detail.TheVariants.{Summary, Whole}
 use Rattle.command_words.specs.declared.task.Origin.{Origin}
 use Rattle.command_words.specs.declared.task.Origin.TheVariants.{Initiator, Receiver}
 use Rattle.command_words.specs.Options.{Text}
-use Rattle.command_words.specs.Requests.{AreLimits, AskFor, AskForTask, AskToBuild, AskToReport, Asked, IsOpening, IsOrigin, Values, usual_content}
-use Rattle.command_words.specs.Tasks.{Opening, Task, report, build}
-use Rattle.command_words.proofs.ValueFacts.{kind_in, kinds_read, mode_in, modes, number_in, numbers, read_or, read_or-complete, read_or-sound}
+use Rattle.command_words.specs.Requests.{AreLimits, AskFor, AskForTask, AskToBuild, AskToCall, AskToGenerate, AskToReport, AskToServe, Asked, IsOpening, IsOrigin, Values, most_connections, most_documents, serving_in, usual_content}
+use Rattle.command_words.specs.Tasks.{Opening, Task, report, build, replay, serve, call, generate}
+use Rattle.command_words.proofs.ValueFacts.{kind_in, kinds_read, mode_in, modes, number_in, number_in-small, numbers, read_or, read_or-complete, read_or-sound}
 
 -- ---- limits
 
@@ -163,10 +164,38 @@ opening_in value =
     (read_or mode_in Duplex (value ModeOption)))
     (option_and_then short_alone (value Via))
 
+abbrev within_alone : ℕ → ℕ → ℕ → Option ℕ
+within_alone least most n = if nat_le least n && nat_le n most then Some n else None
+
+abbrev serve_in : Values → Option Task
+serve_in value =
+    option_and_then (λ listen.
+    option_map (λ connections. serve listen connections (serving_in value))
+    (option_and_then (within_alone 1 most_connections)
+    (number_or most_connections (value Connections))))
+    (value Listen)
+
+abbrev call_in : Values → Option Task
+call_in value =
+    option_and_then (λ connect.
+    option_map (λ opens. call connect opens (value Second)) (opening_in value))
+    (value Connect)
+
+abbrev generate_in : Values → Option Task
+generate_in value =
+    option_and_then (λ seed. option_map (generate seed)
+    (option_and_then (within_alone 0 most_documents)
+    (option_and_then number_in (value Count))))
+    (option_and_then number_in (value Seed))
+
 abbrev task_in : Action → Values → Option Task
 task_in Check value = report_in Summary value
 task_in Dump value = report_in Whole value
 task_in Build value = option_map build (opening_in value)
+task_in Replay value = Some (replay (serving_in value))
+task_in Serve value = serve_in value
+task_in Call value = call_in value
+task_in Gen value = generate_in value
 
 -- what an option holds is of a value that there is
 map-some : {A B : Type 0} (f : A → B) (o : Option A) (y : B) → option_map f o ≡ Some y
@@ -258,17 +287,123 @@ build-complete : (value : Values) (task : Task) → AskToBuild value task
 build-complete value task asks =
     ap (option_map build) (opening-complete value asks.opening asks.opens) ∙ ap Some (sym asks.is)
 
+within-alone : (least most m n : ℕ) → within_alone least most m ≡ Some n
+    → (m ≡ n) × (least ≤ n) × (n ≤ most)
+within-alone least most m n e =
+    elim (cases_Bool (nat_le least m && nat_le m most)) [
+      | inl within ↦
+          let is : m ≡ n = cc (rw within at e) in
+          let parts = both (nat_le least m) (nat_le m most) within in (
+            is,
+            subst (λ k. least ≤ k) is (leb-true least m parts.0),
+            subst (λ k. k ≤ most) is (leb-true m most parts.1),
+          )
+      | inr outside ↦ cc (rw outside at e)
+    ]
+
+within-passes : (least most n : ℕ) → least ≤ n → n ≤ most → within_alone least most n ≡ Some n
+within-passes least most n low high = rw (le-leb least n low, le-leb n most high) refl
+
+serve-sound : (value : Values) (task : Task) → serve_in value ≡ Some task → AskToServe value task
+serve-sound value task e =
+    option_and_then_some _ _ task e (λ listen is_listen e.
+    let made = map-some (λ n. serve listen n (serving_in value)) _ task e in
+    option_and_then_some _ _ made.0 made.1 (λ m is_m e.
+    let n = made.0 in
+    let within = within-alone 1 most_connections m n e in
+    record {
+      listen = listen;
+      connections = n;
+      place = is_listen;
+      number = read_or-sound numbers most_connections (value Connections) n
+          (is_m ∙ ap Some within.0);
+      least = within.1;
+      most = within.2;
+      is = sym made.2;
+    }))
+
+serve-complete : (value : Values) (task : Task) → AskToServe value task
+    → serve_in value ≡ Some task
+serve-complete value task asks =
+    let n = asks.connections in
+    let number = read_or-complete numbers most_connections (value Connections) n
+    (omega (arith, asks.most)) asks.number in
+    rw (asks.place, number, within-passes 1 most_connections n asks.least asks.most)
+    (ap Some (sym asks.is))
+
+call-sound : (value : Values) (task : Task) → call_in value ≡ Some task → AskToCall value task
+call-sound value task e =
+    option_and_then_some _ _ task e (λ connect is_connect e.
+    let made = map-some (λ opens. call connect opens (value Second)) (opening_in value) task e in
+    record {
+      connect = connect;
+      opening = made.0;
+      place = is_connect;
+      opens = opening-sound value made.0 made.1;
+      is = sym made.2;
+    })
+
+call-complete : (value : Values) (task : Task) → AskToCall value task → call_in value ≡ Some task
+call-complete value task asks =
+    rw (asks.place, opening-complete value asks.opening asks.opens) (ap Some (sym asks.is))
+
+-- a number that has to be there
+number-given : (value : Option Text) (n : ℕ) → option_and_then number_in value ≡ Some n
+    → (value ≡ Some (decimal n)) × (n < 2 ^ 64)
+number-given None n e = cc e
+number-given (Some text) n e = (ap Some (numbers.sound text n e), number_in-small text n e)
+
+given-number : (value : Option Text) (n : ℕ) → value ≡ Some (decimal n) → n < 2 ^ 64
+    → option_and_then number_in value ≡ Some n
+given-number value n is small = ap (option_and_then number_in) is ∙ numbers.complete n small
+
+generate-sound : (value : Values) (task : Task) → generate_in value ≡ Some task
+    → AskToGenerate value task
+generate-sound value task e =
+    option_and_then_some _ _ task e (λ seed is_seed e.
+    let made = map-some (generate seed) _ task e in
+    option_and_then_some _ _ made.0 made.1 (λ m is_m e.
+    let within = within-alone 0 most_documents m made.0 e in
+    let seeded = number-given (value Seed) seed is_seed in
+    record {
+      seed = seed;
+      count = made.0;
+      seeded = seeded.0;
+      small = seeded.1;
+      counted = (number-given (value Count) made.0 (is_m ∙ ap Some within.0)).0;
+      most = within.2;
+      is = sym made.2;
+    }))
+
+generate-complete : (value : Values) (task : Task) → AskToGenerate value task
+    → generate_in value ≡ Some task
+generate-complete value task asks =
+    let seed = given-number (value Seed) asks.seed asks.seeded asks.small in
+    let count = given-number (value Count) asks.count asks.counted (omega (arith, asks.most)) in
+    rw (seed, count, within-passes 0 most_documents asks.count (omega arith) asks.most)
+    (ap Some (sym asks.is))
+
 task-sound : (action : Action) (value : Values) (task : Task) → task_in action value ≡ Some task
     → AskForTask action value task
 task-sound Check value task e = report-sound Summary value task e
 task-sound Dump value task e = report-sound Whole value task e
 task-sound Build value task e = build-sound value task e
+task-sound Replay value task e =
+    let is : replay (serving_in value) ≡ task = cc e in
+    sym is
+task-sound Serve value task e = serve-sound value task e
+task-sound Call value task e = call-sound value task e
+task-sound Gen value task e = generate-sound value task e
 
 task-complete : (action : Action) (value : Values) (task : Task) → AskForTask action value task
     → task_in action value ≡ Some task
 task-complete Check value task asks = report-complete Summary value task asks
 task-complete Dump value task asks = report-complete Whole value task asks
 task-complete Build value task asks = build-complete value task asks
+task-complete Replay value task asks = ap Some (sym asks)
+task-complete Serve value task asks = serve-complete value task asks
+task-complete Call value task asks = call-complete value task asks
+task-complete Gen value task asks = generate-complete value task asks
 
 -- ---- requests
 

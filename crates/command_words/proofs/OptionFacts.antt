@@ -7,7 +7,7 @@ use Rattle.std.proofs.lemmas.Bool.{cases_Bool}
 use Rattle.std.proofs.lemmas.Slice.Eq.{bytes_eq-Decides}
 use Rattle.clap.proofs.WalkLemmas.{both}
 use Rattle.command_words.specs.declared.option_name.OptionName.{OptionName}
-use Rattle.command_words.specs.declared.option_name.OptionName.TheVariants.{Static, Replies, Via, Mode, Encoding, Payload, Depth, Dictionary, Content, Session}
+use Rattle.command_words.specs.declared.option_name.OptionName.TheVariants.{Static, Replies, Via, Mode, Encoding, Listen, Connections, Connect, Second, Seed, Count, Endpoint, Actions, Payload, Depth, Dictionary, Content, Session}
 use Rattle.command_words.specs.Options.{Given, IsOnce, Text, is_empty, is_option, option_text, value_of}
 
 -- ---- options by their texts
@@ -20,6 +20,14 @@ named text =
     else if bytes_eq text (codes "via") then Via
     else if bytes_eq text (codes "mode") then Mode
     else if bytes_eq text (codes "encoding") then Encoding
+    else if bytes_eq text (codes "listen") then Listen
+    else if bytes_eq text (codes "connections") then Connections
+    else if bytes_eq text (codes "connect") then Connect
+    else if bytes_eq text (codes "second") then Second
+    else if bytes_eq text (codes "seed") then Seed
+    else if bytes_eq text (codes "count") then Count
+    else if bytes_eq text (codes "endpoint") then Endpoint
+    else if bytes_eq text (codes "actions") then Actions
     else if bytes_eq text (codes "payload") then Payload
     else if bytes_eq text (codes "depth") then Depth
     else if bytes_eq text (codes "dictionary") then Dictionary
@@ -32,6 +40,14 @@ named-option_text Replies = refl
 named-option_text Via = refl
 named-option_text Mode = refl
 named-option_text Encoding = refl
+named-option_text Listen = refl
+named-option_text Connections = refl
+named-option_text Connect = refl
+named-option_text Second = refl
+named-option_text Seed = refl
+named-option_text Count = refl
+named-option_text Endpoint = refl
+named-option_text Actions = refl
 named-option_text Payload = refl
 named-option_text Depth = refl
 named-option_text Dictionary = refl

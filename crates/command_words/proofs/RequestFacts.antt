@@ -8,7 +8,7 @@ use Rattle.std.proofs.lemmas.Option.{option_and_then_some}
 use Rattle.std.proofs.lemmas.Slice.Eq.{bytes_eq-Decides}
 use Rattle.clap.proofs.WalkLemmas.{both}
 use Rattle.command_words.specs.declared.action.Action.{Action}
-use Rattle.command_words.specs.declared.action.Action.TheVariants.{Check, Dump, Build}
+use Rattle.command_words.specs.declared.action.Action.TheVariants.{Check, Dump, Build, Replay, Serve, Call, Gen}
 use Rattle.command_words.specs.Commands.{options_of, word_of}
 use Rattle.command_words.specs.Options.{Given, IsOnce, Text, is_empty, is_option, value_of}
 use Rattle.command_words.specs.Requests.{Asked, IsRequest}
@@ -22,12 +22,20 @@ use Rattle.command_words.proofs.SpellFacts.{given_in, given_in-complete, given_i
 abbrev named : Text → Action
 named text =
     if bytes_eq text (codes "check") then Check
-    else if bytes_eq text (codes "dump") then Dump else Build
+    else if bytes_eq text (codes "dump") then Dump
+    else if bytes_eq text (codes "build") then Build
+    else if bytes_eq text (codes "replay") then Replay
+    else if bytes_eq text (codes "serve") then Serve
+    else if bytes_eq text (codes "call") then Call else Gen
 
 named-word_of : (action : Action) → named (word_of action) ≡ action
 named-word_of Check = refl
 named-word_of Dump = refl
 named-word_of Build = refl
+named-word_of Replay = refl
+named-word_of Serve = refl
+named-word_of Call = refl
+named-word_of Gen = refl
 
 pub word_of-injective : (one other : Action) → word_of one ≡ word_of other → one ≡ other
 word_of-injective one other e =

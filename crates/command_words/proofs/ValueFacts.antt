@@ -1,11 +1,11 @@
 -- What values write, computed: what a value may mean is guessed, and then compared with how that is
 -- written.
-use Rattle.std.proofs.Common.{◌≡◌, ◌∙◌, ℕ, ◌<◌, ◌^◌, Option, Some, None, refl, sym, ap, inl, inr, codes}
+use Rattle.std.proofs.Common.{◌≡◌, ◌∙◌, ℕ, ◌<◌, ◌^◌, Option, Some, None, refl, sym, ap, subst, inl, inr, codes}
 use Rattle.std.specs.Prelude.{if◌then◌else◌, nat_lt}
 use Rattle.std.specs.Fmt.{decimal, digits}
 use Rattle.std.specs.Str.{bytes_eq}
 use Rattle.std.specs.Str.Parse.{digits_value}
-use Rattle.std.proofs.lemmas.Bool.{cases_Bool, lt-ltb}
+use Rattle.std.proofs.lemmas.Bool.{cases_Bool, lt-ltb, ltb-true}
 use Rattle.std.proofs.lemmas.Fmt.{decimal_is_IsNumeral}
 use Rattle.std.proofs.lemmas.Slice.Eq.{bytes_eq-Decides}
 use Rattle.nbfx_values.specs.declared.session.Kind.{Kind}
@@ -53,6 +53,19 @@ number_in-sound text n e =
     elim (cases_Bool (nat_lt (digits_value 10 text) (2 ^ 64))) [
       | inl small ↦ checked-sound decimal text (digits_value 10 text) n (rw small at e)
       | inr great ↦ cc (rw great at e)
+    ]
+
+pub number_in-small : (text : Text) (n : ℕ) → number_in text ≡ Some n → n < 2 ^ 64
+number_in-small text n e =
+    let read = digits_value 10 text in
+    elim (cases_Bool (nat_lt read (2 ^ 64))) [
+      | inr great ↦ cc (rw great at e)
+      | inl small ↦ elim (cases_Bool (bytes_eq (decimal read) text)) [
+        | inl same ↦
+            let is : read ≡ n = cc (rw (small, same) at e) in
+            subst (λ m. m < 2 ^ 64) is (ltb-true read (2 ^ 64) small)
+        | inr other ↦ cc (rw (small, other) at e)
+      ]
     ]
 
 number_in-complete : (n : ℕ) → n < 2 ^ 64 → number_in (decimal n) ≡ Some n

@@ -10,7 +10,7 @@ use Rattle.clap.specs.Lexer.{long_of, name_and_value, short_of}
 use Rattle.clap.proofs.CutLemmas.{Lacks}
 use Rattle.clap.proofs.LexerLemmas.{name_and_value-at, name_and_value-without}
 use Rattle.command_words.specs.declared.option_name.OptionName.{OptionName}
-use Rattle.command_words.specs.declared.option_name.OptionName.TheVariants.{Static, Replies, Via, Mode, Encoding, Payload, Depth, Dictionary, Content, Session}
+use Rattle.command_words.specs.declared.option_name.OptionName.TheVariants.{Static, Replies, Via, Mode, Encoding, Listen, Connections, Connect, Second, Seed, Count, Endpoint, Actions, Payload, Depth, Dictionary, Content, Session}
 use Rattle.command_words.specs.Options.{Text, begins_with_hyphen, dashed, option_text}
 use Rattle.command_words.specs.Reading.{IsReadable}
 
@@ -23,6 +23,14 @@ long_of-dashed Replies = refl
 long_of-dashed Via = refl
 long_of-dashed Mode = refl
 long_of-dashed Encoding = refl
+long_of-dashed Listen = refl
+long_of-dashed Connections = refl
+long_of-dashed Connect = refl
+long_of-dashed Second = refl
+long_of-dashed Seed = refl
+long_of-dashed Count = refl
+long_of-dashed Endpoint = refl
+long_of-dashed Actions = refl
 long_of-dashed Payload = refl
 long_of-dashed Depth = refl
 long_of-dashed Dictionary = refl
@@ -36,6 +44,14 @@ long_of-joined Replies value = refl
 long_of-joined Via value = refl
 long_of-joined Mode value = refl
 long_of-joined Encoding value = refl
+long_of-joined Listen value = refl
+long_of-joined Connections value = refl
+long_of-joined Connect value = refl
+long_of-joined Second value = refl
+long_of-joined Seed value = refl
+long_of-joined Count value = refl
+long_of-joined Endpoint value = refl
+long_of-joined Actions value = refl
 long_of-joined Payload value = refl
 long_of-joined Depth value = refl
 long_of-joined Dictionary value = refl

@@ -1,6 +1,6 @@
 -- Words that are requests, with what they ask for, and words that are none. Each line has the words
 -- with a space between each two.
-use Rattle.std.proofs.Common.{◌≡◌, ◌∙◌, ◌==◌, List, [], ◌∷◌, ◌++◌, map, Some, None, refl, sym, codes}
+use Rattle.std.proofs.Common.{◌≡◌, ◌∙◌, ◌==◌, ℕ, List, [], ◌∷◌, ◌++◌, map, Option, Some, None, refl, sym, codes}
 use Rattle.std.specs.Prelude.{if◌then◌else◌}
 use Rattle.std.specs.Fmt.{digits}
 use Rattle.std.specs.List.{AllByRecursion}
@@ -15,7 +15,7 @@ use Rattle.command_words.specs.declared.task.Origin.{Origin}
 use Rattle.command_words.specs.declared.task.Origin.TheVariants.{Initiator, Receiver}
 use Rattle.command_words.specs.Options.{Text}
 use Rattle.command_words.specs.Requests.{Asked, IsRequest}
-use Rattle.command_words.specs.Tasks.{Opening, Task, report, build}
+use Rattle.command_words.specs.Tasks.{Opening, Serving, Task, report, build, replay, serve, call, generate}
 use Rattle.command_words.proofs.RequestFacts.{request_in, request-complete, request-sound}
 
 -- the words of a line, the first of which has begun
@@ -172,6 +172,88 @@ are_builds : AreRequests builds
 unfolding digits
 are_builds = are-requests builds refl
 
+-- what sessions are served with
+abbrev serving : Option Text → Option Text → Serving
+serving endpoint actions = record { endpoint = endpoint; actions = actions }
+
+abbrev replayed : Option Text → Option Text → Asked
+replayed endpoint actions = asks (codes "S") usual_limits (replay (serving endpoint actions))
+
+abbrev replays : List Row
+replays =
+    (codes "x replay --static S", replayed None None) ∷ (
+      codes "x replay --endpoint net.tcp://h/e --static=S",
+      replayed (Some (codes "net.tcp://h/e")) None,
+    ) ∷
+    (codes "x replay --static S --actions A", replayed None (Some (codes "A"))) ∷ (
+      codes "x replay --actions=A --static S --endpoint=V",
+      replayed (Some (codes "V")) (Some (codes "A")),
+    ) ∷
+    []
+
+are_replays : AreRequests replays
+unfolding digits
+are_replays = are-requests replays refl
+
+-- how many connections are answered, at the place P
+abbrev served : ℕ → Option Text → Option Text → Asked
+served connections endpoint actions =
+    asks (codes "S") usual_limits (serve (codes "P") connections (serving endpoint actions))
+
+abbrev serves : List Row
+serves =
+    (codes "x serve --static S --listen P", served 1000000 None None) ∷
+    (codes "x serve --connections 1 --listen=P --static=S", served 1 None None) ∷
+    (codes "x serve --static S --listen P --connections=1000000", served 1000000 None None) ∷ (
+      codes "x serve --static S --listen P --endpoint V --actions A --connections 20",
+      served 20 (Some (codes "V")) (Some (codes "A")),
+    ) ∷
+    []
+
+are_serves : AreRequests serves
+unfolding digits
+are_serves = are-requests serves refl
+
+-- a server that is called at the place P
+abbrev called : Text → Mode → Kind → Option Text → Asked
+called via mode kind second =
+    asks (codes "S") usual_limits (call (codes "P") (opening via mode kind) second)
+
+abbrev calls : List Row
+calls =
+    (codes "x call --static S --connect P --via V", called (codes "V") Duplex Session None) ∷ (
+      codes "x call --via=V --second=B --connect=P --static=S",
+      called (codes "V") Duplex Session (Some (codes "B")),
+    ) ∷ (
+      codes "x call --static S --connect P --via V --mode singleton --encoding 7",
+      called (codes "V") Singleton Plain None,
+    ) ∷ (
+      codes "x call --mode=simplex --static S --second B --encoding=8 --connect P --via V",
+      called (codes "V") Simplex Session (Some (codes "B")),
+    ) ∷
+    []
+
+are_calls : AreRequests calls
+unfolding digits
+are_calls = are-requests calls refl
+
+-- documents that are made
+abbrev made : ℕ → ℕ → Asked
+made seed count = asks (codes "S") usual_limits (generate seed count)
+
+abbrev makes : List Row
+makes =
+    (codes "x gen --static S --seed 0 --count 0", made 0 0) ∷ (
+      codes "x gen --count=1000000 --seed=18446744073709551615 --static=S",
+      made 18446744073709551615 1000000,
+    ) ∷
+    (codes "x gen --seed 7 --static S --count 20", made 7 20) ∷
+    []
+
+are_makes : AreRequests makes
+unfolding digits
+are_makes = are-requests makes refl
+
 -- ---- none
 
 -- no command, or another word in its place
@@ -299,3 +381,84 @@ no_builds =
 no_builds_is : AreRefused no_builds
 unfolding digits
 no_builds_is = are-refused no_builds refl
+
+-- a stream can't be answered so
+abbrev no_replays : List Text
+no_replays =
+    codes "x replay" ∷
+    codes "x replay --static S --endpoint" ∷
+    codes "x replay --static S --endpoint=" ∷
+    codes "x replay --static S --actions=" ∷
+    codes "x replay --static S --actions -" ∷
+    codes "x replay --static S --endpoint V --endpoint V" ∷
+    codes "x replay --static S --via V" ∷
+    codes "x replay --static S --encoding 8" ∷
+    codes "x check --static S --endpoint V" ∷
+    codes "x build --static S --via V --actions A" ∷
+    []
+
+no_replays_is : AreRefused no_replays
+unfolding digits
+no_replays_is = are-refused no_replays refl
+
+-- connections can't be answered so
+abbrev no_serves : List Text
+no_serves =
+    codes "x serve --static S" ∷
+    codes "x serve --listen P" ∷
+    codes "x serve --static S --listen=" ∷
+    codes "x serve --static S --listen P --connections 0" ∷
+    codes "x serve --static S --listen P --connections 1000001" ∷
+    codes "x serve --static S --listen P --connections 4294967297" ∷
+    codes "x serve --static S --listen P --connections 01" ∷
+    codes "x serve --static S --listen P --connections all" ∷
+    codes "x serve --static S --listen P --listen P" ∷
+    codes "x serve --static S --listen P --via V" ∷
+    codes "x replay --static S --listen P" ∷
+    []
+
+no_serves_is : AreRefused no_serves
+unfolding digits
+no_serves_is = are-refused no_serves refl
+
+-- a server can't be called so
+abbrev no_calls : List Text
+no_calls =
+    codes "x call --static S --via V" ∷
+    codes "x call --static S --connect P" ∷
+    codes "x call --connect P --via V" ∷
+    codes "x call --static S --connect= --via V" ∷
+    codes "x call --static S --connect P --via V --second=" ∷
+    codes "x call --static S --connect P --via V --second -" ∷
+    codes "x call --static S --connect P --via V --mode two" ∷
+    codes "x call --static S --connect P --via V --encoding 4" ∷
+    codes "x call --static S --connect P --via V --connect P" ∷
+    codes "x call --static S --connect P --via V --endpoint V" ∷
+    codes "x build --static S --via V --connect P" ∷
+    []
+
+no_calls_is : AreRefused no_calls
+unfolding digits
+no_calls_is = are-refused no_calls refl
+
+-- documents can't be made so
+abbrev no_makes : List Text
+no_makes =
+    codes "x gen --static S --seed 0" ∷
+    codes "x gen --static S --count 1" ∷
+    codes "x gen --seed 0 --count 1" ∷
+    codes "x gen --static S --seed 18446744073709551616 --count 1" ∷
+    codes "x gen --static S --seed 0 --count 1000001" ∷
+    codes "x gen --static S --seed 00 --count 1" ∷
+    codes "x gen --static S --seed= --count 1" ∷
+    codes "x gen --static S --seed -1 --count 1" ∷
+    codes "x gen --static S --seed 0 --count 4294967296" ∷
+    codes "x gen --static S --seed 0 --count one" ∷
+    codes "x gen --static S --seed 0 --seed 0 --count 1" ∷
+    codes "x gen --static S --seed 0 --count 1 --via V" ∷
+    codes "x dump --static S --count 1" ∷
+    []
+
+no_makes_is : AreRefused no_makes
+unfolding digits
+no_makes_is = are-refused no_makes refl

@@ -2,10 +2,12 @@
 use Rattle.nbfx_values.specs.QuotasOf.{limits_of}
 use Rattle.command_words.specs.declared.request.Request.{Request}
 use Rattle.command_words.specs.declared.task.Opening.{Opening as OpeningTaken}
+use Rattle.command_words.specs.declared.task.Serving.{Serving as ServingTaken}
 use Rattle.command_words.specs.declared.task.Task.{Task as TaskTaken}
-use Rattle.command_words.specs.declared.task.Task.TheVariants.{Report, Build}
+use Rattle.command_words.specs.declared.task.Task.TheVariants.{Report, Build, Replay, Serve, Call, Generate}
 use Rattle.command_words.specs.Requests.{Asked}
-use Rattle.command_words.specs.Tasks.{Opening, Task, report, build}
+use Rattle.command_words.specs.Tasks.{Opening, Serving, Task, report, build, replay, serve, call, generate}
+use Rattle.command_words.specs.Values.{text_behind}
 
 abbrev pub opening_of : OpeningTaken → Opening
 opening_of opening = record {
@@ -14,9 +16,21 @@ opening_of opening = record {
   kind = opening.kind;
 }
 
+abbrev pub serving_of : ServingTaken → Serving
+serving_of serving = record {
+  endpoint = text_behind serving.endpoint;
+  actions = text_behind serving.actions;
+}
+
 abbrev pub task_of : TaskTaken → Task
 task_of (Report detail origin) = report detail origin
 task_of (Build opening) = build (opening_of opening)
+task_of (Replay serving) = replay (serving_of serving)
+task_of (Serve listen connections serving) =
+    serve listen.now connections (serving_of serving)
+task_of (Call connect opening second) =
+    call connect.now (opening_of opening) (text_behind second)
+task_of (Generate seed count) = generate seed count
 
 abbrev pub asked_of : Request → Asked
 asked_of request = record {

@@ -4,7 +4,7 @@ use Rattle.std.specs.Prelude.{◌≡◌, ◌⊎◌, ℕ, Bool, false, true, not,
 use Rattle.std.specs.List.{list_all}
 use Rattle.std.specs.Str.{bytes_eq}
 use Rattle.command_words.specs.declared.option_name.OptionName.{OptionName}
-use Rattle.command_words.specs.declared.option_name.OptionName.TheVariants.{Static, Replies, Via, Mode, Encoding, Payload, Depth, Dictionary, Content, Session}
+use Rattle.command_words.specs.declared.option_name.OptionName.TheVariants.{Static, Replies, Via, Mode, Encoding, Listen, Connections, Connect, Second, Seed, Count, Endpoint, Actions, Payload, Depth, Dictionary, Content, Session}
 
 abbrev pub Text : Type 0
 Text = List ℕ
@@ -16,6 +16,14 @@ option_text Replies = codes "replies"
 option_text Via = codes "via"
 option_text Mode = codes "mode"
 option_text Encoding = codes "encoding"
+option_text Listen = codes "listen"
+option_text Connections = codes "connections"
+option_text Connect = codes "connect"
+option_text Second = codes "second"
+option_text Seed = codes "seed"
+option_text Count = codes "count"
+option_text Endpoint = codes "endpoint"
+option_text Actions = codes "actions"
 option_text Payload = codes "payload"
 option_text Depth = codes "depth"
 option_text Dictionary = codes "dictionary"

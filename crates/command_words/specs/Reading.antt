@@ -1,6 +1,5 @@
 -- What the parts of a reader of words answer.
-use Rattle.std.specs.Prelude.{◌≡◌, ◌≢◌, ◌⊎◌, ◌&&◌, nat_le, nat_lt, Bool, true, false, Some, List, [], ◌∷◌, Option, IsUtf8, codes, fold, option_map}
-use Rattle.std.specs.Borrow.{Bor}
+use Rattle.std.specs.Prelude.{◌≡◌, ◌≢◌, ◌⊎◌, ◌&&◌, nat_le, nat_lt, Bool, true, false, Some, List, [], ◌∷◌, Option, IsUtf8, codes, fold}
 use Rattle.std.specs.Char.{is_ascii_digit}
 use Rattle.clap.specs.Matches.{first_value, found_of}
 use Rattle.clap.specs.Walk.{Rule}
@@ -54,10 +53,6 @@ abbrev pub app_for : Action → App
 app_for action = app_with (word_of action) (options_of action)
 
 -- ---- what clap finds
-
--- the text of a reference that there may be
-abbrev pub text_behind : Option (Bor Text) → Option Text
-text_behind = option_map (λ text. text.now)
 
 -- the value of each option that a parse found
 abbrev pub found_values : ArgMatches → OptionName → Option Text

@@ -1,20 +1,21 @@
 -- What the values of options mean, and the words of a request.
-use Rattle.std.specs.Prelude.{◌≡◌, ◌≤◌, ℕ, ◌*◌, length, max, IsTrue, List, ◌∷◌, Option, Some, None}
+use Rattle.std.specs.Prelude.{◌≡◌, ◌<◌, ◌≤◌, ◌^◌, ℕ, ◌*◌, length, max, IsTrue, List, ◌∷◌, Option, Some, None}
+use Rattle.std.specs.Fmt.{decimal}
 use Rattle.std.specs.List.{list_all, list_any}
 use Rattle.nbfx_values.specs.Limits.{IsGood, Limits, usual_limits}
 use Rattle.nbfx_values.specs.declared.session.Kind.{Kind}
 use Rattle.nbfx_values.specs.declared.session.Mode.{Mode}
 use Rattle.command_words.specs.declared.action.Action.{Action}
-use Rattle.command_words.specs.declared.action.Action.TheVariants.{Check, Dump, Build}
+use Rattle.command_words.specs.declared.action.Action.TheVariants.{Check, Dump, Build, Replay, Serve, Call, Gen}
 use Rattle.command_words.specs.declared.option_name.OptionName.{OptionName}
-use Rattle.command_words.specs.declared.option_name.OptionName.TheVariants.{Static, Replies, Via, Mode as ModeOption, Encoding, Payload, Depth, Dictionary, Content, Session}
+use Rattle.command_words.specs.declared.option_name.OptionName.TheVariants.{Static, Replies, Via, Mode as ModeOption, Encoding, Listen, Connections, Connect, Second, Seed, Count, Endpoint, Actions, Payload, Depth, Dictionary, Content, Session}
 use Rattle.command_words.specs.declared.task.Detail.{Detail}
 use Rattle.command_words.specs.declared.task.Detail.TheVariants.{Summary, Whole}
 use Rattle.command_words.specs.declared.task.Origin.{Origin}
 use Rattle.command_words.specs.declared.task.Origin.TheVariants.{Initiator, Receiver}
 use Rattle.command_words.specs.Options.{Given, HaveValues, IsOnce, SpellOptions, Text, is_option, value_of}
 use Rattle.command_words.specs.Commands.{options_of, word_of}
-use Rattle.command_words.specs.Tasks.{Opening, Task, report, build}
+use Rattle.command_words.specs.Tasks.{Opening, Serving, Task, report, build, replay, serve, call, generate}
 use Rattle.command_words.specs.Values.{IsKind, IsMode, IsNumber, mode_name}
 
 -- what words ask for: what every command is told, and what is to be done
@@ -71,11 +72,59 @@ pub record AskToBuild (value : Values) (task : Task) : Type 0 where
   pub opens : IsOpening value opening
   pub is : task ≡ build opening
 
+-- what the values say sessions are served with
+abbrev pub serving_in : Values → Serving
+serving_in value = record { endpoint = value Endpoint; actions = value Actions }
+
+-- the values ask for a stream to be answered
+abbrev pub AskToReplay : Values → Task → Type 0
+AskToReplay value task = task ≡ replay (serving_in value)
+
+-- how many connections a server accepts at most
+abbrev pub most_connections : ℕ
+most_connections = 1000000
+
+-- the values ask for connections to be answered
+pub record AskToServe (value : Values) (task : Task) : Type 0 where
+  pub listen : Text
+  pub connections : ℕ
+  pub place : value Listen ≡ Some listen
+  pub number : IsNumber (value Connections) most_connections connections
+  pub least : 1 ≤ connections
+  pub most : connections ≤ most_connections
+  pub is : task ≡ serve listen connections (serving_in value)
+
+-- the values ask for a server to be called
+pub record AskToCall (value : Values) (task : Task) : Type 0 where
+  pub connect : Text
+  pub opening : Opening
+  pub place : value Connect ≡ Some connect
+  pub opens : IsOpening value opening
+  pub is : task ≡ call connect opening (value Second)
+
+-- how many documents are made at most
+abbrev pub most_documents : ℕ
+most_documents = 1000000
+
+-- the values ask for documents to be made
+pub record AskToGenerate (value : Values) (task : Task) : Type 0 where
+  pub seed : ℕ
+  pub count : ℕ
+  pub seeded : value Seed ≡ Some (decimal seed)
+  pub small : seed < 2 ^ 64
+  pub counted : value Count ≡ Some (decimal count)
+  pub most : count ≤ most_documents
+  pub is : task ≡ generate seed count
+
 -- what the values ask of each command
 abbrev pub AskForTask : Action → Values → Task → Type 0
 AskForTask Check value task = AskToReport Summary value task
 AskForTask Dump value task = AskToReport Whole value task
 AskForTask Build value task = AskToBuild value task
+AskForTask Replay value task = AskToReplay value task
+AskForTask Serve value task = AskToServe value task
+AskForTask Call value task = AskToCall value task
+AskForTask Gen value task = AskToGenerate value task
 
 -- what they ask for, beside the command
 pub record AskFor (action : Action) (value : Values) (asked : Asked) : Type 0 where

@@ -1,4 +1,5 @@
 -- What the program may be asked to do.
+use Rattle.std.specs.Prelude.{ℕ, Option}
 use Rattle.nbfx_values.specs.declared.session.Kind.{Kind}
 use Rattle.nbfx_values.specs.declared.session.Mode.{Mode}
 use Rattle.command_words.specs.declared.task.Detail.{Detail}
@@ -11,8 +12,23 @@ pub record Opening : Type 0 where
   pub mode : Mode
   pub kind : Kind
 
+-- what sessions are served with
+pub record Serving : Type 0 where
+  -- the Via that is served alone, or None where any is
+  pub endpoint : Option Text
+  -- the name of the file of texts by action, or None where the service is the echo
+  pub actions : Option Text
+
 pub data Task : Type 0 where
   -- a stream is read and reported
   report : Detail → Origin → Task
   -- documents are written as an initiator's session
   build : Opening → Task
+  -- an initiator's stream is answered
+  replay : Serving → Task
+  -- so many connections are answered
+  serve : (listen : Text) → (connections : ℕ) → Serving → Task
+  -- a server is called, with the documents of a second file too where there is one
+  call : (connect : Text) → Opening → (second : Option Text) → Task
+  -- so many documents are made, and read
+  generate : (seed count : ℕ) → Task

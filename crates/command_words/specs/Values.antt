@@ -1,5 +1,6 @@
 -- What values write: numbers, and the names of modes and encodings.
-use Rattle.std.specs.Prelude.{◌≡◌, ℕ, Option, Some, None, codes}
+use Rattle.std.specs.Prelude.{◌≡◌, ℕ, Option, Some, None, codes, option_map}
+use Rattle.std.specs.Borrow.{Bor}
 use Rattle.std.specs.Fmt.{decimal}
 use Rattle.nbfx_values.specs.Session.{kind_number}
 use Rattle.nbfx_values.specs.declared.session.Kind.{Kind}
@@ -7,6 +8,10 @@ use Rattle.nbfx_values.specs.declared.session.Kind.TheVariants as kinds
 use Rattle.nbfx_values.specs.declared.session.Mode.{Mode}
 use Rattle.nbfx_values.specs.declared.session.Mode.TheVariants.{Singleton, Duplex, Simplex}
 use Rattle.command_words.specs.Options.{Text}
+
+-- the text of a reference that there may be
+abbrev pub text_behind : Option (Bor Text) → Option Text
+text_behind = option_map (λ text. text.now)
 
 -- the value is this, written so, or there is no value and this is usual
 abbrev pub IsWritten : {A : Type 0} → (A → Text) → A → Option Text → A → Type 0

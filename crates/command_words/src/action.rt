@@ -13,6 +13,14 @@ pub enum Action {
     Dump,
     /// Writes documents as a session.
     Build,
+    /// Answers a stream as a server.
+    Replay,
+    /// Answers connections as a server.
+    Serve,
+    /// Calls a server.
+    Call,
+    /// Makes documents and reads them.
+    Gen,
 }
 
 // The options of a command: its own, and then those of every command.
@@ -34,6 +42,14 @@ static READING: [OptionName; 8] = options![Replies, Encoding];
 
 static BUILDING: [OptionName; 9] = options![Via, Mode, Encoding];
 
+static REPLAYING: [OptionName; 8] = options![Endpoint, Actions];
+
+static SERVING: [OptionName; 10] = options![Listen, Connections, Endpoint, Actions];
+
+static CALLING: [OptionName; 11] = options![Connect, Via, Mode, Encoding, Second];
+
+static GENERATING: [OptionName; 8] = options![Seed, Count];
+
 /// The command that a word names.
 pub fn action_of(word: &str) -> Option<Action>
     ensures named { IfSome result (λ action. word.now ≡ word_of action) }
@@ -43,6 +59,10 @@ pub fn action_of(word: &str) -> Option<Action>
         "check" => Some(Action::Check),
         "dump" => Some(Action::Dump),
         "build" => Some(Action::Build),
+        "replay" => Some(Action::Replay),
+        "serve" => Some(Action::Serve),
+        "call" => Some(Action::Call),
+        "gen" => Some(Action::Gen),
         _ => None,
     }
 }
@@ -55,6 +75,10 @@ pub fn word_of(action: Action) -> &'static str
         Action::Check => "check",
         Action::Dump => "dump",
         Action::Build => "build",
+        Action::Replay => "replay",
+        Action::Serve => "serve",
+        Action::Call => "call",
+        Action::Gen => "gen",
     }
 }
 
@@ -65,5 +89,9 @@ pub fn options_of(action: Action) -> &'static [OptionName]
     match action {
         Action::Check | Action::Dump => READING.as_slice(),
         Action::Build => BUILDING.as_slice(),
+        Action::Replay => REPLAYING.as_slice(),
+        Action::Serve => SERVING.as_slice(),
+        Action::Call => CALLING.as_slice(),
+        Action::Gen => GENERATING.as_slice(),
     }
 }

@@ -3,20 +3,28 @@ ghost use Rattle.std.specs.Prelude.{◌≡◌, ◌≤◌, ◌↔◌, IfNone, IfS
 ghost use Rattle.clap.specs.declared.parser.matches.ArgMatches.{ArgMatches};
 ghost use Rattle.nbfx_values.specs.Limits.{usual_limits};
 ghost use Rattle.nbfx_values.specs.QuotasOf.{limits_of};
-ghost use Rattle.command_words.specs.Reading.{found_values, text_behind};
-ghost use Rattle.command_words.specs.Asking.{asked_of, opening_of, task_of};
-ghost use Rattle.command_words.specs.Requests.{AreLimits, AskFor, AskForTask, AskToBuild, AskToReport, Asked, IsOpening, IsOrigin};
+ghost use Rattle.command_words.specs.Reading.{found_values};
+ghost use Rattle.command_words.specs.Values.{text_behind};
+ghost use Rattle.command_words.specs.Asking.{asked_of, opening_of, serving_of, task_of};
+ghost use Rattle.command_words.specs.Requests.{AreLimits, AskFor, AskForTask, AskToBuild, AskToCall, AskToGenerate, AskToReport, AskToServe, Asked, IsOpening, IsOrigin, serving_in};
 ghost use Rattle.command_words.specs.Tasks.{Opening as AskedOpening, Task as AskedTask};
 
 use crate::action::Action;
 use crate::naming::{kind_in, mode_in, mode_named};
+use crate::number::{number_in, number_within};
 use crate::option_name::OptionName;
 use crate::parsed::value_of;
 use crate::quotas::quotas_of;
 use crate::request::Request;
-use crate::task::{Detail, Opening, Origin, Task};
+use crate::task::{Detail, Opening, Origin, Serving, Task};
 use clap::ArgMatches;
 use nbfx_values::{Kind, Quotas};
+
+/// How many connections are accepted at most, and where no number is given.
+const MOST_CONNECTIONS: u32 = 1_000_000;
+
+/// How many documents are made at most.
+const MOST_DOCUMENTS: u32 = 1_000_000;
 
 // The end whose stream the values ask for.
 fn origin_in(replies: Option<&str>, kind: Kind) -> Option<Origin>
@@ -75,6 +83,62 @@ fn build_in<'w>(matches: &ArgMatches<'w>) -> Option<Task<'w>>
     Some(Task::Build(opening_in(matches)?))
 }
 
+// What the values serve sessions with.
+fn serving_in<'w>(matches: &ArgMatches<'w>) -> Serving<'w>
+    ensures { serving_of result ≡ serving_in (found_values matches.now) }
+{
+    Serving {
+        endpoint: value_of(matches, OptionName::Endpoint),
+        actions: value_of(matches, OptionName::Actions),
+    }
+}
+
+// The answering of connections that the values ask for.
+fn serve_in<'w>(matches: &ArgMatches<'w>) -> Option<Task<'w>>
+    ensures meant { IfSome result (λ task. AskToServe (found_values matches.now) (task_of task)) }
+    ensures none { IfNone result ((task : AskedTask)
+        → ¬ AskToServe (found_values matches.now) task) }
+{
+    let listen = value_of(matches, OptionName::Listen)?;
+    let number = value_of(matches, OptionName::Connections);
+    let connections = number_within(number, MOST_CONNECTIONS, 1, MOST_CONNECTIONS)?;
+    let serving = serving_in(matches);
+    Some(Task::Serve {
+        listen,
+        connections,
+        serving,
+    })
+}
+
+// The call of a server that the values ask for.
+fn call_in<'w>(matches: &ArgMatches<'w>) -> Option<Task<'w>>
+    ensures meant { IfSome result (λ task. AskToCall (found_values matches.now) (task_of task)) }
+    ensures none { IfNone result ((task : AskedTask)
+        → ¬ AskToCall (found_values matches.now) task) }
+{
+    let connect = value_of(matches, OptionName::Connect)?;
+    let opening = opening_in(matches)?;
+    let second = value_of(matches, OptionName::Second);
+    Some(Task::Call {
+        connect,
+        opening,
+        second,
+    })
+}
+
+// The making of documents that the values ask for.
+fn generate_in<'w>(matches: &ArgMatches<'w>) -> Option<Task<'w>>
+    ensures meant { IfSome result
+        (λ task. AskToGenerate (found_values matches.now) (task_of task)) }
+    ensures none { IfNone result ((task : AskedTask)
+        → ¬ AskToGenerate (found_values matches.now) task) }
+{
+    let seed = number_in(value_of(matches, OptionName::Seed)?)?;
+    let count = value_of(matches, OptionName::Count)?;
+    let count = number_within(Some(count), 0, 0, MOST_DOCUMENTS)?;
+    Some(Task::Generate { seed, count })
+}
+
 // What the values ask a command to do.
 fn task_in<'w>(action: Action, matches: &ArgMatches<'w>) -> Option<Task<'w>>
     ensures meant { IfSome result
@@ -86,6 +150,10 @@ fn task_in<'w>(action: Action, matches: &ArgMatches<'w>) -> Option<Task<'w>>
         Action::Check => report_in(Detail::Summary, matches),
         Action::Dump => report_in(Detail::Whole, matches),
         Action::Build => build_in(matches),
+        Action::Replay => Some(Task::Replay(serving_in(matches))),
+        Action::Serve => serve_in(matches),
+        Action::Call => call_in(matches),
+        Action::Gen => generate_in(matches),
     }
 }
 

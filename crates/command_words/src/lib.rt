@@ -12,10 +12,19 @@
 //! usual one, and the usual content is four times the payload where that is more; the quota of a
 //! Via is always the usual one. Quotas that aren't good, and any other words, are not understood.
 //!
-//! `check` and `dump` have `--replies` with a mode, where a receiver's stream is read, and
-//! `--encoding` with 7 or 8, which is 8 where it is missing, and has no effect on an initiator's
-//! stream, whose own records name one. `build` has `--via`, which has to be there and is of at most
-//! 2,048 bytes, `--mode` with a mode, which is duplex where it is missing, and `--encoding`.
+//! - `check` and `dump` have `--replies` with a mode, where a receiver's stream is read, and
+//!   `--encoding` with 7 or 8, which is 8 where it is missing, and has no effect on an initiator's
+//!   stream, whose own records name one.
+//! - `build` has `--via`, which has to be there and is of at most 2,048 bytes, `--mode` with a
+//!   mode, which is duplex where it is missing, and `--encoding`.
+//! - `replay` has `--endpoint` with the Via that is served alone, and `--actions` with the name of
+//!   a file.
+//! - `serve` has these two, `--listen` with a place, which has to be there, and `--connections`
+//!   with a number from 1 to 1,000,000, which is the greatest where it is missing.
+//! - `call` has the options of `build`, `--connect` with a place, which has to be there, and
+//!   `--second` with the name of a file.
+//! - `gen` has `--seed` with a number below 2^64 and `--count` with one of at most 1,000,000, which
+//!   both have to be there.
 //!
 //! `read` answers the one request that the words are, or that they are none. The definitions don't
 //! speak of how words are read: `specs/Options` has the options and the two ways to spell one,
@@ -39,7 +48,7 @@ mod task;
 mod words;
 
 pub use request::Request;
-pub use task::{Detail, Opening, Origin, Task};
+pub use task::{Detail, Opening, Origin, Serving, Task};
 pub use words::{WordsFault, read};
 
 #[cfg(test)]

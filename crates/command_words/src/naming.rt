@@ -1,7 +1,6 @@
 // The modes and encodings that values name.
 ghost use Rattle.std.specs.Prelude.{◌≡◌, ◌≢◌, IfNone, IfSome};
-ghost use Rattle.command_words.specs.Reading.{text_behind};
-ghost use Rattle.command_words.specs.Values.{IsKind, IsMode, kind_text, mode_name};
+ghost use Rattle.command_words.specs.Values.{IsKind, IsMode, kind_text, mode_name, text_behind};
 
 use nbfx_values::{Kind, Mode};
 

@@ -1,8 +1,8 @@
 // The number that a value writes.
-ghost use Rattle.std.specs.Prelude.{◌≡◌, ◌≢◌, ◌<◌, ◌^◌, ℕ, IfNone, IfSome};
+ghost use Rattle.std.specs.Prelude.{◌≡◌, ◌≢◌, ◌<◌, ◌≤◌, ◌^◌, ℕ, IfNone, IfSome};
 ghost use Rattle.std.specs.Fmt.{decimal};
-ghost use Rattle.command_words.specs.Reading.{begins_plain, text_behind};
-ghost use Rattle.command_words.specs.Values.{IsNumber};
+ghost use Rattle.command_words.specs.Reading.{begins_plain};
+ghost use Rattle.command_words.specs.Values.{IsNumber, text_behind};
 
 // Whether a text begins as a number does: with a digit, which is the zero only where it is alone.
 fn begins_plain(text: &[u8]) -> bool
@@ -14,8 +14,8 @@ fn begins_plain(text: &[u8]) -> bool
     }
 }
 
-// The number that decimal digits without a leading zero write.
-fn number_in(text: &str) -> Option<u64>
+/// The number that decimal digits without a leading zero write.
+pub fn number_in(text: &str) -> Option<u64>
     ensures written { IfSome result (λ n. text.now ≡ decimal n) }
     ensures none { IfNone result ((n : ℕ) → n < 2 ^ 64 → text.now ≢ decimal n) }
 {
@@ -44,4 +44,18 @@ pub fn small_or(value: Option<&str>, usual: u64) -> Option<u32>
         → ¬ IsNumber (text_behind value.entry) usual n) }
 {
     u32::try_from(number_or(value, usual)?).ok()
+}
+
+/// The same, where it is within bounds.
+pub fn number_within(value: Option<&str>, usual: u32, least: u32, most: u32) -> Option<u32>
+    ensures written { IfSome result (λ n.
+        IsNumber (text_behind value.entry) usual n × (least ≤ n) × (n ≤ most)) }
+    ensures none { IfNone result ((n : ℕ) → least ≤ n → n ≤ most
+        → ¬ IsNumber (text_behind value.entry) usual n) }
+{
+    let n = small_or(value, u64::from(usual))?;
+    if n < least || n > most {
+        return None;
+    }
+    Some(n)
 }

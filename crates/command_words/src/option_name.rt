@@ -15,6 +15,22 @@ pub enum OptionName {
     Mode,
     /// The encoding of a session's envelopes.
     Encoding,
+    /// The place where connections are accepted.
+    Listen,
+    /// How many connections are accepted.
+    Connections,
+    /// The place that is connected to.
+    Connect,
+    /// The file of a second list of documents.
+    Second,
+    /// Where the made documents start.
+    Seed,
+    /// How many documents are made.
+    Count,
+    /// The Via that is served alone.
+    Endpoint,
+    /// The file of texts by action.
+    Actions,
     /// The greatest payload.
     Payload,
     /// The greatest depth.
@@ -37,6 +53,14 @@ pub fn option_text(option: OptionName) -> &'static str
         OptionName::Via => "via",
         OptionName::Mode => "mode",
         OptionName::Encoding => "encoding",
+        OptionName::Listen => "listen",
+        OptionName::Connections => "connections",
+        OptionName::Connect => "connect",
+        OptionName::Second => "second",
+        OptionName::Seed => "seed",
+        OptionName::Count => "count",
+        OptionName::Endpoint => "endpoint",
+        OptionName::Actions => "actions",
         OptionName::Payload => "payload",
         OptionName::Depth => "depth",
         OptionName::Dictionary => "dictionary",

@@ -29,11 +29,47 @@ pub struct Opening<'w> {
     pub kind: Kind,
 }
 
+/// What sessions are served with.
+#[derive(Clone, Copy, Debug, PartialEq, Eq)]
+pub struct Serving<'w> {
+    /// The Via that is served alone, or none where any is.
+    pub endpoint: Option<&'w str>,
+    /// The name of the file of texts by action, or none where the service is the echo.
+    pub actions: Option<&'w str>,
+}
+
 /// What a command is to do.
 #[derive(Clone, Copy, Debug, PartialEq, Eq)]
 pub enum Task<'w> {
     /// To read a stream and report it: `check`, and `dump` with the documents.
-    Report { detail: Detail, origin: Origin },
+    Report {
+        detail: Detail,
+        origin: Origin,
+    },
     /// To write documents as an initiator's session: `build`.
     Build(Opening<'w>),
+    /// To answer an initiator's stream as a server: `replay`.
+    Replay(Serving<'w>),
+    /// To answer connections as a server: `serve`.
+    Serve {
+        /// The place where they are accepted.
+        listen: &'w str,
+        /// How many are, from 1 to 1,000,000.
+        connections: u32,
+        serving: Serving<'w>,
+    },
+    /// To call a server: `call`.
+    Call {
+        /// The place that is connected to.
+        connect: &'w str,
+        opening: Opening<'w>,
+        /// The name of the file of a second list of documents, which are sent beside the input's.
+        second: Option<&'w str>,
+    },
+    /// To make documents and read them: `gen`.
+    Generate {
+        seed: u64,
+        /// How many documents are made, at most 1,000,000.
+        count: u32,
+    },
 }

@@ -1,5 +1,5 @@
 // Words of each form and of none, with ample memory.
-use crate::{Detail, Opening, Origin, Request, Task, WordsFault, read};
+use crate::{Detail, Opening, Origin, Request, Serving, Task, WordsFault, read};
 use nbfx_values::{Kind, Mode, Quotas};
 use std::alloc::{AllocError, Global};
 use std::process::Abort;
@@ -205,6 +205,104 @@ fn lengths_of_vias(rt: HostRuntime) -> Result<(), Fail> {
         assert_eq!(rt; takes_via(alloc, length)?, is_taken);
     }
     Ok(())
+}
+
+#[test]
+fn servings(rt: HostRuntime) -> Result<(), Fail> {
+    let alloc = rt.alloc();
+    for (option, endpoint, actions) in [
+        ("--depth=8", None, None),
+        ("--endpoint=net.tcp://h/e", Some("net.tcp://h/e"), None),
+        ("--actions=replies.csv", None, Some("replies.csv")),
+    ] {
+        let words = words_of(alloc, &["nettcp", "replay", "--static=a", option])?;
+        let serving = Serving { endpoint, actions };
+        assert!(rt; read(alloc, words.as_slice())?.task == Task::Replay(serving));
+    }
+    Ok(())
+}
+
+// How many connections a `serve` with this option accepts.
+fn connections_of(alloc: Global, option: &str) -> Result<Option<u32>, Fail> {
+    let words = words_of(
+        alloc,
+        &["nettcp", "serve", "--static=a", "--listen=p", option],
+    )?;
+    match read(alloc, words.as_slice()) {
+        Ok(request) => match request.task {
+            Task::Serve { connections, .. } => Ok(Some(connections)),
+            _ => Ok(None),
+        },
+        Err(WordsFault::NotUnderstood) => Ok(None),
+        Err(fault) => Err(Fail::from(fault)),
+    }
+}
+
+#[test]
+fn connections(rt: HostRuntime) -> Result<(), Fail> {
+    let alloc = rt.alloc();
+    for (option, connections) in [
+        ("--depth=8", Some(1_000_000)),
+        ("--connections=1", Some(1)),
+        ("--connections=1000000", Some(1_000_000)),
+        ("--connections=0", None),
+        ("--connections=1000001", None),
+    ] {
+        assert_eq!(rt; connections_of(alloc, option)?, connections);
+    }
+    Ok(())
+}
+
+#[test]
+fn calls(rt: HostRuntime) -> Result<(), Fail> {
+    let alloc = rt.alloc();
+    for (option, second) in [("--depth=8", None), ("--second=more.txt", Some("more.txt"))] {
+        let texts = [
+            "nettcp",
+            "call",
+            "--static=a",
+            "--connect=h:808",
+            "--via=v",
+            option,
+        ];
+        let words = words_of(alloc, texts.as_slice())?;
+        let opening = Opening {
+            via: "v",
+            mode: Mode::Duplex,
+            kind: Kind::Session,
+        };
+        let connect = "h:808";
+        let task = Task::Call {
+            connect,
+            opening,
+            second,
+        };
+        assert!(rt; read(alloc, words.as_slice())?.task == task);
+    }
+    Ok(())
+}
+
+#[test]
+fn generated(rt: HostRuntime) -> Result<(), Fail> {
+    let alloc = rt.alloc();
+    let texts = [
+        "nettcp",
+        "gen",
+        "--count=20",
+        "--static=a",
+        "--seed=18446744073709551615",
+    ];
+    let words = words_of(alloc, texts.as_slice())?;
+    let task = Task::Generate {
+        seed: 18_446_744_073_709_551_615,
+        count: 20,
+    };
+    assert!(rt; read(alloc, words.as_slice())?.task == task);
+    refused(
+        &rt,
+        alloc,
+        &["nettcp", "gen", "--count=1000001", "--static=a", "--seed=0"],
+    )
 }
 
 #[test]

@@ -1,9 +1,7 @@
 -- The writing of a session: its preamble, and what its ending says.
-use Rattle.std.proofs.Common.{◌≡◌, ℕ, zero, suc, ◌+◌, ◌/◌, ◌%◌, ◌≤◌, List, [], ◌∷◌, ◌++◌, length, Bool, true, false, Option, Some, None, refl, sym, ap, ◌∙◌, subst, arith, length-append}
+use Rattle.std.proofs.Common.{◌≡◌, ℕ, zero, suc, ◌+◌, ◌/◌, ◌%◌, ◌≤◌, List, [], ◌∷◌, ◌++◌, length, Bool, true, false, Option, Some, None, refl, sym, subst, arith, length-append}
 use Rattle.std.specs.Prelude.{nat_lt, if◌then◌else◌}
 use Rattle.nbfx_values.specs.Limits.{IsGood}
-use Rattle.nbfx_values.specs.declared.session.Kind.{Kind}
-use Rattle.nbfx_values.specs.declared.session.Mode.{Mode}
 use Rattle.nbfx_values.specs.Limits.{Limits}
 use Rattle.nbfx_values.specs.Session.{kind_number}
 use Rattle.multibyte_ints.specs.Integer.{shortest, shortest_within}
@@ -13,7 +11,6 @@ use Rattle.string_tables.specs.StaticStrings.{Entry}
 use Rattle.command_words.specs.Tasks.{Opening}
 use Rattle.stream_loop.specs.Edges.{Input, Output, output_at}
 use Rattle.stream_loop.specs.Reported.{EndsAs}
-use Rattle.unit_streams.specs.Going.{IsPending}
 use Rattle.stream_loop.specs.Answers.{EndsWithin}
 use Rattle.stream_loop.specs.declared.reporting.Ending.{Ending}
 use Rattle.stream_loop.specs.declared.reporting.Ending.TheVariants as endings

@@ -1,8 +1,7 @@
 -- What is written of documents is a session of them, and when it is written (specs/BuildLaws).
-use Rattle.std.proofs.Common.{◌≡◌, ℕ, ◌≤◌, ◌⊎◌, inl, inr, List, [], ◌∷◌, ◌++◌, length, map, Bool, true, IsUtf8, Option, Some, None, Ok, refl, sym, ap, ◌∙◌, subst, arith}
+use Rattle.std.proofs.Common.{◌≡◌, ℕ, ◌≤◌, ◌⊎◌, inl, inr, List, [], ◌∷◌, ◌++◌, length, map, true, IsUtf8, Option, Some, None, refl, sym, ap, ◌∙◌, subst}
 use Rattle.std.proofs.lemmas.List.{append_assoc, append-nil}
 use Rattle.std.specs.List.{flat_map}
-use Rattle.std.specs.Prelude.{⊤}
 use Rattle.io_edges.specs.Faults.{Rose}
 use Rattle.unit_streams.specs.Tellers.{report as report_by}
 use Rattle.nbfx_values.specs.Limits.{IsGood, Limits}
@@ -25,7 +24,6 @@ use Rattle.stream_loop.specs.declared.reporting.Ending.TheVariants as endings
 use Rattle.stream_reader.specs.Sessions.{Carried, IsPreamble, IsSession, conversation, session_events}
 use Rattle.stream_reader.specs.Stream.{Settings}
 use Rattle.command_words.specs.Tasks.{Opening}
-use Rattle.command_words.specs.declared.task.Detail.{Detail}
 use Rattle.dump_replay.specs.Laws.{BuildsAreComplete, BuiltAreSessions, IsBuiltOf, IsBuiltWell, IsSessionOf, ReadsAsMuch, input_offence, session_of, status_of_input}
 use Rattle.dump_replay.specs.Building.{Builds, preamble_of, settings_for_building, status_of_building}
 use Rattle.session_report.specs.Report.{report, told_of}

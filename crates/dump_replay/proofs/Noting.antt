@@ -1,13 +1,23 @@
 -- What a put of a note leaves.
-use Rattle.std.proofs.Common.{◌≡◌, ℕ, inl, inr, ◌⊎◌, List, [], ◌++◌, Bool, true, false, Option, Some, None, Result, Ok, Err, OnErr, OnOk, IsErrOf, refl, sym, ap, ◌∙◌, arith, append_assoc}
-use Rattle.std.specs.Prelude.{⊤}
+use Rattle.std.proofs.Common.{◌≡◌, ℕ, inl, inr, ◌⊎◌, List, [], ◌∷◌, ◌++◌, Bool, true, false, Option, Some, None, Result, Ok, Err, OnErr, OnOk, IsErrOf, refl, sym, ap, ◌∙◌, arith, append_assoc}
+use Rattle.std.specs.Prelude.{⊤, codes}
 use Rattle.std.proofs.lemmas.List.{append-nil}
 use Rattle.io_edges.specs.Faults.{CountsFaults, Rose}
 use Rattle.io_edges.specs.Flow.{Told, GrowsByPrefix, Passes}
 use Rattle.io_edges.specs.Puts.{PutsAll}
 use Rattle.io_edges.specs.declared.SinkFault.{SinkFault}
 use Rattle.io_edges.specs.declared.SinkFault.TheVariants as faults
+use Rattle.nbfx_values.specs.declared.refusals.Offence.{Offence}
+use Rattle.shelf_files.specs.declared.fault.FileFault.{FileFault}
+use Rattle.shelf_files.specs.declared.fault.FileFault.TheVariants as files
+use Rattle.session_report.specs.Report.{offence_line}
+use Rattle.nbfx_encoder.specs.declared.faults.EncodeFault.TheVariants as unfit
+use Rattle.document_lines.specs.declared.InputFault.TheVariants as inputs
+use Rattle.document_lists.specs.declared.fetching.FileFault.{FileFault as DocumentsFault}
+use Rattle.document_lists.specs.declared.fetching.FileFault.TheVariants as lists
+use Rattle.dump_replay.specs.Calling.{note_of_documents}
 use Rattle.dump_replay.specs.Noting.{NotesText}
+use Rattle.dump_replay.specs.Running.{note_of_file}
 use Rattle.stream_loop.proofs.Writing.{after_flush, put_either, told_as}
 
 -- a put that failed
@@ -79,3 +89,35 @@ note_none w h f m = record { grows = nothing w; whole = λ sure well. none w; fa
   none : (w : Option (List ℕ)) → Told w w (λ w w'. (w' ≡ w ++ h ++ []) ⊎ (◌≡◌ {A = List ℕ} [] []))
   none None = tt
   none (Some l) = inr refl
+
+-- the line of an offence is a note
+pub offence_line_some : (o : Offence) → offence_line o ≡ [] → ⊥
+unfolding offence_line
+offence_line_some o e = cc
+
+-- and so is that of a file that isn't read
+append_some : (name more : List ℕ) → (more ≡ [] → ⊥) → name ++ more ≡ [] → ⊥
+append_some [] more some e = some e
+append_some (one ∷ rest) more some e = cc
+
+pub note_of_file_some : {K : Type 0} (kind_name : K → List ℕ) (name : List ℕ) (fault : FileFault K)
+    → note_of_file kind_name name fault ≡ [] → ⊥
+note_of_file_some kind_name name files.Missing e = append_some name _ (λ none. cc) e
+note_of_file_some kind_name name (files.Bad row kind) e =
+    append_some _ (codes "\n") (λ none. cc) e
+note_of_file_some kind_name name files.Failed e = cc
+note_of_file_some kind_name name files.Memory e = cc
+
+pub note_of_documents_some : (name : List ℕ) (fault : DocumentsFault)
+    → note_of_documents name fault ≡ [] → ⊥
+note_of_documents_some name lists.Missing e = append_some name _ (λ none. cc) e
+note_of_documents_some name (lists.Refused (inputs.Line n kind)) e =
+    append_some name _ (λ none. cc) e
+note_of_documents_some name (lists.Refused (inputs.Unfit number (unfit.TooDeep v))) e = cc
+note_of_documents_some name (lists.Refused (inputs.Unfit number (unfit.TooMuchContent v))) e = cc
+note_of_documents_some name (lists.Refused (inputs.Unfit number (unfit.NoIdForQName v))) e = cc
+note_of_documents_some name (lists.Refused (inputs.Unfit number (unfit.TooLarge v))) e = cc
+note_of_documents_some name (lists.Refused (inputs.Unfit number unfit.Memory)) e = cc
+note_of_documents_some name (lists.Refused inputs.TooLong) e = cc
+note_of_documents_some name lists.Failed e = cc
+note_of_documents_some name lists.Memory e = cc

@@ -1,107 +1,100 @@
--- The statuses of a run that reads nothing, the file, and what holds of the task that is asked for.
-use Rattle.std.proofs.Common.{◌≡◌, ℕ, ◌⊎◌, inl, inr, List, [], ◌++◌, Option, Some, None, refl, sym, ap, ◌∙◌, subst, arith}
-use Rattle.io_edges.specs.Faults.{Rose}
+-- The words of a run, the files that it fetches, the shelf, and a file that isn't read.
+use Rattle.std.proofs.Common.{◌≡◌, ℕ, ◌⊎◌, inl, inr, List, [], ◌∷◌, Option, refl, sym, ap, ◌∙◌, subst}
+use Rattle.io_edges.specs.Faults.{one_more}
 use Rattle.io_edges.specs.Store.{Store}
+use Rattle.nbfx_values.specs.Limits.{Limits}
 use Rattle.string_tables.specs.StaticStrings.{Entry}
+use Rattle.stream_loop.specs.Edges.{Input}
+use Rattle.connection_server.specs.Served.{SinkState}
 use Rattle.command_words.specs.Options.{value_of}
 use Rattle.command_words.specs.Requests.{AskForTask, Asked, IsRequest, Values}
-use Rattle.command_words.specs.Tasks.{Task}
+use Rattle.command_words.specs.Tasks.{Serving, Task, serve}
 use Rattle.command_words.specs.declared.action.Action.{Action}
-use Rattle.command_words.specs.declared.action.Action.TheVariants.{Check, Dump, Build}
+use Rattle.command_words.specs.declared.action.Action.TheVariants.{Check, Dump, Build, Replay, Serve, Call, Gen}
 use Rattle.command_words.specs.declared.words.WordsFault.{WordsFault}
 use Rattle.command_words.specs.declared.words.WordsFault.TheVariants as words
-use Rattle.nbfx_values.specs.Limits.{Limits}
-use Rattle.dump_replay.specs.declared.statics.FileFault.{FileFault}
-use Rattle.dump_replay.specs.declared.statics.FileFault.TheVariants as files_faults
-use Rattle.dump_replay.specs.Running.{HasNoTable, IsNoTable, IsUnread}
-use Rattle.dump_replay.specs.Statics.{Has, UnderFile, bad, missing, static_file, table}
-use Rattle.dump_replay.specs.Working.{IsPossible}
-use Rattle.dump_replay.specs.Noting.{IsNote}
-use Rattle.dump_replay.specs.Reading.{TellsFile, note_of_fault, status_of_fault, status_of_words}
+use Rattle.dump_replay.specs.Outside.{Outside, SeenShelf, shelf_at}
+use Rattle.dump_replay.specs.Reading.{status_of_words}
+use Rattle.dump_replay.specs.Running.{HasFetched, WhereAsked}
+use Rattle.dump_replay.specs.Serving.{AnsweredAll}
+use Rattle.dump_replay.specs.Working.{AreNotRead, HasNoActions, IsPossible, Works}
 
 -- what words ask for can be done
 possible_so : (a : Action) (value : Values) (t : Task) → AskForTask a value t → IsPossible t
 possible_so Check value t h = subst IsPossible (sym h.is) tt
 possible_so Dump value t h = subst IsPossible (sym h.is) tt
 possible_so Build value t h = subst IsPossible (sym h.is) h.opens.short
+possible_so Replay value t h = subst IsPossible (sym h) tt
+possible_so Serve value t h = subst IsPossible (sym h.is) tt
+possible_so Call value t h = subst IsPossible (sym h.is) h.opens.short
+possible_so Gen value t h = subst IsPossible (sym h.is) tt
 
 pub possible : (words : List (List ℕ)) (asked : Asked) → IsRequest words asked
     → IsPossible asked.task
 possible words asked h = possible_so h.action (value_of h.given) asked.task h.meant.task
 
--- what a shelf that tells has under a name
-module _ (files : Option Store) (store : Store) (name : List ℕ) (entries : List Entry)
-    (told : files ≡ Some store) (has : Has files name (table entries)) where
-  file_is : static_file store name ≡ table entries
-  file_is = rw told at has
-
-  pub has_table : IsNoTable (static_file store name) → ⊥
-  has_table none = subst IsNoTable file_is none
-
--- words that aren't read though they are a request
-pub words_starved : (fault : WordsFault) → (fault ≡ words.NotUnderstood → ⊥)
-    → status_of_words fault ≡ 5
-words_starved words.NotUnderstood read = absurd (read refl)
-words_starved words.Memory read = refl
+-- words that aren't read
+pub not_read : (fault : WordsFault) (names : List (List ℕ)) (n : ℕ) → n ≡ status_of_words fault
+    → (fault ≡ words.NotUnderstood → WhereAsked names (λ asked. ⊥)) → AreNotRead names n
+not_read words.NotUnderstood names n is none = inl (is, none refl)
+not_read words.Memory names n is none = inr is
 
 pub words_two : (fault : WordsFault) → status_of_words fault ≡ 2 → fault ≡ words.NotUnderstood
 words_two words.NotUnderstood e = refl
 words_two words.Memory e = cc
 
--- a file that isn't read
-pub unread_status : (fault : FileFault) (files : Option Store) (asked : Asked) (faults faults' : ℕ)
-    → TellsFile files asked.statics fault → (fault ≡ files_faults.Failed → Rose faults faults')
-    → IsUnread files asked faults faults' (status_of_fault fault)
-unread_status files_faults.Missing files asked f f' tells rose =
-    inr (inr (refl, record { file = missing; has = tells; no_table = tt }))
-unread_status (files_faults.Bad row kind) files asked f f' tells rose =
-    inr (inr (refl, record { file = bad row kind; has = tells; no_table = tt }))
-unread_status files_faults.Failed files asked f f' tells rose = inl (refl, rose refl)
-unread_status files_faults.Memory files asked f f' tells rose = inr (inl refl)
+-- no file was fetched
+fetched_none : (names : List (List ℕ)) (n : ℕ) → HasFetched names n n
+fetched_none [] n = refl
+fetched_none (name ∷ names) n = inl refl
 
--- a file that gives no table, where the status says so
-pub bad_file : (fault : FileFault) → status_of_fault fault ≡ 6
-    → (files : Option Store) (asked : Asked) → TellsFile files asked.statics fault
-    → HasNoTable files asked
-bad_file files_faults.Missing e files asked tells =
-    record { file = missing; has = tells; no_table = tt }
-bad_file (files_faults.Bad row kind) e files asked tells =
-    record { file = bad row kind; has = tells; no_table = tt }
-bad_file files_faults.Failed e files asked tells = cc
-bad_file files_faults.Memory e files asked tells = cc
+-- the first was fetched alone
+pub fetched_first : (first : List ℕ) (names : List (List ℕ)) (n n' : ℕ) → n' ≡ one_more n
+    → HasFetched (first ∷ names) n n'
+fetched_first first names n n' one = inr (subst (λ (m : ℕ). HasFetched names (one_more n) m)
+    (sym one) (fetched_none names (one_more n)))
 
--- the note of a file that isn't read
-pub file_noted : (fault : FileFault) (words : List (List ℕ)) (files : Option Store)
-    (asked : Asked) → IsRequest words asked → TellsFile files asked.statics fault
-    → IsNote words files (status_of_fault fault) (note_of_fault asked.statics fault)
-file_noted files_faults.Missing words files asked is tells = inl (
-  refl,
+-- and then others
+pub fetched_more : (first : List ℕ) (names : List (List ℕ)) (n mid n' : ℕ) → mid ≡ one_more n
+    → HasFetched names mid n' → HasFetched (first ∷ names) n n'
+fetched_more first names n mid n' one more =
+    inr (subst (λ (m : ℕ). HasFetched names m n') one more)
+
+-- a shelf whose files and count of faults are as before
+pub same_shelf : {F : Type 0} (files : F → Option Store) (faults : F → ℕ) (first now : F)
+    → files now ≡ files first → faults now ≡ faults first
+    → shelf_at files faults now ≡ shelf_at files faults first
+same_shelf files faults first now kept same =
+    let with_files : Option Store → SeenShelf = λ v. record { files = v; faults = faults now } in
+    let with_faults : ℕ → SeenShelf = λ v. record { files = files first; faults = v } in
+    ap with_files kept ∙ ap with_faults same
+
+-- where no file of actions is read, more is as before
+pub no_actions : (Says : List ℕ → Type 0) (Less More : Type 0) → (Less → More)
+    → (serving : Serving) (s s' : SeenShelf) (n : ℕ) → HasNoActions Says Less serving s s' n
+    → HasNoActions Says More serving s s' n
+no_actions Says Less More more serving s s' n h = (
+  h.0,
+  h.1,
   record {
-    asked = asked;
-    is_request = is;
-    none = record { file = missing; has = tells; no_table = tt };
-    says = refl;
+    fault = h.2.fault;
+    tells = h.2.tells;
+    rose = h.2.rose;
+    status_is = h.2.status_is;
+    says = h.2.says;
+    untouched = more h.2.untouched;
   },
 )
-file_noted (files_faults.Bad row kind) words files asked is tells = inl (
-  refl,
-  record {
-    asked = asked;
-    is_request = is;
-    none = record { file = bad row kind; has = tells; no_table = tt };
-    says = refl;
-  },
-)
-file_noted files_faults.Failed words files asked is tells = inr (inr (λ six. cc, refl))
-file_noted files_faults.Memory words files asked is tells = inr (inr (λ six. cc, refl))
 
--- what holds of the task of one request holds of that of the other, which is the same
-pub done_as : (files : Option Store) (own asked : Asked) (entries : List Entry) (t : Task)
-    (Holds : Task → Limits → Type 0) → own ≡ asked → asked.task ≡ t
-    → Has files own.statics (table entries) → Holds own.task own.limits
-    → Has files asked.statics (table entries) × Holds t asked.limits
-done_as files own asked entries t Holds one task has holds = (
-  subst (λ (a : Asked). Has files a.statics (table entries)) one has,
-  subst (λ (u : Task). Holds u asked.limits) task
-      (subst (λ (a : Asked). Holds a.task a.limits) one holds),
-)
+-- connections were answered, or no file of actions is read
+pub serve_works : (Says : List ℕ → Type 0) (Less More : Type 0) → (Less → More)
+    → {R K : Type 0} (reader : R → Input) (writer : K → SinkState) (listen : List ℕ)
+    (connections : ℕ) (serving : Serving) (statics : List Entry) (limits : Limits)
+    (old new : Outside R K) (n : ℕ)
+    → AnsweredAll Says reader writer connections serving statics limits old new n
+    ⊎ HasNoActions Says Less serving old.shelf new.shelf n
+    → Works Says More reader writer (serve listen connections serving) statics limits old new n
+serve_works Says Less More more reader writer listen connections serving statics limits old new n
+    (inl h) = inl h
+serve_works Says Less More more reader writer listen connections serving statics limits old new n
+    (inr h) = inr (no_actions Says Less More more serving old.shelf new.shelf n h)

@@ -1,19 +1,19 @@
 -- What a status says of how the reporting of a stream ended.
-use Rattle.std.proofs.Common.{◌≡◌, ℕ, ◌⊎◌, inl, inr, List, [], ◌++◌, length, Bool, true, false, Option, Some, None, refl, sym, ap, ◌∙◌, subst, arith, append_assoc}
+use Rattle.std.proofs.Common.{◌≡◌, ℕ, ◌⊎◌, inl, inr, List, ◌++◌, length, true, false, Option, Some, None, refl, sym, ap, ◌∙◌, subst, arith, append_assoc}
 use Rattle.std.proofs.lemmas.Bool.{cases_Bool}
 use Rattle.std.proofs.lemmas.List.{take_all}
-use Rattle.io_edges.specs.Faults.{Rose, one_more}
+use Rattle.io_edges.specs.Faults.{one_more}
 use Rattle.io_edges.specs.Flow.{GrowsByPrefix}
 use Rattle.nbfx_values.specs.Limits.{IsGood}
 use Rattle.nbfx_values.specs.declared.refusals.Offence.{Offence}
 use Rattle.stream_loop.specs.Edges.{Input, Output}
-use Rattle.stream_loop.specs.Reported.{AsksOnce, Breaks, Decides, EndsAs, Judges, Reports as WritesReport}
+use Rattle.stream_loop.specs.Reported.{AsksOnce, EndsAs, Judges, Reports as WritesReport}
 use Rattle.stream_loop.specs.declared.reporting.Ending.{Ending}
 use Rattle.stream_loop.specs.declared.reporting.Ending.TheVariants as endings
 use Rattle.stream_loop.proofs.Writing.{counted_with}
 use Rattle.stream_reader.specs.Judging.{offence}
 use Rattle.stream_reader.specs.Sessions.{IsClosed, Parts, conversation, answer, lone_ack, broken_off, turned_down}
-use Rattle.stream_reader.specs.Stream.{Settings, StreamEvent, stream}
+use Rattle.stream_reader.specs.Stream.{Settings, stream}
 use Rattle.stream_reader.proofs.Closed.{closed_or_refused}
 use Rattle.command_words.specs.declared.task.Detail.{Detail}
 use Rattle.session_report.specs.declared.reporter.Outcome.{Outcome}

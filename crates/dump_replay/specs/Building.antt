@@ -67,10 +67,14 @@ unfit_words unfit.Memory = []
 abbrev pub joined : List (List ℕ) → List ℕ
 joined = flat_map (λ text. text)
 
+-- the note of a line that is refused, of the input or of the file with this name
+abbrev pub line_note : (name : List ℕ) → (n : ℕ) → LineKind → List ℕ
+line_note name n kind = joined
+    (name ∷ codes ": line " ∷ decimal n ∷ codes " " ∷ line_kind_name kind ∷ codes "\n" ∷ [])
+
 -- the note of why documents are refused; a document that there is no memory for is none of these
 abbrev pub input_note : InputFault → List ℕ
-input_note (Line n kind) = joined
-    (codes "input: line " ∷ decimal n ∷ codes " " ∷ line_kind_name kind ∷ codes "\n" ∷ [])
+input_note (Line n kind) = line_note (codes "input") n kind
 input_note (Unfit number unfit.Memory) = note_of 5
 input_note (Unfit number why) = joined (codes "document " ∷ decimal number
     ∷ codes " does not fit: " ∷ (unfit_words why ++ codes "\n" ∷ []))

@@ -1,10 +1,16 @@
 -- cited by public contracts
+pub mod Outside
 pub mod Statics
 pub mod Running
 pub mod Reporting
 pub mod Building
+pub mod Answering
+pub mod Serving
+pub mod Calling
+pub mod Generating
 pub mod Noting
 pub mod Working
 pub mod Laws
 -- cited by private calls
 pub mod Reading
+pub mod Responding

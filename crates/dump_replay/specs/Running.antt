@@ -1,32 +1,20 @@
 -- The statuses and notes of a run.
-use Rattle.std.specs.Prelude.{◌≡◌, ◌≢◌, ℕ, ◌⊎◌, List, [], ◌++◌, Bool, true, false, Option, Some, None, ◌==◌, if◌then◌else◌, codes}
+use Rattle.std.specs.Prelude.{◌≡◌, ◌≤◌, ℕ, ◌⊎◌, List, [], ◌∷◌, ◌++◌, Bool, true, false, Option, Some, None, ◌==◌, if◌then◌else◌, codes}
 use Rattle.std.specs.Fmt.{decimal}
-use Rattle.io_edges.specs.Faults.{Rose}
-use Rattle.io_edges.specs.Store.{Store}
+use Rattle.io_edges.specs.Faults.{Rose, one_more}
 use Rattle.nbfx_values.specs.declared.refusals.Offence.{Offence}
 use Rattle.nbfx_values.specs.declared.refusals.Reason.{Reason}
 use Rattle.nbfx_values.specs.declared.refusals.Reason.TheVariants.{SessionTooLong}
+use Rattle.shelf_files.specs.declared.fault.FileFault.{FileFault}
+use Rattle.shelf_files.specs.declared.fault.FileFault.TheVariants as faults
 use Rattle.command_words.specs.Requests.{Asked, IsRequest}
-use Rattle.command_words.specs.Tasks.{Opening, report, build}
-use Rattle.command_words.specs.declared.task.Detail.{Detail}
-use Rattle.command_words.specs.declared.task.Origin.{Origin}
+use Rattle.command_words.specs.Tasks.{Task, report, build, replay, serve, call, generate}
 use Rattle.session_report.specs.declared.reporter.Outcome.{Outcome}
 use Rattle.session_report.specs.declared.reporter.Outcome.TheVariants.{Faulted}
-use Rattle.dump_replay.specs.Statics.{Has, StaticFile, bad, kind_name, missing, table}
 
 -- this holds of what the words ask for, if they are a request
 abbrev pub WhereAsked : List (List ℕ) → (Asked → Type 0) → Type 0
 WhereAsked words Holds = (asked : Asked) → IsRequest words asked → Holds asked
-
--- this holds of the report that the words ask for, if they ask for one
-abbrev pub WhereReported : List (List ℕ) → (Asked → Detail → Origin → Type 0) → Type 0
-WhereReported words Holds = WhereAsked words (λ asked. (detail : Detail) (origin : Origin)
-    → asked.task ≡ report detail origin → Holds asked detail origin)
-
--- this holds of the session that the words ask to write, if they ask for one
-abbrev pub WhereBuilt : List (List ℕ) → (Asked → Opening → Type 0) → Type 0
-WhereBuilt words Holds = WhereAsked words (λ asked. (opening : Opening)
-    → asked.task ≡ build opening → Holds asked opening)
 
 abbrev pub is_session_too_long : Reason → Bool
 is_session_too_long SessionTooLong = true
@@ -45,40 +33,63 @@ status_of None outcome = 0
 abbrev pub IsJudged : ℕ → Type 0
 IsJudged n = (n ≡ 0) ⊎ (n ≡ 1) ⊎ (n ≡ 9) ⊎ (n ≡ 10)
 
--- and those of them that come without a note, whatever the command
-abbrev pub IsSilent : ℕ → Type 0
-IsSilent n = (n ≡ 0) ⊎ (n ≡ 1) ⊎ (n ≡ 9)
-
 -- the statuses that there are
 abbrev pub IsStatus : ℕ → Type 0
 IsStatus n = IsJudged n ⊎ (n ≡ 2) ⊎ (n ≡ 3) ⊎ (n ≡ 4) ⊎ (n ≡ 5) ⊎ (n ≡ 6) ⊎ (n ≡ 7)
+    ⊎ (n ≡ 8)
 
 -- the note that goes with a status by itself
 abbrev pub note_of : ℕ → List ℕ
 note_of n =
     if n == 2 then codes "words not understood\n" else if n == 3 then codes "read fault\n"
-    else if n == 4 then codes "write fault\n" else if n == 5 then codes "out of memory\n" else []
+    else if n == 4 then codes "write fault\n" else if n == 5 then codes "out of memory\n"
+    else if n == 8 then codes "wire fault\n" else []
 
--- a file of this name gives no table
-abbrev pub file_note : List ℕ → StaticFile → List ℕ
-file_note name (table entries) = []
-file_note name (bad row kind) =
+-- what a run leaves of a wire's count of faults and of that of its ended ends, by the status: a
+-- connection that isn't made, or one of whose ends a call fails
+pub record CountsWire (faults faults' ends ends' status : ℕ) : Type 0 where
+  pub rose : status ≡ 8 → Rose faults faults' ⊎ Rose ends ends'
+  pub same : (status ≡ 8 → ⊥) → faults' ≡ faults
+  pub grows : faults ≤ faults'
+
+-- ---- files
+
+-- the status of a run in which a file isn't read
+abbrev pub status_of_file : {K : Type 0} → FileFault K → ℕ
+status_of_file faults.Missing = 6
+status_of_file (faults.Bad row kind) = 6
+status_of_file faults.Failed = 3
+status_of_file faults.Memory = 5
+
+-- and its note, where this says what is wrong with a row
+abbrev pub note_of_file : {K : Type 0} → (K → List ℕ) → List ℕ → FileFault K → List ℕ
+note_of_file kind_name name faults.Missing = name ++ codes ": not found\n"
+note_of_file kind_name name (faults.Bad row kind) =
     name ++ codes ": row " ++ decimal row ++ codes " " ++ kind_name kind ++ codes "\n"
-file_note name missing = name ++ codes ": not found\n"
+note_of_file kind_name name faults.Failed = note_of 3
+note_of_file kind_name name faults.Memory = note_of 5
 
--- the file gives no table
-abbrev pub IsNoTable : StaticFile → Type 0
-IsNoTable (table entries) = ⊥
-IsNoTable _ = Unit {0}
+-- the name of a file that may be named
+abbrev pub if_named : Option (List ℕ) → List (List ℕ)
+if_named None = []
+if_named (Some name) = name ∷ []
 
--- the shelf has no such file as is asked for, or one that gives no table
-pub record HasNoTable (files : Option Store) (asked : Asked) : Type 0 where
-  pub file : StaticFile
-  pub has : Has files asked.statics file
-  pub no_table : IsNoTable file
+-- the files that a task names, in the order in which they are read
+abbrev pub files_of : Task → List (List ℕ)
+files_of (report detail origin) = []
+files_of (build opening) = []
+files_of (replay serving) = if_named serving.actions
+files_of (serve listen connections serving) = if_named serving.actions
+files_of (call connect opening second) = if_named second
+files_of (generate seed count) = []
 
--- the status of a run that hasn't begun to read the input: the shelf failed, memory ran out, or
--- there is no such file or a bad one
-abbrev pub IsUnread : Option Store → Asked → (faults faults' : ℕ) → ℕ → Type 0
-IsUnread files asked faults faults' n =
-    ((n ≡ 3) × Rose faults faults') ⊎ (n ≡ 5) ⊎ ((n ≡ 6) × HasNoTable files asked)
+-- the first of these files were fetched, each once, or all or none of them
+abbrev pub HasFetched : List (List ℕ) → (fetches fetches' : ℕ) → Type 0
+HasFetched [] fetches fetches' = fetches' ≡ fetches
+HasFetched (name ∷ names) fetches fetches' =
+    (fetches' ≡ fetches) ⊎ HasFetched names (one_more fetches) fetches'
+
+-- no file was fetched, or just those that a request names were, each once at most
+abbrev pub FetchesNamed : List (List ℕ) → (fetches fetches' : ℕ) → Type 0
+FetchesNamed words fetches fetches' = (fetches' ≡ fetches) ⊎ ((asked : Asked)
+    × IsRequest words asked × HasFetched (asked.statics ∷ files_of asked.task) fetches fetches')

@@ -1,43 +1,120 @@
--- What a command leaves that has its static strings, by what it is to do.
-use Rattle.std.specs.Prelude.{◌≡◌, ◌≤◌, ◌⊎◌, ⊤, ℕ, List, length}
-use Rattle.io_edges.specs.Faults.{CountsFaults, one_more}
+-- What a run leaves, by what its words ask for. `Says` is what is known of the note with a text,
+-- `Untouched` that input, output and wire are as before, `Unasked` that the shelf is, and `Offline`
+-- that the wire is. `reader` and `writer` are what is seen of the ends of a connection.
+use Rattle.std.specs.Prelude.{◌≡◌, ◌≤◌, ◌⊎◌, ⊤, ℕ, List, Some, length}
+use Rattle.io_edges.specs.Faults.{Rose, one_more}
 use Rattle.nbfx_values.specs.Limits.{Limits}
 use Rattle.string_tables.specs.StaticStrings.{Entry}
+use Rattle.shelf_files.specs.Files.{Reading, Tells}
+use Rattle.shelf_files.specs.declared.fault.FileFault.{FileFault}
+use Rattle.shelf_files.specs.declared.fault.FileFault.TheVariants.{Failed}
 use Rattle.stream_loop.specs.Edges.{Input, Output}
 use Rattle.stream_loop.specs.declared.reporting.Ending.{Ending}
 use Rattle.document_lines.specs.declared.InputFault.{InputFault}
-use Rattle.command_words.specs.Tasks.{Opening, Task, report, build}
+use Rattle.session_replay.specs.Responding.{reading_actions}
+use Rattle.connection_server.specs.Served.{SinkState}
+use Rattle.command_words.specs.Requests.{Asked, IsRequest}
+use Rattle.command_words.specs.Tasks.{Opening, Serving, Task, report, build, replay, serve, call, generate}
+use Rattle.dump_replay.specs.Answering.{Answered, action_kind_name}
 use Rattle.dump_replay.specs.Building.{Builds, note_of_building, status_of_building}
+use Rattle.dump_replay.specs.Calling.{CalledWith, HasNoSecond}
+use Rattle.dump_replay.specs.Generating.{Generated}
+use Rattle.dump_replay.specs.Outside.{Outside, SeenShelf}
 use Rattle.dump_replay.specs.Reporting.{Reports}
-use Rattle.dump_replay.specs.Running.{IsStatus, note_of}
-use Rattle.dump_replay.specs.Statics.{settings_for}
+use Rattle.dump_replay.specs.Running.{IsStatus, WhereAsked, note_of, note_of_file, status_of_file}
+use Rattle.dump_replay.specs.Serving.{AnsweredAll}
+use Rattle.dump_replay.specs.Statics.{UnderFile, reading_statics, settings_for, table_kind_name}
 
 -- a Via that a session is opened with is within its quota
 abbrev pub IsPossible : Task → Type 0
 IsPossible (report detail origin) = ⊤
 IsPossible (build opening) = length opening.via ≤ 2048
+IsPossible (replay serving) = ⊤
+IsPossible (serve listen connections serving) = ⊤
+IsPossible (call connect opening second) = length opening.via ≤ 2048
+IsPossible (generate seed count) = ⊤
 
--- documents were written so, with the status and the note of how that ended
-pub record Built (Says : List ℕ → Type 0) (opening : Opening) (statics : List Entry)
-    (limits : Limits) (i i' : Input) (o o' : Output) (status : ℕ) : Type 0 where
-  pub ending : Ending InputFault
-  pub status_is : status ≡ status_of_building ending
-  pub builds : Builds opening statics limits i i' o o' ending
-  pub says : Says (note_of_building ending)
+-- no task but those that answer connections and make one goes over the wire
+abbrev pub WhereOffline : Task → (Offline : Type 0) → Type 0
+WhereOffline (serve listen connections serving) Offline = ⊤
+WhereOffline (call connect opening second) Offline = ⊤
+WhereOffline task Offline = Offline
 
--- what is known of any task: its status, how often the input was asked at its end, and what the
--- calls that failed by the outside left of the counts
-pub record Leaves (i i' : Input) (o o' : Output) (status : ℕ) : Type 0 where
+-- what is known of any task: its status, how often the input was asked at its end, and which counts
+-- of faults rose
+pub record Leaves {R K : Type 0} (old new : Outside R K) (status : ℕ) : Type 0 where
   pub is_status : IsStatus status
   pub not_two : status ≡ 2 → ⊥
-  pub asked_once : (i'.empty_takes ≡ i.empty_takes) ⊎ (i'.empty_takes ≡ one_more i.empty_takes)
-  pub reads_counted : CountsFaults i.faults i'.faults (status ≡ 3)
-  pub writes_counted : CountsFaults o.faults o'.faults (status ≡ 4)
+  pub asked_once : (new.input.empty_takes ≡ old.input.empty_takes)
+      ⊎ (new.input.empty_takes ≡ one_more old.input.empty_takes)
+  pub read_fault : status ≡ 3 → Rose old.input.faults new.input.faults
+      ⊎ Rose old.shelf.faults new.shelf.faults
+  pub write_fault : status ≡ 4 → Rose old.output.faults new.output.faults
+  pub reads : old.input.faults ≤ new.input.faults
+  pub writes : old.output.faults ≤ new.output.faults
 
--- what is known of a task, where Says is what is known of the note with a text
-abbrev pub Works : (Says : List ℕ → Type 0) → Task → List Entry → Limits → (i i' : Input)
-    (o o' : Output) → ℕ → Type 0
-Works Says (report detail origin) statics limits i i' o o' status =
-    Reports detail (settings_for origin statics limits) i i' o o' status × Says (note_of status)
-Works Says (build opening) statics limits i i' o o' status =
-    Built Says opening statics limits i i' o o' status
+-- the words are no request, or memory ran out while they were read
+abbrev pub AreNotRead : List (List ℕ) → ℕ → Type 0
+AreNotRead words status = ((status ≡ 2) × WhereAsked words (λ asked. ⊥)) ⊎ (status ≡ 5)
+
+module _ (Says : List ℕ → Type 0) where
+  -- documents were written so, with the status and the note of how that ended
+  pub record Built (opening : Opening) (statics : List Entry) (limits : Limits) (i i' : Input)
+      (o o' : Output) (status : ℕ) : Type 0 where
+    pub ending : Ending InputFault
+    pub status_is : status ≡ status_of_building ending
+    pub builds : Builds opening statics limits i i' o o' ending
+    pub says : Says (note_of_building ending)
+
+  module _ (Untouched : Type 0) where
+    module _ {X K : Type 0} (reading : Reading X K) (kind_name : K → List ℕ) where
+      -- a file that is named isn't read, with the status and the note of why, and nothing else is
+      -- read or written
+      pub record Unread (name : List ℕ) (old new : SeenShelf) (status : ℕ) : Type 0 where
+        pub fault : FileFault K
+        pub tells : Tells reading old.files name fault
+        pub rose : fault ≡ Failed → Rose old.faults new.faults
+        pub status_is : status ≡ status_of_file fault
+        pub says : Says (note_of_file kind_name name fault)
+        pub untouched : Untouched
+
+    -- the file of actions that is named isn't read
+    abbrev pub HasNoActions : Serving → (old new : SeenShelf) → ℕ → Type 0
+    HasNoActions serving old new status = (name : List ℕ) × (serving.actions ≡ Some name)
+        × Unread reading_actions action_kind_name name old new status
+
+  module _ (Untouched : Type 0) {R K : Type 0} (reader : R → Input) (writer : K → SinkState) where
+    -- what each task leaves, with these static strings
+    abbrev pub Works : Task → List Entry → Limits → (old new : Outside R K) → ℕ → Type 0
+    Works (report detail origin) statics limits old new status =
+        Reports detail (settings_for origin statics limits) old.input new.input old.output
+        new.output status × Says (note_of status)
+    Works (build opening) statics limits old new status =
+        Built opening statics limits old.input new.input old.output new.output status
+    Works (replay serving) statics limits old new status =
+        Answered Says old.shelf.files serving statics limits old.input new.input old.output
+        new.output status ⊎ HasNoActions Untouched serving old.shelf new.shelf status
+    Works (serve listen connections serving) statics limits old new status =
+        AnsweredAll Says reader writer connections serving statics limits old new status
+        ⊎ HasNoActions Untouched serving old.shelf new.shelf status
+    Works (call connect opening second) statics limits old new status =
+        CalledWith Says reader writer opening second statics limits old new status
+        ⊎ HasNoSecond Says Untouched second old.shelf new.shelf status
+    Works (generate seed count) statics limits old new status =
+        Generated Says seed count statics limits old.output new.output status
+        × (new.input ≡ old.input)
+
+    -- what is left of a request: the file of static strings isn't read, or the task is done
+    abbrev pub Does : (Offline : Type 0) → Asked → (old new : Outside R K) → ℕ → Type 0
+    Does Offline asked old new status =
+        Unread Untouched reading_statics table_kind_name asked.statics old.shelf new.shelf status
+        ⊎ UnderFile old.shelf.files asked
+        (λ entries. Works asked.task entries asked.limits old new status
+        × WhereOffline asked.task Offline)
+
+    -- and of any words
+    abbrev pub Runs : (Unasked Offline : Type 0) → List (List ℕ) → (old new : Outside R K) → ℕ
+        → Type 0
+    Runs Unasked Offline words old new status =
+        (AreNotRead words status × Says (note_of status) × Untouched × Unasked)
+        ⊎ ((asked : Asked) × IsRequest words asked × Does Offline asked old new status)

@@ -1,20 +1,30 @@
 //! What a run says on the notes. That a note is lost changes nothing else.
 
-ghost use Rattle.std.specs.Prelude.{◌≡◌, [], ◌∷◌, All, codes};
+ghost use Rattle.std.specs.Prelude.{◌≡◌, [], ◌∷◌, ◌++◌, All, codes};
 ghost use Rattle.std.specs.Fmt.{decimal};
 ghost use Rattle.line_notation.specs.Puts.{IsPuttable, joined_words};
-ghost use Rattle.dump_replay.specs.Building.{input_note, joined, line_kind_name, note_of_building};
+ghost use Rattle.session_report.specs.Report.{offence_line};
+ghost use Rattle.dump_replay.specs.Answering.{note_of_inbound, note_of_replay};
+ghost use Rattle.dump_replay.specs.Building.{input_note, joined, line_kind_name, line_note, note_of_building};
+ghost use Rattle.dump_replay.specs.Calling.{note_of_called, note_of_documents, refused_note, status_of_documents};
+ghost use Rattle.dump_replay.specs.Generating.{note_of_summary};
 ghost use Rattle.dump_replay.specs.Noting.{Notes};
-ghost use Rattle.dump_replay.specs.Reading.{note_of_fault};
-ghost use Rattle.dump_replay.specs.Running.{file_note, note_of};
-ghost use Rattle.dump_replay.specs.Statics.{bad, missing};
+ghost use Rattle.dump_replay.specs.Running.{note_of, note_of_file, status_of_file};
 
-use crate::statics::{FileFault, kind_name};
+use crate::files::RowKind;
+use crate::replaying::write_fault_status;
 use document_lines::InputFault;
+use document_lists::FileFault as DocumentsFault;
+use duplex_server::{Inbound, Outbound};
 use io_edges::{Sink, SinkFault};
 use line_notation::{LineKind, Word, put_joined};
 use nbfx_encoder::EncodeFault;
-use static_dictionary::TableKind;
+use nbfx_values::Offence;
+use session_calls::Called;
+use session_replay::Replayed;
+use session_report::put_offence;
+use session_summary::Summary;
+use shelf_files::FileFault;
 use stream_loop::Ending;
 
 // The text of the note that goes with a status by itself.
@@ -26,6 +36,7 @@ fn note_text(status: u8) -> &'static str
         3 => "read fault\n",
         4 => "write fault\n",
         5 => "out of memory\n",
+        8 => "wire fault\n",
         _ => "",
     }
 }
@@ -55,37 +66,51 @@ pub fn note_status<N: Sink>(status: u8, notes: &mut N)
 // Writes the note of a file that isn't there.
 fn note_missing<N: Sink>(name: &str, notes: &mut N)
     ensures { Notes N.written N.held N.faults N.may_want notes.old notes.new
-        (file_note name.now missing) }
+        (name.now ++ codes ": not found\n") }
 {
     let _ = put_note(&[Word::Plain(name), Word::Plain(": not found\n")], notes);
 }
 
 // Writes the note of a file whose first bad row is this.
-fn note_bad<N: Sink>(name: &str, row: u64, kind: TableKind, notes: &mut N)
-    ensures { Notes N.written N.held N.faults N.may_want notes.old notes.new
-        (file_note name.now (bad row kind)) }
+fn note_row<K: RowKind, N: Sink>(name: &str, row: u64, kind: K, notes: &mut N)
+    ensures { Notes N.written N.held N.faults N.may_want notes.old notes.new (name.now
+        ++ codes ": row " ++ decimal row ++ codes " " ++ K.name_of kind ++ codes "\n") }
 {
     let pieces = [
         Word::Plain(name),
         Word::Plain(": row "),
         Word::Natural(u128::from(row)),
         Word::Plain(" "),
-        Word::Plain(kind_name(kind)),
+        Word::Plain(kind.name()),
         Word::Plain("\n"),
     ];
     let _ = put_note(&pieces, notes);
 }
 
-/// Writes the note of the file of that name, which gives no static strings.
-pub fn note_file<N: Sink>(name: &str, fault: FileFault, notes: &mut N)
-    ensures { Notes N.written N.held N.faults N.may_want notes.old notes.new
-        (note_of_fault name.now fault) }
+/// Writes the note of the file of that name, which isn't read, and answers the status.
+pub fn note_file<K: RowKind, N: Sink>(name: &str, fault: FileFault<K>, notes: &mut N) -> u8
+    ensures status { result ≡ status_of_file fault }
+    ensures notes { Notes N.written N.held N.faults N.may_want notes.old notes.new
+        (note_of_file K.name_of name.now fault) }
+    ensures none { note_of_file K.name_of name.now fault ≡ [] → notes.new ≡ notes.old }
 {
     match fault {
-        FileFault::Missing => note_missing(name, notes),
-        FileFault::Bad { row, kind } => note_bad(name, row, kind, notes),
-        FileFault::Failed => note_status(3, notes),
-        FileFault::Memory => note_status(5, notes),
+        FileFault::Missing => {
+            note_missing(name, notes);
+            6
+        }
+        FileFault::Bad { row, kind } => {
+            note_row(name, row, kind, notes);
+            6
+        }
+        FileFault::Failed => {
+            note_status(3, notes);
+            3
+        }
+        FileFault::Memory => {
+            note_status(5, notes);
+            5
+        }
     }
 }
 
@@ -103,13 +128,14 @@ fn line_kind_name(kind: LineKind) -> &'static str
     }
 }
 
-// Writes the note of a line that is refused.
-fn note_line<N: Sink>(line: u64, kind: LineKind, notes: &mut N)
+// Writes the note of a line that is refused, of the input or of the file with this name.
+fn note_line<N: Sink>(name: &str, line: u64, kind: LineKind, notes: &mut N)
     ensures { Notes N.written N.held N.faults N.may_want notes.old notes.new
-        (input_note (InputFault.Line line kind)) }
+        (line_note name.now line kind) }
 {
     let pieces = [
-        Word::Plain("input: line "),
+        Word::Plain(name),
+        Word::Plain(": line "),
         Word::Natural(u128::from(line)),
         Word::Plain(" "),
         Word::Plain(line_kind_name(kind)),
@@ -156,7 +182,7 @@ fn note_input<N: Sink>(fault: InputFault, notes: &mut N)
     ensures { Notes N.written N.held N.faults N.may_want notes.old notes.new (input_note fault) }
 {
     match fault {
-        InputFault::Line { line, kind } => note_line(line, kind, notes),
+        InputFault::Line { line, kind } => note_line("input", line, kind, notes),
         InputFault::Unfit { number, why } => note_unfit(number, why, notes),
         InputFault::TooLong => {
             let _ = put_note(&[Word::Plain("input too long\n")], notes);
@@ -176,5 +202,114 @@ pub fn note_building<N: Sink>(ending: Ending<InputFault>, notes: &mut N)
         Ending::ReadFault => note_status(3, notes),
         Ending::WriteFault => note_status(4, notes),
         Ending::Memory => note_status(5, notes),
+    }
+}
+
+// Puts the line of an offence, and writes it.
+fn put_offence_note<N: Sink>(offence: Offence, notes: &mut N) -> Result<(), SinkFault>
+    ensures { Notes N.written N.held N.faults N.may_want notes.old notes.new
+        (offence_line offence) }
+{
+    put_offence(offence, notes)?;
+    notes.flush()
+}
+
+// Writes the note of an offence.
+fn note_offence<N: Sink>(offence: Offence, notes: &mut N)
+    ensures { Notes N.written N.held N.faults N.may_want notes.old notes.new
+        (offence_line offence) }
+{
+    let _ = put_offence_note(offence, notes);
+}
+
+// Writes the note of a stream that was answered, by how its reading ended.
+fn note_inbound<N: Sink>(inbound: Inbound, notes: &mut N)
+    ensures notes { Notes N.written N.held N.faults N.may_want notes.old notes.new
+        (note_of_inbound inbound) }
+    ensures none { note_of_inbound inbound ≡ [] → notes.new ≡ notes.old }
+{
+    match inbound {
+        Inbound::Ended => {}
+        Inbound::Offended(offence) => note_offence(offence, notes),
+        Inbound::ReadFault => note_status(3, notes),
+        Inbound::Memory => note_status(5, notes),
+    }
+}
+
+/// Writes the note of a stream that was answered, by how that ended.
+pub fn note_replay<N: Sink>(replayed: Replayed, notes: &mut N)
+    ensures notes { Notes N.written N.held N.faults N.may_want notes.old notes.new
+        (note_of_replay replayed.inbound replayed.outbound) }
+    ensures none { note_of_replay replayed.inbound replayed.outbound ≡ []
+        → notes.new ≡ notes.old }
+{
+    match replayed.outbound {
+        Outbound::Done => note_inbound(replayed.inbound, notes),
+        Outbound::WriteFault => note_status(write_fault_status(replayed.inbound), notes),
+        Outbound::Memory => note_status(5, notes),
+    }
+}
+
+/// Writes the note of a session that was made, by how that ended.
+pub fn note_summary<N: Sink>(summary: Summary, notes: &mut N)
+    ensures notes { Notes N.written N.held N.faults N.may_want notes.old notes.new
+        (note_of_summary summary) }
+    ensures none { note_of_summary summary ≡ [] → notes.new ≡ notes.old }
+{
+    match summary {
+        Summary::Written => {}
+        Summary::TooLong(offence) => note_offence(offence, notes),
+        Summary::WriteFault => note_status(4, notes),
+        Summary::Memory => note_status(5, notes),
+    }
+}
+
+// Writes the note of the file of documents of that name, which is refused.
+fn note_refused<N: Sink>(name: &str, fault: InputFault, notes: &mut N)
+    ensures { Notes N.written N.held N.faults N.may_want notes.old notes.new
+        (refused_note name.now fault) }
+{
+    match fault {
+        InputFault::Line { line, kind } => note_line(name, line, kind, notes),
+        InputFault::Unfit { .. } | InputFault::TooLong => note_input(fault, notes),
+    }
+}
+
+/// Writes the note of the file of documents of that name, which isn't read, and answers the status.
+pub fn note_documents<N: Sink>(name: &str, fault: DocumentsFault, notes: &mut N) -> u8
+    ensures status { result ≡ status_of_documents fault }
+    ensures notes { Notes N.written N.held N.faults N.may_want notes.old notes.new
+        (note_of_documents name.now fault) }
+    ensures none { note_of_documents name.now fault ≡ [] → notes.new ≡ notes.old }
+{
+    match fault {
+        DocumentsFault::Missing => {
+            note_missing(name, notes);
+            6
+        }
+        DocumentsFault::Refused(refused) => {
+            note_refused(name, refused, notes);
+            6
+        }
+        DocumentsFault::Failed => {
+            note_status(3, notes);
+            3
+        }
+        DocumentsFault::Memory => {
+            note_status(5, notes);
+            5
+        }
+    }
+}
+
+/// Writes the note of a place that was called, by what became of that.
+pub fn note_called<N: Sink>(called: Called, notes: &mut N)
+    ensures notes { Notes N.written N.held N.faults N.may_want notes.old notes.new
+        (note_of_called called) }
+    ensures none { note_of_called called ≡ [] → notes.new ≡ notes.old }
+{
+    match called.fault() {
+        Some(fault) => note_building(Ending::Judged(Some(fault)), notes),
+        None => note_status(called.status(), notes),
     }
 }

@@ -28,7 +28,8 @@ fn side_of(origin: Origin) -> Side
     }
 }
 
-fn offence_status(offence: Offence) -> u8
+/// The status of a stream with this offence.
+pub fn offence_status(offence: Offence) -> u8
     ensures { result ≡ offence_status offence }
 {
     match offence.reason {

@@ -1,24 +1,21 @@
 //! The top call.
 
-ghost use Rattle.std.specs.Prelude.{◌≡◌, ◌≤◌, ◌⊎◌, ◌++◌, ℕ, List, [], map, false, Some};
+ghost use Rattle.std.specs.Prelude.{◌≡◌, ◌≤◌, ◌⊎◌, [], map};
 ghost use Rattle.std.specs.String.{string_bytes};
 ghost use Rattle.io_edges.specs.Faults.{Rose, one_more};
-ghost use Rattle.io_edges.specs.Flow.{Told, GrowsByPrefix};
-ghost use Rattle.io_edges.specs.Store.{Store};
 ghost use Rattle.stream_loop.specs.Edges.{input_at, output_at};
-ghost use Rattle.dump_replay.specs.Noting.{IsNote};
+ghost use Rattle.connection_server.specs.Served.{network_at, sink_at};
 ghost use Rattle.dump_replay.specs.Noting.{Notes};
-ghost use Rattle.dump_replay.specs.Reading.{status_of_fault, status_of_words};
-ghost use Rattle.dump_replay.specs.Reporting.{Reports};
-ghost use Rattle.dump_replay.specs.Running.{HasNoTable, IsJudged, IsNoTable, IsSilent, IsStatus, IsUnread, WhereAsked, WhereBuilt, WhereReported};
-ghost use Rattle.dump_replay.specs.Statics.{UnderFile, settings_for, static_file};
-ghost use Rattle.dump_replay.specs.Working.{Built};
+ghost use Rattle.dump_replay.specs.Outside.{seen, shelf_at};
+ghost use Rattle.dump_replay.specs.Reading.{status_of_words};
+ghost use Rattle.dump_replay.specs.Running.{CountsWire, FetchesNamed, IsStatus, WhereAsked};
+ghost use Rattle.dump_replay.specs.Working.{Runs};
 
-use crate::notes;
-use crate::statics::{FileFault, read_statics};
+use crate::notes::{note_file, note_status};
+use crate::statics::read_statics;
 use crate::working::work;
 use command_words::WordsFault;
-use io_edges::{Shelf, Sink, Source};
+use io_edges::{Shelf, Sink, Source, Wire};
 use std::alloc::Global;
 
 /// What a run of the program leaves.
@@ -45,93 +42,96 @@ pub struct Ran<I, O> {
 /// doesn't fit, and 10 where the input's bytes reach the session quota first; each of these three
 /// with a note, and with the preamble and the envelopes of the documents before it on the output.
 ///
-/// Of both the status is 2 where the words are none of the program's, 3 where a read
-/// failed, 4 where a write failed, 5 where memory ran out, and 6 where the shelf has no such file,
-/// or one with a bad row. With 2 to 6 a note says so; that a note can't be put changes nothing
-/// else.
-pub fn run<F: Shelf, I: Source, O: Sink + Send, N: Sink>(
+/// `replay` reads an initiator's stream from the input, and writes what a server would to the
+/// output: the Preamble Ack, an answer to each request, by the echo or with `--actions` by the texts
+/// of the shelf's file of that name, and an End or a Fault record. What is owed for the bytes that
+/// were read is written before more are, and a failed write doesn't end the reading. The status is 0
+/// where the session ended, 1 where the stream is refused, and 10 where its bytes reach the session
+/// quota first; with 1 and 10 the offence is a note.
+///
+/// `serve` answers the connections that the wire gives for the place that `--listen` names, one after
+/// the other, each as `replay` answers a stream, and writes a line of each to the output when it is
+/// over. The input isn't read. What happens on a connection is in its line alone. The status is 0
+/// where as many were served as `--connections` says, or no other is to come, and 8 where the wire
+/// failed to give the next one, with a note. Every connection that was given is closed.
+///
+/// `call` reads documents in lines: those of the shelf's file that `--second` names, if it does, and
+/// those of the input. It then connects to the place that `--connect` names, sends a session of the
+/// input's documents and the file's behind them once the peer has accepted it, and writes the report
+/// of what the peer sends to the output, as `dump` would, with a line of what was sent. The status
+/// is 0 where the peer ended the session, 1 where its stream is refused, 9 where its Fault ended the
+/// session, and 10 where its bytes reach the session quota first; 7 where a document doesn't fit,
+/// and 8 where no connection was made or one of its ends failed, both with a note. It is 6 where a
+/// line is refused and 10 where the input's bytes reach the session quota, with a note, and then no
+/// connection is asked for. Of several the first of 5, 8, 7, 4, 9, 10 and 1 counts. A connection
+/// that was made is closed.
+///
+/// `gen` makes as many documents as `--count` says, which follow the number that `--seed` says,
+/// sends them to a reader within the program, and writes a line of what the session measures. The
+/// input isn't read. The status is 0, or 10 where the session has more bytes than the session quota,
+/// with the offence as a note.
+///
+/// Of all the status is 2 where the words are none of the program's, 3 where a read failed, 4 where
+/// a write failed, 5 where memory ran out, and 6 where the shelf has no such file, or one with a bad
+/// row. With 2 to 6 a note says so; that a note can't be put changes nothing else. Where several
+/// stand together in `replay`, 5 goes before 4, and 4 before 3.
+pub fn run<F: Shelf, I: Source, O: Sink + Send, N: Sink, W: Wire>(
     alloc: Global,
     words: &[String],
     shelf: &mut F,
     input: I,
     output: O,
     notes: &mut N,
+    wire: &mut W,
 ) -> Ran<I, O>
+    requires { W.out wire.old ≡ 0 }
+
     // Whatever the words are.
     ensures statuses { IsStatus result.status }
     ensures words { result.status ≡ 2 → WhereAsked (map string_bytes words.now) (λ asked. ⊥) }
-    ensures no_request { WhereAsked (map string_bytes words.now) (λ asked. ⊥)
-        → ((result.status ≡ 2) ⊎ (result.status ≡ 5)) × (shelf.new ≡ shelf.old)
-        × (result.input ≡ input) × (result.output ≡ output) }
-    ensures no_file { result.status ≡ 6 → WhereReported (map string_bytes words.now)
-        (λ asked detail origin. HasNoTable (F.files shelf.old) asked) }
-    ensures fetched_once { (F.fetches shelf.new ≡ F.fetches shelf.old)
-        ⊎ (F.fetches shelf.new ≡ one_more (F.fetches shelf.old)) }
+    ensures untouched { result.status ≡ 2 → (result.input ≡ input) × (result.output ≡ output)
+        × (wire.new ≡ wire.old) }
+    ensures fetched { FetchesNamed (map string_bytes words.now) (F.fetches shelf.old)
+        (F.fetches shelf.new) }
     ensures asked_once { (I.empty_takes result.input ≡ I.empty_takes input)
         ⊎ (I.empty_takes result.input ≡ one_more (I.empty_takes input)) }
-    ensures untouched { result.status ≡ 2 → (result.input ≡ input) × (result.output ≡ output) }
     ensures read_fault { result.status ≡ 3
         → Rose (I.faults input) (I.faults result.input)
         ⊎ Rose (F.faults shelf.old) (F.faults shelf.new) }
     ensures write_fault { result.status ≡ 4 → Rose (O.faults output) (O.faults result.output) }
+    ensures wire_fault { CountsWire (W.faults wire.old) (W.faults wire.new)
+        (W.end_faults wire.old) (W.end_faults wire.new) result.status }
+    ensures out { W.out wire.new ≡ 0 }
     ensures input_faults { I.faults input ≤ I.faults result.input }
     ensures output_faults { O.faults output ≤ O.faults result.output }
     ensures shelf_faults { F.faults shelf.old ≤ F.faults shelf.new }
-    ensures shelf { F.files shelf.new ≡ F.files shelf.old }
-    ensures read_well { (result.status ≡ 3 → ⊥)
-        → (I.faults result.input ≡ I.faults input) × (F.faults shelf.new ≡ F.faults shelf.old) }
-    ensures written_well { (result.status ≡ 4 → ⊥) → O.faults result.output ≡ O.faults output }
-
-    // The note.
-    ensures noted { Told (N.written notes.old) (N.written notes.new) (λ w w'. (text : List ℕ)
-        × IsNote (map string_bytes words.now) (F.files shelf.old) result.status text
-        × GrowsByPrefix w w' (N.held notes.old ++ text)) }
-    ensures noted_whole { N.may_want notes.old ≡ false
-        → (Rose (N.faults notes.old) (N.faults notes.new) → ⊥)
-        → Told (N.written notes.old) (N.written notes.new) (λ w w'. (text : List ℕ)
-        × IsNote (map string_bytes words.now) (F.files shelf.old) result.status text
-        × ((w' ≡ w ++ N.held notes.old ++ text) ⊎ (text ≡ []))) }
-    ensures unnoted { IsSilent result.status → notes.new ≡ notes.old }
     ensures notes_faults { N.faults notes.old ≤ N.faults notes.new }
+    ensures shelf { F.files shelf.new ≡ F.files shelf.old }
+    ensures shelf_well { (result.status ≡ 3 → ⊥) → F.faults shelf.new ≡ F.faults shelf.old }
 
-    // Where the words are a request: the file of static strings.
-    ensures no_table { WhereAsked (map string_bytes words.now) (λ asked. (files : Store)
-        → F.files shelf.old ≡ Some files → IsNoTable (static_file files asked.statics)
-        → (result.status ≡ 6) ⊎ (result.status ≡ 3) ⊎ (result.status ≡ 5)) }
-    ensures before_input { WhereAsked (map string_bytes words.now) (λ asked. (files : Store)
-        → F.files shelf.old ≡ Some files → IsNoTable (static_file files asked.statics)
-        → (result.input ≡ input) × (result.output ≡ output)) }
-
-    // Where they ask for a report.
-    ensures reports { WhereReported (map string_bytes words.now) (λ asked detail origin.
-        (IsUnread (F.files shelf.old) asked (F.faults shelf.old) (F.faults shelf.new) result.status
-        × (result.input ≡ input) × (result.output ≡ output))
-        ⊎ UnderFile (F.files shelf.old) asked (λ entries. Reports detail
-        (settings_for origin entries asked.limits)
-        (input_at I.left I.taken I.faults I.empty_takes input)
-        (input_at I.left I.taken I.faults I.empty_takes result.input)
-        (output_at O.written O.held O.faults output)
-        (output_at O.written O.held O.faults result.output) result.status
-        × (IsJudged result.status → notes.new ≡ notes.old))) }
-
-    // Where they ask for a session to be written.
-    ensures builds { WhereBuilt (map string_bytes words.now) (λ asked opening.
-        (IsUnread (F.files shelf.old) asked (F.faults shelf.old) (F.faults shelf.new) result.status
-        × (result.input ≡ input) × (result.output ≡ output))
-        ⊎ UnderFile (F.files shelf.old) asked (λ entries. Built
+    // By what they ask for.
+    ensures runs { Runs
         (λ text. Notes N.written N.held N.faults N.may_want notes.old notes.new text
         × (text ≡ [] → notes.new ≡ notes.old))
-        opening entries asked.limits
+        ((result.input ≡ input) × (result.output ≡ output) × (wire.new ≡ wire.old))
+        (input_at W.Reader.left W.Reader.taken W.Reader.faults W.Reader.empty_takes)
+        (sink_at W.Writer.written W.Writer.held W.Writer.faults W.Writer.may_want)
+        (shelf.new ≡ shelf.old) (wire.new ≡ wire.old)
+        (map string_bytes words.now)
+        (seen (shelf_at F.files F.faults shelf.old)
         (input_at I.left I.taken I.faults I.empty_takes input)
-        (input_at I.left I.taken I.faults I.empty_takes result.input)
         (output_at O.written O.held O.faults output)
-        (output_at O.written O.held O.faults result.output) result.status)) }
+        (network_at W.waiting W.closed W.out W.faults W.end_faults wire.old))
+        (seen (shelf_at F.files F.faults shelf.new)
+        (input_at I.left I.taken I.faults I.empty_takes result.input)
+        (output_at O.written O.held O.faults result.output)
+        (network_at W.waiting W.closed W.out W.faults W.end_faults wire.new)) result.status }
 {
     let request = match command_words::read(alloc, words) {
         Ok(request) => request,
         Err(fault) => {
             let status = words_status(fault);
-            notes::note_status(status, notes);
+            note_status(status, notes);
             return Ran {
                 status,
                 input,
@@ -142,9 +142,9 @@ pub fn run<F: Shelf, I: Source, O: Sink + Send, N: Sink>(
     let table = match read_statics(alloc, shelf, request.statics) {
         Ok(table) => table,
         Err(fault) => {
-            notes::note_file(request.statics, fault, notes);
+            let status = note_file(request.statics, fault, notes);
             return Ran {
-                status: file_status(fault),
+                status,
                 input,
                 output,
             };
@@ -156,9 +156,11 @@ pub fn run<F: Shelf, I: Source, O: Sink + Send, N: Sink>(
         request.task,
         &table,
         request.quotas,
+        shelf,
         &mut input,
         output,
         notes,
+        wire,
     );
     Ran {
         status,
@@ -173,15 +175,5 @@ fn words_status(fault: WordsFault) -> u8
     match fault {
         WordsFault::NotUnderstood => 2,
         WordsFault::Memory => 5,
-    }
-}
-
-fn file_status(fault: FileFault) -> u8
-    ensures { result ≡ status_of_fault fault }
-{
-    match fault {
-        FileFault::Missing | FileFault::Bad { .. } => 6,
-        FileFault::Failed => 3,
-        FileFault::Memory => 5,
     }
 }

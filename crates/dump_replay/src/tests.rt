@@ -1,17 +1,23 @@
+ghost use Rattle.std.specs.Prelude.{◌≡◌, IfOk};
+
 use super::*;
 use crate::run::{Ran, run};
-use io_edges::{MemoryShelf, MemorySink, MemorySource};
+use io_edges::{MemoryShelf, MemorySink, MemorySource, MemoryWire};
 use std::alloc::{AllocError, Global};
 use std::collections::BTreeMap;
 use std::process::Abort;
 use std::test::Fail;
 
 mod building;
+mod calls;
 mod captures;
+mod generating;
 mod modes;
 mod read_back;
 mod records;
+mod replays;
 mod replies;
+mod serves;
 mod words;
 mod worked_streams;
 
@@ -59,6 +65,16 @@ fn shelf_of(
     Ok(MemoryShelf::new(files, failing.to_vec(alloc)?))
 }
 
+// A wire without connections.
+fn no_wire(alloc: Global) -> Result<MemoryWire, AllocError>
+    ensures { IfOk result (λ wire. wire.out ≡ 0) }
+{
+    match MemoryWire::new(alloc, Vec::new(alloc), Vec::new(alloc)) {
+        Ok(wire) => Ok(wire),
+        Err(_) => Err(AllocError),
+    }
+}
+
 const CHECK: [&str; 4] = ["nettcp", "check", "--static", "S"];
 
 const SURE: Outside = Outside {
@@ -91,7 +107,8 @@ fn run_on_fakes(
     let input = MemorySource::new(bytes, outside.most.max(1), takes);
     let output = MemorySink::new(alloc, puts, outside.kept);
     let mut shelf = shelf_of(alloc, STATICS, &[])?;
-    Ok(run(alloc, &words, &mut shelf, input, output, notes))
+    let mut wire = no_wire(alloc)?;
+    Ok(run(alloc, &words, &mut shelf, input, output, notes, &mut wire))
 }
 
 fn sure_sink(alloc: Global) -> MemorySink {
@@ -470,7 +487,9 @@ fn run_with_file(
     let words = listed(alloc, &["nettcp", "check", "--static", name])?;
     let input = MemorySource::new(SESSION.to_vec(alloc)?, 65_536, Vec::new(alloc));
     let mut shelf = shelf_of(alloc, file, failing)?;
-    Ok(run(alloc, &words, &mut shelf, input, sure_sink(alloc), notes))
+    let mut wire = no_wire(alloc)?;
+    let output = sure_sink(alloc);
+    Ok(run(alloc, &words, &mut shelf, input, output, notes, &mut wire))
 }
 
 // What is run so, and what it is to leave.

@@ -1,47 +1,77 @@
 //! What each command does once it has its static strings.
 
-ghost use Rattle.std.specs.Prelude.{◌≡◌, ◌≤◌, []};
+ghost use Rattle.std.specs.Prelude.{◌≡◌, ◌≤◌, ◌<◌, ◌^◌, []};
 ghost use Rattle.nbfx_values.specs.QuotasOf.{limits_of};
 ghost use Rattle.stream_loop.specs.Edges.{input_at, output_at};
+ghost use Rattle.connection_server.specs.Served.{network_at, sink_at};
 ghost use Rattle.command_words.specs.Asking.{task_of};
 ghost use Rattle.dump_replay.specs.Noting.{Notes};
-ghost use Rattle.dump_replay.specs.Working.{IsPossible, Leaves, Works};
+ghost use Rattle.dump_replay.specs.Outside.{seen, shelf_at};
+ghost use Rattle.dump_replay.specs.Running.{CountsWire, HasFetched, files_of};
+ghost use Rattle.dump_replay.specs.Working.{IsPossible, Leaves, WhereOffline, Works};
 
 use crate::building::{build_input, build_status};
+use crate::calling::call_peer;
+use crate::generating::generate_session;
 use crate::notes::{note_building, note_status};
+use crate::replaying::replay_input;
 use crate::reporting::report_input;
+use crate::serving::serve_wire;
 use command_words::Task;
-use io_edges::{Sink, Source};
+use io_edges::{Shelf, Sink, Source, Wire};
 use nbfx_values::Quotas;
 use static_dictionary::StaticTable;
 use std::alloc::Global;
 
 /// Does a task with these static strings and quotas, and writes the note that goes with how it
 /// ended. Answers the status with the output.
-pub fn work<I: Source, O: Sink, N: Sink>(
+pub fn work<F: Shelf, I: Source, O: Sink, N: Sink, W: Wire>(
     alloc: Global,
     task: Task<'_>,
     statics: &StaticTable,
     quotas: Quotas,
+    shelf: &mut F,
     input: &mut I,
     output: O,
     notes: &mut N,
+    wire: &mut W,
 ) -> (u8, O)
-    requires { IsPossible (task_of task) }
+    requires possible { IsPossible (task_of task) }
+    requires room { W.out wire.old < 2 ^ 63 }
     ensures leaves { Leaves
+        (seen (shelf_at F.files F.faults shelf.old)
         (input_at I.left I.taken I.faults I.empty_takes input.old)
-        (input_at I.left I.taken I.faults I.empty_takes input.new)
         (output_at O.written O.held O.faults output)
-        (output_at O.written O.held O.faults result.1) result.0 }
-    ensures notes_faults { N.faults notes.old ≤ N.faults notes.new }
+        (network_at W.waiting W.closed W.out W.faults W.end_faults wire.old))
+        (seen (shelf_at F.files F.faults shelf.new)
+        (input_at I.left I.taken I.faults I.empty_takes input.new)
+        (output_at O.written O.held O.faults result.1)
+        (network_at W.waiting W.closed W.out W.faults W.end_faults wire.new)) result.0 }
     ensures works { Works
         (λ text. Notes N.written N.held N.faults N.may_want notes.old notes.new text
         × (text ≡ [] → notes.new ≡ notes.old))
+        ((input.new ≡ input.old) × (result.1 ≡ output) × (wire.new ≡ wire.old))
+        (input_at W.Reader.left W.Reader.taken W.Reader.faults W.Reader.empty_takes)
+        (sink_at W.Writer.written W.Writer.held W.Writer.faults W.Writer.may_want)
         (task_of task.entry) statics.now (limits_of quotas)
+        (seen (shelf_at F.files F.faults shelf.old)
         (input_at I.left I.taken I.faults I.empty_takes input.old)
-        (input_at I.left I.taken I.faults I.empty_takes input.new)
         (output_at O.written O.held O.faults output)
-        (output_at O.written O.held O.faults result.1) result.0 }
+        (network_at W.waiting W.closed W.out W.faults W.end_faults wire.old))
+        (seen (shelf_at F.files F.faults shelf.new)
+        (input_at I.left I.taken I.faults I.empty_takes input.new)
+        (output_at O.written O.held O.faults result.1)
+        (network_at W.waiting W.closed W.out W.faults W.end_faults wire.new)) result.0 }
+    ensures offline { WhereOffline (task_of task.entry) (wire.new ≡ wire.old) }
+    ensures wire_fault { CountsWire (W.faults wire.old) (W.faults wire.new)
+        (W.end_faults wire.old) (W.end_faults wire.new) result.0 }
+    ensures out { W.out wire.new ≡ W.out wire.old }
+    ensures kept { F.files shelf.new ≡ F.files shelf.old }
+    ensures fetched { HasFetched (files_of (task_of task.entry)) (F.fetches shelf.old)
+        (F.fetches shelf.new) }
+    ensures shelf_faults { F.faults shelf.old ≤ F.faults shelf.new }
+    ensures shelf_well { (result.0 ≡ 3 → ⊥) → F.faults shelf.new ≡ F.faults shelf.old }
+    ensures notes_faults { N.faults notes.old ≤ N.faults notes.new }
 {
     match task {
         Task::Report { detail, origin } => {
@@ -55,6 +85,35 @@ pub fn work<I: Source, O: Sink, N: Sink>(
             let (ending, output) = build_input(alloc, opening, statics, quotas, input, output);
             note_building(ending, notes);
             (build_status(ending), output)
+        }
+        Task::Replay(serving) => replay_input(
+            alloc, serving, statics, quotas, shelf, input, output, notes,
+        ),
+        Task::Serve {
+            listen,
+            connections,
+            serving,
+        } => serve_wire(
+            alloc,
+            listen,
+            connections,
+            serving,
+            statics,
+            quotas,
+            shelf,
+            output,
+            notes,
+            wire,
+        ),
+        Task::Call {
+            connect,
+            opening,
+            second,
+        } => call_peer(
+            alloc, connect, opening, second, statics, quotas, shelf, input, output, notes, wire,
+        ),
+        Task::Generate { seed, count } => {
+            generate_session(alloc, seed, count, statics, quotas, output, notes)
         }
     }
 }

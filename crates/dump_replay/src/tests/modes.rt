@@ -18,7 +18,7 @@ fn assert_reported(
 
 #[test]
 fn a_message_in_chunks(rt: HostRuntime) -> Result<(), Fail> {
-    let table: [(&[u8], u8, &str); 4] = [
+    let table: [(&[u8], u8, &str); 5] = [
         (
             b"\x00\x01\x00\x01\x01\x02\x01a\x03\x07\x0C\x05\x01\x40\x01\x01\x01\x78\x01\x01\x00\x07",
             0,
@@ -29,6 +29,12 @@ fn a_message_in_chunks(rt: HostRuntime) -> Result<(), Fail> {
             b"\x00\x01\x00\x01\x01\x02\x01a\x03\x08\x0C\x05\x02\x02\x01\x04x\x42\x01\x01\x00\x07",
             0,
             "open singleton 8 \"a\"\nmessage 0 payload 6 items 2 depth 1 content 1 strings 1 used 1\nended 22\n",
+        ),
+        // A byte that begins no record, in a chunk of its own.
+        (
+            b"\x00\x01\x00\x01\x01\x02\x01a\x03\x07\x0C\x05\x01\x40\x01\x01\x01\x78\x01\xFF",
+            1,
+            "open singleton 7 \"a\"\noffence payload 0 3 15 UnknownNode\n",
         ),
         // No message, and a second one.
         (

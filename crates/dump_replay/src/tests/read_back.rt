@@ -73,6 +73,7 @@ fn assert_read_back(
     let input = MemorySource::new(stream.to_vec(alloc)?, 65_536, Vec::new(alloc));
     let mut shelf = shelf_of(alloc, STATICS, &[])?;
     let mut notes = sure_sink(alloc);
+    let mut wire = no_wire(alloc)?;
     let ran = run(
         alloc,
         &words,
@@ -80,6 +81,7 @@ fn assert_read_back(
         input,
         sure_sink(alloc),
         &mut notes,
+        &mut wire,
     );
     assert_eq!(rt; ran.status, status);
     let dump = str::from_utf8(ran.output.bytes())?;

@@ -1,4 +1,4 @@
-use Rattle.std.proofs.Common.{◌≡◌, List, ◌++◌, ap, sym, ◌∙◌, subst}
+use Rattle.std.proofs.Common.{◌∙◌, subst}
 use Rattle.nbfx_values.specs.QuotasOf.{limits_of}
 use Rattle.command_words.specs.Asking.{opening_of}
 use Rattle.stream_loop.specs.Edges.{input_at, output_at}

@@ -1,9 +1,9 @@
-use Rattle.std.proofs.Common.{◌≡◌, ap, sym, ◌∙◌, subst}
+use Rattle.std.proofs.Common.{ap, ◌∙◌, subst}
 use Rattle.nbfx_values.specs.QuotasOf.{limits_of}
 use Rattle.nbfx_values.specs.declared.refusals.Offence.{Offence}
 use Rattle.unit_streams.specs.Tellers.{Teller}
 use Rattle.stream_loop.specs.Answers.{written_by}
-use Rattle.stream_loop.specs.Edges.{Input, Output, input_at, output_at}
+use Rattle.stream_loop.specs.Edges.{input_at, output_at}
 use Rattle.stream_loop.specs.Reported.{EndsAs}
 use Rattle.stream_loop.specs.declared.reporting.Ending.TheVariants as endings
 use Rattle.stream_reader.specs.Standing.{settings_of}

@@ -1,0 +1,23 @@
+-- Connections that were answered, by what is known of the output where none came.
+use Rattle.std.proofs.Common.{ℕ, List, Option, Result}
+use Rattle.stream_loop.specs.Edges.{Output}
+use Rattle.duplex_server.specs.Owed.{Answering}
+use Rattle.connection_server.specs.declared.stopping.ServeFault.{ServeFault}
+use Rattle.connection_server.specs.Served.{Ends, Network, ServesAll}
+
+pub served_less : (x : Answering) (endpoint : Option (List ℕ)) {R K : Type 0} (ends : R × K → Ends)
+    (most : ℕ) (n n' : Network R K) (o o' : Output) (stop : Result (Unit {0}) ServeFault)
+    (Same Less : Type 0) → (Same → Less)
+    → ServesAll x endpoint ends most n n' o o' Same stop
+    → ServesAll x endpoint ends most n n' o o' Less stop
+served_less x endpoint ends most n n' o o' stop Same Less less h = record {
+  connections = h.connections;
+  each = h.each;
+  few = h.few;
+  stopped = h.stopped;
+  wire_counted = h.wire_counted;
+  lines = h.lines;
+  held = h.held;
+  untouched = λ none. less (h.untouched none);
+  output_counted = h.output_counted;
+}

@@ -1,0 +1,48 @@
+use Rattle.std.proofs.Common.{List, ℕ, Option, refl, subst}
+use Rattle.nbfx_values.specs.QuotasOf.{limits_of}
+use Rattle.command_words.specs.Asking.{serving_of}
+use Rattle.stream_loop.specs.Edges.{input_at, output_at}
+use Rattle.stream_follower.specs.declared.writing.Outbound.TheVariants as outbounds
+use Rattle.duplex_server.specs.declared.outcome.Inbound.TheVariants as inbounds
+use Rattle.duplex_server.specs.Owed.{answering}
+use Rattle.session_replay.specs.Replaying.{Replays}
+use Rattle.session_replay.specs.Responding.{served_by}
+use Rattle.session_replay.proofs.Outcomes.{unbegun_so}
+use Rattle.dump_replay.proofs.replaying.answer_input.Goals as goal
+
+-- there was no memory for the Via
+pub returns-in_default : goal.returns-in_default
+returns-in_default g c = λ files asked. record {
+  responder = c.args.responder.now;
+  asked_for = asked;
+  inbound = inbounds.Memory;
+  outbound = outbounds.Memory;
+  status_is = refl;
+  replays = unbegun_so (answering (served_by c.args.responder.now) c.args.statics.now
+      (limits_of c.args.quotas)) (serving_of c.args.serving).endpoint
+      (input_at g.I.Source.left g.I.Source.taken g.I.Source.faults g.I.Source.empty_takes
+      c.args.input.now)
+      (output_at g.O.Sink.written g.O.Sink.held g.O.Sink.faults c.args.output)
+      c.args.quotas.good;
+  says = (c.note_status.ensures.notes, c.note_status.ensures.none);
+}
+
+pub returns : goal.returns
+returns g c = λ files asked. record {
+  responder = c.args.responder.now;
+  asked_for = asked;
+  inbound = c.replay_stream-output.result.0.inbound;
+  outbound = c.replay_stream-output.result.0.outbound;
+  status_is = c.replay_status.ensures;
+  replays = subst (λ (via : Option (List ℕ)). Replays (answering
+      (served_by c.args.responder.now) c.args.statics.now (limits_of c.args.quotas)) via
+      (input_at g.I.Source.left g.I.Source.taken g.I.Source.faults g.I.Source.empty_takes
+      c.args.input.now)
+      (input_at g.I.Source.left g.I.Source.taken g.I.Source.faults g.I.Source.empty_takes
+      c.replay_stream-output.new.input)
+      (output_at g.O.Sink.written g.O.Sink.held g.O.Sink.faults c.args.output)
+      (output_at g.O.Sink.written g.O.Sink.held g.O.Sink.faults c.replay_stream-output.result.1)
+      c.replay_stream-output.result.0.inbound c.replay_stream-output.result.0.outbound)
+      c.in-Ok.ensures c.replay_stream-output.ensures;
+  says = (c.note_replay.ensures.notes, c.note_replay.ensures.none);
+}

@@ -1,0 +1,70 @@
+use Rattle.std.proofs.Common.{◌≡◌, ℕ, List, Option, Err, inl, refl, ap, subst}
+use Rattle.nbfx_values.specs.QuotasOf.{limits_of}
+use Rattle.stream_loop.specs.Edges.{Output, input_at, output_at}
+use Rattle.stream_reader.specs.Sides.{endpoint_of}
+use Rattle.duplex_server.specs.Owed.{answering}
+use Rattle.session_replay.specs.Responding.{served_by}
+use Rattle.connection_server.specs.declared.stopping.ServeFault.TheVariants as stops
+use Rattle.connection_server.specs.Served.{Ends, Network, ServesAll, network_at, sink_at}
+use Rattle.connection_server.proofs.Stops.{none_served}
+use Rattle.command_words.specs.Asking.{serving_of}
+use Rattle.dump_replay.specs.Outside.{ends_seen}
+use Rattle.dump_replay.proofs.ServeEnds.{served_less}
+use Rattle.dump_replay.proofs.serving.serve_wire.Given.{Over}
+use Rattle.dump_replay.proofs.serving.serve_wire.Goals as goal
+
+module _ (g : Over) where
+  abbrev net : g.row.W.Denot → Network g.row.W-Reader.Denot g.row.W-Writer.Denot
+  net wire = network_at g.W.Wire.waiting g.W.Wire.closed g.W.Wire.out g.W.Wire.faults
+      g.W.Wire.end_faults wire
+
+  abbrev ends : g.row.W-Reader.Denot × g.row.W-Writer.Denot → Ends
+  ends both = ends_seen (input_at g.W.Reader.Source.left g.W.Reader.Source.taken
+      g.W.Reader.Source.faults g.W.Reader.Source.empty_takes) (sink_at g.W.Writer.Sink.written
+      g.W.Writer.Sink.held g.W.Writer.Sink.faults g.W.Writer.Sink.may_want) both
+
+  abbrev out : g.row.O.Denot → Output
+  out sink = output_at g.O.Sink.written g.O.Sink.held g.O.Sink.faults sink
+
+-- there was no memory for the Via
+pub returns-in_default-clause-answers : goal.returns-in_default-clause-answers
+returns-in_default-clause-answers g c = λ i.
+    let x = answering (served_by c.in-Ok.responder) c.args.statics.now (limits_of c.args.quotas) in
+    let via = (serving_of c.args.serving).endpoint in
+    let o = c.args.output in
+    inl (record {
+      responder = c.in-Ok.responder;
+      asked_for = c.in-Ok.ensures.found;
+      stop = Err stops.Memory;
+      status_is = refl;
+      serves = served_less x via (ends g) c.args.connections (net g c.args.wire.now)
+          (net g c.args.wire.now) (out g o) (out g o) (Err stops.Memory) (o ≡ o)
+          (out g o ≡ out g o) (λ same. refl)
+          (none_served x via (ends g) g.O.Sink.written g.O.Sink.held g.O.Sink.faults
+          g.O.Sink.may_want c.args.connections (net g c.args.wire.now) o);
+      says = (c.note_status.ensures.notes, c.note_status.ensures.none);
+      unread = refl;
+    })
+
+pub returns-clause-answers : goal.returns-clause-answers
+returns-clause-answers g c = λ i.
+    let x = answering (served_by c.in-Ok.responder) c.args.statics.now (limits_of c.args.quotas) in
+    let served = c.serve_connections-stop in
+    let o = c.args.output in
+    let last = served.result.1 in
+    let n = net g c.args.wire.now in
+    let n' = net g served.new.wire in
+    inl (record {
+      responder = c.in-Ok.responder;
+      asked_for = c.in-Ok.ensures.found;
+      stop = served.result.0;
+      status_is = c.stop_status-status.ensures;
+      serves = subst (λ (via : Option (List ℕ)). ServesAll x via (ends g) c.args.connections n n'
+          (out g o) (out g last) (out g last ≡ out g o) served.result.0)
+          c.in-Ok-endpoint_in.ensures
+          (served_less x (endpoint_of c.in-Ok-endpoint_in.endpoint) (ends g) c.args.connections
+          n n' (out g o) (out g last) served.result.0 (last ≡ o) (out g last ≡ out g o)
+          (λ same. ap (out g) same) served.ensures.served);
+      says = (c.note_status-2.ensures.notes, c.note_status-2.ensures.none);
+      unread = refl;
+    })

@@ -1,0 +1,80 @@
+-- What the command that answers an initiator's stream leaves, by how that ended.
+use Rattle.std.specs.Prelude.{◌≡◌, ℕ, List, [], Option, Some, None, codes}
+use Rattle.io_edges.specs.Store.{Store}
+use Rattle.nbfx_values.specs.Limits.{Limits}
+use Rattle.string_tables.specs.StaticStrings.{Entry}
+use Rattle.stream_loop.specs.Edges.{Input, Output}
+use Rattle.stream_follower.specs.declared.writing.Outbound.{Outbound}
+use Rattle.stream_follower.specs.declared.writing.Outbound.TheVariants as outbounds
+use Rattle.action_dispatch.specs.declared.fault.ActionKind.{ActionKind}
+use Rattle.action_dispatch.specs.declared.fault.ActionKind.TheVariants.{Header, Fields, NotUtf8, Repeated}
+use Rattle.duplex_server.specs.declared.outcome.Inbound.{Inbound}
+use Rattle.duplex_server.specs.declared.outcome.Inbound.TheVariants as inbounds
+use Rattle.duplex_server.specs.Owed.{answering}
+use Rattle.session_replay.specs.declared.responding.Responder.{Responder}
+use Rattle.session_replay.specs.declared.responding.Responder.TheVariants.{Echo}
+use Rattle.session_replay.specs.Replaying.{Replays}
+use Rattle.session_replay.specs.Responding.{GivesTexts, served_by}
+use Rattle.session_report.specs.Report.{offence_line}
+use Rattle.command_words.specs.Tasks.{Serving}
+use Rattle.dump_replay.specs.Running.{note_of, offence_status}
+
+-- ---- statuses and notes
+
+-- by how the reading ended
+abbrev pub status_of_inbound : Inbound → ℕ
+status_of_inbound inbounds.Ended = 0
+status_of_inbound (inbounds.Offended o) = offence_status o
+status_of_inbound inbounds.ReadFault = 3
+status_of_inbound inbounds.Memory = 5
+
+-- where a write failed: want of memory goes first
+abbrev pub status_of_write_fault : Inbound → ℕ
+status_of_write_fault inbounds.Memory = 5
+status_of_write_fault inbound = 4
+
+-- the status of a run that ends so: the first that holds of 5, 4, 3, 10, 1 and 0
+abbrev pub status_of_replay : Inbound → Outbound → ℕ
+status_of_replay inbound outbounds.Done = status_of_inbound inbound
+status_of_replay inbound outbounds.WriteFault = status_of_write_fault inbound
+status_of_replay inbound outbounds.Memory = 5
+
+abbrev pub note_of_inbound : Inbound → List ℕ
+note_of_inbound inbounds.Ended = []
+note_of_inbound (inbounds.Offended o) = offence_line o
+note_of_inbound inbounds.ReadFault = note_of 3
+note_of_inbound inbounds.Memory = note_of 5
+
+-- and its note: the line of the offence, where that gives the status
+abbrev pub note_of_replay : Inbound → Outbound → List ℕ
+note_of_replay inbound outbounds.Done = note_of_inbound inbound
+note_of_replay inbound outbounds.WriteFault = note_of (status_of_write_fault inbound)
+note_of_replay inbound outbounds.Memory = note_of 5
+
+-- what is wrong with a row of actions, as a note says it
+abbrev pub action_kind_name : ActionKind → List ℕ
+action_kind_name Header = codes "Header"
+action_kind_name Fields = codes "Fields"
+action_kind_name NotUtf8 = codes "NotUtf8"
+action_kind_name Repeated = codes "Repeated"
+
+-- ---- what is left
+
+-- the service that is asked for: the echo, or the texts of the file with this name
+abbrev pub IsAskedFor : Option Store → Option (List ℕ) → Responder → Type 0
+IsAskedFor files None responder = responder ≡ Echo
+IsAskedFor files (Some name) responder = GivesTexts files name responder
+
+-- An initiator's stream was answered so, by the service that is asked for, with the status and the
+-- note of how that ended; Says is what is known of the note with a text.
+pub record Answered (Says : List ℕ → Type 0) (files : Option Store) (serving : Serving)
+    (statics : List Entry) (limits : Limits) (i i' : Input) (o o' : Output) (status : ℕ)
+    : Type 0 where
+  pub responder : Responder
+  pub asked_for : IsAskedFor files serving.actions responder
+  pub inbound : Inbound
+  pub outbound : Outbound
+  pub status_is : status ≡ status_of_replay inbound outbound
+  pub replays : Replays (answering (served_by responder) statics limits) serving.endpoint i i' o o'
+      inbound outbound
+  pub says : Says (note_of_replay inbound outbound)

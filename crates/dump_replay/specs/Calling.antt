@@ -1,0 +1,153 @@
+-- What the command that calls a peer leaves, by how that ended.
+use Rattle.std.specs.Prelude.{◌≡◌, ℕ, ◌⊎◌, List, [], ◌++◌, length, Option, Some, None, Result, Ok, Err, codes}
+use Rattle.io_edges.specs.Faults.{Rose}
+use Rattle.io_edges.specs.Store.{Store}
+use Rattle.nbfx_values.specs.Limits.{Limits}
+use Rattle.nbfx_values.specs.declared.content.Item.{Item}
+use Rattle.string_tables.specs.StaticStrings.{Entry}
+use Rattle.stream_loop.specs.Edges.{Input, Output}
+use Rattle.stream_loop.specs.declared.reporting.Ending.{Ending}
+use Rattle.stream_loop.specs.declared.reporting.Ending.TheVariants.{Judged, ReadFault, Memory}
+use Rattle.document_lines.specs.declared.InputFault.{InputFault}
+use Rattle.document_lines.specs.declared.InputFault.TheVariants.{Line}
+use Rattle.document_lists.specs.Files.{Answers}
+use Rattle.document_lists.specs.Taking.{TakesDocuments}
+use Rattle.document_lists.specs.declared.fetching.FileFault.{FileFault}
+use Rattle.document_lists.specs.declared.fetching.FileFault.TheVariants as files
+use Rattle.document_lists.specs.declared.reading.ListFault.{ListFault}
+use Rattle.document_lists.specs.declared.reading.ListFault.TheVariants as lists
+use Rattle.connection_server.specs.Served.{Network, SinkState}
+use Rattle.client.specs.Sent.{sending}
+use Rattle.session_calls.specs.Places.{CallsPlace, Network as NetworkCalled}
+use Rattle.session_calls.specs.Statuses.{fault_of, status_of}
+use Rattle.session_calls.specs.Tags.{sent_line}
+use Rattle.session_calls.specs.declared.called.Called.{Called}
+use Rattle.command_words.specs.Tasks.{Opening}
+use Rattle.dump_replay.specs.Building.{input_note, line_note, note_of_building, status_of_building}
+use Rattle.dump_replay.specs.Outside.{Outside, SeenShelf}
+use Rattle.dump_replay.specs.declared.calling.UnreadDocuments.{UnreadDocuments}
+use Rattle.dump_replay.specs.Running.{note_of}
+
+-- ---- statuses and notes
+
+-- a list of documents that isn't read, as the writing of a session ends where its input isn't
+abbrev pub ending_of_list : ListFault → Ending InputFault
+ending_of_list (lists.Refused fault) = Judged (Some fault)
+ending_of_list lists.ReadFault = ReadFault
+ending_of_list lists.Memory = Memory
+
+-- the status of a run in which the file of the second list isn't read
+abbrev pub status_of_documents : FileFault → ℕ
+status_of_documents files.Missing = 6
+status_of_documents (files.Refused fault) = 6
+status_of_documents files.Failed = 3
+status_of_documents files.Memory = 5
+
+-- the note of a file that is refused, which it is for a line alone
+abbrev pub refused_note : (name : List ℕ) → InputFault → List ℕ
+refused_note name (Line n kind) = line_note name n kind
+refused_note name fault = input_note fault
+
+-- and the note of any
+abbrev pub note_of_documents : (name : List ℕ) → FileFault → List ℕ
+note_of_documents name files.Missing = name ++ codes ": not found\n"
+note_of_documents name (files.Refused fault) = refused_note name fault
+note_of_documents name files.Failed = note_of 3
+note_of_documents name files.Memory = note_of 5
+
+-- by the fault of the documents, where one is the cause of the status
+abbrev pub note_by : Option InputFault → (status : ℕ) → List ℕ
+note_by (Some fault) status = input_note fault
+note_by None status = note_of status
+
+-- the note of a run in which a place was called so
+abbrev pub note_of_called : Called → List ℕ
+note_of_called called = note_by (fault_of called) (status_of called)
+
+-- ---- what is left
+
+-- the wire, as a call sees it
+abbrev pub network_of : {R K : Type 0} → Network R K → NetworkCalled R K
+network_of n = record {
+  waiting = n.waiting;
+  closed = n.closed;
+  out = n.out;
+  faults = n.faults;
+  end_faults = n.end_faults;
+}
+
+-- where a connection's bytes go, as a call sees it
+abbrev pub output_of : SinkState → Output
+output_of k = record { written = k.written; held = k.held; faults = k.faults }
+
+-- the second list: none, or what the file with this name says
+abbrev pub IsSecond : Option Store → Option (List ℕ) → List (List Item) → Type 0
+IsSecond stored None second = second ≡ []
+IsSecond stored (Some name) second = Answers stored name (Ok second)
+
+-- the file of the second list isn't read since the fetch failed
+abbrev pub HasFailedSecond : Result (List (List Item)) UnreadDocuments → Type 0
+HasFailedSecond (Ok second) = ⊥
+HasFailedSecond (Err unread) = unread.fault ≡ files.Failed
+
+module _ (Says : List ℕ → Type 0) where
+  -- the file of the second list isn't read, with the status and the note of why, and nothing else
+  -- is read or written
+  pub record UnreadSecond (Untouched : Type 0) (name : List ℕ) (old new : SeenShelf) (status : ℕ)
+      : Type 0 where
+    pub fault : FileFault
+    pub answers : Answers old.files name (Err fault)
+    pub rose : fault ≡ files.Failed → Rose old.faults new.faults
+    pub status_is : status ≡ status_of_documents fault
+    pub says : Says (note_of_documents name fault)
+    pub untouched : Untouched
+
+  -- the file that is named isn't read
+  abbrev pub HasNoSecond : (Untouched : Type 0) → (named : Option (List ℕ)) → (old new : SeenShelf)
+      → ℕ → Type 0
+  HasNoSecond Untouched named old new status = (name : List ℕ) × (named ≡ Some name)
+      × UnreadSecond Untouched name old new status
+
+  module _ (limits : Limits) (i i' : Input) (o o' : Output) (status : ℕ) where
+    -- the documents of the input aren't read, with the status and the note of why, and no
+    -- connection is asked for; Same is known of the wire then
+    pub record TookNone (Same : Type 0) : Type 0 where
+      pub fault : ListFault
+      pub taken : TakesDocuments limits.session i i' (Err fault)
+      pub status_is : status ≡ status_of_building (ending_of_list fault)
+      pub says : Says (note_of_building (ending_of_list fault))
+      pub unwritten : o' ≡ o
+      pub same : Same
+
+    module _ {R K : Type 0} (reader : R → Input) (writer : K → SinkState) (opening : Opening)
+        (statics : List Entry) (second : List (List Item)) (n n' : Network R K) where
+      -- the place was called with the documents of the input and those of the second list, with the
+      -- status and the note of what became of it
+      pub record CalledPlace : Type 0 where
+        pub first : List (List Item)
+        pub taken : TakesDocuments limits.session i i' (Ok first)
+        pub called : Called
+        pub calls : CallsPlace reader (λ (k : K). output_of (writer k))
+            (sending limits statics opening.mode opening.kind (first ++ second)) opening.via
+            (sent_line (length first) (length second)) (network_of n) (network_of n') o o' called
+        pub status_is : status ≡ status_of called
+        pub says : Says (note_of_called called)
+
+      -- one or the other
+      abbrev pub CalledOrNot : Type 0
+      CalledOrNot = CalledPlace ⊎ TookNone (n' ≡ n)
+
+  -- A peer was called, or the documents of the input aren't read, where the second list is.
+  pub record CalledFor (stored : Option Store) (named : Option (List ℕ)) (limits : Limits)
+      (i i' : Input) (o o' : Output) (status : ℕ) {R K : Type 0} (reader : R → Input)
+      (writer : K → SinkState) (opening : Opening) (statics : List Entry) (n n' : Network R K)
+      : Type 0 where
+    pub second : List (List Item)
+    pub read : IsSecond stored named second
+    pub does : CalledOrNot limits i i' o o' status reader writer opening statics second n n'
+
+  abbrev pub CalledWith : {R K : Type 0} → (R → Input) → (K → SinkState) → Opening
+      → (named : Option (List ℕ)) → List Entry → Limits → (old new : Outside R K) → ℕ → Type 0
+  CalledWith reader writer opening named statics limits old new status =
+      CalledFor old.shelf.files named limits old.input new.input old.output new.output status
+      reader writer opening statics old.wire new.wire

@@ -1,0 +1,27 @@
+-- What the command that makes a session and measures it leaves, by how that ended.
+use Rattle.std.specs.Prelude.{◌≡◌, ℕ, List, []}
+use Rattle.nbfx_values.specs.Limits.{Limits}
+use Rattle.string_tables.specs.StaticStrings.{Entry}
+use Rattle.stream_loop.specs.Edges.{Output}
+use Rattle.session_generator.specs.Documents.{documents}
+use Rattle.session_summary.specs.Summary.{Summarizes, status_of}
+use Rattle.session_summary.specs.declared.summary.Summary.{Summary}
+use Rattle.session_summary.specs.declared.summary.Summary.TheVariants.{Written, TooLong, WriteFault, Memory}
+use Rattle.session_report.specs.Report.{offence_line}
+use Rattle.dump_replay.specs.Running.{note_of}
+
+-- the note of a run that ends so
+abbrev pub note_of_summary : Summary → List ℕ
+note_of_summary Written = []
+note_of_summary (TooLong offence) = offence_line offence
+note_of_summary WriteFault = note_of 4
+note_of_summary Memory = note_of 5
+
+-- The session of so many documents that follow the seed was made and measured, with the status and
+-- the note of how that ended; Says is what is known of the note with a text.
+pub record Generated (Says : List ℕ → Type 0) (seed count : ℕ) (statics : List Entry)
+    (limits : Limits) (o o' : Output) (status : ℕ) : Type 0 where
+  pub summary : Summary
+  pub status_is : status ≡ status_of summary
+  pub summarizes : Summarizes limits statics (documents seed count) o o' summary
+  pub says : Says (note_of_summary summary)

@@ -1,0 +1,30 @@
+-- What is seen of the outside at one moment.
+use Rattle.std.specs.Prelude.{ℕ, Option}
+use Rattle.io_edges.specs.Store.{Store}
+use Rattle.stream_loop.specs.Edges.{Input, Output}
+use Rattle.connection_server.specs.Served.{Ends, Network, SinkState}
+
+-- of a shelf: its files, where it tells them, and how many calls met a fault
+pub record SeenShelf : Type 0 where
+  pub files : Option Store
+  pub faults : ℕ
+
+-- R and K are where the bytes of a connection come from and where they go
+pub record Outside (R K : Type 0) : Type 0 where
+  pub shelf : SeenShelf
+  pub input : Input
+  pub output : Output
+  pub wire : Network R K
+
+-- a shelf, by what it tells
+abbrev pub shelf_at : {F : Type 0} → (files : F → Option Store) → (faults : F → ℕ) → F → SeenShelf
+shelf_at files faults shelf = record { files = files shelf; faults = faults shelf }
+
+abbrev pub seen : {R K : Type 0} → SeenShelf → Input → Output → Network R K → Outside R K
+seen shelf input output wire =
+    record { shelf = shelf; input = input; output = output; wire = wire }
+
+-- the ends of a connection, by what is seen of each
+abbrev pub ends_seen : {R K : Type 0} → (reader : R → Input) → (writer : K → SinkState) → R × K
+    → Ends
+ends_seen reader writer ends = record { input = reader ends.0; sink = writer ends.1 }

@@ -1,0 +1,171 @@
+//! The command that calls a peer with documents.
+
+ghost use Rattle.std.specs.Prelude.{◌≡◌, ◌≤◌, ◌<◌, ◌⊎◌, ◌^◌, [], length, IfErr, IfOk, IsErrOf, Err, Some};
+ghost use Rattle.io_edges.specs.Faults.{CountsFaults, Rose};
+ghost use Rattle.nbfx_values.specs.QuotasOf.{limits_of};
+ghost use Rattle.stream_loop.specs.Edges.{input_at, output_at};
+ghost use Rattle.document_lists.specs.Files.{Answers};
+ghost use Rattle.connection_server.specs.Served.{network_at, sink_at};
+ghost use Rattle.command_words.specs.Asking.{opening_of};
+ghost use Rattle.command_words.specs.Values.{text_behind};
+ghost use Rattle.dump_replay.specs.Calling.{CalledFor, CalledOrNot, HasFailedSecond, HasNoSecond, IsSecond, ending_of_list};
+ghost use Rattle.dump_replay.specs.Noting.{Notes};
+ghost use Rattle.dump_replay.specs.Outside.{shelf_at};
+ghost use Rattle.dump_replay.specs.Running.{CountsWire, HasFetched, if_named};
+
+use crate::building::build_status;
+use crate::notes::{note_building, note_called, note_documents};
+use command_words::Opening;
+use document_lines::InputFault;
+use document_lists::{FileFault, ListFault, fetch_documents, take_documents};
+use io_edges::{Shelf, Sink, Source, Wire};
+use nbfx_values::{Docs, Quotas};
+use session_calls::call_place;
+use static_dictionary::StaticTable;
+use std::alloc::Global;
+use stream_loop::Ending;
+
+/// A file of documents that isn't read.
+#[derive(Clone, Copy, Debug)]
+pub struct UnreadDocuments<'w> {
+    /// The name that the words give.
+    pub name: &'w str,
+    pub fault: FileFault,
+}
+
+// The documents of the file that is named, or none.
+fn second_in<'w, F: Shelf>(
+    alloc: Global,
+    named: Option<&'w str>,
+    shelf: &mut F,
+) -> Result<Docs, UnreadDocuments<'w>>
+    ensures found { IfOk result (IsSecond (F.files shelf.old) (text_behind named.entry)) }
+    ensures unread { IfErr result (λ unread. (text_behind named.entry ≡ Some unread.name.now)
+        × Answers (F.files shelf.old) unread.name.now (Err unread.fault)) }
+    ensures kept { F.files shelf.new ≡ F.files shelf.old }
+    ensures fetched { HasFetched (if_named (text_behind named.entry)) (F.fetches shelf.old)
+        (F.fetches shelf.new) }
+    ensures counted { CountsFaults (F.faults shelf.old) (F.faults shelf.new)
+        (HasFailedSecond result) }
+{
+    let Some(name) = named else {
+        return Ok(Docs::new(alloc));
+    };
+    match fetch_documents(alloc, shelf, name) {
+        Ok(docs) => Ok(docs),
+        Err(fault) => Err(UnreadDocuments { name, fault }),
+    }
+}
+
+fn list_ending(fault: ListFault) -> Ending<InputFault>
+    ensures { result ≡ ending_of_list fault }
+{
+    match fault {
+        ListFault::Refused(fault) => Ending::Judged(Some(fault)),
+        ListFault::ReadFault => Ending::ReadFault,
+        ListFault::Memory => Ending::Memory,
+    }
+}
+
+// Calls the place with the documents that the input gives and these behind them, and writes the
+// note. Where the input's aren't read, no connection is asked for.
+fn call_with<I: Source, O: Sink, N: Sink, W: Wire>(
+    alloc: Global,
+    place: &str,
+    opening: Opening<'_>,
+    second: Docs,
+    statics: &StaticTable,
+    quotas: Quotas,
+    input: &mut I,
+    output: O,
+    notes: &mut N,
+    wire: &mut W,
+) -> (u8, O)
+    requires room { W.out wire.old < 2 ^ 63 }
+    requires via { length opening.via.now ≤ 2048 }
+    ensures calls { CalledOrNot
+        (λ text. Notes N.written N.held N.faults N.may_want notes.old notes.new text
+        × (text ≡ [] → notes.new ≡ notes.old)) (limits_of quotas)
+        (input_at I.left I.taken I.faults I.empty_takes input.old)
+        (input_at I.left I.taken I.faults I.empty_takes input.new)
+        (output_at O.written O.held O.faults output)
+        (output_at O.written O.held O.faults result.1) result.0
+        (input_at W.Reader.left W.Reader.taken W.Reader.faults W.Reader.empty_takes)
+        (sink_at W.Writer.written W.Writer.held W.Writer.faults W.Writer.may_want)
+        (opening_of opening.entry) statics.now second
+        (network_at W.waiting W.closed W.out W.faults W.end_faults wire.old)
+        (network_at W.waiting W.closed W.out W.faults W.end_faults wire.new) }
+    ensures wire_fault { CountsWire (W.faults wire.old) (W.faults wire.new)
+        (W.end_faults wire.old) (W.end_faults wire.new) result.0 }
+    ensures out { W.out wire.new ≡ W.out wire.old }
+    ensures notes_faults { N.faults notes.old ≤ N.faults notes.new }
+{
+    let first = match take_documents(alloc, &quotas, input) {
+        Ok(docs) => docs,
+        Err(fault) => {
+            let ending = list_ending(fault);
+            note_building(ending, notes);
+            return (build_status(ending), output);
+        }
+    };
+    let (called, output) = call_place(
+        alloc, wire, place, opening, statics, &quotas, first, second, output,
+    );
+    note_called(called, notes);
+    (called.status(), output)
+}
+
+/// Calls the place with the documents that the input gives and those of the second file behind
+/// them, and writes the report of what the peer sends to the output, with a line of what was sent.
+/// The note says why that isn't done. Where documents aren't read, no connection is asked for, and
+/// where those of the second file aren't, the input isn't read. Answers the status with the output.
+pub fn call_peer<F: Shelf, I: Source, O: Sink, N: Sink, W: Wire>(
+    alloc: Global,
+    place: &str,
+    opening: Opening<'_>,
+    named: Option<&str>,
+    statics: &StaticTable,
+    quotas: Quotas,
+    shelf: &mut F,
+    input: &mut I,
+    output: O,
+    notes: &mut N,
+    wire: &mut W,
+) -> (u8, O)
+    requires room { W.out wire.old < 2 ^ 63 }
+    requires via { length opening.via.now ≤ 2048 }
+    ensures calls { CalledFor
+        (λ text. Notes N.written N.held N.faults N.may_want notes.old notes.new text
+        × (text ≡ [] → notes.new ≡ notes.old)) (F.files shelf.old) (text_behind named.entry)
+        (limits_of quotas)
+        (input_at I.left I.taken I.faults I.empty_takes input.old)
+        (input_at I.left I.taken I.faults I.empty_takes input.new)
+        (output_at O.written O.held O.faults output)
+        (output_at O.written O.held O.faults result.1) result.0
+        (input_at W.Reader.left W.Reader.taken W.Reader.faults W.Reader.empty_takes)
+        (sink_at W.Writer.written W.Writer.held W.Writer.faults W.Writer.may_want)
+        (opening_of opening.entry) statics.now
+        (network_at W.waiting W.closed W.out W.faults W.end_faults wire.old)
+        (network_at W.waiting W.closed W.out W.faults W.end_faults wire.new)
+        ⊎ HasNoSecond (λ text. Notes N.written N.held N.faults N.may_want notes.old notes.new text
+        × (text ≡ [] → notes.new ≡ notes.old))
+        ((input.new ≡ input.old) × (result.1 ≡ output) × (wire.new ≡ wire.old))
+        (text_behind named.entry) (shelf_at F.files F.faults shelf.old)
+        (shelf_at F.files F.faults shelf.new) result.0 }
+    ensures kept { F.files shelf.new ≡ F.files shelf.old }
+    ensures fetched { HasFetched (if_named (text_behind named.entry)) (F.fetches shelf.old)
+        (F.fetches shelf.new) }
+    ensures shelf_faults { F.faults shelf.old ≤ F.faults shelf.new }
+    ensures shelf_well { (result.0 ≡ 3 → ⊥) → F.faults shelf.new ≡ F.faults shelf.old }
+    ensures wire_fault { CountsWire (W.faults wire.old) (W.faults wire.new)
+        (W.end_faults wire.old) (W.end_faults wire.new) result.0 }
+    ensures out { W.out wire.new ≡ W.out wire.old }
+    ensures notes_faults { N.faults notes.old ≤ N.faults notes.new }
+{
+    match second_in(alloc, named, shelf) {
+        Ok(second) => call_with(
+            alloc, place, opening, second, statics, quotas, input, output, notes, wire,
+        ),
+        Err(unread) => (note_documents(unread.name, unread.fault, notes), output),
+    }
+}

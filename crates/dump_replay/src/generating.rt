@@ -1,0 +1,35 @@
+//! The command that makes a session and says what it measures.
+
+ghost use Rattle.std.specs.Prelude.{◌≡◌, []};
+ghost use Rattle.nbfx_values.specs.QuotasOf.{limits_of};
+ghost use Rattle.stream_loop.specs.Edges.{output_at};
+ghost use Rattle.dump_replay.specs.Generating.{Generated};
+ghost use Rattle.dump_replay.specs.Noting.{Notes};
+
+use crate::notes::note_summary;
+use io_edges::Sink;
+use nbfx_values::Quotas;
+use session_summary::summarize;
+use static_dictionary::StaticTable;
+use std::alloc::Global;
+
+/// Makes the session of so many documents that follow the seed, and writes the line of what it
+/// measures, and the note. Answers the status with the output.
+pub fn generate_session<O: Sink, N: Sink>(
+    alloc: Global,
+    seed: u64,
+    count: u32,
+    statics: &StaticTable,
+    quotas: Quotas,
+    output: O,
+    notes: &mut N,
+) -> (u8, O)
+    ensures { Generated (λ text. Notes N.written N.held N.faults N.may_want notes.old notes.new text
+        × (text ≡ [] → notes.new ≡ notes.old)) seed count statics.now (limits_of quotas)
+        (output_at O.written O.held O.faults output)
+        (output_at O.written O.held O.faults result.1) result.0 }
+{
+    let (summary, output) = summarize(alloc, statics, &quotas, seed, count, output);
+    note_summary(summary, notes);
+    (summary.status(), output)
+}

@@ -1,0 +1,65 @@
+//! How requests are answered, by what the words ask for.
+
+ghost use Rattle.std.specs.Prelude.{◌≡◌, Some, IfErr, IfOk};
+ghost use Rattle.io_edges.specs.Faults.{CountsFaults};
+ghost use Rattle.shelf_files.specs.Files.{Tells};
+ghost use Rattle.stream_reader.specs.Sides.{endpoint_of};
+ghost use Rattle.session_replay.specs.Responding.{reading_actions};
+ghost use Rattle.command_words.specs.Asking.{serving_of};
+ghost use Rattle.dump_replay.specs.Answering.{IsAskedFor};
+ghost use Rattle.dump_replay.specs.Responding.{HasFailed};
+ghost use Rattle.dump_replay.specs.Running.{HasFetched, if_named};
+
+use action_dispatch::ActionKind;
+use command_words::Serving;
+use io_edges::Shelf;
+use nbfx_values::Txt;
+use receiver_machine::Endpoint;
+use session_replay::{Responder, read_actions};
+use shelf_files::FileFault;
+use std::alloc::Global;
+use unit_streams::Memory;
+
+/// A file of actions that isn't read.
+#[derive(Clone, Copy, Debug)]
+pub struct UnreadActions<'w> {
+    /// The name that the words give.
+    pub name: &'w str,
+    pub fault: FileFault<ActionKind>,
+}
+
+/// The Via that is served alone, or any.
+pub fn endpoint_in(alloc: Global, serving: Serving<'_>) -> Result<Endpoint, Memory>
+    ensures { IfOk result
+        (λ endpoint. endpoint_of endpoint ≡ (serving_of serving.entry).endpoint) }
+{
+    match serving.endpoint {
+        Some(via) => Ok(Endpoint::Only(Txt::of(alloc, via)?)),
+        None => Ok(Endpoint::Any),
+    }
+}
+
+/// The service that is asked for: the echo, or the texts of the shelf's file of actions.
+pub fn responder_in<'w, F: Shelf>(
+    alloc: Global,
+    serving: Serving<'w>,
+    shelf: &mut F,
+) -> Result<Responder, UnreadActions<'w>>
+    ensures found { IfOk result
+        (IsAskedFor (F.files shelf.old) (serving_of serving.entry).actions) }
+    ensures unread { IfErr result (λ unread.
+        ((serving_of serving.entry).actions ≡ Some unread.name.now)
+        × Tells reading_actions (F.files shelf.old) unread.name.now unread.fault) }
+    ensures kept { F.files shelf.new ≡ F.files shelf.old }
+    ensures fetched { HasFetched (if_named (serving_of serving.entry).actions)
+        (F.fetches shelf.old) (F.fetches shelf.new) }
+    ensures counted { CountsFaults (F.faults shelf.old) (F.faults shelf.new) (HasFailed result) }
+{
+    let Some(name) = serving.actions else {
+        return Ok(Responder::Echo);
+    };
+    match read_actions(alloc, shelf, name) {
+        Ok(texts) => Ok(texts),
+        Err(fault) => Err(UnreadActions { name, fault }),
+    }
+}

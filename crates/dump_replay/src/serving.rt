@@ -1,0 +1,95 @@
+//! The command that answers the connections that peers make, as a server.
+
+ghost use Rattle.std.specs.Prelude.{◌≡◌, ◌≤◌, ◌<◌, ◌⊎◌, ◌^◌, []};
+ghost use Rattle.io_edges.specs.Faults.{CountsFaults, Rose};
+ghost use Rattle.nbfx_values.specs.QuotasOf.{limits_of};
+ghost use Rattle.stream_loop.specs.Edges.{Input, input_at, output_at};
+ghost use Rattle.connection_server.specs.Served.{network_at, sink_at};
+ghost use Rattle.command_words.specs.Asking.{serving_of};
+ghost use Rattle.dump_replay.specs.Noting.{Notes};
+ghost use Rattle.dump_replay.specs.Outside.{seen, shelf_at};
+ghost use Rattle.dump_replay.specs.Running.{HasFetched, if_named};
+ghost use Rattle.dump_replay.specs.Serving.{AnsweredAll, status_of_stop};
+ghost use Rattle.dump_replay.specs.Working.{HasNoActions};
+
+use crate::notes::{note_file, note_status};
+use crate::responding::{endpoint_in, responder_in};
+use command_words::Serving;
+use connection_server::{ServeFault, Server, serve_connections};
+use io_edges::{Shelf, Sink, Wire};
+use nbfx_values::Quotas;
+use static_dictionary::StaticTable;
+use std::alloc::Global;
+
+// The status of a server that stopped so.
+fn stop_status(stop: Result<(), ServeFault>) -> u8
+    ensures { result ≡ status_of_stop stop }
+{
+    match stop {
+        Ok(()) => 0,
+        Err(ServeFault::Wire) => 8,
+        Err(ServeFault::Output) => 4,
+        Err(ServeFault::Memory) => 5,
+    }
+}
+
+/// Answers at most so many connections that peers make to that place, one after the other, by the
+/// service that is asked for, and writes the line of each to the output. Where that service's file
+/// isn't read, no connection is asked for. The note says why it stopped. Answers the status with the
+/// output.
+pub fn serve_wire<F: Shelf, O: Sink, N: Sink, W: Wire>(
+    alloc: Global,
+    listen: &str,
+    connections: u32,
+    serving: Serving<'_>,
+    statics: &StaticTable,
+    quotas: Quotas,
+    shelf: &mut F,
+    output: O,
+    notes: &mut N,
+    wire: &mut W,
+) -> (u8, O)
+    requires { W.out wire.old < 2 ^ 63 }
+    ensures answers { (i : Input) →
+        AnsweredAll (λ text. Notes N.written N.held N.faults N.may_want notes.old notes.new text
+        × (text ≡ [] → notes.new ≡ notes.old))
+        (input_at W.Reader.left W.Reader.taken W.Reader.faults W.Reader.empty_takes)
+        (sink_at W.Writer.written W.Writer.held W.Writer.faults W.Writer.may_want) connections
+        (serving_of serving.entry) statics.now (limits_of quotas)
+        (seen (shelf_at F.files F.faults shelf.old) i
+        (output_at O.written O.held O.faults output)
+        (network_at W.waiting W.closed W.out W.faults W.end_faults wire.old))
+        (seen (shelf_at F.files F.faults shelf.new) i
+        (output_at O.written O.held O.faults result.1)
+        (network_at W.waiting W.closed W.out W.faults W.end_faults wire.new)) result.0
+        ⊎ HasNoActions (λ text. Notes N.written N.held N.faults N.may_want notes.old notes.new text
+        × (text ≡ [] → notes.new ≡ notes.old)) ((result.1 ≡ output) × (wire.new ≡ wire.old))
+        (serving_of serving.entry) (shelf_at F.files F.faults shelf.old)
+        (shelf_at F.files F.faults shelf.new) result.0 }
+    ensures kept { F.files shelf.new ≡ F.files shelf.old }
+    ensures fetched { HasFetched (if_named (serving_of serving.entry).actions)
+        (F.fetches shelf.old) (F.fetches shelf.new) }
+    ensures shelf_faults { F.faults shelf.old ≤ F.faults shelf.new }
+    ensures shelf_well { (result.0 ≡ 3 → ⊥) → F.faults shelf.new ≡ F.faults shelf.old }
+    ensures wire_fault { CountsFaults (W.faults wire.old) (W.faults wire.new) (result.0 ≡ 8) }
+    ensures out { W.out wire.new ≡ W.out wire.old }
+{
+    let responder = match responder_in(alloc, serving, shelf) {
+        Ok(responder) => responder,
+        Err(unread) => return (note_file(unread.name, unread.fault, notes), output),
+    };
+    let Ok(endpoint) = endpoint_in(alloc, serving) else {
+        note_status(5, notes);
+        return (5, output);
+    };
+    let server = Server {
+        statics,
+        quotas: &quotas,
+        endpoint: &endpoint,
+        service: &responder,
+    };
+    let (stop, output) = serve_connections(alloc, &server, wire, listen, connections, output);
+    let status = stop_status(stop);
+    note_status(status, notes);
+    (status, output)
+}
