@@ -83,13 +83,13 @@ files_of (serve listen connections serving) = if_named serving.actions
 files_of (call connect opening second) = if_named second
 files_of (generate seed count) = []
 
--- the first of these files were fetched, each once, or all or none of them
+-- no more files were fetched than these are
 abbrev pub HasFetched : List (List ℕ) → (fetches fetches' : ℕ) → Type 0
 HasFetched [] fetches fetches' = fetches' ≡ fetches
 HasFetched (name ∷ names) fetches fetches' =
     (fetches' ≡ fetches) ⊎ HasFetched names (one_more fetches) fetches'
 
--- no file was fetched, or just those that a request names were, each once at most
+-- no file was fetched, or no more than a request names
 abbrev pub FetchesNamed : List (List ℕ) → (fetches fetches' : ℕ) → Type 0
 FetchesNamed words fetches fetches' = (fetches' ≡ fetches) ⊎ ((asked : Asked)
     × IsRequest words asked × HasFetched (asked.statics ∷ files_of asked.task) fetches fetches')
