@@ -68,8 +68,8 @@ fn answer_asked<V: Service>(
 /// service is asked only where the content of Body, with the declarations of its elements, counts
 /// no more than the quotas admit, and blocks that weren't understood are named only where their
 /// names do; else the answer is the fault that a reply doesn't fit. Where the service gives the
-/// content back, its items are moved into the reply, and copied only where the root or Body declares
-/// other prefixes than those of every reply.
+/// content back, its items are moved into the reply, and copied only where the root or Body
+/// declares other prefixes than those of every reply.
 pub fn answer_owned<V: Service>(
     alloc: Global,
     quotas: &Quotas,

@@ -9,7 +9,7 @@ use nbfx_values::{Copied, Items};
 use std::alloc::Global;
 use unit_streams::Memory;
 
-/// The service that replies the content of the request's Body, whatever the action.
+/// The service that replies with the content of the request's Body, whatever the action.
 #[derive(Clone, Copy, Debug)]
 pub struct EchoService;
 

@@ -20,7 +20,7 @@ pub enum ActionKind {
 pub enum ActionFault {
     /// The first row that fails, counted from 0, and what is wrong with it.
     Bad { row: u64, kind: ActionKind },
-    /// Memory ran out.
+    /// Out of memory.
     Memory,
 }
 

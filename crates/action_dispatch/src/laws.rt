@@ -1,5 +1,5 @@
-//! What holds of answers by their definition alone. The function does nothing: its contract is a law,
-//! which a caller has where it calls the function.
+//! What holds of answers by their definition alone. The function does nothing: its contract is a
+//! law, which a caller has where it calls the function.
 
 ghost use Rattle.action_dispatch.specs.Laws.{AsksNoServiceElse, AsksWhereContentFits};
 

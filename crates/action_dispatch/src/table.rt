@@ -20,7 +20,7 @@ use std::collections::BTreeMap;
 use std::marker::Model;
 use unit_streams::Memory;
 
-/// The service that replies a text for each action of a file. Contracts see the texts of the
+/// The service that replies with a text for each action of a file. Contracts see the texts of the
 /// actions, by the order of the actions' bytes.
 #[derive(Drop)]
 pub struct TableService {

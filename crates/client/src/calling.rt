@@ -134,10 +134,10 @@ fn call_connection<S: Source, K: Sink, O: Sink>(
 /// record, and reads to the end. The report of what is read goes to the output, with its documents;
 /// the lines of what came are written before more is taken.
 ///
-/// Where no Ack is read nothing is written behind the opening. After a write to the peer that
-/// failed, at a document that doesn't fit, or where there is no memory to write on, nothing more is
-/// put to the sink, and reading goes on. After a write to the output that failed nothing more is put
-/// to the output, and all else goes on.
+/// Where no Ack is read nothing is written after the opening. After a failed write to the peer, at
+/// a document that doesn't fit, or when out of memory while writing, nothing more is put to the
+/// sink, and reading goes on. After a write to the output that failed nothing more is put to the
+/// output, and all else goes on.
 pub fn call_one<S: Source, K: Sink, O: Sink>(
     alloc: Global,
     source: &mut S,

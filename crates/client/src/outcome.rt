@@ -11,13 +11,13 @@ use stream_follower::Outbound;
 pub enum ClientIn {
     /// The session ended with End, or with the Ack alone where messages are one-way.
     Ended,
-    /// The stream is refused so.
+    /// Why the stream is refused.
     Offended(Offence),
     /// The peer sent a Fault record, which ends the session.
     PeerFault,
     /// A read failed.
     ReadFault,
-    /// There was no memory to read on.
+    /// Out of memory while reading.
     Memory,
 }
 
@@ -27,11 +27,11 @@ pub enum ClientOut {
     /// All that was due is written: the session, or its opening alone where no Ack was read.
     Done,
     /// The document with this number, from 0, doesn't fit. Nothing is written after the envelopes
-    /// before it. The fault isn't want of memory.
+    /// before it. The fault isn't `Memory`.
     Unfit { number: u64, fault: EncodeFault },
     /// A write failed.
     WriteFault,
-    /// There was no memory to write on.
+    /// Out of memory while writing.
     Memory,
 }
 

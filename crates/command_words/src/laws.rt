@@ -3,7 +3,7 @@
 
 ghost use Rattle.command_words.specs.Laws.{AskForOne};
 
-/// Words are one request at most.
+/// Arguments parse in at most one way.
 pub fn one_request()
     ensures { AskForOne }
 {}

@@ -12,7 +12,7 @@ use crate::parsed::value_of;
 use clap::ArgMatches;
 use nbfx_values::Quotas;
 
-/// The quotas that the values set, where they are good.
+/// The quotas that the values set, where they are valid.
 pub fn quotas_of(matches: &ArgMatches<'_>) -> Option<Quotas>
     ensures set { IfSome result
         (λ quotas. AreLimits (found_values matches.now) (limits_of quotas)) }

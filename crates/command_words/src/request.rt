@@ -8,7 +8,7 @@ use nbfx_values::Quotas;
 pub struct Request<'w> {
     /// The name of the file of the static strings.
     pub statics: &'w str,
-    /// What the command admits.
+    /// The limits that it works within.
     pub quotas: Quotas,
     /// What it is to do.
     pub task: Task<'w>,

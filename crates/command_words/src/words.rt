@@ -12,9 +12,9 @@ use std::alloc::Global;
 /// Why words ask for nothing.
 #[derive(Clone, Copy, Debug, PartialEq, Eq)]
 pub enum WordsFault {
-    /// They are in no form.
+    /// They aren't valid.
     NotUnderstood,
-    /// Memory ran out.
+    /// Out of memory.
     Memory,
 }
 

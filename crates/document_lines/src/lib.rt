@@ -10,8 +10,8 @@
 //!
 //! A [`DocumentReader`] reads such input in any pieces, and answers what the grammar does: the
 //! envelope of a document at its last line, or the first refusal. `specs/Input` has the grammar,
-//! `specs/Standing` what a reader stands for, and `specs/Laws` what holds by the definitions alone,
-//! which [`laws`] carries.
+//! `specs/Standing` which bytes a reader has read, and `specs/Laws` what holds by the definitions
+//! alone, which [`laws`] carries.
 #![tactic(auto)]
 
 mod envelope;

@@ -45,7 +45,7 @@ pub struct LineEncoder<'s> {
     pub mode: Mode,
     /// How many documents were completed.
     pub documents: u64,
-    /// The room of the next envelope.
+    /// The buffer of the next envelope.
     pub room: Vec<u8>,
 }
 
@@ -146,7 +146,7 @@ impl<'s> LineEncoder<'s> {
         bytes
     }
 
-    /// Takes back an envelope that is done with, whose room serves the next one.
+    /// Takes back an envelope that is no longer needed; the next one reuses its memory.
     pub fn reuse(&mut self, envelope: Envelope)
         ensures { KeepsAll self.old self.new }
     {

@@ -67,9 +67,9 @@ impl<'s> DocumentReader<'s> {
         }
     }
 
-    /// Uses the bytes of the piece up to and including the one that completes the next document, and
-    /// says how many they are, with its envelope; where none completes one, all of the piece. After a
-    /// refusal it is refused the same way.
+    /// Uses the bytes of the piece up to and including the one that completes the next document,
+    /// and says how many they are, with its envelope; where none completes one, all of the piece.
+    /// After a refusal it is refused the same way.
     pub fn feed(&mut self, piece: &[u8]) -> Result<(usize, Option<Envelope>), FeedFault<InputFault>>
         ensures within { IfOk result (λ answer. answer.0 ≤ length piece.now) }
         // The answer is decided at the first byte that completes a document or shows a refusal.
@@ -128,7 +128,7 @@ impl<'s> DocumentReader<'s> {
         }
     }
 
-    /// Hands back an envelope that is done with, whose room serves the next one.
+    /// Takes back an envelope that is no longer needed; the next one reuses its memory.
     pub fn reuse(&mut self, envelope: Envelope)
         ensures stands { WhereItStands self.old (StandsFor self.new) }
         ensures failure { failure_of self.new ≡ failure_of self.old }

@@ -19,7 +19,7 @@ pub enum FileFault {
     Refused(InputFault),
     /// The shelf failed.
     Failed,
-    /// There was no memory.
+    /// Out of memory.
     Memory,
 }
 

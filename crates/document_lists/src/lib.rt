@@ -1,13 +1,15 @@
 //! All documents of some lines, which are read before anything is done with them.
 //!
-//! The one idea: what lines say is a function of all their bytes. `specs/Documents.antt` has it: the
-//! lines are cut at their line feeds and read as `line_notation` reads them, and either each line
-//! and the end of the bytes are fine, and their documents are the list, or the first refusal is the
-//! answer. Bytes that are as many as a quota are too long, unless a line before that is refused.
+//! The one idea: what lines say is a function of all their bytes. `specs/Documents.antt` has it:
+//! the lines are cut at their line feeds and read as `line_notation` reads them, and either each
+//! line and the end of the bytes are fine, and their documents are the list, or the first refusal
+//! is the answer. Bytes that are as many as a quota are too long, unless a line before that is
+//! refused.
 //!
 //! [`read_documents`] reads bytes that are in memory, [`fetch_documents`] those of a shelf's file,
-//! and [`take_documents`] those of a source, in the pieces in which they come: of these it keeps the
-//! documents and the unfinished line alone. Contracts of private calls are in `specs/Reading.antt`.
+//! and [`take_documents`] those of a source, in the pieces in which they come: of these it keeps
+//! the documents and the unfinished line alone. Contracts of private calls are in
+//! `specs/Reading.antt`.
 #![tactic(auto)]
 
 mod fetching;

@@ -27,7 +27,7 @@ pub enum ListFault {
     Refused(InputFault),
     /// A read failed.
     ReadFault,
-    /// There was no memory.
+    /// Out of memory.
     Memory,
 }
 

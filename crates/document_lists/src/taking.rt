@@ -43,8 +43,8 @@ fn take_lines<S: Source>(
 }
 
 /// Takes lines from the source to their end, or to the first that is refused, and reads their
-/// documents. Bytes that are as many as the session quota are too long. The room for a piece, of
-/// 64 KiB, is made once.
+/// documents. Bytes that are as many as the session quota are too long. The buffer for a piece, of
+/// 64 KiB, is allocated once.
 pub fn take_documents<S: Source>(
     alloc: Global,
     quotas: &Quotas,

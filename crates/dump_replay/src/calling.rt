@@ -115,9 +115,9 @@ fn call_with<I: Source, O: Sink, N: Sink, W: Wire>(
     (called.status(), output)
 }
 
-/// Calls the place with the documents that the input gives and those of the second file behind
-/// them, and writes the report of what the peer sends to the output, with a line of what was sent.
-/// The note says why that isn't done. Where documents aren't read, no connection is asked for, and
+/// Calls the place with the documents that the input gives and those of the second file after them,
+/// and writes the report of what the peer sends to the output, with a line of what was sent. The
+/// note says why that isn't done. Where documents aren't read, no connection is asked for, and
 /// where those of the second file aren't, the input isn't read. Answers the status with the output.
 pub fn call_peer<F: Shelf, I: Source, O: Sink, N: Sink, W: Wire>(
     alloc: Global,

@@ -11,9 +11,9 @@ pub fn built_sessions()
     ensures { BuiltAreSessions }
 {}
 
-/// Where nothing of the outside failed, the status of writing documents is 5, for want of memory,
-/// or the one of the input, 0 where it isn't refused; and then all that is written of the input is
-/// written, whether it is refused or not.
+/// Where no I/O error occurred, the status of writing documents is 5, out of memory, or the one of
+/// the input, 0 where it isn't refused; and then all that is written of the input is written,
+/// whether it is refused or not.
 pub fn complete_builds()
     ensures { BuildsAreComplete }
 {}

@@ -14,16 +14,16 @@
 //! the answers to an initiator's stream are `session_replay`'s, those on connections
 //! `connection_server`'s, the call of a server is `session_calls`' and its documents are
 //! `document_lists`', the line of a session that is made is `session_summary`'s, and the words are
-//! read by `command_words`. Here are the writer of envelopes (`building`), the service that is asked
-//! for (`responding`), the file of static strings, the statuses and the notes of a run, and what
-//! goes by the task that the words ask for (`working`). The main contract is the one of `run`: what
-//! each status means, when it comes, and what the output holds then.
+//! read by `command_words`. Here are the writer of envelopes (`building`), the service that is
+//! asked for (`responding`), the file of static strings, the statuses and the notes of a run, and
+//! what goes by the task that the words ask for (`working`). The main contract is the one of `run`:
+//! what each status means, when it comes, and what the output holds then.
 //!
 //! The definitions are in `specs/`: `Outside` has what is seen of the outside at one moment,
 //! `Statics` what a file of static strings gives, `Running` the statuses, `Noting` the notes,
 //! `Reporting`, `Building`, `Answering`, `Serving`, `Calling` and `Generating` what the commands
-//! leave, by how they ended, `Working` what a run leaves by its words, `Laws` what holds of sessions
-//! that are written.
+//! leave, by how they ended, `Working` what a run leaves by its words, `Laws` what holds of
+//! sessions that are written.
 #![tactic(auto)]
 
 ghost use Rattle.std.specs.Prelude.{◌≡◌, ◌≢◌, [], IfOk, IfErr, IsErr, IsOkAnd};

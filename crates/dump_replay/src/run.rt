@@ -43,38 +43,38 @@ pub struct Ran<I, O> {
 /// with a note, and with the preamble and the envelopes of the documents before it on the output.
 ///
 /// `replay` reads an initiator's stream from the input, and writes what a server would to the
-/// output: the Preamble Ack, an answer to each request, by the echo or with `--actions` by the texts
-/// of the shelf's file of that name, and an End or a Fault record. What is owed for the bytes that
-/// were read is written before more are, and a failed write doesn't end the reading. The status is 0
-/// where the session ended, 1 where the stream is refused, and 10 where its bytes reach the session
-/// quota first; with 1 and 10 the offence is a note.
+/// output: the Preamble Ack, an answer to each request, by the echo or with `--actions` by the
+/// texts of the shelf's file of that name, and an End or a Fault record. What is owed for the bytes
+/// that were read is written before more are, and a failed write doesn't end the reading. The
+/// status is 0 where the session ended, 1 where the stream is refused, and 10 where its bytes reach
+/// the session quota first; with 1 and 10 the offence is a note.
 ///
-/// `serve` answers the connections that the wire gives for the place that `--listen` names, one after
-/// the other, each as `replay` answers a stream, and writes a line of each to the output when it is
-/// over. The input isn't read. What happens on a connection is in its line alone. The status is 0
-/// where as many were served as `--connections` says, or no other is to come, and 8 where the wire
-/// failed to give the next one, with a note. Every connection that was given is closed.
+/// `serve` answers the connections that the wire gives for the place that `--listen` names, one
+/// after the other, each as `replay` answers a stream, and writes a line of each to the output when
+/// it is over. The input isn't read. What happens on a connection is in its line alone. The status
+/// is 0 where as many were served as `--connections` says, or no other is to come, and 8 where the
+/// wire failed to give the next one, with a note. Every connection that was given is closed.
 ///
-/// `call` reads documents in lines: those of the shelf's file that `--second` names, if it does, and
-/// those of the input. It then connects to the place that `--connect` names, sends a session of the
-/// input's documents and the file's behind them once the peer has accepted it, and writes the report
-/// of what the peer sends to the output, as `dump` would, with a line of what was sent. The status
-/// is 0 where the peer ended the session, 1 where its stream is refused, 9 where its Fault ended the
-/// session, and 10 where its bytes reach the session quota first; 7 where a document doesn't fit,
-/// and 8 where no connection was made or one of its ends failed, both with a note. It is 6 where a
-/// line is refused and 10 where the input's bytes reach the session quota, with a note, and then no
-/// connection is asked for. Of several the first of 5, 8, 7, 4, 9, 10 and 1 counts. A connection
-/// that was made is closed.
+/// `call` reads documents in lines: those of the shelf's file that `--second` names, if it does,
+/// and those of the input. It then connects to the place that `--connect` names, sends a session of
+/// the input's documents and the file's after them once the peer has accepted it, and writes the
+/// report of what the peer sends to the output, as `dump` would, with a line of what was sent. The
+/// status is 0 where the peer ended the session, 1 where its stream is refused, 9 where its Fault
+/// ended the session, and 10 where its bytes reach the session quota first; 7 where a document
+/// doesn't fit, and 8 where no connection was made or one of its ends failed, both with a note. It
+/// is 6 where a line is refused and 10 where the input's bytes reach the session quota, with a
+/// note, and then no connection is asked for. Of several the first of 5, 8, 7, 4, 9, 10 and 1
+/// counts. A connection that was made is closed.
 ///
 /// `gen` makes as many documents as `--count` says, which follow the number that `--seed` says,
 /// sends them to a reader within the program, and writes a line of what the session measures. The
-/// input isn't read. The status is 0, or 10 where the session has more bytes than the session quota,
-/// with the offence as a note.
+/// input isn't read. The status is 0, or 10 where the session has more bytes than the session
+/// quota, with the offence as a note.
 ///
-/// Of all the status is 2 where the words are none of the program's, 3 where a read failed, 4 where
-/// a write failed, 5 where memory ran out, and 6 where the shelf has no such file, or one with a bad
-/// row. With 2 to 6 a note says so; that a note can't be put changes nothing else. Where several
-/// stand together in `replay`, 5 goes before 4, and 4 before 3.
+/// Of all the status is 2 where the arguments aren't valid, 3 where a read failed, 4 where a write
+/// failed, 5 where memory ran out, and 6 where the shelf has no such file, or one with a bad row.
+/// With 2 to 6 a note says so; that a note can't be put changes nothing else. Where several stand
+/// together in `replay`, 5 goes before 4, and 4 before 3.
 pub fn run<F: Shelf, I: Source, O: Sink + Send, N: Sink, W: Wire>(
     alloc: Global,
     words: &[String],

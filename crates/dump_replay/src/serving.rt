@@ -35,8 +35,8 @@ fn stop_status(stop: Result<(), ServeFault>) -> u8
 
 /// Answers at most so many connections that peers make to that place, one after the other, by the
 /// service that is asked for, and writes the line of each to the output. Where that service's file
-/// isn't read, no connection is asked for. The note says why it stopped. Answers the status with the
-/// output.
+/// isn't read, no connection is asked for. The note says why it stopped. Answers the status with
+/// the output.
 pub fn serve_wire<F: Shelf, O: Sink, N: Sink, W: Wire>(
     alloc: Global,
     listen: &str,

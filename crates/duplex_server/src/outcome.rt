@@ -8,11 +8,11 @@ use stream_follower::Outbound;
 pub enum Inbound {
     /// The session ended with End.
     Ended,
-    /// The stream is refused so.
+    /// Why the stream is refused.
     Offended(Offence),
     /// A read failed.
     ReadFault,
-    /// There was no memory to read on, or to answer a request.
+    /// Out of memory while reading, or while answering a request.
     Memory,
 }
 

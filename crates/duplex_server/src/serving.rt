@@ -124,8 +124,8 @@ fn serve_connection<S: Source, K: Sink, V: Service>(
 /// document is put before more is taken. An answer that doesn't fit is replaced by a fault that
 /// says so, and where that doesn't fit either nothing is written for it.
 ///
-/// After a write that failed, or where there is no memory to write on, nothing more is put, and
-/// reading goes on.
+/// After a failed write, or when out of memory while writing, nothing more is put, and reading goes
+/// on.
 pub fn serve_one<S: Source, K: Sink, V: Service>(
     alloc: Global,
     source: &mut S,

@@ -28,7 +28,7 @@ impl<'s> Initiator<'s> {
     ghost use Rattle.initiator_machine.specs.Standing.{reader_of};
 
     /// An initiator before the first byte, in a session of the mode and the encoding that its
-    /// preamble has named. It makes all the room that it needs before the first envelope.
+    /// preamble has named. It allocates all that it needs before the first envelope.
     pub fn new(
         alloc: Global,
         mode: Mode,
@@ -57,8 +57,8 @@ impl<'s> Initiator<'s> {
         self.reader.feed(piece)
     }
 
-    /// Says that the input is over, which is no offence exactly after End or Fault, and in simplex
-    /// mode where the Ack was the last byte.
+    /// Says that the input is over, which is valid exactly after End or Fault, and in simplex mode
+    /// where the Ack was the last byte.
     pub fn end_of_input(&mut self) -> Result<(), Offence>
         requires { failure_of (reader_of self.old) ≡ Some ReadRefusal.Memory → ⊥ }
         ensures { EndsInput (reader_of self.old) (reader_of self.new) result }
@@ -70,7 +70,7 @@ impl<'s> Initiator<'s> {
         }
     }
 
-    /// Hands back a document that is done with, whose room serves the next one.
+    /// Takes back a document that is no longer needed; the next one reuses its memory.
     pub fn reuse(&mut self, doc: Doc)
         ensures { Reuses (reader_of self.old) (reader_of self.new) }
     {
@@ -86,7 +86,7 @@ impl<'s> Initiator<'s> {
         self.reader.text()
     }
 
-    /// How many bytes were used; after an offence of `feed`, how many show it; after want of
+    /// How many bytes were used; after an offence of `feed`, how many show it; after running out of
     /// memory, how many the calls before used.
     pub fn taken(&self) -> u64
         ensures { HasTaken (reader_of self.now) result }

@@ -8,10 +8,10 @@ use std::alloc::{AllocError, Global};
 use std::marker::Model;
 use std::mem;
 
-/// How many bytes the usual room has.
+/// How many bytes the usual buffer has.
 const ROOM: usize = 65_536;
 
-/// The usual room to gather in, of 64 KiB.
+/// The usual buffer, of 64 KiB.
 pub fn gathering_room(alloc: Global) -> Result<Vec<u8>, AllocError>
     ensures { IfOk result (λ room. vec_len room ≡ 65536) }
 {
@@ -69,9 +69,9 @@ fn gather_anew<K: Sink>(
     sink.put(bytes)
 }
 
-/// A sink that gathers what is put to it in a room, and puts it to the sink beneath where the room
-/// has no place for more, or at a flush. A piece that is greater than the room is put on as it is.
-/// Gathering takes no memory.
+/// A sink that buffers what is put to it, and puts it to the inner sink when the buffer has no
+/// place for more, or at a flush. A piece larger than the buffer is put on as it is. Buffering
+/// takes no memory.
 #[derive(Debug, Drop)]
 pub struct GatheringSink<K> {
     sink: K,
@@ -95,7 +95,7 @@ impl<K> Model for GatheringSink<K> {
 }
 
 impl<K: Sink> GatheringSink<K> {
-    /// Gathers in this room, whatever stands in it.
+    /// Buffers in these bytes, whatever they hold.
     pub fn new(room: Vec<u8>, sink: K) -> GatheringSink<K>
         ensures sink { result.sink ≡ sink }
         ensures room { result.room ≡ vec_len room }

@@ -2,19 +2,19 @@
 //! files are found by name ([`Shelf`]), and where connections come from ([`Wire`]). What reads and
 //! writes a stream is generic over them, so that its contract can speak of the bytes that moved.
 //!
-//! The contracts of the traits say two things. Where an implementation tells its content, they say
+//! The contracts of the traits say two things. Where an implementation shows its contents, they say
 //! which bytes a call moved and what an error leaves. At every implementation they count the calls
-//! that met an outside fault: the count rises, up to the last value of its type, in a call that
-//! fails by the outside, and in no other. Want of memory is an answer of its own, which is no
-//! fault.
+//! that met an I/O error: the count rises, up to the last value of its type, in a call that fails
+//! by an I/O error, and in no other. Running out of memory is an answer of its own, and isn't
+//! counted.
 //!
 //! Each trait has implementations in memory, for tests and for work without an outside: `Memory..`
-//! ones, which meet a fault at the calls that they are told to, and for sources and sinks `Sure..`
-//! ones, which never meet one. A put to one of these sinks may want memory, and so may a fetch that
-//! isn't to fail. All tell their content, and hold nothing back. [`ReadSource`], [`WriteSink`],
-//! [`FileShelf`] and [`TcpWire`] wrap the readers, the writers, the files and the sockets of std, and
-//! tell none: that a file or a socket gave or took these bytes is trusted. A [`GatheringSink`] wraps
-//! any other sink, and holds back what has room.
+//! ones, which meet a fault at the calls whose numbers they are given, and for sources and sinks
+//! `Sure..` ones, which never meet one. A put to one of these sinks may run out of memory, and so
+//! may a fetch that isn't to fail. All show their contents, and hold nothing back. [`ReadSource`],
+//! [`WriteSink`], [`FileShelf`] and [`TcpWire`] wrap the readers, the writers, the files and the
+//! sockets of std, and show none: that a file or a socket gave or took these bytes is trusted. A
+//! [`GatheringSink`] wraps any other sink, and buffers what fits.
 //!
 //! How often the outside was asked is counted too, where asking twice can be seen: the takes that
 //! gave nothing, and the files that were fetched.
@@ -59,27 +59,27 @@ pub use tcp_wire::TcpWire;
 pub use wire::Wire;
 pub use write_sink::WriteSink;
 
-/// The answer of a call that met an outside fault.
+/// The answer of a call that met an I/O error.
 #[derive(Clone, Copy, Debug, PartialEq, Eq)]
 pub struct Failed;
 
 /// Where bytes come from. A caller reads until a take gives none, or fails.
 pub trait Source {
-    /// The bytes that were handed out, where the source tells them.
+    /// The bytes that were read, where the source shows its contents.
     ghost taken: { Self → Option (List ℕ) };
 
-    /// The bytes that are still to come, where the source tells them.
+    /// The bytes that are still to come, where the source shows its contents.
     ghost left: { Self → Option (List ℕ) };
 
-    /// How many calls met an outside fault, up to 2^64 - 1.
+    /// How many calls met an I/O error, up to 2^64 - 1.
     ghost faults: { Self → ℕ };
 
-    /// How many takes gave nothing, up to 2^64 - 1. A caller that asks once more behind the end
+    /// How many takes gave nothing, up to 2^64 - 1. A caller that asks once more after the end
     /// makes whoever types at a terminal end the input twice.
     ghost empty_takes: { Self → ℕ };
 
-    /// Puts the next bytes at the front of the room, and answers how many they are. 0 for a room
-    /// that isn't empty is the end of the input. A take that fails moves nothing, and may be
+    /// Puts the next bytes at the front of the buffer, and answers how many they are. 0 for a
+    /// buffer that isn't empty is the end of the input. A take that fails moves nothing, and may be
     /// followed by one that doesn't.
     fn take(&mut self, room: &mut [u8]) -> Result<usize, Failed>
         ensures within { IfOk result (λ n. n ≤ length room.new) }
@@ -101,26 +101,26 @@ pub trait Source {
 pub enum SinkFault {
     /// The outside failed.
     Failed,
-    /// There was no memory to keep the bytes in.
+    /// Out of memory for the bytes.
     Memory,
 }
 
 /// Where bytes go. A sink may hold back what was put to it: such bytes are written in the order in
 /// which they were put, by later calls, and by a flush at the latest.
 pub trait Sink {
-    /// All that was written, where the sink tells it.
+    /// All that was written, where the sink shows its contents.
     ghost written: { Self → Option (List ℕ) };
 
     /// What was put and isn't written yet.
     ghost held: { Self → List ℕ };
 
-    /// How many calls met an outside fault, up to 2^64 - 1.
+    /// How many calls met an I/O error, up to 2^64 - 1.
     ghost faults: { Self → ℕ };
 
     /// Whether a call may want memory.
     ghost may_want: { Self → Bool };
 
-    /// Takes the whole piece, behind what is held. A refusal may have written the first bytes of
+    /// Takes the whole piece, after what is held. A refusal may have written the first bytes of
     /// both, and drops the others.
     fn put(&mut self, bytes: &[u8]) -> Result<(), SinkFault>
         ensures written { OnOk result (Told (written self.old) (written self.new)
@@ -151,16 +151,16 @@ pub trait Sink {
 pub enum ShelfFault {
     /// The outside failed.
     Failed,
-    /// There was no memory for the file's bytes.
+    /// Out of memory for the file's bytes.
     Memory,
 }
 
 /// Where files stand by name.
 pub trait Shelf {
-    /// The files, where the shelf tells them.
+    /// The files, where the shelf shows its contents.
     ghost files: { Self → Option Store };
 
-    /// How many calls met an outside fault, up to 2^64 - 1.
+    /// How many calls met an I/O error, up to 2^64 - 1.
     ghost faults: { Self → ℕ };
 
     /// How many files were asked for, up to 2^64 - 1. What is fetched twice needn't be the same

@@ -12,7 +12,7 @@ use crate::{Shelf, ShelfFault};
 use std::collections::BTreeMap;
 use std::marker::Model;
 
-/// A shelf of files in memory, which fails where it is told to.
+/// A shelf of files in memory, which fails at the calls whose numbers it is given.
 #[derive(Drop)]
 pub struct MemoryShelf {
     files: BTreeMap<String, Vec<u8>>,

@@ -9,7 +9,7 @@ use crate::{Sink, SinkFault};
 use std::alloc::Global;
 use std::marker::Model;
 
-/// A sink that keeps what is written to it, and fails where it is told to.
+/// A sink that keeps what is written to it, and fails at the calls whose numbers it is given.
 #[derive(Debug, Drop)]
 pub struct MemorySink {
     bytes: Vec<u8>,

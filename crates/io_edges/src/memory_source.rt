@@ -9,8 +9,8 @@ use crate::fault_plan::FaultPlan;
 use crate::{Failed, Source};
 use std::marker::Model;
 
-/// A source over bytes in memory, which gives short pieces and fails where it is told to. A failing
-/// take gives no bytes.
+/// A source over bytes in memory, which gives short pieces and fails at the calls whose numbers it
+/// is given. A failing take gives no bytes.
 #[derive(Debug, Drop)]
 pub struct MemorySource {
     bytes: Vec<u8>,

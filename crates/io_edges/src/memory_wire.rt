@@ -13,8 +13,8 @@ use std::collections::VecDeque;
 use std::marker::Model;
 use unit_streams::Memory;
 
-/// A wire that hands out prepared ends, in their order, to accepts and to connects alike, and fails
-/// where it is told to. A connect where no ends are left fails too.
+/// A wire that gives prepared ends, in their order, to accepts and to connects alike, and fails at
+/// the calls whose numbers it is given. A connect where no ends are left fails too.
 #[derive(Drop)]
 pub struct MemoryWire {
     waiting: VecDeque<(MemorySource, MemorySink)>,
@@ -45,8 +45,8 @@ impl Model for MemoryWire {
 }
 
 impl MemoryWire {
-    /// A wire of these ends. The accepts and connects whose numbers, counted together from 0, are in
-    /// `failing` fail. It takes the memory for what the ended connections leave.
+    /// A wire of these ends. The accepts and connects whose numbers, counted together from 0, are
+    /// in `failing` fail. It takes the memory for what the ended connections leave.
     pub fn new(
         alloc: Global,
         ends: Vec<(MemorySource, MemorySink)>,

@@ -8,7 +8,7 @@ use crate::memory_source::{copy_front, with_take};
 use crate::{Failed, Source};
 use std::marker::Model;
 
-/// A source over bytes in memory that never fails, and gives as much as the room holds.
+/// A source over bytes in memory that never fails, and gives as much as the buffer holds.
 #[derive(Debug, Drop)]
 pub struct SureSource {
     bytes: Vec<u8>,

@@ -13,10 +13,11 @@ use std::net::{Net, OpenListener, OpenStream, Shutdown, SocketAddr, TcpListener,
 use std::time::Duration;
 
 /// A wire over TCP. A place is a host's name or address and a port, as `localhost:808` or
-/// `[::1]:808`; it listens at the place of its first accept, from then on. Sockets send at once what
-/// is put to them (`TCP_NODELAY`), since a session is many small writes. A bind, an accept or a
-/// connect that fails counts as a fault of the wire, and none is tried again; what a connection
-/// meets later, such as a peer that resets it, counts at its ends. What moved isn't told.
+/// `[::1]:808`; it listens at the place of its first accept, from then on. Sockets send at once
+/// what is put to them (`TCP_NODELAY`), since a session is many small writes. A bind, an accept or
+/// a connect that fails counts as a fault of the wire, and none is tried again; what a connection
+/// meets later, such as a peer that resets it, counts at its ends. It doesn't show which bytes
+/// moved.
 #[derive(Drop)]
 pub struct TcpWire<R: Net> {
     rt: R,

@@ -15,16 +15,17 @@ pub trait Wire {
     /// Where the bytes of a connection go.
     type Writer: Sink + Send + Drop;
 
-    /// The connections to come, where the wire tells them.
+    /// The connections to come, where the wire shows its contents.
     ghost waiting: { Self → Option (List (Self.Reader × Self.Writer)) };
 
-    /// What was taken from each ended connection and written to it, where the wire tells it.
+    /// What was taken from each ended connection and written to it, where the wire shows its
+    /// contents.
     ghost closed: { Self → Option (List (List ℕ × List ℕ)) };
 
     /// How many connections are handed out and not yet closed.
     ghost out: { Self → ℕ };
 
-    /// How many calls met an outside fault, up to 2^64 - 1.
+    /// How many calls met an I/O error, up to 2^64 - 1.
     ghost faults: { Self → ℕ };
 
     /// How many faults the ends of ended connections met, up to 2^64 - 1.

@@ -63,8 +63,8 @@ pub fn put_integer<K: Sink>(n: i128, sink: &mut K) -> Result<(), SinkFault>
     }
 }
 
-/// Puts a text as it is and a number right behind it, in two puts. A refusal has put the first
-/// bytes. No memory is taken but the sink's.
+/// Puts a text as it is and a number right after it, in two puts. On an error the first bytes were
+/// put. No memory is taken but the sink's.
 #[inline(always)]
 pub fn put_labelled<K: Sink>(label: &str, n: u64, sink: &mut K) -> Result<(), SinkFault>
     ensures { Puts K.written K.held K.faults K.may_want sink.old sink.new

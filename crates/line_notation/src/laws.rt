@@ -16,12 +16,12 @@ pub fn read_back()
 {}
 
 /// Documents are read exactly where the lines are theirs, in any spelling, with empty lines before,
-/// between and behind them.
+/// between and after them.
 pub fn documents()
     ensures { AreOfWhatTheyBring }
 {}
 
-/// Behind lines that aren't refused a reader stands as they say: they are the lines of whole
+/// After lines that aren't refused a reader stands as they say: they are the lines of whole
 /// documents, and those of the unfinished one, as many as it counts. A line that is refused is the
 /// first such, and the refusal has its number. Each line leads on from where those before it lead.
 pub fn standing()

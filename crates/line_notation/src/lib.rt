@@ -9,7 +9,7 @@
 //! in `specs/Standing.antt`, by the positions of `nbfx_values`.
 //!
 //! `print` puts a document's lines and `quote` a quoted text, byte for byte. A line goes in several
-//! puts: where a put is dear, give a sink that gathers, as `io_edges::GatheringSink` does. They
+//! puts: where a put is expensive, give a buffering sink, such as `io_edges::GatheringSink`. They
 //! take no memory but the sink's. A `LineReader` reads line after line, and is proved to answer
 //! what the definitions bring: a document at its last line, or the first refusal, with the line's
 //! number. `laws` has that reading what was put gives the document back, that documents come from

@@ -316,8 +316,8 @@ fn put_items<K: Sink>(items: &[Item], sink: &mut K) -> Result<(), SinkFault>
 }
 
 /// Puts the lines of a document, each with its line feed. A line goes in several puts: where a put
-/// is dear, give a sink that gathers, as `io_edges::GatheringSink` does. A refusal has put the
-/// first bytes of them. No memory is taken but the sink's.
+/// is expensive, give a buffering sink, such as `io_edges::GatheringSink`. On an error the first
+/// bytes of them were put. No memory is taken but the sink's.
 pub fn print<K: Sink>(doc: &Doc, sink: &mut K) -> Result<(), SinkFault>
     ensures { Puts K.written K.held K.faults K.may_want sink.old sink.new
         (items_text doc.now) result }

@@ -40,8 +40,8 @@ pub fn put_bytes<K: Sink>(bytes: &[u8], sink: &mut K) -> Result<(), SinkFault>
     sink.put(bytes)
 }
 
-/// Puts a text as it is, by one put. A refusal has put the first bytes of it. No memory is taken but
-/// the sink's.
+/// Puts a text as it is, by one put. A refusal has put the first bytes of it. No memory is taken
+/// but the sink's.
 #[inline(always)]
 pub fn put_plain<K: Sink>(text: &str, sink: &mut K) -> Result<(), SinkFault>
     ensures { Puts K.written K.held K.faults K.may_want sink.old sink.new text.now result }
@@ -197,8 +197,8 @@ pub fn put_within_quotes<K: Sink>(text: &str, sink: &mut K) -> Result<(), SinkFa
 
 /// Puts a text in double quotes. A printable byte of ASCII stands as it is, and any other, the
 /// quote and the backslash as a backslash and two hexadecimal digits. The text goes in several
-/// puts: where a put is dear, give a sink that gathers, as `io_edges::GatheringSink` does. A
-/// refusal has put the first bytes. No memory is taken but the sink's.
+/// puts: where a put is expensive, give a buffering sink, such as `io_edges::GatheringSink`. On an
+/// error the first bytes were put. No memory is taken but the sink's.
 pub fn quote<K: Sink>(text: &str, sink: &mut K) -> Result<(), SinkFault>
     ensures { Puts K.written K.held K.faults K.may_want sink.old sink.new (quoted text.now) result }
 {
@@ -294,8 +294,8 @@ pub fn put_spaced_words<K: Sink>(words: &[Word], sink: &mut K) -> Result<(), Sin
     Ok(())
 }
 
-/// Puts words, one right behind the other, in several puts. A refusal has put the first bytes of
-/// them. No memory is taken but the sink's.
+/// Puts words, one right after the other, in several puts. On an error the first bytes of them were
+/// put. No memory is taken but the sink's.
 pub fn put_joined<K: Sink>(words: &[Word], sink: &mut K) -> Result<(), SinkFault>
     requires { All IsPuttable words.now }
     ensures { Puts K.written K.held K.faults K.may_want sink.old sink.new
@@ -307,8 +307,8 @@ pub fn put_joined<K: Sink>(words: &[Word], sink: &mut K) -> Result<(), SinkFault
     Ok(())
 }
 
-/// Puts a line: a keyword, words, each behind a space, and a line feed, in several puts. A refusal
-/// has put the first bytes. No memory is taken but the sink's.
+/// Puts a line: a keyword, words, each after a space, and a line feed, in several puts. On an error
+/// the first bytes were put. No memory is taken but the sink's.
 pub fn put_words<K: Sink>(keyword: &str, words: &[Word], sink: &mut K) -> Result<(), SinkFault>
     requires { All IsPuttable words.now }
     ensures { Puts K.written K.held K.faults K.may_want sink.old sink.new

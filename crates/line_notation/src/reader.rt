@@ -12,9 +12,9 @@ use std::marker::Model;
 /// What a line did to the document that is read.
 #[derive(Debug, Drop)]
 pub enum LineStep {
-    /// The document isn't whole, or none has begun.
+    /// The document is incomplete, or none has begun.
     More,
-    /// The document is whole.
+    /// The document is complete.
     Done(Doc),
 }
 
@@ -41,7 +41,7 @@ pub enum LineKind {
 pub enum LineFault {
     /// The number of the line, from 1, and why it is refused.
     Bad { line: u64, kind: LineKind },
-    /// Memory ran out.
+    /// Out of memory.
     Memory,
 }
 
@@ -69,8 +69,8 @@ impl Refusal {
 }
 
 /// Reads documents out of lines, of which each is given without its line feed. Contracts see where
-/// it stands: behind how many lines, with which items and which array of the unfinished document,
-/// or refused.
+/// it stands: after how many lines, with which items and which array of the unfinished document, or
+/// refused.
 #[derive(Debug, Drop)]
 pub struct LineReader {
     alloc: Global,
@@ -120,7 +120,7 @@ impl LineReader {
         self.lines + 1
     }
 
-    /// Hands back a document that is done with, whose room serves the next one.
+    /// Takes back a document that is no longer needed; the next one reuses its memory.
     pub fn reuse(&mut self, doc: Doc)
         ensures { self.new ≡ self.old }
     {

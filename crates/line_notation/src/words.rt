@@ -14,7 +14,7 @@ use unit_streams::Memory;
 pub enum Stop {
     /// It has none of the forms of a line.
     NotALine,
-    /// Memory ran out.
+    /// Out of memory.
     Memory,
 }
 

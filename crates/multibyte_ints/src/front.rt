@@ -7,7 +7,7 @@ use crate::integer::{IntReader, IntStep};
 /// What stands at the front of some bytes.
 #[derive(Clone, Copy, Debug, PartialEq, Eq)]
 pub enum IntRead {
-    /// An integer has begun.
+    /// An incomplete integer.
     More,
     /// An integer of so many bytes.
     Done { value: u32, used: usize },

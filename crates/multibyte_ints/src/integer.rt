@@ -12,7 +12,7 @@ const GREATEST_FIFTH: u8 = 7;
 pub enum IntStep {
     /// Further bytes follow.
     More,
-    /// The integer is whole.
+    /// The integer is complete.
     Done(u32),
     /// A fifth byte was above 7, now or earlier: no integer begins so.
     Bad,
@@ -47,7 +47,8 @@ impl IntReader {
         }
     }
 
-    /// Takes one byte. After `Done` the next byte begins an integer; after `Bad` each byte is `Bad`.
+    /// Takes one byte. After `Done` the next byte begins an integer; after `Bad` each byte is
+    /// `Bad`.
     pub fn feed(&mut self, b: u8) -> IntStep
         ensures answers { (p : List ℕ) → StandsFor self.old p → AnswersAt (p ++ b ∷ []) result }
         ensures done { (p : List ℕ) (n : ℕ) → StandsFor self.old p

@@ -7,14 +7,15 @@ ghost use Rattle.multibyte_ints.specs.Integer.{int_at};
 ghost use Rattle.multibyte_ints.specs.Text.{string_at};
 ghost use Rattle.multibyte_ints.specs.Laws.{IntegersAreSpellings, BegunGoesOn, WrongAtFifth, NoSpellingGoesOn, ShortestIsSpelling, ShortestIsAlone, TextsAreStrings, BadByInteger, BadByLength, BadByText, NoStringGoesOn, WrittenIsString};
 
-/// An integer is known by its own bytes: it is wrong or whole at the byte that shows it, whatever
-/// follows, and has only begun before that.
+/// An integer depends only on its own bytes: it is wrong or complete at the byte that shows it,
+/// whatever follows, and has only begun before that.
 pub fn integer_fronts()
     ensures { ReadsFront int_at }
 {}
 
-/// The integers that are read are those that are spelled, and no spelling begins a longer one. One has
-/// begun where a spelling goes on so, and is wrong at a fifth byte above 7 and for no other cause.
+/// The integers that are read are those that are spelled, and no spelling begins a longer one. It
+/// is incomplete where a spelling continues it, and wrong at a fifth byte above 7 and for no other
+/// cause.
 pub fn integer_spellings()
     ensures read { IntegersAreSpellings }
     ensures begun { BegunGoesOn }
@@ -28,7 +29,7 @@ pub fn shortest_spelling()
     ensures alone { ShortestIsAlone }
 {}
 
-/// A string is known by its own bytes, as an integer is.
+/// A string depends only on its own bytes, as an integer is.
 pub fn string_fronts()
     ensures { (limit : ℕ) → ReadsFront (string_at limit) }
 {}

@@ -14,13 +14,13 @@ use std::str;
 pub enum StringStep {
     /// The whole piece was used, and further bytes follow.
     More,
-    /// The string is whole.
+    /// The string is complete.
     Done,
     /// The length is no integer.
     BadInt,
     /// The length is above the limit.
     TooLong,
-    /// The text is whole, and isn't UTF-8.
+    /// The text is complete, and isn't UTF-8.
     BadUtf8,
 }
 
@@ -30,7 +30,7 @@ enum Part {
     Length,
     /// Text of which so many bytes are still to come.
     Text(usize),
-    /// Nothing: the string is whole or wrong.
+    /// Nothing: the string is complete or wrong.
     Answered(StringStep),
 }
 
@@ -64,8 +64,8 @@ impl StringReader {
         })
     }
 
-    /// Takes the bytes of the piece that belong to the string, and says how many they are. After any
-    /// answer but `More` it takes none and repeats the answer, until `restart`.
+    /// Takes the bytes of the piece that belong to the string, and says how many they are. After
+    /// any answer but `More` it takes none and repeats the answer, until `restart`.
     #[tactic(auto, unfolding(crate::specs::TextReader::limit_of))]
     pub fn feed(&mut self, piece: &[u8]) -> (usize, StringStep)
         ensures within { result.0 ≤ length piece.now }

@@ -18,7 +18,7 @@ use std::alloc::Global;
 /// Reads payloads of one direction, one after the other, in whatever pieces their bytes come: nodes
 /// of MC-NBFX, whose identifiers name strings of MC-NBFS's static dictionary and, under
 /// [`Kind::Session`], of the tables of MC-NBFSE with which payloads begin. It holds of a payload
-/// the items of its whole units, and the bytes of the unit that isn't whole.
+/// the items of its whole units, and the bytes of the unit that is incomplete.
 #[derive(Drop)]
 pub struct Decoder<'s> {
     units: UnitReader<'s>,
@@ -53,9 +53,9 @@ impl<'s> Decoder<'s> {
     }
 
     /// Takes the next bytes of the payload, which with those before are no more than the payload
-    /// quota. A refusal comes at the first byte that shows it. After it, and after want of memory,
-    /// the answer is the same from then on: the payload's items and bytes are given up, and its
-    /// strings that were whole stay in the table.
+    /// quota. A refusal comes at the first byte that shows it. After it, and after running out of
+    /// memory, the answer is the same from then on: the payload's items and bytes are given up, and
+    /// its strings that were whole stay in the table.
     pub fn feed(&mut self, piece: &[u8]) -> Result<(), DecodeFault>
         requires { failure_of self.old ≡ None
             → taken_of self.old + length piece.now ≤ (settings_of self.old).limits.payload }
@@ -80,8 +80,8 @@ impl<'s> Decoder<'s> {
         }
     }
 
-    /// Says that the payload is whole, and hands out its document. The next payload may come then.
-    /// Where its root hasn't ended it is refused as `DocumentCut`, and fails for good.
+    /// Says that the payload is complete, and returns its document. Then the next payload may
+    /// follow. Where its root hasn't ended it is refused as `DocumentCut`, and fails for good.
     pub fn finish(&mut self) -> Result<Doc, DecodeFault>
         ensures answers { WhereItStands self.old (λ strings p.
             FinishAnswers (settings_of self.old) strings p result) }
@@ -117,7 +117,7 @@ impl<'s> Decoder<'s> {
         Err(self.fail(fault))
     }
 
-    /// Hands back a document that is done with, whose room serves the next payload.
+    /// Takes back a document that is no longer needed; the next payload reuses its memory.
     pub fn reuse(&mut self, doc: Doc)
         ensures stands { WhereItStands self.old (StandsFor self.new) }
         ensures failed { WhereItFailed self.old (FailedBehind self.new) }
@@ -126,7 +126,7 @@ impl<'s> Decoder<'s> {
         self.units.reuse(doc);
     }
 
-    /// What it holds of the payload: in bytes, the unit that isn't whole, and the content of the
+    /// What it holds of the payload: in bytes, the unit that is incomplete, and the content of the
     /// items.
     #[tactic(auto, unfolding(crate::specs::Standing::held_of, crate::specs::Standing::content_held_of))]
     pub fn kept(&self) -> Kept
@@ -157,8 +157,8 @@ impl<'s> Decoder<'s> {
     }
 
     /// How many bytes of the payload it has taken; 0 before the first one. Of a payload that is
-    /// refused it is the offset at which the refused unit begins, and after want of memory the one
-    /// at which the unit begins that came next.
+    /// refused it is the offset at which the refused unit begins, and after running out of memory
+    /// the one at which the unit begins that came next.
     pub fn taken(&self) -> u32
         ensures counted { result < 2 ^ 32 - 1 → result ≡ taken_of self.now }
         ensures stands { WhereItStands self.now (λ strings p. result ≡ length p) }
@@ -169,7 +169,7 @@ impl<'s> Decoder<'s> {
         self.units.from().saturating_add(begun)
     }
 
-    /// How many elements are open behind the whole units, the root among them.
+    /// How many elements are open after the whole units, the root among them.
     pub fn depth(&self) -> u32
         ensures open { WhereItStands self.now (λ strings p.
             result ≡ opened_by 0 (situation_of (settings_of self.now) strings p).items) }

@@ -18,7 +18,7 @@ pub enum DecodeFault {
         reason: Reason,
         shown_by: u32,
     },
-    /// There was no memory for it.
+    /// Out of memory.
     Memory,
 }
 

@@ -27,8 +27,8 @@ pub fn situations()
     ensures texts { StringsStayTexts }
 {}
 
-/// A payload stands where its bytes so far have led it. No unit begins a longer one that may come
-/// in its place.
+/// The state of a payload is where its bytes so far have led it. No unit begins a longer one that
+/// may come in its place.
 pub fn units()
     ensures standings_go_on { (x : Settings) (strings : List (List ℕ))
         → StandingsGoOn (payload x strings) }
@@ -36,8 +36,8 @@ pub fn units()
         → NoUnitGoesOn (payload x strings) }
 {}
 
-/// A piece is answered by the first refusal that a byte of it brings. Where pieces are cut changes
-/// nothing, and a payload's history is what a reader is answered, piece by piece.
+/// A piece is answered by the first refusal that a byte of it brings. How the bytes are cut into
+/// pieces changes nothing, and a payload's history is what a reader is answered, piece by piece.
 pub fn answers()
     ensures are_first { (x : Settings) (strings : List (List ℕ))
         → AnswersAreFirst (payload x strings) }
@@ -67,10 +67,10 @@ pub fn reasons()
 {}
 
 /// What [`Decoder::feed`](crate::Decoder::feed) answers: a piece is refused just where some of its
-/// bytes show a reason behind those before, and no fewer show any; it goes on where none do. Where
+/// bytes show a reason after those before, and no fewer show any; it goes on where none do. Where
 /// no bytes of a payload have shown any, [`Decoder::finish`](crate::Decoder::finish) gives a
 /// document exactly where the bytes are a payload of that document, within what is admitted, and
-/// its strings are those that stand behind it.
+/// its strings are those that stand after it.
 pub fn reading()
     ensures offends { OffendsWhereShown }
     ensures goes_on { GoesOnWhereNothing }

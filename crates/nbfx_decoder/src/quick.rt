@@ -1,4 +1,5 @@
-//! The records that come most, each kind by a way of its own, where they are whole and in order.
+//! The records that come most, each read by the fast path for its type where it is complete and in
+//! order.
 
 ghost use Rattle.std.specs.Prelude.{◌≡◌, ℕ, ◌+◌, ◌<◌, ◌^◌, ◌↔◌, true, List, length};
 ghost use Rattle.nbfx_records.specs.Beginning.{BeginsKind, MayStand};
@@ -26,9 +27,9 @@ impl UnitReader<'_> {
         may_stand(self.place(), kind)
     }
 
-    /// Reads the record at the front of the bytes, and puts what it means behind the items, if it is
-    /// whole, in order and of one of the kinds that come most. Each of these has a way of its own, by
-    /// its parts. Else nothing changes.
+    /// Reads the record at the front of the bytes, and puts what it means after the items, if it is
+    /// complete, in order and of one of the kinds that come most. Each of these has a fast path of
+    /// its own. Else nothing changes.
     #[inline(always)]
     pub(crate) fn read_quickly(&mut self, bytes: &[u8]) -> Option<usize>
         requires few { self.old.from + length bytes.now < 2 ^ 32 }

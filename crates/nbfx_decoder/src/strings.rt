@@ -17,7 +17,7 @@ pub(crate) enum StringRead<'a> {
     Done { text: &'a str, used: usize },
 }
 
-/// A length's place: how many bytes it has, and how many the text behind it has.
+/// A length's place: how many bytes it has, and how many the text after it has.
 #[derive(Clone, Copy, Debug)]
 struct Head {
     used: usize,

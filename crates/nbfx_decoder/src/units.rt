@@ -30,11 +30,11 @@ use unit_streams::Memory;
 pub(crate) enum UnitRead {
     /// A unit has begun, which wants so many bytes in all at least.
     More { wants: usize },
-    /// A unit of so many bytes, behind which the reader is now.
+    /// A unit of so many bytes, after which the reader is now.
     Done { used: usize },
 }
 
-/// Where a payload stands behind whole units.
+/// Where a payload stands after whole units.
 #[derive(Drop)]
 pub(crate) struct UnitReader<'s> {
     pub(crate) alloc: Global,
@@ -106,7 +106,7 @@ impl<'s> UnitReader<'s> {
         }
     }
 
-    /// Goes behind a unit of so many bytes.
+    /// Goes past a unit of so many bytes.
     #[inline(always)]
     pub(crate) fn pass(&mut self, used: usize) -> UnitRead
         requires { self.old.from + used < 2 ^ 32 }
@@ -181,7 +181,7 @@ impl<'s> UnitReader<'s> {
         }
     }
 
-    /// Puts what a node means behind the items that names two texts at most: they are copied before
+    /// Puts what a node means after the items that names two texts at most: they are copied before
     /// they are judged.
     #[inline(always)]
     pub(crate) fn add_quickly(&mut self, node: Node) -> bool
@@ -260,7 +260,7 @@ impl<'s> UnitReader<'s> {
         }
     }
 
-    /// Whether items that count so much may come behind the others.
+    /// Whether items that count so much may come after the others.
     #[inline(always)]
     pub(crate) fn has_room(&self, size: u64) -> bool
         ensures room { result ≡ true → (n : ℕ) → size ≡ capped n

@@ -164,7 +164,7 @@ impl<'s> Encoder<'s> {
         Ok(size as u32)
     }
 
-    /// Takes back the strings behind a mark.
+    /// Takes back the strings after a mark.
     pub(crate) fn take_back(&mut self, mark: Mark)
         requires { IsMarkOf mark (names_in self.old).strings }
         ensures names { names_in self.new ≡ record (names_in self.old) {

@@ -16,7 +16,7 @@ pub enum EncodeFault {
     NoIdForQName { item: u64 },
     /// The payload has this many bytes, which are more than the payload quota admits.
     TooLarge { size: u64 },
-    /// There was no memory.
+    /// Out of memory.
     Memory,
 }
 

@@ -1,4 +1,4 @@
-//! The items of a document in their chosen spelling, one behind the other.
+//! The items of a document in their chosen spelling, one after the other.
 
 ghost use Rattle.std.specs.Prelude.{◌≡◌, ℕ, ◌+◌, ◌<◌, ◌≤◌, ◌^◌, ◌∷◌, ◌++◌, List, Err, IfErr, IfNone, IfOk, IfSome, IsErrOf, Ok, IsTrue, OnOk, drop, flat_map, length};
 ghost use Rattle.std.specs.List.{list_all};

@@ -4,7 +4,7 @@
 ghost use Rattle.nbfx_encoder.specs.Laws.{ChosenIsPayload, SendsOneMore, WritesWhatFits};
 
 /// What is written of a document that fits is a payload of it, within the limits of any reader that
-/// admits as much, and leaves the strings that such a reader has behind it. A document is written
+/// admits as much, and leaves the strings that such a reader has after it. A document is written
 /// exactly where it fits.
 pub fn payloads()
     ensures payload { ChosenIsPayload }

@@ -48,7 +48,7 @@ pub enum SendFault {
     Refused(EncodeFault),
 }
 
-/// The sending half of a session, behind its preamble.
+/// The sending half of a session, after its preamble.
 #[derive(Drop)]
 pub struct Sender<'s> {
     pub(crate) encoder: Encoder<'s>,
@@ -127,9 +127,9 @@ impl<'s> Sender<'s> {
 
     /// Sends a document in an envelope: appends it, and carries the session's strings on. Any
     /// reader whose quotas admit as much reads the document from its payload, and has the same
-    /// strings afterwards. In singleton mode the envelope is of one chunk, and no other message may follow. A message at
-    /// the wrong moment is refused before the document is judged. Where it isn't sent the half and
-    /// its output are as before.
+    /// strings afterwards. In singleton mode the envelope is of one chunk, and no other message may
+    /// follow. A message at the wrong moment is refused before the document is judged. Where it
+    /// isn't sent the half and its output are as before.
     pub fn message(&mut self, doc: &Doc, out: &mut Vec<u8>) -> Result<(), SendFault>
         ensures ready { OnOk result (state_in self.old ≡ SendState.Ready) }
         ensures written { OnOk result (Sends

@@ -32,7 +32,7 @@ pub struct CellsPart<'a> {
     pub bytes: &'a [u8],
 }
 
-/// An array behind its type byte.
+/// An array after its type byte.
 #[derive(Clone, Copy, Debug)]
 pub struct ArrayPart<'a> {
     pub element: NamedPart<'a>,

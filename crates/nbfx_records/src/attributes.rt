@@ -19,7 +19,7 @@ use crate::type_bytes::record_kind;
 #[derive(Clone, Copy, Debug)]
 pub enum ValuePart<'a> {
     One(ScalarPart<'a>),
-    /// The bytes of a list behind its type byte, with those of its end.
+    /// The bytes of a list after its type byte, with those of its end.
     List(&'a [u8]),
 }
 

@@ -15,8 +15,8 @@ use std::alloc::Global;
 use std::marker::Model;
 use unit_streams::Memory;
 
-/// The bytes of a record that has begun, and what was seen of them, so that what is whole of a list
-/// isn't read again. Contracts see the bytes.
+/// The bytes of a record that has begun, and what was seen of them, so that what is complete of a
+/// list isn't read again. Contracts see the bytes.
 #[derive(Drop)]
 pub struct BegunBytes {
     bytes: Vec<u8>,
@@ -61,7 +61,7 @@ impl BegunBytes {
         self.bytes.len()
     }
 
-    /// Puts more bytes behind the others.
+    /// Puts more bytes after the others.
     pub fn keep(&mut self, more: &[u8]) -> Result<(), Memory>
         ensures kept { OnOk result (self.new ≡ self.old ++ more.now) }
         ensures unchanged { OnErr result (self.new ≡ self.old) }
@@ -70,7 +70,7 @@ impl BegunBytes {
         Ok(())
     }
 
-    /// Takes the bytes out. The room stays.
+    /// Takes the bytes out. Their memory stays allocated.
     pub fn clear(&mut self)
         ensures { self.new ≡ [] }
     {
@@ -90,8 +90,8 @@ impl BegunBytes {
         shape_at(place, self.bytes.as_slice(), &mut resume)
     }
 
-    /// Sees how far the record is whole that they begin, so that no long list is gone through again
-    /// for each piece of it.
+    /// Sees how far the record is complete that they begin, so that no long list is gone through
+    /// again for each piece of it.
     pub fn look(&mut self, place: NodePlace)
         ensures { self.new ≡ self.old }
     {

@@ -75,7 +75,7 @@ pub fn scalar(alloc: Global, part: &ScalarPart) -> Result<RawScalar, NodeFault>
     }
 }
 
-/// The first value of a list, and the bytes behind it.
+/// The first value of a list, and the bytes after it.
 pub fn next_value(list: &[u8]) -> Option<(ScalarPart<'_>, &[u8])>
     requires { IsList list.now }
     ensures none { IfNone result (listed list.now ≡ []) }
@@ -106,7 +106,7 @@ fn are_texts(list: &[u8]) -> bool
     true
 }
 
-/// One value, where others come behind it: a text of them that isn't UTF-8 goes before a wrong
+/// One value, where others come after it: a text of them that isn't UTF-8 goes before a wrong
 /// value.
 pub fn scalar_before(alloc: Global, part: &ScalarPart, rest: &[u8]) -> Result<RawScalar, NodeFault>
     requires { IsList rest.now }
@@ -224,7 +224,7 @@ fn attribute_has_text(part: &AttributePart) -> bool
     }
 }
 
-/// The first attribute of an array's element, and the bytes behind it.
+/// The first attribute of an array's element, and the bytes after it.
 pub fn next_part(parts: &[u8]) -> Option<(AttributePart<'_>, &[u8])>
     requires { AreParts parts.now }
     ensures none { IfNone result (parts_of parts.now ≡ []) }

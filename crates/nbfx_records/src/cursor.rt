@@ -1,5 +1,5 @@
-//! The smallest parts of a record, each read from an offset on: it is whole up to another one, or
-//! it is wrong, or the bytes end within it.
+//! The smallest parts of a record, each read from an offset on: it is complete up to another one,
+//! or it is wrong, or the bytes end within it.
 
 ghost use Rattle.std.specs.Prelude.{◌≡◌, ◌^◌, ◌<◌, ◌≤◌, IfOk, length};
 ghost use Rattle.unit_streams.specs.Parts.{a_byte, some_bytes};
@@ -10,7 +10,7 @@ ghost use Rattle.nbfx_records.specs.Shapes.{a_string, an_integer};
 use crate::nodes::RecordFault;
 use multibyte_ints::{IntReader, IntStep};
 
-/// Why a part isn't whole.
+/// Why a part is incomplete.
 #[derive(Clone, Copy, Debug, PartialEq, Eq)]
 pub enum Stop {
     /// The bytes end within it: so many in all are wanted at least.

@@ -36,7 +36,7 @@ pub enum TextKind {
     QNameDictionary,
 }
 
-/// How a record tells a prefix.
+/// How a record spells a prefix.
 #[derive(Clone, Copy, Debug, PartialEq, Eq)]
 pub enum PrefixForm {
     /// There is none.
@@ -47,7 +47,7 @@ pub enum PrefixForm {
     Prefixed,
 }
 
-/// How a record tells a name.
+/// How a record spells a name.
 #[derive(Clone, Copy, Debug, PartialEq, Eq)]
 pub enum NameForm {
     /// A string.

@@ -7,8 +7,8 @@ ghost use Rattle.nbfx_records.specs.Reading.{node_at};
 ghost use Rattle.nbfx_records.specs.WritingLaws.{MeaningsStay, RecordsJoin, RecordsStay, SaidMayBeWritten, StringsAreOnce, WrittenAreRecords, WrittenAreStrings, WrittenIsTable};
 ghost use Rattle.nbfx_records.specs.Laws.{NothingIsBegun, RecordsAreRead, NoRecordGoesOn, RecordsAreValid, WrongByPart, WrongByText, WrongByValue, ChosenIsRecord, ChosenIsRead, ChosenIsShortest, MeaningsAreFound, NothingWithoutNames, MeansOnce, MeaningsAreValid};
 
-/// A record is known by its own bytes: it is wrong or whole at the byte that shows it, whatever
-/// follows, and has only begun before that.
+/// A record depends only on its own bytes: it is wrong or complete at the byte that shows it,
+/// whatever follows, and has only begun before that.
 pub fn record_fronts()
     ensures reads { (place : NodePlace) → ReadsFront (node_at place) }
     ensures nothing { NothingIsBegun }
@@ -53,16 +53,16 @@ pub fn meanings()
     ensures writable { SaidMayBeWritten }
 {}
 
-/// Records one behind the other are records of the items of all, also where strings are appended.
-/// So are those that are written of nodes.
+/// Records one after the other are records of the items of all, also where strings are appended. So
+/// are those that are written of nodes.
 pub fn joined_records()
     ensures join { RecordsJoin }
     ensures stay { RecordsStay }
     ensures written { WrittenAreRecords }
 {}
 
-/// Strings one behind the other are strings of one list of texts. Those that are written of texts
-/// are strings of them, and behind the number of their bytes a payload's table of them.
+/// Strings one after the other are strings of one list of texts. Those that are written of texts
+/// are strings of them, and after the number of their bytes a payload's table of them.
 pub fn joined_strings()
     ensures once { StringsAreOnce }
     ensures written { WrittenAreStrings }

@@ -1,11 +1,11 @@
 //! The records of MC-NBFX, the binary form of an XML infoset that WCF's net.tcp carries: elements,
 //! attributes, declarations, comments, texts of each kind, arrays, ends.
 //!
-//! The one idea: a record is made of parts, each of which tells what comes behind it.
-//! `specs/Shapes` says which shape stands at the front of some bytes, part by part, and is done
-//! with a type byte or a length where it is read; `specs/Contents` judges what a whole shape says
-//! and gives its [`Node`]. `specs/Records` says apart from that what the bytes of each node are,
-//! one row for each record, and `laws` that both are one.
+//! The one idea: a record is made of parts, each of which says what follows it. `specs/Shapes` says
+//! which shape stands at the front of some bytes, part by part, and is done with a type byte or a
+//! length where it is read; `specs/Contents` judges what a whole shape says and gives its [`Node`].
+//! `specs/Records` says apart from that what the bytes of each node are, one row for each record,
+//! and `laws` that both are one.
 #![tactic(auto)]
 
 mod arrays;

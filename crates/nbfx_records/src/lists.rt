@@ -1,4 +1,4 @@
-//! Lists: values one behind the other, and an end.
+//! Lists: values one after the other, and an end.
 
 ghost use Rattle.std.specs.Prelude.{◌≡◌, ◌≤◌, IfOk, length};
 ghost use Rattle.nbfx_records.specs.Asked as asked;
@@ -103,7 +103,7 @@ pub fn list_turn_at(
     turn_of(holder, record_kind(byte), bytes, at)
 }
 
-/// A list behind its type byte: its bytes with those of its end, and whether the element that holds
+/// A list after its type byte: its bytes with those of its end, and whether the element that holds
 /// it ends.
 #[derive(Clone, Copy, Debug)]
 pub struct ListPart<'a> {
@@ -111,7 +111,7 @@ pub struct ListPart<'a> {
     pub closes: bool,
 }
 
-/// A list behind its type byte. What was seen of it is kept in `resume`.
+/// A list after its type byte. What was seen of it is kept in `resume`.
 #[inline(never)]
 pub fn list_at<'a>(
     holder: ListHolder,

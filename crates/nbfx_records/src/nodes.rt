@@ -146,7 +146,7 @@ pub enum RecordFault {
 pub enum NodeFault {
     /// This is wrong with its record.
     Record(RecordFault),
-    /// There was no memory.
+    /// Out of memory.
     Memory,
 }
 

@@ -1,7 +1,7 @@
 //! Records as they are written, from parts that lie elsewhere: each in its chosen spelling.
 //!
 //! Each function appends. Where memory runs out, the bytes before stay, and the first of those that
-//! were to be appended may stand behind them: who puts several records takes them all back.
+//! were to be appended may stand after them: who puts several records takes them all back.
 
 ghost use Rattle.std.specs.Prelude.{◌≡◌, ◌∷◌, ◌<◌, ◌^◌, IsTrue, flat_map, length};
 ghost use Rattle.std.specs.List.{list_all};

@@ -16,9 +16,9 @@ use std::alloc::Global;
 /// What a piece led to.
 #[derive(Debug, Drop)]
 pub enum NodeStep {
-    /// No record is whole yet.
+    /// No record is complete yet.
     More,
-    /// A record is whole.
+    /// A record is complete.
     Done(Node),
 }
 
@@ -49,11 +49,11 @@ impl NodeReader {
         }
     }
 
-    /// Reads on with a piece, up to the byte that makes a record whole, and answers how many bytes
-    /// of the piece it used, and the node of the record. Where none is whole yet it has used them
+    /// Reads on with a piece, up to the byte that completes a record, and answers how many bytes of
+    /// the piece it used, and the node of the record. Where none is complete yet it has used them
     /// all. A record that may not stand at this place is a fault; `place` is to be the same for all
-    /// pieces of one record. After a fault, and after want of memory, it holds no bytes, and the
-    /// answer is the same from then on.
+    /// pieces of one record. After a fault, and after running out of memory, it holds no bytes, and
+    /// the answer is the same from then on.
     pub fn feed(&mut self, piece: &[u8], place: NodePlace) -> Result<(usize, NodeStep), NodeFault>
         requires { failure_of self.old ≡ None → node_at place (begun_of self.old) ≡ begun }
         ensures answers { failure_of self.old ≡ None

@@ -1,6 +1,6 @@
 //! How far a record was seen to be whole, so that it needn't be looked at again from its beginning.
 
-/// How far the bytes of a record that isn't whole were looked at: positions alone.
+/// How far the bytes of a record that is incomplete were looked at: positions alone.
 #[derive(Clone, Copy, Debug)]
 pub struct Resume {
     // A list that begins here goes on there.

@@ -17,14 +17,14 @@ use std::alloc::Global;
 use std::marker::Model;
 use unit_streams::Memory;
 
-/// Why an item wasn't put behind those before it.
+/// Why an item wasn't put after those before it.
 #[derive(Clone, Copy, Debug, PartialEq, Eq)]
 pub enum PushFault {
     /// The item may not stand there.
     OutOfPlace,
     /// The items would have more content than they may.
     TooMuchContent,
-    /// Memory ran out.
+    /// Out of memory.
     Memory,
 }
 
@@ -113,7 +113,7 @@ impl DocBuilder {
         self.measures.content
     }
 
-    /// Puts one more item behind the others. A fault drops it and leaves the others.
+    /// Puts one more item after the others. A fault drops it and leaves the others.
     pub fn push(&mut self, item: Item) -> Result<(), PushFault>
         requires { IsTrue (is_valid_item item) }
         ensures pushed { OnOk result (self.new ≡ self.old ++ item ∷ []) }
@@ -125,7 +125,7 @@ impl DocBuilder {
         self.push_within(u64::MAX, item)
     }
 
-    /// Puts one more item behind the others, if their content is at most this then. A fault drops it
+    /// Puts one more item after the others, if their content is at most this then. A fault drops it
     /// and leaves the others.
     #[inline(always)]
     pub fn push_within(&mut self, most: u64, item: Item) -> Result<(), PushFault>
@@ -154,7 +154,7 @@ impl DocBuilder {
         Ok(())
     }
 
-    /// Puts a text and the end of the element that holds it behind the other items, if their content
+    /// Puts a text and the end of the element that holds it after the other items, if their content
     /// is at most this then. A fault drops the text and leaves the others.
     #[inline(always)]
     pub fn push_last_text(&mut self, most: u64, value: Value) -> Result<(), PushFault>
@@ -201,8 +201,8 @@ impl DocBuilder {
         Some(doc)
     }
 
-    /// Begins another document, in the room of one that is done with. What the builder had is
-    /// dropped.
+    /// Begins another document, which reuses the memory of one that is no longer needed. What the
+    /// builder had is dropped.
     pub fn begin_in(&mut self, doc: Doc)
         ensures { self.new ≡ [] }
     {

@@ -17,7 +17,7 @@ pub fn one_number_one_reason(first: &Reason, second: &Reason)
     ensures { first.now ≡ second.now }
 {}
 
-/// The usual limits are good ones.
+/// The usual limits are valid.
 pub fn usual_limits_are_good()
     ensures { IsGood usual_limits }
 {}
@@ -27,13 +27,13 @@ pub fn depth_is_height()
     ensures { (children : Children) → depth_of (walk children) ≡ height children }
 {}
 
-/// A list is a document exactly where its items, each allowed behind those before it, lead from
-/// before the root to behind it.
+/// A list is a document exactly where its items, each allowed after those before it, lead from
+/// before the root to after it.
 pub fn a_document_leads_to_its_end()
     ensures { (items : List Item) → IsDocument items ↔ (position_of items ≡ Some After) }
 {}
 
-/// A list is a front of a document exactly where each of its items is allowed behind those before
+/// A list is a front of a document exactly where each of its items is allowed after those before
 /// it.
 pub fn a_front_leads_on()
     ensures { (items : List Item) → IsFront items ↔ IsSome (position_of items) }

@@ -79,7 +79,7 @@ impl<T> Sequence<T> {
 }
 
 impl<T: Drop> Sequence<T> {
-    /// Takes all values out. The room stays.
+    /// Takes all values out. Their memory stays allocated.
     pub fn clear(&mut self)
         ensures { self.new ≡ [] }
     {

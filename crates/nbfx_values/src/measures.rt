@@ -128,7 +128,7 @@ fn most_open(before: usize, item: &Item) -> usize
     }
 }
 
-/// The depth and the content of items, which more are put behind.
+/// The depth and the content of items, which more are put after.
 #[derive(Clone, Copy, Debug)]
 pub(crate) struct Measures {
     pub(crate) depth: u64,

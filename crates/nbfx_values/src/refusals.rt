@@ -50,7 +50,7 @@ pub enum Reason {
     TooMuchContent,
     /// The payload ends before its root does.
     DocumentCut,
-    /// A byte stands behind the root's end.
+    /// Bytes follow the root's end.
     TrailingBytes,
     /// The input ends before the session does.
     Truncated,

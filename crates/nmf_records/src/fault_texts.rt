@@ -1,4 +1,4 @@
-//! What a receiver tells a peer whose stream it refuses.
+//! What a receiver sends to a peer whose stream it refuses.
 
 ghost use Rattle.std.specs.Prelude.{◌≡◌};
 ghost use Rattle.std.specs.Option.{option_copied};
@@ -6,8 +6,8 @@ ghost use Rattle.nmf_records.specs.Writing.{fault_text_of};
 
 use nbfx_values::Reason;
 
-/// The text of the Fault record that tells the peer why its stream is refused (MC-NMF, 2.2.3.5), or
-/// None where no such text is there: then nothing is sent.
+/// The text of the Fault record that says to the peer why its stream is refused (MC-NMF, 2.2.3.5),
+/// or None where no such text is there: then nothing is sent.
 pub fn fault_text(reason: Reason) -> Option<&'static str>
     ensures { option_copied result ≡ fault_text_of reason }
 {

@@ -41,9 +41,9 @@ pub enum Expect {
 /// How far a reader has come with a record.
 #[derive(Clone, Copy, Debug, PartialEq, Eq)]
 pub enum FrameStep {
-    /// The record isn't whole yet.
+    /// The record isn't complete yet.
     More,
-    /// The record is whole.
+    /// The record is complete.
     Done(Frame),
 }
 

@@ -1,4 +1,4 @@
-//! The records that come with each message, where they are whole.
+//! The records that come with each message, where they are complete.
 
 ghost use Rattle.std.specs.Prelude.{◌≡◌, ℕ, List, [], ◌∷◌, IfSome, true, false};
 ghost use Rattle.unit_streams.specs.Front.{whole};
@@ -10,7 +10,7 @@ use crate::stage;
 use multibyte_ints::{IntRead, read_int};
 
 /// The head of a sized envelope, or the size of a chunk, at the front of the bytes, and how many it
-/// has, if it may come and is whole.
+/// has, if it may come and is complete.
 pub fn head_at(bytes: &[u8], expect: Expect) -> Option<(Frame, usize)>
     ensures reads { IfSome result (λ head. (limit : ℕ)
         → frame_at limit expect bytes.now ≡ whole (bare head.0) head.1) }

@@ -8,8 +8,8 @@ ghost use Rattle.nmf_records.specs.Reading.{frame_at};
 ghost use Rattle.nmf_records.specs.Writing.{WrittenAreRecords, WrittenAreRead};
 ghost use Rattle.nmf_records.specs.Laws.{RecordsAreRead, NoRecordGoesOn, BegunIsShort, WholeIsShort, WrongIsShort, UnknownByType, UnexpectedByType, BadByInteger, BadByLength, BadByText, ScriptsLeadToEnd, NoScriptGoesOn};
 
-/// A record is known by its own bytes: it is wrong or whole at the byte that shows it, whatever
-/// follows, and has only begun before that.
+/// A record depends only on its own bytes: it is wrong or complete at the byte that shows it,
+/// whatever follows, and has only begun before that.
 pub fn record_fronts()
     ensures { (limit : ℕ) (expect : Expect) → ReadsFront (frame_at limit expect) }
 {}
@@ -21,7 +21,7 @@ pub fn records()
 {}
 
 /// A record that has only begun has at most five bytes more than the limit on a text. One that is
-/// whole has at most six more than the limit, and what is wrong shows within as many.
+/// complete has at most six more than the limit, and what is wrong shows within as many.
 pub fn record_lengths()
     ensures begun { BegunIsShort }
     ensures whole { WholeIsShort }

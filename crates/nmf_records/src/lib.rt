@@ -2,22 +2,23 @@
 //! messages.
 //!
 //! The one idea is the record at the front of some bytes: whole with so many of them, wrong from so
-//! many on, or only begun. What a record's bytes are is `IsRecord` of `specs/Records.antt`, one row for
-//! each record. What stands at the front of any bytes, where some types may come, is `frame_at` of
-//! `specs/Reading.antt`. `laws` has that the two are one, and the cause of each fault.
+//! many on, or only begun. What a record's bytes are is `IsRecord` of `specs/Records.antt`, one row
+//! for each record. What stands at the front of any bytes, where some types may come, is `frame_at`
+//! of `specs/Reading.antt`. `laws` has that the two are one, and the cause of each fault.
 //!
-//! A reader takes the bytes in any pieces and keeps none but a text's. `FrameReader::feed` is proved
-//! to answer what stands at the front of all bytes since the last record: the record at the byte that
-//! makes it whole, or the fault at the first byte that shows it. What a reader stands for is in
-//! `specs/Reader.antt`. The text of a Via or a Fault stays in the reader, whose room is made with it:
-//! no other call takes memory.
+//! A reader takes the bytes in any pieces and keeps none but a text's. `FrameReader::feed` is
+//! proved to answer what stands at the front of all bytes since the last record: the record at the
+//! byte that completes it, or the fault at the first byte that shows it. Which bytes a reader has
+//! read, and what it answers, is in `specs/Reader.antt`. The text of a Via or a Fault stays in the
+//! reader, which allocates its buffer when it is made: no other call takes memory.
 //!
-//! Which records may come is the script of a session: `Due` says what may come next in the stream of a
-//! direction and where each record leads. `IsScript` of `specs/Script.antt` is the same as a grammar on
-//! lists of records.
+//! Which records may come is the script of a session: `Due` says what may come next in the stream
+//! of a direction and where each record leads. `IsScript` of `specs/Script.antt` is the same as a
+//! grammar on lists of records.
 //!
 //! `put_head` and `put_text_frame` write what `frame_bytes` of `specs/Writing.antt` says, with the
-//! shortest spelling of each size, and `laws` has that this is the record, which is read back as it.
+//! shortest spelling of each size, and `laws` has that this is the record, which is read back as
+//! it.
 #![tactic(auto)]
 
 mod fault_texts;

@@ -22,13 +22,13 @@ pub struct FrameReader {
     stage: Stage,
     size: IntReader,
     text: StringReader,
-    /// How many bytes there are of the record that isn't whole, or that a fault needed.
+    /// How many bytes there are of the record that is incomplete, or that a fault needed.
     pending: u32,
 }
 
 impl FrameReader {
-    /// A reader before the first byte, which takes texts of at most `limit` bytes. All its room is
-    /// made here.
+    /// A reader before the first byte, which takes texts of at most `limit` bytes. All its memory
+    /// is allocated here.
     pub fn new(alloc: Global, limit: u32) -> Result<FrameReader, Memory>
         ensures stands { IfOk result (λ reader. (expect : Expected) → StandsFor reader expect []) }
         ensures text { IfOk result (λ reader. ShowsText reader []) }
@@ -42,9 +42,10 @@ impl FrameReader {
         })
     }
 
-    /// Reads on with a piece, up to the byte that makes a record whole, and answers how many bytes it
-    /// used and whether the record is. `expect` says what may come, and is to be the same for all
-    /// pieces of one record. A fault is answered at the first byte that shows it, and from then on.
+    /// Reads on with a piece, up to the byte that completes a record, and answers how many bytes it
+    /// used and whether the record is complete. `expect` says what may come, and is to be the same
+    /// for all pieces of one record. A fault is answered at the first byte that shows it, and from
+    /// then on.
     pub fn feed(&mut self, piece: &[u8], expect: Expect) -> Result<(usize, FrameStep), FrameRefusal>
         ensures within { IfOk result (λ answer. answer.0 ≤ length piece.now) }
         ensures answers { (p : List ℕ) → StandsFor self.old expect p
@@ -102,15 +103,15 @@ impl FrameReader {
         Ok((used, FrameStep::More))
     }
 
-    /// The text of the last Via or Fault, and the empty one before it, while one is read, and where one
-    /// is wrong.
+    /// The text of the last Via or Fault, and the empty one before it, while one is read, and where
+    /// one is wrong.
     pub fn text(&self) -> &str
         ensures { (s : List ℕ) → ShowsText self.now s → result.now ≡ s }
     {
         self.text.text()
     }
 
-    /// How many bytes there are of the record that isn't whole, or that a fault needed.
+    /// How many bytes there are of the record that is incomplete, or that a fault needed.
     pub fn pending(&self) -> u32
         ensures counted { result ≡ pending_of self.now }
         ensures stands { (expect : Expected) (p : List ℕ) → StandsFor self.now expect p

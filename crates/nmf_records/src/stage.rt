@@ -51,7 +51,7 @@ impl SizeRecord {
     }
 }
 
-/// A byte of a record whose length its type tells.
+/// A byte of a record whose length its type determines.
 #[derive(Clone, Copy, Debug, PartialEq, Eq)]
 pub enum Field {
     Major,
@@ -76,7 +76,7 @@ pub enum Stage {
 /// What some bytes led to.
 #[derive(Clone, Copy, Debug, PartialEq, Eq)]
 pub enum Progress {
-    /// A record that isn't whole.
+    /// A record that is incomplete.
     Going(Stage),
     /// A whole record.
     Done(Frame),

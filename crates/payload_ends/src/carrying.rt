@@ -20,8 +20,8 @@ use std::alloc::Global;
 pub enum CarryFault {
     /// It isn't written. Both ends are as before.
     Unsent(EncodeFault),
-    /// It is written, and the writer has the strings after it. The reader wanted memory, and has
-    /// failed for good.
+    /// It is written, and the writer has the strings after it. The reader ran out of memory, and
+    /// has failed for good.
     Memory,
 }
 
@@ -60,7 +60,7 @@ pub fn tables<'a>(
     (encoder.table(), decoder.table())
 }
 
-/// Writes a document into the room, in place of what stands there, and reads it at the other end,
+/// Writes a document into the buffer, in place of what it holds, and reads it at the other end,
 /// which gives the document. Both ends have the same strings afterwards, and what they are set to
 /// stays. A document that doesn't fit is refused as [`Encoder::encode`] does, and the reader
 /// refuses none.

@@ -2,9 +2,10 @@
 //!
 //! The one idea: a [`Receiver`] is the reader of streams (`stream_reader`) set to an initiator's
 //! stream, in whichever mode its records name. Which bytes complete an event or are refused is said
-//! there, of whole byte lists; here that a receiver answers just so, in any pieces. What it stands
-//! for and shows is in `specs/Standing`; its steps are those of the reader. What the framing owes the
-//! initiator for an event or an offence, a Preamble Ack, an End or a Fault record, is in `specs/Owed`.
+//! there, of whole byte lists; here that a receiver answers just so, in any pieces. Which bytes it
+//! has read and what it shows is in `specs/Standing`; its steps are those of the reader. What the
+//! framing owes the initiator for an event or an offence, a Preamble Ack, an End or a Fault record,
+//! is in `specs/Owed`.
 #![tactic(auto)]
 
 mod owed;

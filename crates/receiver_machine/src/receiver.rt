@@ -35,8 +35,8 @@ impl<'s> Receiver<'s> {
     ghost use Rattle.stream_reader.specs.Calls.{told_at_end};
     ghost use Rattle.receiver_machine.specs.Standing.{owed_of, settings_of, taken_of, held_of, content_held_of, messages_of, failure_of, StandsFor, FailedBehind, ShowsText, ShowsStrings, WhereItStands, WhereItFailed, FailsBy};
 
-    /// A receiver before the first byte, which serves this endpoint. It makes all the room that it
-    /// needs up to the preamble's end.
+    /// A receiver before the first byte, which serves this endpoint. It allocates all that it needs
+    /// up to the preamble's end.
     pub fn new(
         alloc: Global,
         statics: &'s StaticTable,
@@ -97,7 +97,7 @@ impl<'s> Receiver<'s> {
         answer
     }
 
-    /// Says that the input is over, which is no offence exactly after the session's end.
+    /// Says that the input is over, which is valid exactly after the session's end.
     pub fn end_of_input(&mut self) -> Result<(), Offence>
         requires { failure_of self.old ≡ Some ReadRefusal.Memory → ⊥ }
         ensures answers { WhereItStands self.old (λ p.
@@ -121,7 +121,7 @@ impl<'s> Receiver<'s> {
         }
     }
 
-    /// Hands back a document that is done with, whose room serves the next one.
+    /// Takes back a document that is no longer needed; the next one reuses its memory.
     pub fn reuse(&mut self, doc: Doc)
         ensures stands { WhereItStands self.old (StandsFor self.new) }
         ensures failed { WhereItFailed self.old (FailedBehind self.new) }
@@ -155,7 +155,7 @@ impl<'s> Receiver<'s> {
         self.reader.text()
     }
 
-    /// How many bytes were used; after an offence of `feed`, how many show it; after want of
+    /// How many bytes were used; after an offence of `feed`, how many show it; after running out of
     /// memory, how many the calls before used.
     pub fn taken(&self) -> u64
         ensures counted { result ≡ taken_of self.now }

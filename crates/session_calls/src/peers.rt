@@ -17,8 +17,8 @@ use nbfx_values::{Docs, Quotas};
 use static_dictionary::StaticTable;
 use std::alloc::Global;
 
-/// What a peer is called with: the documents, in one list, of which so many were in the first of two
-/// and so many in the second, and how they are sent.
+/// What a peer is called with: the documents, in one list, of which so many were in the first of
+/// two and so many in the second, and how they are sent.
 #[derive(Drop)]
 pub struct Call<'c> {
     pub opening: Opening<'c>,

@@ -1,6 +1,6 @@
 //! The session string table of one direction (MC-NBFSE): the strings that the payloads of that
-//! direction brought along, in the order in which they came. String i has the identifier 2i + 1,
-//! and the strings' cost together stays within a limit.
+//! direction brought, in the order in which they came. String i has the identifier 2i + 1, and the
+//! strings' cost together stays within a limit.
 //!
 //! A contract sees a `SessionTable` as the list of its strings and its limit. The cost of strings,
 //! the text of an identifier and the least identifier of a text are words of `string_tables`

@@ -19,7 +19,7 @@ use unit_streams::Memory;
 pub enum AddFault {
     /// The string would take the table's cost above its limit.
     Full,
-    /// Memory ran out.
+    /// Out of memory.
     Memory,
 }
 

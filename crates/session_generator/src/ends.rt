@@ -23,7 +23,7 @@ pub struct Ends<'s> {
 pub enum GenFault {
     /// It has more bytes than the session quota, which its reader refuses so.
     SessionTooLong(Offence),
-    /// There was no memory.
+    /// Out of memory.
     Memory,
 }
 

@@ -19,7 +19,7 @@ use static_dictionary::StaticTable;
 use std::alloc::Global;
 
 /// Sends and reads the session of the documents that follow the seed, one after the other, in
-/// duplex mode (MC-NMF, MC-NBFSE): both ends of it. Each document fits under all good quotas, so a
+/// duplex mode (MC-NMF, MC-NBFSE): both ends of it. Each document fits under all valid quotas, so a
 /// session fails only where it is longer than the session quota, or out of memory.
 pub fn generate<'s>(
     alloc: Global,

@@ -1,5 +1,5 @@
-//! An initiator's stream that is answered as a server would, without one: the requests of a captured
-//! session with what a service says to them.
+//! An initiator's stream that is answered as a server would, without one: the requests of a
+//! captured session with what a service says to them.
 //!
 //! The one idea: a replay is a connection served (`duplex_server`) whose bytes come from an input
 //! and whose answers are gathered for an output, by a [`Responder`]: the echo, or the texts that a

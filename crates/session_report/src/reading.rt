@@ -28,7 +28,7 @@ pub struct Received {
     pub content: u64,
     /// How many strings the direction has after it.
     pub strings: u32,
-    /// What these cost.
+    /// What these cost together: their bytes, and 1 for an empty one.
     pub used: u32,
     pub doc: Doc,
 }
@@ -160,6 +160,7 @@ impl<'s> ReadingEnd for StreamEnd<'s> {
 
     ghost counts = { λ end. counts_taken end.reader };
 
+    #[inline(always)]
     fn feed(&mut self, piece: &[u8]) -> Result<(usize, Option<Event>), FeedFault<Offence>> {
         match self.reader.feed(piece) {
             Ok((n, step)) => match self.event(step) {

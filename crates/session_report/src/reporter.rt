@@ -107,6 +107,7 @@ impl Reporter<Event, Offence> for LineReporter {
 
     ghost state = { λ reporter. reporter.outcome };
 
+    #[inline(always)]
     fn put_event<K: Sink>(&mut self, event: &Event, output: &mut K) -> Result<(), SinkFault> {
         self.outcome = outcome_after(self.outcome, event);
         put_line(event, output)?;

@@ -25,7 +25,7 @@ pub enum Summary {
     TooLong(Offence),
     /// The output failed.
     WriteFault,
-    /// There was no memory.
+    /// Out of memory.
     Memory,
 }
 

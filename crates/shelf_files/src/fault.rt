@@ -9,6 +9,6 @@ pub enum FileFault<K> {
     Bad { row: u64, kind: K },
     /// The shelf failed.
     Failed,
-    /// Memory ran out.
+    /// Out of memory.
     Memory,
 }

@@ -272,7 +272,7 @@ fn texts_at(alloc: Global, items: &[Item], at: Option<usize>) -> Result<Items, M
 }
 
 impl<'d> Envelope<'d> {
-    /// The view of a document. Any refusal but for want of memory is the first that applies.
+    /// The view of a document. Any refusal but `Memory` is the first that applies.
     pub fn of(alloc: Global, doc: &'d Doc) -> Result<Envelope<'d>, SoapFault>
         ensures viewed { MatchResult result (λ e. view doc.now ≡ Ok e)
             (λ fault. fault ≢ SoapFault.Memory → view doc.now ≡ Err fault) }

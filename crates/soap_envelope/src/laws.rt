@@ -23,8 +23,8 @@ pub fn replies()
     ensures relates { RelatesAreKept }
 {}
 
-/// The content of a document's Body, which a view has, may be put into any reply: its names are good
-/// there, and the reply's view has the same content.
+/// The content of a document's Body, which a view has, may be put into any reply: its names are
+/// good there, and the reply's view has the same content.
 pub fn bodies()
     ensures { BodiesStand }
 {}

@@ -1,12 +1,13 @@
 //! The view of a SOAP 1.2 envelope with WS-Addressing 1.0 that servers and callers go by, and exact
 //! replies and faults.
 //!
-//! The one idea: an envelope is a document seen by the names that its prefixes stand for. `view` of
-//! `specs/View.antt` is a function of the document's items, in the order in which it is judged:
-//! names (`Scopes`, `BadNames`), the root and its children (`Parts`), header blocks (`Blocks`,
-//! `Headers`), and the content of Body, so that it stands by itself (`Body`). `Envelope::of` is
-//! proved to answer that view, or the first refusal. `take_body` takes the content of Body out of a
-//! document that isn't needed any more, and moves its items where they need no declarations.
+//! The one idea: an envelope is a document seen by the namespaces that its prefixes are bound to.
+//! `view` of `specs/View.antt` is a function of the document's items, in the order in which it is
+//! judged: names (`Scopes`, `BadNames`), the root and its children (`Parts`), header blocks
+//! (`Blocks`, `Headers`), and the content of Body, so that it stands by itself (`Body`).
+//! `Envelope::of` is proved to answer that view, or the first refusal. `take_body` takes the
+//! content of Body out of a document that isn't needed any more, and moves its items where they
+//! need no declarations.
 //!
 //! `reply_doc` and `fault_doc` make documents whose items `specs/Making.antt` and
 //! `specs/Faults.antt` list one by one. The names of the standards are in `src/namespaces.rt` and

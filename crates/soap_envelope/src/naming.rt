@@ -25,9 +25,9 @@ fn left_by_names(left: u64, names: &[QualifiedName<'_>]) -> Option<u64>
     Some(left)
 }
 
-/// Whether names, each with its namespace written out, fit the quota on content. A fault whose names
-/// don't can't be sent: a document may declare one namespace for thousands of blocks, and their
-/// names take no memory, but the fault writes it for each.
+/// Whether names, each with its namespace written out, fit the quota on content. A fault whose
+/// names don't can't be sent: a document may declare one namespace for thousands of blocks, and
+/// their names take no memory, but the fault writes it for each.
 pub fn names_fit(quotas: &Quotas, names: &[QualifiedName<'_>]) -> bool
     ensures { result ≡ spec.names_fit quotas.now.content names.now }
 {

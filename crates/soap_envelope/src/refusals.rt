@@ -2,8 +2,8 @@
 
 use unit_streams::Memory;
 
-/// Why a document has no view as an envelope. The first that applies is answered, in this order, and
-/// places are those of the document's items, counted from 0.
+/// Why a document has no view as an envelope. The first that applies is answered, in this order,
+/// and places are those of the document's items, counted from 0.
 #[derive(Clone, Copy, Debug, PartialEq, Eq)]
 pub enum SoapFault {
     /// The item has a prefix that isn't declared, or declares one again in its element.
@@ -12,7 +12,7 @@ pub enum SoapFault {
     NotAnEnvelope,
     /// The root is an Envelope of another namespace than SOAP 1.2's.
     VersionMismatch,
-    /// The child of the root is neither a Header at its head nor the one Body behind that.
+    /// The child of the root is neither a Header at its head nor the one Body after that.
     Misplaced { item: usize },
     /// The root has no Body.
     NoBody,
@@ -21,7 +21,7 @@ pub enum SoapFault {
     /// The child of Header is no block in a namespace, or a block's attribute or content isn't what
     /// the standards ask of it.
     BadHeader { item: usize },
-    /// Memory ran out.
+    /// Out of memory.
     Memory,
 }
 

@@ -23,7 +23,7 @@ pub enum TableKind {
 pub enum TableFault {
     /// The first row that fails, counted from 0, and what is wrong with it.
     Bad { row: u64, kind: TableKind },
-    /// Memory ran out.
+    /// Out of memory.
     Memory,
 }
 

@@ -18,17 +18,17 @@ const MOST_TAKEN: usize = 65_536;
 /// How the reading of a stream ended.
 #[derive(Clone, Copy, Debug, PartialEq, Eq, Drop)]
 pub enum Ending<R> {
-    /// The stream ended well, or it is refused so.
+    /// The stream ended well, or this is why it is refused.
     Judged(Option<R>),
     /// The input failed.
     ReadFault,
-    /// There was no memory to read on, or to hear an event.
+    /// Out of memory while reading, or while hearing an event.
     Memory,
 }
 
 /// Reads the stream that the input gives to its end, by an end that has read nothing of it, and has
-/// each event heard by a listener that has heard none. The room for a piece, of 64 KiB, is made
-/// once.
+/// each event heard by a listener that has heard none. The buffer for a piece, of 64 KiB, is
+/// allocated once.
 pub fn follow_stream<I: Source, E: ReadingEnd, O, L: Listener<E::Event, O>>(
     alloc: Global,
     end: &mut E,

@@ -2,8 +2,8 @@
 //!
 //! The one idea: reading doesn't depend on writing. A `ReadingEnd` (`stream_loop`) says which
 //! events the bytes of a stream complete, and each event goes to a [`Listener`], which may write to
-//! an output. What becomes of the writing is the listener's affair: it keeps what failed, and the
-//! loop reads on to the end of the stream. A loop that ends at the first failed write is
+//! an output. The listener is in charge of the writing: it keeps what failed, and the loop reads on
+//! to the end of the stream. A loop that ends at the first failed write is
 //! `stream_loop::report_stream`.
 //!
 //! [`follow_stream`] takes a piece from a `Source`, feeds it to the end and hands each event on.
@@ -13,7 +13,7 @@
 //! where memory ran out. The listener says by a relation of its own what it wrote of the events
 //! that it has heard.
 //!
-//! For listeners that write what a teller (`unit_streams`) tells of the events, [`Outbound`] is
+//! For listeners that write of the events what a `Teller` (`unit_streams`) says, [`Outbound`] is
 //! what has become of the writing, and [`put_bytes`], [`flush`] and [`starve`] are the steps of it.
 //!
 //! `specs/Followed` says what was read and heard, and `specs/Writing` what was written;

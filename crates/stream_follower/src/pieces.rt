@@ -13,9 +13,9 @@ use unit_streams::Memory;
 #[derive(Clone, Copy, Debug, Drop)]
 pub enum Progress<R> {
     Going,
-    /// The stream ended well, or it is refused so.
+    /// The stream ended well, or this is why it is refused.
     Judged(Option<R>),
-    /// There was no memory to read on, or to hear an event.
+    /// Out of memory while reading, or while hearing an event.
     Starved,
 }
 

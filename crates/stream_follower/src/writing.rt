@@ -13,7 +13,7 @@ pub enum Outbound {
     Done,
     /// A write failed.
     WriteFault,
-    /// There was no memory to write on.
+    /// Out of memory while writing.
     Memory,
 }
 
@@ -62,7 +62,7 @@ pub fn flush<K: Sink>(sink: &mut K) -> Outbound
     }
 }
 
-/// Ends the writing where there was no memory for the next bytes. What the sink holds is written.
+/// Ends the writing since there was no memory for the next bytes. What the sink holds is written.
 pub fn starve<K: Sink>(sink: &mut K) -> Outbound
     ensures { (next : List ℕ) → IsCut K.written K.held K.faults K.may_want result next
         sink.old sink.new }

@@ -12,8 +12,8 @@
 //! output has gained exactly the report, and the reporter remembers what the stream's events leave.
 //! However it ends, the output has gained the first bytes of the report, and at least what is
 //! written of all pieces but the last. After a take that gave nothing the input isn't asked again.
-//! Each fault of the input and of the output is told apart from want of memory, which may come with
-//! any stream.
+//! Each fault of the input and of the output is told apart from running out of memory, which may
+//! happen with any stream.
 //!
 //! `specs/Answers` says how an end's answers are those of its grammar, and what a grammar has to
 //! keep so that its streams can be read to their end; `specs/Reported` what was read and written;

@@ -14,9 +14,9 @@ use io_edges::{Sink, SinkFault};
 #[derive(Clone, Copy, Debug, Drop)]
 pub enum Progress<R> {
     Going,
-    /// The stream ended well, or it is refused so.
+    /// The stream ended well, or this is why it is refused.
     Judged(Option<R>),
-    /// There was no memory to read on.
+    /// Out of memory while reading.
     Starved,
 }
 

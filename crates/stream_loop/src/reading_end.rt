@@ -8,9 +8,9 @@ ghost use Rattle.stream_loop.specs.Answers.{Says, said_at_end};
 /// Why a piece brought no answer.
 #[derive(Clone, Copy, Debug, PartialEq, Eq, Drop)]
 pub enum FeedFault<R> {
-    /// The stream is refused so.
+    /// Why the stream is refused.
     Refused(R),
-    /// There was no memory, which may come in place of any other answer.
+    /// Out of memory, which may be answered in place of anything else.
     Memory,
 }
 
@@ -19,7 +19,7 @@ pub enum FeedFault<R> {
 /// It says each event of its grammar with a value of its own, which may hold less than that
 /// event does. Such a value owns what it brings.
 pub trait ReadingEnd {
-    /// What bytes of a stream complete, as it is said.
+    /// An event of a stream, as it is reported.
     type Event: Drop;
 
     /// Why a stream is refused.
@@ -80,7 +80,7 @@ pub trait ReadingEnd {
         ensures { (completed : Completed) → event.now ≡ event_for completed
             → result ≡ ends completed };
 
-    /// Takes back what an event brought, whose memory serves the next one.
+    /// Takes back what an event brought; the next one reuses its memory.
     fn hand_back(&mut self, event: Self::Event)
         ensures stands { (p : List ℕ) → stands self.old p → stands self.new p }
         ensures grammar { grammar self.new ≡ grammar self.old };

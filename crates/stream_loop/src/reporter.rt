@@ -9,7 +9,7 @@ use io_edges::{Sink, SinkFault};
 /// What writes about a stream: of each event as it comes, and at the end.
 ///
 /// It sees events as a [`ReadingEnd`](crate::ReadingEnd) says them. It takes no memory of its own:
-/// a call wants memory only where the output may.
+/// a call can run out of memory only where the output can.
 pub trait Reporter<Event, Refusal> {
     /// What is remembered of the events so far.
     ghost State: { Type 0 };

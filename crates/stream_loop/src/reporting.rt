@@ -20,13 +20,13 @@ const MOST_TAKEN: usize = 65_536;
 /// How the reporting of a stream ended.
 #[derive(Clone, Copy, Debug, PartialEq, Eq, Drop)]
 pub enum Ending<R> {
-    /// The stream ended well, or it is refused so.
+    /// The stream ended well, or this is why it is refused.
     Judged(Option<R>),
     /// The input failed.
     ReadFault,
     /// The output failed.
     WriteFault,
-    /// There was no memory.
+    /// Out of memory.
     Memory,
 }
 
@@ -96,8 +96,8 @@ fn written<R: Drop, O: Sink>(ending: Result<Ending<R>, SinkFault>, output: &mut 
 }
 
 /// Reads the stream that the input gives and writes its report, by an end that has read nothing and
-/// a reporter that has put nothing. What the output holds at the call is written first. The room
-/// for a piece, of 64 KiB, is made once.
+/// a reporter that has put nothing. What the output holds at the call is written first. The buffer
+/// for a piece, of 64 KiB, is allocated once.
 pub fn report_stream<I: Source, O: Sink, E: ReadingEnd, T: Reporter<E::Event, E::Refusal>>(
     alloc: Global,
     end: &mut E,

@@ -80,7 +80,7 @@ impl PayloadLeft {
         }
     }
 
-    /// The payload with so many bytes more in chunks that are whole.
+    /// The payload with so many bytes more in chunks that are complete.
     pub(crate) fn with_more(self, content: u32) -> PayloadLeft
         ensures { joined_more self content result }
     {

@@ -8,9 +8,9 @@ ghost use Rattle.stream_reader.specs.Laws.{DocumentsFit, PayloadsFit, MessagesAr
 ghost use Rattle.stream_reader.specs.Scripts.{SessionsAreScripts};
 ghost use Rattle.stream_reader.specs.Sessions.{ClosedOrRefused, SessionsAreTold, SpellsOneSession};
 
-/// A stream stands where its bytes so far have led it. No unit, which is a record, the size of a
-/// chunk or a byte of a payload, begins a longer one that may come in its place, and nothing comes
-/// behind the end. End and Fault end a stream, and nothing else does.
+/// The state of a stream is where its bytes so far have led it. No unit, which is a record, the
+/// size of a chunk or a byte of a payload, begins a longer one that may come in its place, and
+/// nothing comes after the end. End and Fault end a stream, and nothing else does.
 pub fn units()
     ensures standings_go_on { (x : Settings) → StandingsGoOn (stream x) }
     ensures none_goes_on { (x : Settings) → NoUnitGoesOn (stream x) }
@@ -18,10 +18,10 @@ pub fn units()
     ensures closed { (x : Settings) → Closes (stream x) ends }
 {}
 
-/// A piece is answered by the first event or refusal that a byte of it brings. Where pieces are cut
-/// changes nothing, and a stream's history is what a reader is answered, piece by piece. That of
-/// bytes of which no prefix is refused or ends the stream is their events, and then what their end
-/// brings.
+/// A piece is answered by the first event or refusal that a byte of it brings. How the bytes are
+/// cut into pieces changes nothing, and a stream's history is what a reader is answered, piece by
+/// piece. That of bytes of which no prefix is refused or ends the stream is their events, and then
+/// what their end brings.
 pub fn answers()
     ensures are_first { (x : Settings) → AnswersAreFirst (stream x) }
     ensures cuts_change_nothing { (x : Settings) → CutsChangeNothing (stream x) }

@@ -10,8 +10,8 @@
 //! standards' tables, and [`laws`] that both are one; `specs/Reasons` says which bytes give each
 //! reason for refusing a stream.
 //!
-//! A [`StreamReader`], set to a [`Side`], takes a stream in any pieces. What it stands for and
-//! shows is in `specs/Standing`, how it says an event in `specs/Saying`.
+//! A [`StreamReader`], set to a [`Side`], takes a stream in any pieces. Which bytes it has read and
+//! what it shows is in `specs/Standing`, how it says an event in `specs/Saying`.
 #![tactic(auto)]
 
 mod awaited;

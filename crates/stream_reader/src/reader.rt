@@ -42,7 +42,7 @@ pub enum StreamStep {
         doc: Doc,
         /// How many strings the direction has after it, which are those of [`StreamReader::table`].
         strings: u32,
-        /// What these cost.
+        /// What these cost together: their bytes, and 1 for an empty one.
         used: u32,
     },
     /// The session, of this many bytes.
@@ -59,7 +59,7 @@ pub enum StreamStep {
 /// Why a stream isn't read on.
 #[derive(Clone, Copy, Debug, PartialEq, Eq)]
 pub enum ReadRefusal {
-    /// The stream is refused so.
+    /// Why the stream is refused.
     Offence(Offence),
     /// Out of memory.
     Memory,
@@ -97,8 +97,7 @@ impl<'s> StreamReader<'s> {
     ghost use Rattle.stream_reader.specs.Saying.{Says, Repeats, said_at_end};
     ghost use Rattle.stream_reader.specs.Standing.{settings_of, taken_of, held_of, content_held_of, messages_of, failure_of, StandsFor, FailedBehind, ShowsText, ShowsStrings, WhereItStands, WhereItFailed, FailsBy, HasPayloads, begun_in, items_in};
 
-    /// A reader before the first byte. It makes all the room that it needs before the first
-    /// envelope.
+    /// A reader before the first byte. It allocates all that it needs before the first envelope.
     pub fn new(
         alloc: Global,
         statics: &'s StaticTable,
@@ -192,8 +191,8 @@ impl<'s> StreamReader<'s> {
         Ok((used, StreamStep::More))
     }
 
-    /// Says that the input is over, which is no offence exactly after the session's end, and after
-    /// a receiver's Ack in simplex mode where no byte of another record has come.
+    /// Says that the input is over, which is valid exactly after the session's end, and after a
+    /// receiver's Ack in simplex mode where no byte of another record has come.
     pub fn end_of_input(&mut self) -> Result<(), ReadRefusal>
         ensures answers { WhereItStands self.old (λ p.
             result ≡ said_at_end (ending_at (stream (settings_of self.old)) p)) }
@@ -219,7 +218,7 @@ impl<'s> StreamReader<'s> {
         Err(self.refuse(from, Reason::Truncated))
     }
 
-    /// Hands back a document that is done with, whose room serves the next one.
+    /// Takes back a document that is no longer needed; the next one reuses its memory.
     pub fn reuse(&mut self, doc: Doc)
         ensures stands { WhereItStands self.old (StandsFor self.new) }
         ensures failed { WhereItFailed self.old (FailedBehind self.new) }
@@ -240,7 +239,7 @@ impl<'s> StreamReader<'s> {
         self.frames.text()
     }
 
-    /// How many bytes were used; after an offence of `feed`, how many show it; after want of
+    /// How many bytes were used; after an offence of `feed`, how many show it; after running out of
     /// memory, how many the calls before used.
     pub fn taken(&self) -> u64
         ensures counted { result ≡ taken_of self.now }

@@ -1,7 +1,7 @@
-//! What holds of every grammar whose units are known by their own bytes. Each function does nothing:
-//! its contract is a law. A contract can't range over types, so each law is said here of the grammars
-//! whose situations, units, events and refusals are numbers, by a proof that holds at any types; a crate
-//! with a grammar of its own says it of that.
+//! What holds of every grammar whose units are known by their own bytes. Each function does
+//! nothing: its contract is a law. A contract can't range over types, so each law is said here of
+//! the grammars whose situations, units, events and refusals are numbers, by a proof that holds at
+//! any types; a crate with a grammar of its own says it of that.
 
 ghost use Rattle.std.specs.Prelude.{ℕ, Bool};
 ghost use Rattle.unit_streams.specs.Grammar.{Grammar, IsReadable, IsQuietWhenOver};
@@ -14,13 +14,14 @@ pub fn standings_go_on()
     ensures { (g : Grammar ℕ ℕ ℕ ℕ) → IsReadable g → StandingsGoOn g }
 {}
 
-/// The answer to a piece is the first event or refusal that a byte of it brings, or that there is none.
+/// The answer to a piece is the first event or refusal that a byte of it brings, or that there is
+/// none.
 pub fn answers_are_first()
     ensures { (g : Grammar ℕ ℕ ℕ ℕ) → AnswersAreFirst g }
 {}
 
-/// Where pieces are cut changes nothing: two as one are answered as the first is, or, where that
-/// decides nothing, as the second is behind it, counted from the beginning of the first.
+/// How the bytes are cut into pieces changes nothing: two as one are answered as the first is, or,
+/// where that decides nothing, as the second is after it, counted from the beginning of the first.
 pub fn cuts_change_nothing()
     ensures { (g : Grammar ℕ ℕ ℕ ℕ) → CutsChangeNothing g }
 {}
@@ -30,8 +31,8 @@ pub fn history_is_answers()
     ensures { (g : Grammar ℕ ℕ ℕ ℕ) → HistoryIsAnswers g }
 {}
 
-/// Where no prefix of a stream is refused and nothing of it ends it, its history is the events of its
-/// prefixes, and then what its end is refused as, if it is.
+/// Where no prefix of a stream is refused and nothing of it ends it, its history is the events of
+/// its prefixes, and then what its end is refused as, if it is.
 pub fn pending_histories()
     ensures { (g : Grammar ℕ ℕ ℕ ℕ) → PendingHistories g }
 {}
@@ -58,26 +59,26 @@ pub fn refusals_are_three()
     ensures { (g : Grammar ℕ ℕ ℕ ℕ) → IsReadable g → RefusalsAreThree g }
 {}
 
-/// A stream has no offence exactly where its units, of which none is refused, lead to where the input
-/// may end: what is left behind them has only begun, and no length on the way is too great.
+/// A stream has no offence exactly where its units, of which none is refused, lead to where the
+/// input may end: what is left after them has only begun, and no length on the way is too great.
 pub fn accepted_or_offended()
     ensures { (g : Grammar ℕ ℕ ℕ ℕ) → IsReadable g → AcceptedOrOffended g }
 {}
 
-/// What a piece adds to what is told of a stream is said by its answer. An event that ends the
-/// stream, and a refusal, end what is told of it, whatever follows.
+/// What a piece adds to what is written of a stream depends on its answer. An event that ends the
+/// stream, or a refusal, ends what is written, whatever follows.
 pub fn pieces_add()
     ensures { (g : Grammar ℕ ℕ ℕ ℕ) (t : Teller ℕ ℕ ℕ) (ends : ℕ → Bool) → Closes g ends
         → PiecesAdd g t ends }
 {}
 
-/// What the end of the input adds is what is told of the refusal that it is, or of none.
+/// What the end of the input adds is what is written of the refusal that it is, or of none.
 pub fn ends_add()
     ensures { (g : Grammar ℕ ℕ ℕ ℕ) (t : Teller ℕ ℕ ℕ) → EndsAdd g t }
 {}
 
-/// What is told of the events of a stream's prefix, or of bytes behind which it may go on, is a
-/// front of what is told of the stream.
+/// What is written of the events of a stream's prefix, or of bytes after which it may go on, is a
+/// prefix of what is written of the stream.
 pub fn fronts_are_told()
     ensures prefixes { (g : Grammar ℕ ℕ ℕ ℕ) (t : Teller ℕ ℕ ℕ) → PrefixesTellFronts g t }
     ensures on { (g : Grammar ℕ ℕ ℕ ℕ) (t : Teller ℕ ℕ ℕ) → OpenTellFronts g t }

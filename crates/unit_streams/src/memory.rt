@@ -4,7 +4,7 @@ ghost use Rattle.std.specs.Prelude.{◌≡◌};
 
 use std::alloc::{AllocError, AllocFailed};
 
-/// There was no memory. It is never another answer in disguise.
+/// Out of memory. No other error is reported as this one.
 #[derive(Clone, Copy, Debug, PartialEq, Eq)]
 pub struct Memory;
 
