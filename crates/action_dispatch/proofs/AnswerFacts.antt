@@ -16,7 +16,8 @@ use Rattle.action_dispatch.specs.declared.judging.Judged.{Judged}
 use Rattle.action_dispatch.specs.declared.judging.Judged.TheVariants.{Unanswered, Refused, Asked}
 use Rattle.action_dispatch.specs.declared.planning.Plan.{Plan}
 use Rattle.action_dispatch.specs.declared.planning.Plan.TheVariants.{Answered}
-use Rattle.action_dispatch.specs.Answers.{RelatesToTexts, Serves, answer_to, answered_by, asked, judged, refused}
+use Rattle.action_dispatch.specs.Answers.{RelatesToTexts, Serves, answer_to, answered_by, asked}
+use Rattle.action_dispatch.specs.Answers.{judged, refused}
 use Rattle.action_dispatch.specs.Planning.{IsFor, Plans, answer_by_plan, planned, planned_of}
 use Rattle.action_dispatch.specs.Refusals.{refusal_of}
 

@@ -5,7 +5,8 @@ use Rattle.csv_rows.proofs.FieldFacts.{text_of-is}
 use Rattle.action_dispatch.specs.declared.fault.ActionFault.{ActionFault}
 use Rattle.action_dispatch.specs.declared.fault.ActionFault.TheVariants.{Bad, Memory}
 use Rattle.action_dispatch.specs.declared.fault.ActionKind.{ActionKind}
-use Rattle.action_dispatch.specs.Actions.{Explains, Fault, Texts, and_then, entry_of, texts_from, with_row}
+use Rattle.action_dispatch.specs.Actions.{Explains, Fault, Texts, and_then, entry_of, texts_from}
+use Rattle.action_dispatch.specs.Actions.{with_row}
 
 -- a row of two texts
 pub entry_of-read : (row : Row) (first second action text : List ℕ)

@@ -1,5 +1,6 @@
 -- The texts that a map holds.
-use Rattle.std.proofs.Common.{◌≡◌, ◌∙◌, ℕ, true, false, List, [], ◌∷◌, Ok, Err, String, Ordering, ap, refl, string_bytes}
+use Rattle.std.proofs.Common.{◌≡◌, ◌∙◌, ℕ, true, false, List, [], ◌∷◌, Ok, Err, String, Ordering}
+use Rattle.std.proofs.Common.{ap, refl, string_bytes}
 use Rattle.std.specs.Prelude.{is_some}
 use Rattle.std.specs.BTreeMap.{BTreeMap, get_by_text, insert_entry, is_at}
 use Rattle.std.specs.Cmp.Lexicographic.{slice_cmp}

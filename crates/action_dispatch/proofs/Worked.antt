@@ -2,7 +2,9 @@
 use Rattle.std.proofs.Common.{◌≡◌, ℕ, List, [], ◌∷◌, ◌++◌, codes, map, refl}
 use Rattle.nbfx_values.specs.declared.content.Item.{Item}
 use Rattle.nbfx_values.specs.declared.content.Item.TheVariants.{Start, Xmlns, Close}
-use Rattle.soap_envelope.proofs.Documents.{acting, action, addressing_action, attribute, echo, enveloped, fault, hi, identified, message, related, reply, role, s, secured, soap_action, subcode, words}
+use Rattle.soap_envelope.proofs.Documents.{acting, action, addressing_action, attribute, echo}
+use Rattle.soap_envelope.proofs.Documents.{enveloped, fault, hi, identified, message, related}
+use Rattle.soap_envelope.proofs.Documents.{reply, role, s, secured, soap_action, subcode, words}
 use Rattle.soap_envelope.proofs.OnLiterals.{envelopes_on_literals}
 use Rattle.action_dispatch.specs.declared.answers.Answer.{Answer}
 use Rattle.action_dispatch.specs.declared.answers.Answer.TheVariants.{Reply, Nothing}

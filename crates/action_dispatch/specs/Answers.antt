@@ -1,5 +1,6 @@
 -- What a server answers a request with, by its service.
-use Rattle.std.specs.Prelude.{⊤, ℕ, List, [], ◌∷◌, Option, Some, None, Result, Ok, Err, if◌then◌else◌, codes}
+use Rattle.std.specs.Prelude.{⊤, ℕ, List, [], ◌∷◌, Option, Some, None, Result, Ok, Err}
+use Rattle.std.specs.Prelude.{if◌then◌else◌, codes}
 use Rattle.std.specs.Str.{bytes_eq}
 use Rattle.nbfx_values.specs.declared.content.Item.{Item}
 use Rattle.soap_envelope.specs.Qualified.{Name}
@@ -12,11 +13,15 @@ use Rattle.soap_envelope.specs.View.{View, view}
 use Rattle.action_dispatch.specs.declared.answers.Answer.{Answer}
 use Rattle.action_dispatch.specs.declared.answers.Answer.TheVariants.{Reply, Nothing}
 use Rattle.action_dispatch.specs.declared.judging.Destination.{Destination}
-use Rattle.action_dispatch.specs.declared.judging.Destination.TheVariants.{Sender, Nobody, Elsewhere}
+use Rattle.action_dispatch.specs.declared.judging.Destination.TheVariants.{Sender, Nobody}
+use Rattle.action_dispatch.specs.declared.judging.Destination.TheVariants.{Elsewhere}
 use Rattle.action_dispatch.specs.declared.judging.Judged.{Judged}
 use Rattle.action_dispatch.specs.declared.judging.Judged.TheVariants.{Unanswered, Refused, Asked}
 use Rattle.action_dispatch.specs.declared.refusals.Refusal.{Refusal}
-use Rattle.action_dispatch.specs.declared.refusals.Refusal.TheVariants.{NotUnderstood, NoAction, OtherReplyAddress, UnknownAction, ByService, Unfit}
+use Rattle.action_dispatch.specs.declared.refusals.Refusal.TheVariants.{NotUnderstood, NoAction}
+use Rattle.action_dispatch.specs.declared.refusals.Refusal.TheVariants.{OtherReplyAddress}
+use Rattle.action_dispatch.specs.declared.refusals.Refusal.TheVariants.{UnknownAction, ByService}
+use Rattle.action_dispatch.specs.declared.refusals.Refusal.TheVariants.{Unfit}
 use Rattle.action_dispatch.specs.declared.service.Served.{Served}
 use Rattle.action_dispatch.specs.declared.service.Served.TheVariants as said
 use Rattle.action_dispatch.specs.Refusals.{fault_of, fitting as fitting_refusal, refusal_of}

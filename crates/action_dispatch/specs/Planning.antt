@@ -40,5 +40,6 @@ IsFor items (Asks action relates body_at) =
 
 -- a plan leads to the answer to the request that is this document, whatever the service
 pub record Plans (quota : ℕ) (items : List Item) (plan : Plan) : Type 0 where
-  pub leads : (serves : Serves) → answer_by_plan quota serves items plan ≡ answered quota serves items
+  pub leads : (serves : Serves) → answer_by_plan quota serves items plan ≡ answered quota serves
+      items
   pub is_for : IsFor items plan

@@ -12,7 +12,11 @@ use Rattle.soap_envelope.specs.declared.report.Sub.TheVariants as sub
 use Rattle.soap_envelope.specs.Faults.{fault_items}
 use Rattle.soap_envelope.specs.Fitting.{names_fit}
 use Rattle.action_dispatch.specs.declared.refusals.Refusal.{Refusal}
-use Rattle.action_dispatch.specs.declared.refusals.Refusal.TheVariants.{NoEnvelope, RepeatedHeader, IllFormed, NotUnderstood, NoAction, OtherReplyAddress, UnknownAction, ByService, Unfit}
+use Rattle.action_dispatch.specs.declared.refusals.Refusal.TheVariants.{NoEnvelope, RepeatedHeader}
+use Rattle.action_dispatch.specs.declared.refusals.Refusal.TheVariants.{IllFormed, NotUnderstood}
+use Rattle.action_dispatch.specs.declared.refusals.Refusal.TheVariants.{NoAction, OtherReplyAddress}
+use Rattle.action_dispatch.specs.declared.refusals.Refusal.TheVariants.{UnknownAction, ByService}
+use Rattle.action_dispatch.specs.declared.refusals.Refusal.TheVariants.{Unfit}
 
 -- why a document without a view is refused
 abbrev pub refusal_of : SoapFault → Refusal

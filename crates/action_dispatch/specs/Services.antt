@@ -4,7 +4,8 @@ use Rattle.nbfx_values.specs.declared.content.Item.{Item}
 use Rattle.nbfx_values.specs.declared.content.Item.TheVariants.{Start, Close}
 use Rattle.soap_envelope.specs.Making.{IsContent, words}
 use Rattle.action_dispatch.specs.declared.service.Served.{Served}
-use Rattle.action_dispatch.specs.declared.service.Served.TheVariants.{Reply, Nothing, Unknown, Refuse}
+use Rattle.action_dispatch.specs.declared.service.Served.TheVariants.{Reply, Nothing, Unknown}
+use Rattle.action_dispatch.specs.declared.service.Served.TheVariants.{Refuse}
 
 -- a reply may stand as the content of a Body
 abbrev pub MayStand : Served → Type 0

@@ -1,5 +1,7 @@
 -- How many bytes of a call's session were written to the peer.
-use Rattle.std.proofs.Common.{◌≡◌, ℕ, ◌+◌, ◌⊎◌, inl, inr, List, [], ◌∷◌, ◌++◌, length, take, Bool, Option, Some, Result, Ok, Err, refl, sym, ap, ◌∙◌, subst, append_assoc, append-nil, arith}
+use Rattle.std.proofs.Common.{◌≡◌, ℕ, ◌+◌, ◌⊎◌, inl, inr, List, [], ◌∷◌, ◌++◌, length, take, Bool}
+use Rattle.std.proofs.Common.{Option, Some, Result, Ok, Err, refl, sym, ap, ◌∙◌, subst}
+use Rattle.std.proofs.Common.{append_assoc, append-nil, arith}
 use Rattle.std.proofs.Math.Seq.{take-append_seam}
 use Rattle.io_edges.specs.Flow.{GrowsByPrefix}
 use Rattle.io_edges.proofs.Putting.{PutsAll-nothing}
@@ -7,7 +9,8 @@ use Rattle.nbfx_values.specs.declared.content.Item.{Item}
 use Rattle.string_tables.specs.StringTable.{StringTable}
 use Rattle.nmf_records.specs.declared.frame.Frame.TheVariants.{End}
 use Rattle.nmf_records.specs.Writing.{frame_bytes_of}
-use Rattle.nbfx_encoder.specs.Envelopes.{UnfitAt, behind_bytes, envelope, envelope_then, envelopes_from}
+use Rattle.nbfx_encoder.specs.Envelopes.{UnfitAt, behind_bytes, envelope, envelope_then}
+use Rattle.nbfx_encoder.specs.Envelopes.{envelopes_from}
 use Rattle.nbfx_encoder.specs.Placing.{Placed}
 use Rattle.nbfx_encoder.specs.Refusals.{told}
 use Rattle.nbfx_encoder.specs.Spelling.{Unfit, encoded}
@@ -23,7 +26,8 @@ use Rattle.client.specs.declared.caller.Ack.TheVariants.{Awaited, Read}
 use Rattle.client.specs.declared.outcome.ClientOut.{ClientOut}
 use Rattle.client.specs.declared.outcome.ClientOut.TheVariants as out
 use Rattle.client.specs.Called.{BreaksOpening, Sends, WritesCall}
-use Rattle.client.specs.Sent.{HasBroken, Sending, bytes_of, due_next, due_of, envelopes, sent_behind, sent_by, sent_of}
+use Rattle.client.specs.Sent.{HasBroken, Sending, bytes_of, due_next, due_of, envelopes}
+use Rattle.client.specs.Sent.{sent_behind, sent_by, sent_of}
 
 module _ (x : Sending) where
   -- behind documents that fit, one that doesn't is the first
@@ -73,7 +77,8 @@ module _ (x : Sending) where
       ∙ ap (λ l. bytes_of (envelopes x l)) (take-append_seam done (d ∷ rest))
       ∙ ap bytes_of is
 
-  pub all_sent : (table : StringTable) (bytes : List ℕ) → envelopes x x.documents ≡ Ok (bytes, table)
+  pub all_sent : (table : StringTable) (bytes : List ℕ) → envelopes x x.documents
+      ≡ Ok (bytes, table)
       → sent_behind x ≡ bytes ++ frame_bytes_of End []
   all_sent table bytes is = ap (sent_of x) is
 
@@ -135,7 +140,8 @@ module _ (x : Sending) where
     -- the writing ended at the opening
     opening_grew : (o : Outbound) → IsCut written held faults may_want o opening first now
         → Grew' opening
-    opening_grew o cut = by cut.bytes cut.front (ends_grew written held faults may_want o first first
+    opening_grew o cut = by cut.bytes cut.front
+        (ends_grew written held faults may_want o first first
         now [] cut.bytes (PutsAll-nothing _ _ _ _) cut.ends) where
           by : (bytes : List ℕ) → (bytes ≡ []) ⊎ (bytes ≡ opening) → Grew' bytes → Grew' opening
           by bytes (inl e) grew = grew_more written held faults may_want first now [] opening
@@ -164,11 +170,13 @@ module _ (x : Sending) where
               → Grew' ((opening ++ h.puts.bytes) ++ bytes) → Grew' (sent_by x via)
           by bytes (inl e) more is grew =
               subst Grew' (whole more is) (grew_more written held faults may_want first now
-              (opening ++ h.puts.bytes) (due ++ more) (subst Grew' (ap (λ l. (opening ++ h.puts.bytes)
+              (opening ++ h.puts.bytes) (due ++ more)
+              (subst Grew' (ap (λ l. (opening ++ h.puts.bytes)
               ++ l) e ∙ append-nil (opening ++ h.puts.bytes)) grew))
           by bytes (inr e) more is grew =
               subst Grew' (append_assoc (opening ++ h.puts.bytes) due more ∙ whole more is)
-              (grew_more written held faults may_want first now ((opening ++ h.puts.bytes) ++ due) more
+              (grew_more written held faults may_want first now ((opening ++ h.puts.bytes) ++ due)
+              more
               (subst Grew' (ap (λ l. (opening ++ h.puts.bytes) ++ l) e) grew))
 
     -- what is written of a call

@@ -1,5 +1,6 @@
 -- What is known of a call when the peer's stream is over.
-use Rattle.std.proofs.Common.{◌≡◌, ℕ, ◌⊎◌, inl, inr, List, [], ◌++◌, Bool, Option, Some, None, Result, Ok, Err, map, refl, sym, ap, ◌∙◌, subst}
+use Rattle.std.proofs.Common.{◌≡◌, ℕ, ◌⊎◌, inl, inr, List, [], ◌++◌, Bool, Option, Some, None}
+use Rattle.std.proofs.Common.{Result, Ok, Err, map, refl, sym, ap, ◌∙◌, subst}
 use Rattle.std.specs.Prelude.{⊤}
 use Rattle.io_edges.specs.Faults.{CountsFaults}
 use Rattle.io_edges.proofs.Putting.{PutsAll-nothing}
@@ -28,7 +29,8 @@ use Rattle.client.specs.declared.outcome.ClientIn.{ClientIn}
 use Rattle.client.specs.declared.outcome.ClientIn.TheVariants.{ReadFault}
 use Rattle.client.specs.declared.outcome.ClientOut.{ClientOut}
 use Rattle.client.specs.declared.outcome.ClientOut.TheVariants as out
-use Rattle.client.specs.Called.{BreaksOpening, Calls, HasCalled, Sends, ack_along, answers_to, closing_of, ending_of, inbound_by, reached_along}
+use Rattle.client.specs.Called.{BreaksOpening, Calls, HasCalled, Sends, ack_along, answers_to}
+use Rattle.client.specs.Called.{closing_of, ending_of, inbound_by, reached_along}
 use Rattle.client.specs.Calling.{HasFollowed, HasHeard, SendsSo}
 use Rattle.client.specs.Sending.{WritesOut, sending_of}
 use Rattle.client.specs.Sent.{HasBroken, Sending, SendsAll}
@@ -140,7 +142,8 @@ pub followed_to : {K : Type 0} (k_written : K → Option (List ℕ)) (k_held : K
     (sink sink' : K) (output output' : O) (caller : Caller) (ending : Ending Offence)
     → HasFollowed k_written k_held k_faults k_wants o_written o_held o_faults o_wants x i i' sink
     sink' output output' caller ending
-    → Follows (stream (answers_to x)) (λ events. HasHeard k_written k_held k_faults k_wants o_written
+    → Follows (stream (answers_to x)) (λ events. HasHeard k_written k_held k_faults k_wants
+    o_written
     o_held o_faults o_wants sink output (map event_for events) caller sink' output') i i' ending
 followed_to k_written k_held k_faults k_wants o_written o_held o_faults o_wants x i i' sink sink'
     output output' caller ending h =

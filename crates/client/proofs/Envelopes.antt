@@ -1,5 +1,7 @@
 -- What is put of documents, one envelope behind the other, and where that ends.
-use Rattle.std.proofs.Common.{◌≡◌, ℕ, suc, ◌+◌, ◌<◌, ◌⊎◌, inl, inr, List, [], ◌∷◌, ◌++◌, length, take, drop, get_or, drop-cons, Bool, Option, Result, Ok, Err, refl, sym, ap, ◌∙◌, subst, append_assoc, append-nil, length-append, arith}
+use Rattle.std.proofs.Common.{◌≡◌, ℕ, suc, ◌+◌, ◌<◌, ◌⊎◌, inl, inr, List, [], ◌∷◌, ◌++◌, length}
+use Rattle.std.proofs.Common.{take, drop, get_or, drop-cons, Bool, Option, Result, Ok, Err, refl}
+use Rattle.std.proofs.Common.{sym, ap, ◌∙◌, subst, append_assoc, append-nil, length-append, arith}
 use Rattle.std.specs.Prelude.{⊤}
 use Rattle.std.proofs.lemmas.List.{take-append-drop, take_all, take_more}
 use Rattle.io_edges.specs.declared.SinkFault.{SinkFault}
@@ -19,7 +21,8 @@ use Rattle.nbfx_encoder.specs.declared.sender.Side.TheVariants.{Initiator}
 use Rattle.nbfx_encoder.specs.Envelopes.{behind_bytes, envelope, envelope_then}
 use Rattle.nbfx_encoder.specs.Placing.{Placed}
 use Rattle.nbfx_encoder.specs.Refusals.{told}
-use Rattle.nbfx_encoder.specs.Sending.{KeepsSettings, behind_message, first_state, kind_in, limits_in, mode_in, names_in, state_in}
+use Rattle.nbfx_encoder.specs.Sending.{KeepsSettings, behind_message, first_state, kind_in}
+use Rattle.nbfx_encoder.specs.Sending.{limits_in, mode_in, names_in, state_in}
 use Rattle.nbfx_encoder.specs.Spelling.{Unfit, encoded}
 use Rattle.nbfx_encoder.specs.Standing.{Refuses}
 use Rattle.nbfx_encoder.proofs.LawFacts.{sends_one_more}
@@ -29,8 +32,10 @@ use Rattle.stream_follower.specs.declared.writing.Outbound.TheVariants as outbou
 use Rattle.stream_follower.specs.Writing.{Goes, IsCut, PutsTo, outbound_by}
 use Rattle.stream_follower.proofs.Written.{cut_of}
 use Rattle.client.specs.declared.outcome.ClientOut.{ClientOut}
-use Rattle.client.specs.declared.outcome.ClientOut.TheVariants.{Done, Unfit as UnfitDocument, WriteFault, Memory}
-use Rattle.client.specs.Sent.{HasBroken, HasSent, HasSentAll, HasSentFitting, Sending, SendsAll, due_of, envelopes}
+use Rattle.client.specs.declared.outcome.ClientOut.TheVariants.{Done, Unfit as UnfitDocument}
+use Rattle.client.specs.declared.outcome.ClientOut.TheVariants.{WriteFault, Memory}
+use Rattle.client.specs.Sent.{HasBroken, HasSent, HasSentAll, HasSentFitting, Sending, SendsAll}
+use Rattle.client.specs.Sent.{due_of, envelopes}
 use Rattle.client.specs.Sending.{IsSending, SendsOne, Stops, WritesOut, moment_behind, out_of}
 
 -- ---- lists in a loop
@@ -120,8 +125,10 @@ module _ {K : Type 0} (written : K → Option (List ℕ)) (held : K → List ℕ
   pub flushes_out : (answer : Result (Unit {0}) SinkFault) (bytes : List ℕ) (old mid new : K)
       → Puts' old mid bytes (Ok tt) → Puts' mid new [] answer → held new ≡ []
       → WritesOut written held faults may_want (outbound_by answer) bytes old new
-  flushes_out (Ok u) bytes old mid new puts flushed emptied =
-      (subst (λ l. Puts' old new l (Ok tt)) (append-nil bytes) (PutsAll-then _ puts flushed), emptied)
+  flushes_out (Ok u) bytes old mid new puts flushed emptied = (
+    subst (λ l. Puts' old new l (Ok tt)) (append-nil bytes) (PutsAll-then _ puts flushed),
+    emptied,
+  )
   flushes_out (Err sinks.Failed) bytes old mid new puts flushed emptied =
       cut_of written held faults may_want sinks.Failed bytes bytes old new
       (subst (λ l. Puts' old new l (Err sinks.Failed)) (append-nil bytes)

@@ -1,5 +1,6 @@
 -- What a caller has heard when an event more comes, and what was reported when the stream is over.
-use Rattle.std.proofs.Common.{◌≡◌, ℕ, ◌⊎◌, inl, inr, List, [], ◌∷◌, ◌++◌, Bool, Option, Result, Ok, Err, refl, sym, ap, ◌∙◌, subst}
+use Rattle.std.proofs.Common.{◌≡◌, ℕ, ◌⊎◌, inl, inr, List, [], ◌∷◌, ◌++◌, Bool, Option, Result, Ok}
+use Rattle.std.proofs.Common.{Err, refl, sym, ap, ◌∙◌, subst}
 use Rattle.std.specs.Prelude.{⊤}
 use Rattle.io_edges.specs.declared.SinkFault.{SinkFault}
 use Rattle.unit_streams.specs.Tellers.{state_behind, told_along}
@@ -8,7 +9,8 @@ use Rattle.command_words.specs.declared.task.Detail.TheVariants.{Whole}
 use Rattle.stream_follower.specs.declared.writing.Outbound.{Outbound}
 use Rattle.stream_follower.specs.declared.writing.Outbound.TheVariants as outbounds
 use Rattle.stream_follower.specs.Writing.{Goes, PutsTo, Writes, Wrote, outbound_by}
-use Rattle.stream_follower.proofs.Written.{begins, closes, goes_by, pauses, stays_closed, stays_so, steps, stops_last}
+use Rattle.stream_follower.proofs.Written.{begins, closes, goes_by, pauses, stays_closed, stays_so}
+use Rattle.stream_follower.proofs.Written.{steps, stops_last}
 use Rattle.session_report.specs.declared.reading.Event.{Event}
 use Rattle.session_report.specs.declared.reading.Event.TheVariants as said
 use Rattle.session_report.specs.declared.reporter.Outcome.{Outcome}
@@ -69,7 +71,8 @@ module _ {K : Type 0} (written : K → Option (List ℕ)) (held : K → List ℕ
   -- where it is, the documents are sent
   pub sends_now : (opened : Outbound) (first : K) (outbound outbound' : ClientOut) (sent sent' : ℕ)
       (old new : K) → opened ≡ outbounds.Done
-      → ((start : K) (before : List ℕ) → PutsTo written held faults may_want start old before (Ok tt)
+      → ((start : K) (before : List ℕ) → PutsTo written held faults may_want start old before
+      (Ok tt)
       → SendsAll x written held faults may_want before start outbound' sent' new)
       → So opened first Awaited outbound sent old → So opened first Read outbound' sent' new
   sends_now outbounds.Done first outbound outbound' sent sent' old new is sends h =

@@ -1,5 +1,6 @@
 -- What is known of a call where the peer's bytes are known.
-use Rattle.std.proofs.Common.{◌≡◌, ℕ, ◌⊎◌, inl, inr, List, [], ◌++◌, Bool, Option, Some, None, map, refl, sym, ap, ◌∙◌, subst}
+use Rattle.std.proofs.Common.{◌≡◌, ℕ, ◌⊎◌, inl, inr, List, [], ◌++◌, Bool, Option, Some, None, map}
+use Rattle.std.proofs.Common.{refl, sym, ap, ◌∙◌, subst}
 use Rattle.std.proofs.lemmas.List.{append-nil}
 use Rattle.std.specs.Prelude.{⊤}
 use Rattle.unit_streams.specs.Grammar.{Grammar}
@@ -14,9 +15,11 @@ use Rattle.stream_follower.specs.declared.writing.Outbound.{Outbound}
 use Rattle.stream_follower.specs.declared.writing.Outbound.TheVariants as outbounds
 use Rattle.stream_follower.specs.Followed.{AreFirst, Breaks, Decides, Follows, IsWhole, Starves}
 use Rattle.stream_follower.specs.Writing.{Wrote}
-use Rattle.stream_follower.proofs.Amounts.{AllWritten, Grew, all_written, first_told, grew_more, states_values, whole_told, wrote_grew}
+use Rattle.stream_follower.proofs.Amounts.{AllWritten, Grew, all_written, first_told, grew_more}
+use Rattle.stream_follower.proofs.Amounts.{states_values, whole_told, wrote_grew}
 use Rattle.stream_follower.proofs.Counts.{heard_some}
-use Rattle.stream_follower.proofs.Knowing.{events_are, first_broken, first_starved, offence_of, whole_of}
+use Rattle.stream_follower.proofs.Knowing.{events_are, first_broken, first_starved, offence_of}
+use Rattle.stream_follower.proofs.Knowing.{whole_of}
 use Rattle.session_report.specs.declared.reporter.Outcome.{Outcome}
 use Rattle.session_report.specs.declared.reporter.Outcome.TheVariants as reached
 use Rattle.session_report.specs.Report.{last_line, lines_of, outcome}
@@ -26,8 +29,11 @@ use Rattle.client.specs.declared.caller.Ack.{Ack}
 use Rattle.client.specs.declared.caller.Ack.TheVariants.{Awaited, Read}
 use Rattle.client.specs.declared.outcome.CallOutcome.{CallOutcome}
 use Rattle.client.specs.declared.outcome.ClientIn.{ClientIn}
-use Rattle.client.specs.declared.outcome.ClientIn.TheVariants.{Ended, Offended, PeerFault, ReadFault, Memory}
-use Rattle.client.specs.Called.{Calls, HasCalled, IsAckOf, Judges, ReportsOf, WritesCall, ack_along, answers_to, closing_of, dumped, ending_of, heard_of, inbound_by, reached_along}
+use Rattle.client.specs.declared.outcome.ClientIn.TheVariants.{Ended, Offended, PeerFault}
+use Rattle.client.specs.declared.outcome.ClientIn.TheVariants.{ReadFault, Memory}
+use Rattle.client.specs.Called.{Calls, HasCalled, IsAckOf, Judges, ReportsOf, WritesCall, ack_along}
+use Rattle.client.specs.Called.{answers_to, closing_of, dumped, ending_of, heard_of, inbound_by}
+use Rattle.client.specs.Called.{reached_along}
 use Rattle.client.specs.Sent.{Sending}
 use Rattle.client.proofs.Amounts.{sends_written}
 

@@ -1,5 +1,6 @@
 -- What was read, reported and sent by a call, however it ends.
-use Rattle.std.specs.Prelude.{◌≡◌, ⊤, ℕ, ◌⊎◌, List, [], ◌∷◌, ◌++◌, length, Bool, Option, Some, None, Result, Ok, Err, map}
+use Rattle.std.specs.Prelude.{◌≡◌, ⊤, ℕ, ◌⊎◌, List, [], ◌∷◌, ◌++◌, length, Bool, Option, Some, None}
+use Rattle.std.specs.Prelude.{Result, Ok, Err, map}
 use Rattle.io_edges.specs.Faults.{CountsFaults}
 use Rattle.io_edges.specs.Flow.{GrowsByPrefix}
 use Rattle.unit_streams.specs.Judging.{events, offence}
@@ -28,7 +29,8 @@ use Rattle.client.specs.declared.caller.Ack.{Ack}
 use Rattle.client.specs.declared.caller.Ack.TheVariants.{Awaited, Read}
 use Rattle.client.specs.declared.outcome.CallOutcome.{CallOutcome}
 use Rattle.client.specs.declared.outcome.ClientIn.{ClientIn}
-use Rattle.client.specs.declared.outcome.ClientIn.TheVariants.{Ended, Offended, PeerFault, ReadFault, Memory}
+use Rattle.client.specs.declared.outcome.ClientIn.TheVariants.{Ended, Offended, PeerFault}
+use Rattle.client.specs.declared.outcome.ClientIn.TheVariants.{ReadFault, Memory}
 use Rattle.client.specs.declared.outcome.ClientOut.{ClientOut}
 use Rattle.client.specs.declared.outcome.ClientOut.TheVariants as out
 use Rattle.client.specs.Sent.{HasBroken, HasSentAll, HasSentFitting, Sending, envelopes, sent_by}

@@ -12,13 +12,15 @@ use Rattle.nbfx_encoder.specs.declared.sender.Sender.{Sender}
 use Rattle.nbfx_encoder.specs.Envelopes.{envelope}
 use Rattle.nbfx_encoder.specs.Placing.{Placed}
 use Rattle.nbfx_encoder.specs.Refusals.{told}
-use Rattle.nbfx_encoder.specs.Sending.{behind_message, kind_in, limits_in, mode_in, names_in, state_in}
+use Rattle.nbfx_encoder.specs.Sending.{behind_message, kind_in, limits_in, mode_in, names_in}
+use Rattle.nbfx_encoder.specs.Sending.{state_in}
 use Rattle.nbfx_encoder.specs.Spelling.{Unfit}
 use Rattle.stream_follower.specs.declared.writing.Outbound.{Outbound}
 use Rattle.stream_follower.specs.declared.writing.Outbound.TheVariants as outbounds
 use Rattle.stream_follower.specs.Writing.{IsCut, PutsTo}
 use Rattle.client.specs.declared.outcome.ClientOut.{ClientOut}
-use Rattle.client.specs.declared.outcome.ClientOut.TheVariants.{Done, Unfit as UnfitDocument, WriteFault, Memory}
+use Rattle.client.specs.declared.outcome.ClientOut.TheVariants.{Done, Unfit as UnfitDocument}
+use Rattle.client.specs.declared.outcome.ClientOut.TheVariants.{WriteFault, Memory}
 use Rattle.client.specs.declared.outgoing.Outgoing.{Outgoing}
 use Rattle.client.specs.Sent.{HasSent, Sending, due_of, sending}
 

@@ -1,6 +1,7 @@
 -- What a client sends: an opening, an envelope for each document, and an End record (MC-NMF). What
 -- became of a sink that it was put to, however the writing ended.
-use Rattle.std.specs.Prelude.{◌≡◌, ⊤, ℕ, ◌⊎◌, List, [], ◌∷◌, ◌++◌, length, take, Bool, Option, Result, Ok, Err}
+use Rattle.std.specs.Prelude.{◌≡◌, ⊤, ℕ, ◌⊎◌, List, [], ◌∷◌, ◌++◌, length, take, Bool, Option}
+use Rattle.std.specs.Prelude.{Result, Ok, Err}
 use Rattle.nbfx_values.specs.Limits.{Limits}
 use Rattle.nbfx_values.specs.declared.content.Item.{Item}
 use Rattle.nbfx_values.specs.declared.session.Kind.{Kind}
@@ -20,7 +21,8 @@ use Rattle.stream_follower.specs.declared.writing.Outbound.{Outbound}
 use Rattle.stream_follower.specs.declared.writing.Outbound.TheVariants as outbounds
 use Rattle.stream_follower.specs.Writing.{IsCut, PutsTo}
 use Rattle.client.specs.declared.outcome.ClientOut.{ClientOut}
-use Rattle.client.specs.declared.outcome.ClientOut.TheVariants.{Done, Unfit as UnfitDocument, WriteFault, Memory}
+use Rattle.client.specs.declared.outcome.ClientOut.TheVariants.{Done, Unfit as UnfitDocument}
+use Rattle.client.specs.declared.outcome.ClientOut.TheVariants.{WriteFault, Memory}
 
 -- documents, and how they are sent: within which quotas, with which static strings, in which mode
 -- and encoding
@@ -111,7 +113,8 @@ module _ (x : Sending) where
           pub puts : HasSent done table now
           pub emptied : held now ≡ []
 
-      -- the envelopes of the first documents were put, and the writing ended so at what was due next
+      -- the envelopes of the first documents were put, and the writing ended so at what was due
+      -- next
       pub record HasBroken (outbound : Outbound) (sent : ℕ) (now : K) : Type 0 where
         pub done : List (List Item)
         pub rest : List (List Item)

@@ -19,8 +19,12 @@ use Rattle.command_words.specs.Commands.{options_of, word_of}
 use Rattle.command_words.specs.Reading.{HasTaken, IsReadable, app_for, app_with, found_values}
 use Rattle.command_words.specs.Requests.{GiveOptions}
 use Rattle.command_words.proofs.OptionFacts.{new-from_once, once-from_new}
-use Rattle.command_words.proofs.ReadingFacts.{Passes, are_known, held_behind, reading-complete, reading-sound, rows_behind}
-use Rattle.command_words.proofs.RuleFacts.{app_with-is, built-app_with, built_app, check-none, defaults-none, first_of-given, is_simple_and_free-app_with, built_rules, shape, with_default-none}
+use Rattle.command_words.proofs.ReadingFacts.{Passes, are_known, held_behind, reading-complete}
+use Rattle.command_words.proofs.ReadingFacts.{reading-sound, rows_behind}
+use Rattle.command_words.proofs.RuleFacts.{app_with-is, built-app_with, built_app, check-none}
+use Rattle.command_words.proofs.RuleFacts.{defaults-none, first_of-given}
+use Rattle.command_words.proofs.RuleFacts.{is_simple_and_free-app_with, built_rules, shape}
+use Rattle.command_words.proofs.RuleFacts.{with_default-none}
 use Rattle.command_words.proofs.WalkFacts.{or_else-empty, or_else-nil, resting, walk_at}
 
 module _ (name : Text) (options : List OptionName) (words : List Text) where

@@ -1,5 +1,6 @@
 -- Facts about options and the values that they are given.
-use Rattle.std.proofs.Common.{◌≡◌, ◌≢◌, ◌⊎◌, ◌∙◌, suc, true, false, not, List, [], ◌∷◌, ◌++◌, Some, None, arith, refl, sym, ap, subst, inl, inr, codes, true≢false}
+use Rattle.std.proofs.Common.{◌≡◌, ◌≢◌, ◌⊎◌, ◌∙◌, suc, true, false, not, List, [], ◌∷◌, ◌++◌, Some}
+use Rattle.std.proofs.Common.{None, arith, refl, sym, ap, subst, inl, inr, codes, true≢false}
 use Rattle.std.specs.Prelude.{All, if◌then◌else◌}
 use Rattle.std.specs.List.{list_all, list_any}
 use Rattle.std.specs.Str.{bytes_eq}
@@ -7,8 +8,16 @@ use Rattle.std.proofs.lemmas.Bool.{cases_Bool}
 use Rattle.std.proofs.lemmas.Slice.Eq.{bytes_eq-Decides}
 use Rattle.clap.proofs.WalkLemmas.{both}
 use Rattle.command_words.specs.declared.option_name.OptionName.{OptionName}
-use Rattle.command_words.specs.declared.option_name.OptionName.TheVariants.{Static, Replies, Via, Mode, Encoding, Listen, Connections, Connect, Second, Seed, Count, Endpoint, Actions, Payload, Depth, Dictionary, Content, Session}
-use Rattle.command_words.specs.Options.{Given, IsOnce, Text, is_empty, is_option, option_text, value_of}
+use Rattle.command_words.specs.declared.option_name.OptionName.TheVariants.{Static, Replies, Via}
+use Rattle.command_words.specs.declared.option_name.OptionName.TheVariants.{Mode, Encoding, Listen}
+use Rattle.command_words.specs.declared.option_name.OptionName.TheVariants.{Connections, Connect}
+use Rattle.command_words.specs.declared.option_name.OptionName.TheVariants.{Second, Seed, Count}
+use Rattle.command_words.specs.declared.option_name.OptionName.TheVariants.{Endpoint, Actions}
+use Rattle.command_words.specs.declared.option_name.OptionName.TheVariants.{Payload, Depth}
+use Rattle.command_words.specs.declared.option_name.OptionName.TheVariants.{Dictionary, Content}
+use Rattle.command_words.specs.declared.option_name.OptionName.TheVariants.{Session}
+use Rattle.command_words.specs.Options.{Given, IsOnce, Text, is_empty, is_option, option_text}
+use Rattle.command_words.specs.Options.{value_of}
 
 -- ---- options by their texts
 

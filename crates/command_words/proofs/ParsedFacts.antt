@@ -1,5 +1,7 @@
 -- Words that may be given to clap, and what it makes of them.
-use Rattle.std.proofs.Common.{◌≡◌, ◌≢◌, ◌∙◌, ◌<◌, ℕ, zero, suc, false, List, [], ◌∷◌, ◌++◌, ◌+◌, ◌-◌, ◌≤◌, drop, length, map, take, Option, Some, String, sym, ap, subst, inl, inr, codes, arith, slice_index_or, string_bytes}
+use Rattle.std.proofs.Common.{◌≡◌, ◌≢◌, ◌∙◌, ◌<◌, ℕ, zero, suc, false, List, [], ◌∷◌, ◌++◌, ◌+◌}
+use Rattle.std.proofs.Common.{◌-◌, ◌≤◌, drop, length, map, take, Option, Some, String, sym, ap}
+use Rattle.std.proofs.Common.{subst, inl, inr, codes, arith, slice_index_or, string_bytes}
 use Rattle.std.specs.Prelude.{All, Any}
 use Rattle.std.specs.List.{AllByRecursion}
 use Rattle.clap.specs.Lexer.{long_of}
@@ -9,7 +11,8 @@ use Rattle.clap.specs.declared.parser.matches.ArgMatches.{ArgMatches}
 use Rattle.command_words.specs.declared.action.Action.{Action}
 use Rattle.command_words.specs.declared.words.WordsFault.TheVariants.{Memory, NotUnderstood}
 use Rattle.command_words.specs.Commands.{options_of, word_of}
-use Rattle.command_words.specs.Options.{Given, SpellOptions, Text, begins_with_hyphen, dashed, value_of}
+use Rattle.command_words.specs.Options.{Given, SpellOptions, Text, begins_with_hyphen, dashed}
+use Rattle.command_words.specs.Options.{value_of}
 use Rattle.command_words.specs.Reading.{HasFound, HasTaken, IsLoneHyphens, IsReadable, found_values}
 use Rattle.command_words.specs.Requests.{AskFor, Asked, GiveOptions, IsRequest, Values}
 use Rattle.command_words.proofs.OptionFacts.{among, full-from_values, full-no_empty}

@@ -1,5 +1,7 @@
 -- The options that clap takes are those that the words spell, none of them twice.
-use Rattle.std.proofs.Common.{◌≡◌, ◌⊎◌, ◌∙◌, Bool, true, false, List, [], ◌∷◌, ◌++◌, map, Option, Some, None, refl, sym, ap, subst, inl, inr, append-nil, append_assoc, codes}
+use Rattle.std.proofs.Common.{◌≡◌, ◌⊎◌, ◌∙◌, Bool, true, false, List, [], ◌∷◌, ◌++◌, map, Option}
+use Rattle.std.proofs.Common.{Some, None, refl, sym, ap, subst, inl, inr, append-nil, append_assoc}
+use Rattle.std.proofs.Common.{codes}
 use Rattle.std.specs.Prelude.{IsUtf8, fold}
 use Rattle.std.specs.List.{AllByRecursion, list_all, list_any}
 use Rattle.std.specs.Str.{bytes_eq}
@@ -10,13 +12,21 @@ use Rattle.clap.specs.Walk.{Held, Row, Walk, settled_rows, walked}
 use Rattle.clap.proofs.WalkLemmas.{both}
 use Rattle.clap.specs.Faults.{settle_fault, turn_fault, walk_fault}
 use Rattle.command_words.specs.declared.option_name.OptionName.{OptionName}
-use Rattle.command_words.specs.Options.{BeginsApart, BeginsJoined, Given, SpellOptions, Text, begins_with_hyphen, dashed, is_option, option_text, value_of}
+use Rattle.command_words.specs.Options.{BeginsApart, BeginsJoined, Given, SpellOptions, Text}
+use Rattle.command_words.specs.Options.{begins_with_hyphen, dashed, is_option, option_text}
+use Rattle.command_words.specs.Options.{value_of}
 use Rattle.command_words.specs.Reading.{IsReadable}
 use Rattle.command_words.proofs.OptionFacts.{IsNew, IsNew-cons, IsNew-head, IsNew-nil, IsNew-tail}
 use Rattle.command_words.proofs.RuleFacts.{arg_by_long-is, row_for, built_rules, shape}
-use Rattle.command_words.proofs.StepFacts.{joined-passes, joined-tells, joined-walks, named-fault, named-walks, plain-refused, plain-refused_behind, short-refused, unknown-refused, value-passes, value-walks}
-use Rattle.command_words.proofs.WalkFacts.{Fits, Rests, State, holding, naming, or_else-empty, resting, rests-settle, settle-rests, settled_rows-whole, walk_at, whole}
-use Rattle.command_words.proofs.WordFacts.{IsLong, first_flag, long, long_of-dashed, long_of-joined, look, plain, plain-looks, short}
+use Rattle.command_words.proofs.StepFacts.{joined-passes, joined-tells, joined-walks, named-fault}
+use Rattle.command_words.proofs.StepFacts.{named-walks, plain-refused, plain-refused_behind}
+use Rattle.command_words.proofs.StepFacts.{short-refused, unknown-refused, value-passes}
+use Rattle.command_words.proofs.StepFacts.{value-walks}
+use Rattle.command_words.proofs.WalkFacts.{Fits, Rests, State, holding, naming, or_else-empty}
+use Rattle.command_words.proofs.WalkFacts.{resting, rests-settle, settle-rests, settled_rows-whole}
+use Rattle.command_words.proofs.WalkFacts.{walk_at, whole}
+use Rattle.command_words.proofs.WordFacts.{IsLong, first_flag, long, long_of-dashed, long_of-joined}
+use Rattle.command_words.proofs.WordFacts.{look, plain, plain-looks, short}
 
 -- each option that is given is known
 abbrev pub are_known : List OptionName → List Given → Bool

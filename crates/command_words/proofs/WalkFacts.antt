@@ -1,5 +1,6 @@
 -- How clap goes over the words of options.
-use Rattle.std.proofs.Common.{◌≡◌, ◌∙◌, true, false, List, [], ◌∷◌, ◌++◌, map, Option, Some, None, refl, sym, ap, inl, inr}
+use Rattle.std.proofs.Common.{◌≡◌, ◌∙◌, true, false, List, [], ◌∷◌, ◌++◌, map, Option, Some, None}
+use Rattle.std.proofs.Common.{refl, sym, ap, inl, inr}
 use Rattle.std.specs.Prelude.{is_some}
 use Rattle.std.specs.List.{list_any}
 use Rattle.std.proofs.lemmas.Bool.{cases_Bool}
@@ -7,8 +8,10 @@ use Rattle.clap.specs.Kinds.{Kinds, or_else}
 use Rattle.clap.specs.Walk.{Held, Row, Waiting, Walk, has_row, idle, option, settled_rows}
 use Rattle.clap.specs.Faults.{settle_fault}
 use Rattle.command_words.specs.declared.option_name.OptionName.{OptionName}
-use Rattle.command_words.specs.Options.{Given, Text, begins_with_hyphen, is_option, option_text, value_of}
-use Rattle.command_words.proofs.RuleFacts.{arg_by_id-known, has_row-given, row_for, built_rules, used-new}
+use Rattle.command_words.specs.Options.{Given, Text, begins_with_hyphen, is_option, option_text}
+use Rattle.command_words.specs.Options.{value_of}
+use Rattle.command_words.proofs.RuleFacts.{arg_by_id-known, has_row-given, row_for, built_rules}
+use Rattle.command_words.proofs.RuleFacts.{used-new}
 
 -- ---- kinds of errors
 

@@ -1,5 +1,7 @@
 -- What a word looks like, and how an option's looks.
-use Rattle.std.proofs.Common.{◌≡◌, ◌⊎◌, ◌∙◌, ◌<◌, ℕ, zero, suc, true, false, ◌==◌, List, [], ◌∷◌, ◌++◌, length, Option, Some, None, refl, sym, ap, subst, inl, inr, codes, arith, true≢false, eqb-true, eq-eqb}
+use Rattle.std.proofs.Common.{◌≡◌, ◌⊎◌, ◌∙◌, ◌<◌, ℕ, zero, suc, true, false, ◌==◌, List, [], ◌∷◌}
+use Rattle.std.proofs.Common.{◌++◌, length, Option, Some, None, refl, sym, ap, subst, inl, inr}
+use Rattle.std.proofs.Common.{codes, arith, true≢false, eqb-true, eq-eqb}
 use Rattle.std.specs.Prelude.{IsUtf8, slice_get}
 use Rattle.std.specs.Char.{encode_utf8}
 use Rattle.std.specs.Str.{bytes_eq, chars, encode_utf8_all}
@@ -10,7 +12,14 @@ use Rattle.clap.specs.Lexer.{long_of, name_and_value, short_of}
 use Rattle.clap.proofs.CutLemmas.{Lacks}
 use Rattle.clap.proofs.LexerLemmas.{name_and_value-at, name_and_value-without}
 use Rattle.command_words.specs.declared.option_name.OptionName.{OptionName}
-use Rattle.command_words.specs.declared.option_name.OptionName.TheVariants.{Static, Replies, Via, Mode, Encoding, Listen, Connections, Connect, Second, Seed, Count, Endpoint, Actions, Payload, Depth, Dictionary, Content, Session}
+use Rattle.command_words.specs.declared.option_name.OptionName.TheVariants.{Static, Replies, Via}
+use Rattle.command_words.specs.declared.option_name.OptionName.TheVariants.{Mode, Encoding, Listen}
+use Rattle.command_words.specs.declared.option_name.OptionName.TheVariants.{Connections, Connect}
+use Rattle.command_words.specs.declared.option_name.OptionName.TheVariants.{Second, Seed, Count}
+use Rattle.command_words.specs.declared.option_name.OptionName.TheVariants.{Endpoint, Actions}
+use Rattle.command_words.specs.declared.option_name.OptionName.TheVariants.{Payload, Depth}
+use Rattle.command_words.specs.declared.option_name.OptionName.TheVariants.{Dictionary, Content}
+use Rattle.command_words.specs.declared.option_name.OptionName.TheVariants.{Session}
 use Rattle.command_words.specs.Options.{Text, begins_with_hyphen, dashed, option_text}
 use Rattle.command_words.specs.Reading.{IsReadable}
 

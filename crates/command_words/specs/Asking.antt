@@ -4,9 +4,11 @@ use Rattle.command_words.specs.declared.request.Request.{Request}
 use Rattle.command_words.specs.declared.task.Opening.{Opening as OpeningTaken}
 use Rattle.command_words.specs.declared.task.Serving.{Serving as ServingTaken}
 use Rattle.command_words.specs.declared.task.Task.{Task as TaskTaken}
-use Rattle.command_words.specs.declared.task.Task.TheVariants.{Report, Build, Replay, Serve, Call, Generate}
+use Rattle.command_words.specs.declared.task.Task.TheVariants.{Report, Build, Replay, Serve, Call}
+use Rattle.command_words.specs.declared.task.Task.TheVariants.{Generate}
 use Rattle.command_words.specs.Requests.{Asked}
-use Rattle.command_words.specs.Tasks.{Opening, Serving, Task, report, build, replay, serve, call, generate}
+use Rattle.command_words.specs.Tasks.{Opening, Serving, Task, report, build, replay, serve, call}
+use Rattle.command_words.specs.Tasks.{generate}
 use Rattle.command_words.specs.Values.{text_behind}
 
 abbrev pub opening_of : OpeningTaken → Opening

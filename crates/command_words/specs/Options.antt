@@ -1,10 +1,18 @@
 -- The options, the values that they are given, and how they are spelled. A word is the list of its
 -- bytes.
-use Rattle.std.specs.Prelude.{◌≡◌, ◌⊎◌, ℕ, Bool, false, true, not, ◌==◌, ⊤, IsTrue, List, [], ◌∷◌, ◌++◌, Option, Some, None, codes, if◌then◌else◌}
+use Rattle.std.specs.Prelude.{◌≡◌, ◌⊎◌, ℕ, Bool, false, true, not, ◌==◌, ⊤, IsTrue, List, [], ◌∷◌}
+use Rattle.std.specs.Prelude.{◌++◌, Option, Some, None, codes, if◌then◌else◌}
 use Rattle.std.specs.List.{list_all}
 use Rattle.std.specs.Str.{bytes_eq}
 use Rattle.command_words.specs.declared.option_name.OptionName.{OptionName}
-use Rattle.command_words.specs.declared.option_name.OptionName.TheVariants.{Static, Replies, Via, Mode, Encoding, Listen, Connections, Connect, Second, Seed, Count, Endpoint, Actions, Payload, Depth, Dictionary, Content, Session}
+use Rattle.command_words.specs.declared.option_name.OptionName.TheVariants.{Static, Replies, Via}
+use Rattle.command_words.specs.declared.option_name.OptionName.TheVariants.{Mode, Encoding, Listen}
+use Rattle.command_words.specs.declared.option_name.OptionName.TheVariants.{Connections, Connect}
+use Rattle.command_words.specs.declared.option_name.OptionName.TheVariants.{Second, Seed, Count}
+use Rattle.command_words.specs.declared.option_name.OptionName.TheVariants.{Endpoint, Actions}
+use Rattle.command_words.specs.declared.option_name.OptionName.TheVariants.{Payload, Depth}
+use Rattle.command_words.specs.declared.option_name.OptionName.TheVariants.{Dictionary, Content}
+use Rattle.command_words.specs.declared.option_name.OptionName.TheVariants.{Session}
 
 abbrev pub Text : Type 0
 Text = List ℕ

@@ -1,5 +1,6 @@
 -- What the parts of a reader of words answer.
-use Rattle.std.specs.Prelude.{◌≡◌, ◌≢◌, ◌⊎◌, ◌&&◌, nat_le, nat_lt, Bool, true, false, Some, List, [], ◌∷◌, Option, IsUtf8, codes, fold}
+use Rattle.std.specs.Prelude.{◌≡◌, ◌≢◌, ◌⊎◌, ◌&&◌, nat_le, nat_lt, Bool, true, false, Some, List}
+use Rattle.std.specs.Prelude.{[], ◌∷◌, Option, IsUtf8, codes, fold}
 use Rattle.std.specs.Char.{is_ascii_digit}
 use Rattle.clap.specs.Matches.{first_value, found_of}
 use Rattle.clap.specs.Walk.{Rule}

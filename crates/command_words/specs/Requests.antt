@@ -1,21 +1,33 @@
 -- What the values of options mean, and the words of a request.
-use Rattle.std.specs.Prelude.{◌≡◌, ◌<◌, ◌≤◌, ◌^◌, ℕ, ◌*◌, length, max, IsTrue, List, ◌∷◌, Option, Some, None}
+use Rattle.std.specs.Prelude.{◌≡◌, ◌<◌, ◌≤◌, ◌^◌, ℕ, ◌*◌, length, max, IsTrue, List, ◌∷◌, Option}
+use Rattle.std.specs.Prelude.{Some, None}
 use Rattle.std.specs.Fmt.{decimal}
 use Rattle.std.specs.List.{list_all, list_any}
 use Rattle.nbfx_values.specs.Limits.{IsGood, Limits, usual_limits}
 use Rattle.nbfx_values.specs.declared.session.Kind.{Kind}
 use Rattle.nbfx_values.specs.declared.session.Mode.{Mode}
 use Rattle.command_words.specs.declared.action.Action.{Action}
-use Rattle.command_words.specs.declared.action.Action.TheVariants.{Check, Dump, Build, Replay, Serve, Call, Gen}
+use Rattle.command_words.specs.declared.action.Action.TheVariants.{Check, Dump, Build, Replay}
+use Rattle.command_words.specs.declared.action.Action.TheVariants.{Serve, Call, Gen}
 use Rattle.command_words.specs.declared.option_name.OptionName.{OptionName}
-use Rattle.command_words.specs.declared.option_name.OptionName.TheVariants.{Static, Replies, Via, Mode as ModeOption, Encoding, Listen, Connections, Connect, Second, Seed, Count, Endpoint, Actions, Payload, Depth, Dictionary, Content, Session}
+use Rattle.command_words.specs.declared.option_name.OptionName.TheVariants.{Static, Replies, Via}
+use Rattle.command_words.specs.declared.option_name.OptionName.TheVariants.{Mode as ModeOption}
+use Rattle.command_words.specs.declared.option_name.OptionName.TheVariants.{Encoding, Listen}
+use Rattle.command_words.specs.declared.option_name.OptionName.TheVariants.{Connections, Connect}
+use Rattle.command_words.specs.declared.option_name.OptionName.TheVariants.{Second, Seed, Count}
+use Rattle.command_words.specs.declared.option_name.OptionName.TheVariants.{Endpoint, Actions}
+use Rattle.command_words.specs.declared.option_name.OptionName.TheVariants.{Payload, Depth}
+use Rattle.command_words.specs.declared.option_name.OptionName.TheVariants.{Dictionary, Content}
+use Rattle.command_words.specs.declared.option_name.OptionName.TheVariants.{Session}
 use Rattle.command_words.specs.declared.task.Detail.{Detail}
 use Rattle.command_words.specs.declared.task.Detail.TheVariants.{Summary, Whole}
 use Rattle.command_words.specs.declared.task.Origin.{Origin}
 use Rattle.command_words.specs.declared.task.Origin.TheVariants.{Initiator, Receiver}
-use Rattle.command_words.specs.Options.{Given, HaveValues, IsOnce, SpellOptions, Text, is_option, value_of}
+use Rattle.command_words.specs.Options.{Given, HaveValues, IsOnce, SpellOptions, Text, is_option}
+use Rattle.command_words.specs.Options.{value_of}
 use Rattle.command_words.specs.Commands.{options_of, word_of}
-use Rattle.command_words.specs.Tasks.{Opening, Serving, Task, report, build, replay, serve, call, generate}
+use Rattle.command_words.specs.Tasks.{Opening, Serving, Task, report, build, replay, serve, call}
+use Rattle.command_words.specs.Tasks.{generate}
 use Rattle.command_words.specs.Values.{IsKind, IsMode, IsNumber, mode_name}
 
 -- what words ask for: what every command is told, and what is to be done

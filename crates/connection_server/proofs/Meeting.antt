@@ -1,5 +1,6 @@
 -- What is known of a connection that was served.
-use Rattle.std.proofs.Common.{◌≡◌, ℕ, inl, inr, ◌<◌, ◌-◌, ◌^◌, List, [], ◌++◌, Option, Some, map, refl, subst, arith}
+use Rattle.std.proofs.Common.{◌≡◌, ℕ, inl, inr, ◌<◌, ◌-◌, ◌^◌, List, [], ◌++◌, Option, Some, map}
+use Rattle.std.proofs.Common.{refl, subst, arith}
 use Rattle.io_edges.specs.Faults.{Rose}
 use Rattle.io_edges.specs.Wires.{added_up}
 use Rattle.io_edges.proofs.Putting.{PutsAll-nothing}
@@ -23,8 +24,10 @@ use Rattle.duplex_server.specs.Requests.{request_for}
 use Rattle.duplex_server.specs.Serving.{HasServed, Serves, closing_of, ending_of}
 use Rattle.duplex_server.proofs.Judged.{judges, owes}
 use Rattle.duplex_server.proofs.Streams.{ends_within}
-use Rattle.connection_server.specs.Served.{AreNew, Connection, IsServed, SinkState, moved, told_pair}
-use Rattle.connection_server.proofs.Seeing.{faults_in, held_in, may_want_in, serves_empties, written_in}
+use Rattle.connection_server.specs.Served.{AreNew, Connection, IsServed, SinkState, moved}
+use Rattle.connection_server.specs.Served.{told_pair}
+use Rattle.connection_server.proofs.Seeing.{faults_in, held_in, may_want_in, serves_empties}
+use Rattle.connection_server.proofs.Seeing.{written_in}
 
 -- a count with two others is greater where one of these is above 0, or at its last value
 pub rose_by_reads : (count a b : ℕ) → Rose 0 a → Rose count (added_up count a b)

@@ -1,5 +1,6 @@
 -- What is known of connections that were served, by why no more are.
-use Rattle.std.proofs.Common.{◌≡◌, ℕ, ◌+◌, ◌<◌, inl, inr, List, [], ◌∷◌, ◌++◌, length, map, Bool, Option, Some, None, Result, Ok, Err, refl, sym, ap, ◌∙◌, subst, arith}
+use Rattle.std.proofs.Common.{◌≡◌, ℕ, ◌+◌, ◌<◌, inl, inr, List, [], ◌∷◌, ◌++◌, length, map, Bool}
+use Rattle.std.proofs.Common.{Option, Some, None, Result, Ok, Err, refl, sym, ap, ◌∙◌, subst, arith}
 use Rattle.std.proofs.lemmas.List.{append-nil, length-append, length-map, map-append}
 use Rattle.io_edges.specs.Flow.{Told}
 use Rattle.io_edges.specs.declared.SinkFault.{SinkFault}
@@ -12,7 +13,8 @@ use Rattle.duplex_server.specs.Owed.{Answering}
 use Rattle.connection_server.specs.declared.stopping.ServeFault.{ServeFault}
 use Rattle.connection_server.specs.declared.stopping.ServeFault.TheVariants as stops
 use Rattle.connection_server.specs.Lines.{connection_line}
-use Rattle.connection_server.specs.Served.{Connection, CutsLast, Ends, Network, ServesAll, WritesLines, held_behind, stop_by}
+use Rattle.connection_server.specs.Served.{Connection, CutsLast, Ends, Network, ServesAll}
+use Rattle.connection_server.specs.Served.{WritesLines, held_behind, stop_by}
 use Rattle.connection_server.specs.Along.{HasLines, IsAlong, ServesOne}
 use Rattle.connection_server.proofs.Reporting.{cut_lines, more_lines, no_lines}
 use Rattle.connection_server.proofs.Seeing.{no_rest}

@@ -1,5 +1,6 @@
 -- One more connection behind others.
-use Rattle.std.proofs.Common.{◌≡◌, ℕ, ◌+◌, List, [], ◌∷◌, ◌++◌, map, Bool, Option, Some, None, IfSome, refl, sym, ap, ◌∙◌, subst, append_assoc, arith}
+use Rattle.std.proofs.Common.{◌≡◌, ℕ, ◌+◌, List, [], ◌∷◌, ◌++◌, map, Bool, Option, Some, None}
+use Rattle.std.proofs.Common.{IfSome, refl, sym, ap, ◌∙◌, subst, append_assoc, arith}
 use Rattle.std.proofs.lemmas.List.{append-nil, map-append}
 use Rattle.std.proofs.lemmas.List.Elements.{All-nil, All-push}
 use Rattle.io_edges.specs.Flow.{Told}
@@ -7,7 +8,8 @@ use Rattle.io_edges.specs.Wires.{Fresh, added_up}
 use Rattle.duplex_server.specs.declared.outcome.Outcome.{Outcome}
 use Rattle.duplex_server.specs.Owed.{Answering}
 use Rattle.duplex_server.specs.Serving.{Serves}
-use Rattle.connection_server.specs.Served.{AreNew, Connection, Ends, IsServed, Network, ServesEach, ends_at, faults_along, moved, told_pair, with_faults}
+use Rattle.connection_server.specs.Served.{AreNew, Connection, Ends, IsServed, Network, ServesEach}
+use Rattle.connection_server.specs.Served.{ends_at, faults_along, moved, told_pair, with_faults}
 use Rattle.connection_server.specs.Along.{ServesOne}
 use Rattle.connection_server.proofs.Meeting.{is_served, pair_told}
 use Rattle.connection_server.proofs.Seeing.{faults_in, held_in, may_want_in, written_in}

@@ -1,11 +1,13 @@
 -- What has been served so far, for private calls.
-use Rattle.std.specs.Prelude.{◌≡◌, ⊤, ℕ, List, [], ◌∷◌, ◌++◌, length, map, Option, Some, None, Result, Ok, Err}
+use Rattle.std.specs.Prelude.{◌≡◌, ⊤, ℕ, List, [], ◌∷◌, ◌++◌, length, map, Option, Some, None}
+use Rattle.std.specs.Prelude.{Result, Ok, Err}
 use Rattle.io_edges.specs.Faults.{CountsFaults}
 use Rattle.io_edges.specs.Flow.{Told}
 use Rattle.io_edges.specs.declared.Failed.{Failed}
 use Rattle.duplex_server.specs.declared.outcome.Outcome.{Outcome}
 use Rattle.duplex_server.specs.Owed.{Answering}
-use Rattle.connection_server.specs.Served.{Connection, Ends, IsServed, Network, ServesEach, WritesAll, held_behind, moved, told_pair, with_faults}
+use Rattle.connection_server.specs.Served.{Connection, Ends, IsServed, Network, ServesEach}
+use Rattle.connection_server.specs.Served.{WritesAll, held_behind, moved, told_pair, with_faults}
 
 module _ (x : Answering) (endpoint : Option (List ℕ)) {R K : Type 0} (seen : R × K → Ends)
     (n n' : Network R K) where

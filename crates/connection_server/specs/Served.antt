@@ -1,6 +1,7 @@
 -- What was read and written where connections are served one after the other: on each of them, and
 -- what is left of the wire that gave them and of the output of their lines.
-use Rattle.std.specs.Prelude.{◌≡◌, ◌⊎◌, ⊤, ℕ, ◌<◌, ◌≤◌, List, [], ◌∷◌, ◌++◌, length, map, All, Bool, Option, Some, Result, Ok, Err}
+use Rattle.std.specs.Prelude.{◌≡◌, ◌⊎◌, ⊤, ℕ, ◌<◌, ◌≤◌, List, [], ◌∷◌, ◌++◌, length, map, All, Bool}
+use Rattle.std.specs.Prelude.{Option, Some, Result, Ok, Err}
 use Rattle.io_edges.specs.Faults.{CountsFaults, Rose}
 use Rattle.io_edges.specs.Flow.{Told, GrowsByPrefix}
 use Rattle.io_edges.specs.Wires.{Fresh, added_up}

@@ -1,7 +1,9 @@
 -- What a reader of `csv` has left behind a read.
-use Rattle.std.proofs.Common.{◌≡◌, ◌∙◌, ℕ, Bool, true, false, List, [], Option, Some, None, Bor, refl, inl}
+use Rattle.std.proofs.Common.{◌≡◌, ◌∙◌, ℕ, Bool, true, false, List, [], Option, Some, None, Bor}
+use Rattle.std.proofs.Common.{refl, inl}
 use Rattle.csv.specs.Machine.{next_record}
-use Rattle.csv.specs.Reading.{NextIs, ReadRecord, ReadsNext, default_config, has_failed, is_flexible, pending_of, took_first}
+use Rattle.csv.specs.Reading.{NextIs, ReadRecord, ReadsNext, default_config, has_failed}
+use Rattle.csv.specs.Reading.{is_flexible, pending_of, took_first}
 use Rattle.csv.specs.declared.parser.Config.{Config}
 use Rattle.csv.specs.declared.parser.State.{State}
 use Rattle.csv.specs.declared.reader.Reader.{Reader}

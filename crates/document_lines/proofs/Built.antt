@@ -1,5 +1,6 @@
 -- What is written of input that isn't refused.
-use Rattle.std.proofs.Common.{◌≡◌, ℕ, ◌+◌, List, [], ◌∷◌, ◌++◌, length, map, take, drop, flat_map, Bool, true, false, None, Result, Ok, Err, refl, ap, ◌∙◌, arith}
+use Rattle.std.proofs.Common.{◌≡◌, ℕ, ◌+◌, List, [], ◌∷◌, ◌++◌, length, map, take, drop, flat_map}
+use Rattle.std.proofs.Common.{Bool, true, false, None, Result, Ok, Err, refl, ap, ◌∙◌, arith}
 use Rattle.std.specs.Prelude.{nat_lt}
 use Rattle.std.specs.Option.{option_to_list}
 use Rattle.std.proofs.lemmas.List.{append-nil}
@@ -13,12 +14,16 @@ use Rattle.unit_streams.proofs.Units.{between_first, units_bring}
 use Rattle.unit_streams.proofs.Pieces.{told_flat}
 use Rattle.string_tables.specs.StringTable.{StringTable}
 use Rattle.line_notation.specs.Lines.{cut}
-use Rattle.line_notation.specs.Standing.{Standing, failed, going, answer_of, outcome, Placed as PlacedLine, on, ends, standing_of, document_of, documents_from, at_start}
+use Rattle.line_notation.specs.Standing.{Standing, failed, going, answer_of, outcome}
+use Rattle.line_notation.specs.Standing.{Placed as PlacedLine, on, ends, standing_of, document_of}
+use Rattle.line_notation.specs.Standing.{documents_from, at_start}
 use Rattle.line_notation.specs.declared.reader.LineKind.{LineKind}
 use Rattle.nbfx_encoder.specs.Envelopes.{behind_bytes, envelope, envelope_then, envelopes_from}
 use Rattle.nbfx_encoder.specs.Placing.{Placed}
 use Rattle.nbfx_encoder.specs.Spelling.{Unfit}
-use Rattle.document_lines.specs.Input.{Settings, Situation, lines_of_documents, envelopes_and_end, refused_line, completed_line, behind_line, envelope_of, fault_of, table_of, payload_at, ending_fault}
+use Rattle.document_lines.specs.Input.{Settings, Situation, lines_of_documents, envelopes_and_end}
+use Rattle.document_lines.specs.Input.{refused_line, completed_line, behind_line, envelope_of}
+use Rattle.document_lines.specs.Input.{fault_of, table_of, payload_at, ending_fault}
 use Rattle.document_lines.specs.Laws.{AcceptedIsBuilt, IsBuilt}
 use Rattle.document_lines.specs.declared.InputFault.{InputFault}
 use Rattle.document_lines.proofs.Lines.{readable, cut_line}

@@ -1,5 +1,7 @@
 -- A reader takes a piece, line by line.
-use Rattle.std.proofs.Common.{◌≡◌, ℕ, ◌+◌, ◌<◌, ◌≤◌, List, ◌++◌, length, take, drop, true, false, Option, Some, None, Result, Ok, Err, refl, sym, ap, ◌∙◌, subst, arith, append_assoc}
+use Rattle.std.proofs.Common.{◌≡◌, ℕ, ◌+◌, ◌<◌, ◌≤◌, List, ◌++◌, length, take, drop, true, false}
+use Rattle.std.proofs.Common.{Option, Some, None, Result, Ok, Err, refl, sym, ap, ◌∙◌, subst, arith}
+use Rattle.std.proofs.Common.{append_assoc}
 use Rattle.std.specs.Prelude.{is_some}
 use Rattle.std.proofs.Math.Seq.{take-add, take-length}
 use Rattle.std.proofs.lemmas.List.{append-nil, take-append-le}
@@ -8,12 +10,14 @@ use Rattle.unit_streams.specs.Judging.{event_at, refusal_at, goes_on, completes,
 use Rattle.unit_streams.specs.Going.{IsQuiet, IsQuietBefore}
 use Rattle.unit_streams.proofs.Answers.{answers_are_first, quiet_none}
 use Rattle.unit_streams.proofs.Passing.{refusal_from, going_refusal}
-use Rattle.unit_streams.proofs.Quiet.{quiet_joined, quiet_before_joined, quiet_behind, quiet_before_behind}
+use Rattle.unit_streams.proofs.Quiet.{quiet_joined, quiet_before_joined, quiet_behind}
+use Rattle.unit_streams.proofs.Quiet.{quiet_before_behind}
 use Rattle.stream_loop.specs.Answers.{Says, said}
 use Rattle.stream_loop.specs.declared.reading_end.FeedFault.{FeedFault}
 use Rattle.stream_loop.specs.declared.reading_end.FeedFault.TheVariants.{Refused, Memory}
 use Rattle.document_lines.specs.Input.{Settings, Situation, lines_of_documents}
-use Rattle.document_lines.specs.Standing.{Reached, StandsFor, UnitAnswers, WhereItStands, settings_of}
+use Rattle.document_lines.specs.Standing.{Reached, StandsFor, UnitAnswers, WhereItStands}
+use Rattle.document_lines.specs.Standing.{settings_of}
 use Rattle.document_lines.specs.declared.InputFault.{InputFault}
 use Rattle.document_lines.specs.declared.InputFault.TheVariants.{TooLong}
 use Rattle.document_lines.specs.declared.reader.DocumentReader.{DocumentReader}

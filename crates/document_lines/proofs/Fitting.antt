@@ -1,5 +1,7 @@
 -- Input that is lines of documents that fit isn't refused (specs/Laws).
-use Rattle.std.proofs.Common.{◌≡◌, ℕ, suc, ◌+◌, ◌≤◌, List, [], ◌∷◌, ◌++◌, length, drop, Bool, true, false, Option, Some, None, Result, Ok, Err, refl, sym, ap, ◌∙◌, subst, arith}
+use Rattle.std.proofs.Common.{◌≡◌, ℕ, suc, ◌+◌, ◌≤◌, List, [], ◌∷◌, ◌++◌, length, drop, Bool, true}
+use Rattle.std.proofs.Common.{false, Option, Some, None, Result, Ok, Err, refl, sym, ap, ◌∙◌, subst}
+use Rattle.std.proofs.Common.{arith}
 use Rattle.std.specs.Prelude.{◌==◌, ◌&&◌, not, nat_lt, if◌then◌else◌}
 use Rattle.std.proofs.lemmas.Bool.{eqb-false, le-ltb, ne_eqb}
 use Rattle.unit_streams.specs.Front.{whole}
@@ -9,11 +11,13 @@ use Rattle.unit_streams.proofs.Accepted.{accepted_or_offended, leads_length}
 use Rattle.unit_streams.proofs.Units.{short_below}
 use Rattle.nbfx_values.specs.declared.content.ArrayItem.{ArrayItem}
 use Rattle.nbfx_values.specs.declared.content.Item.{Item}
-use Rattle.nbfx_values.specs.declared.content.Item.TheVariants.{Start, Xmlns, Attr, Text, Comment, Array, Close}
+use Rattle.nbfx_values.specs.declared.content.Item.TheVariants.{Start, Xmlns, Attr, Text, Comment}
+use Rattle.nbfx_values.specs.declared.content.Item.TheVariants.{Array, Close}
 use Rattle.nbfx_values.specs.declared.position.Position.{Position}
 use Rattle.nbfx_values.specs.declared.position.Position.TheVariants.{Before, Within, After}
 use Rattle.nbfx_values.specs.Positions.{position_of}
-use Rattle.nbfx_encoder.specs.Envelopes.{UnfitAt, behind_bytes, envelope, envelope_then, envelopes_from}
+use Rattle.nbfx_encoder.specs.Envelopes.{UnfitAt, behind_bytes, envelope, envelope_then}
+use Rattle.nbfx_encoder.specs.Envelopes.{envelopes_from}
 use Rattle.nbfx_encoder.specs.Placing.{Placed}
 use Rattle.nbfx_encoder.specs.Spelling.{Unfit, encoded}
 use Rattle.string_tables.specs.StringTable.{StringTable}
@@ -21,14 +25,20 @@ use Rattle.line_notation.specs.Between.{is_between, next_line}
 use Rattle.line_notation.specs.Forms.{Form, form_of}
 use Rattle.line_notation.specs.Judging.{judged}
 use Rattle.line_notation.specs.Lines.{cut, cut_before}
-use Rattle.line_notation.specs.Standing.{Standing, failed, going, answer_of, at_start, document_of, documents_from, ending, ends as ends_document, kind_of, led, on as leads_on, outcome, outcome_of, documents_of, placed, placed_array, placed_at, Placed as PlacedLine, standing, standing_from, standing_of}
+use Rattle.line_notation.specs.Standing.{Standing, failed, going, answer_of, at_start, document_of}
+use Rattle.line_notation.specs.Standing.{documents_from, ending, ends as ends_document, kind_of}
+use Rattle.line_notation.specs.Standing.{led, on as leads_on, outcome, outcome_of, documents_of}
+use Rattle.line_notation.specs.Standing.{placed, placed_array, placed_at, Placed as PlacedLine}
+use Rattle.line_notation.specs.Standing.{standing, standing_from, standing_of}
 use Rattle.line_notation.specs.declared.line.Line.{Line}
 use Rattle.line_notation.specs.declared.line.Line.TheVariants as says
 use Rattle.line_notation.specs.declared.reader.LineFault.{LineFault}
 use Rattle.line_notation.specs.declared.reader.LineKind.{LineKind}
 use Rattle.line_notation.specs.declared.reader.LineKind.TheVariants.{WrongCount}
 use Rattle.line_notation.specs.Laws.{AreOfWhatTheyBring}
-use Rattle.document_lines.specs.Input.{Settings, Situation, lines_of_documents, with_byte, line_at, behind_line, ending_fault, fault_of, is_full, is_singleton, refused_line, table_of, start_of}
+use Rattle.document_lines.specs.Input.{Settings, Situation, lines_of_documents, with_byte, line_at}
+use Rattle.document_lines.specs.Input.{behind_line, ending_fault, fault_of, is_full, is_singleton}
+use Rattle.document_lines.specs.Input.{refused_line, table_of, start_of}
 use Rattle.document_lines.specs.Laws.{FittingIsAccepted, MayBeBuilt}
 use Rattle.document_lines.specs.declared.InputFault.{InputFault}
 use Rattle.document_lines.specs.declared.InputFault.TheVariants.{Line as RefusedLine}
@@ -115,7 +125,8 @@ nothing_cut (b ∷ bytes) e = by_feed (b == 10) refl (cut bytes) refl e where
       let h : ◌≡◌ {A = Cut} ([] ∷ (cut bytes).0, (cut bytes).1) ([], []) = rw feed at e in
       let h2 : ◌≡◌ {A = List (List ℕ)} ([] ∷ (cut bytes).0) [] = ap (λ (v : Cut). v.0) h in cc
   by_feed false feed ([], r) is e =
-      let h : ◌≡◌ {A = Cut} ([], b ∷ r) ([], []) = sym (other_cut b bytes feed ∙ ap (cut_before b) is) ∙ e in
+      let h : ◌≡◌ {A = Cut} ([], b ∷ r) ([], []) = sym
+      (other_cut b bytes feed ∙ ap (cut_before b) is) ∙ e in
       let h2 : b ∷ r ≡ [] = ap (λ (v : Cut). v.1) h in cc
   by_feed false feed (l ∷ ls, r) is e =
       let h : ◌≡◌ {A = Cut} ((b ∷ l) ∷ ls, r) ([], [])
@@ -384,7 +395,8 @@ module _ (x : Settings) where
         (subst (AreFew 0) (sym read.0) (λ single. let one = may.count single in omega (arith, one)))
 
     total : length bytes ≡ size_of leading.units + 0
-    total = leads_length g (readable x) leading.units (start_of x) 0 bytes leading.situation [] leading.lead
+    total = leads_length g (readable x) leading.units (start_of x) 0 bytes leading.situation []
+        leading.lead
 
     ends_between : is_between leading.situation.lines ≡ true
     ends_between = between_is leading.situation.lines
@@ -393,24 +405,29 @@ module _ (x : Settings) where
 
     counted : leading.situation.documents ≡ length may.documents
     counted =
-        let n = led_documents x leading.units (start_of x) 0 bytes leading.situation [] leading.lead in
-        let same = ap (λ (l : List (List ℕ)). length (documents_from at_start l)) leading.lines_are in
+        let n = led_documents x leading.units (start_of x) 0 bytes leading.situation [] leading.lead
+        in
+        let same = ap (λ (l : List (List ℕ)). length (documents_from at_start l)) leading.lines_are
+        in
         let those = ap length read.0 in
         omega (arith, n, same, those)
 
-    may_end : ending_fault x (nat_lt (size_of leading.units) (length bytes)) leading.situation ≡ None
+    may_end : ending_fault x (nat_lt (size_of leading.units) (length bytes)) leading.situation
+        ≡ None
     may_end =
         let n = total in
         rw (le-ltb (size_of leading.units) (length bytes) (omega (arith, n)), ends_between)
         (by_mode (is_singleton x.mode) refl)
       where
         by_mode : (single : Bool) → is_singleton x.mode ≡ single
-            → ◌≡◌ {A = Option InputFault} (if is_singleton x.mode && (leading.situation.documents == 0)
+            → ◌≡◌ {A = Option InputFault}
+            (if is_singleton x.mode && (leading.situation.documents == 0)
             then Some (RefusedLine (next_line leading.situation.lines) WrongCount) else None) None
         by_mode true is =
             let one = may.count is in
             let same = counted in
-            let some : (leading.situation.documents == 0) ≡ false = ne_eqb leading.situation.documents 0
+            let some : (leading.situation.documents == 0)
+            ≡ false = ne_eqb leading.situation.documents 0
             (λ zero. omega (arith, one, same, zero)) in
             rw (is, some) refl
         by_mode false is = rw is refl

@@ -1,5 +1,7 @@
 -- What bytes of one line bring behind others, by the grammar, and what a reader is then.
-use Rattle.std.proofs.Common.{◌≡◌, ℕ, suc, ◌+◌, ◌<◌, ◌≤◌, inl, inr, List, [], ◌∷◌, ◌++◌, length, take, drop, Bool, true, Option, Some, None, Result, Ok, Err, refl, sym, ap, ◌∙◌, subst, arith, append_assoc, length-append}
+use Rattle.std.proofs.Common.{◌≡◌, ℕ, suc, ◌+◌, ◌<◌, ◌≤◌, inl, inr, List, [], ◌∷◌, ◌++◌, length}
+use Rattle.std.proofs.Common.{take, drop, Bool, true, Option, Some, None, Result, Ok, Err, refl}
+use Rattle.std.proofs.Common.{sym, ap, ◌∙◌, subst, arith, append_assoc, length-append}
 use Rattle.std.specs.Prelude.{OnOk, ◌==◌, nat_lt, not, vec_len}
 use Rattle.std.proofs.lemmas.Bool.{le-ltb, lt-ltb, ne_eqb}
 use Rattle.std.specs.Option.{option_or}
@@ -13,7 +15,8 @@ use Rattle.unit_streams.specs.Going.{IsGoing, IsQuiet, IsQuietBefore}
 use Rattle.unit_streams.proofs.Peeling.{extent, Decides, Leaves}
 use Rattle.unit_streams.proofs.Fronts.{leaves_or_decides}
 use Rattle.unit_streams.proofs.Standing.{standing_length, standing_nothing}
-use Rattle.unit_streams.proofs.Passing.{decides_quiet, given_none, leaves_quiet, leaves_standing, whole_event, whole_quiet, whole_refusal, whole_standing}
+use Rattle.unit_streams.proofs.Passing.{decides_quiet, given_none, leaves_quiet, leaves_standing}
+use Rattle.unit_streams.proofs.Passing.{whole_event, whole_quiet, whole_refusal, whole_standing}
 use Rattle.line_notation.specs.Lines.{has_no_feed}
 use Rattle.line_notation.specs.Standing.{after, answer}
 use Rattle.line_notation.specs.declared.reader.LineFault.{LineFault}
@@ -25,13 +28,17 @@ use Rattle.nbfx_encoder.specs.Placing.{Placed}
 use Rattle.nbfx_encoder.specs.Spelling.{Unfit}
 use Rattle.stream_loop.specs.declared.reading_end.FeedFault.{FeedFault}
 use Rattle.stream_loop.specs.declared.reading_end.FeedFault.TheVariants.{Refused, Memory}
-use Rattle.document_lines.specs.Input.{Settings, Situation, lines_of_documents, line_at, behind_line, completed_line, ending_fault, envelope_of, fault_of, payload_at, refused_line, start_of}
-use Rattle.document_lines.specs.Standing.{IsAt, LineAnswers, Reached, StandsFor, UnitAnswers, WhereItStands, settings_of}
+use Rattle.document_lines.specs.Input.{Settings, Situation, lines_of_documents, line_at}
+use Rattle.document_lines.specs.Input.{behind_line, completed_line, ending_fault, envelope_of}
+use Rattle.document_lines.specs.Input.{fault_of, payload_at, refused_line, start_of}
+use Rattle.document_lines.specs.Standing.{IsAt, LineAnswers, Reached, StandsFor, UnitAnswers}
+use Rattle.document_lines.specs.Standing.{WhereItStands, settings_of}
 use Rattle.document_lines.specs.declared.InputFault.{InputFault}
 use Rattle.document_lines.specs.declared.line_encoder.LineEncoder.{LineEncoder}
 use Rattle.document_lines.specs.declared.reader.DocumentReader.{DocumentReader}
 use Rattle.document_lines.proofs.Finding.{IsLineEnd}
-use Rattle.document_lines.proofs.Lines.{begun_no_feed, feed_whole, no_feed_begun, readable, short_enough}
+use Rattle.document_lines.proofs.Lines.{begun_no_feed, feed_whole, no_feed_begun, readable}
+use Rattle.document_lines.proofs.Lines.{short_enough}
 
 -- a line that is refused completes no document
 module _ (x : Settings) (z : Situation) where

@@ -1,5 +1,6 @@
 -- What an encoder of lines answers and is, by where the line led.
-use Rattle.std.proofs.Common.{◌≡◌, ℕ, ◌+◌, inl, inr, List, true, false, Option, Some, None, Result, Ok, Err, refl, sym, ap, ◌∙◌, subst, arith}
+use Rattle.std.proofs.Common.{◌≡◌, ℕ, ◌+◌, inl, inr, List, true, false, Option, Some, None, Result}
+use Rattle.std.proofs.Common.{Ok, Err, refl, sym, ap, ◌∙◌, subst, arith}
 use Rattle.std.specs.Prelude.{◌==◌, ◌&&◌, not, if◌then◌else◌}
 use Rattle.std.proofs.lemmas.Bool.{cases_Bool, ne_eqb}
 use Rattle.nbfx_values.specs.declared.content.Item.{Item}
@@ -13,13 +14,15 @@ use Rattle.line_notation.specs.declared.reader.LineKind.{LineKind}
 use Rattle.line_notation.specs.declared.reader.LineKind.TheVariants.{WrongCount}
 use Rattle.line_notation.specs.declared.reader.LineStep.{LineStep}
 use Rattle.line_notation.specs.declared.reader.LineStep.TheVariants.{More, Done}
-use Rattle.nbfx_encoder.specs.Sending.{KeepsSettings, behind_message, first_state, kind_in, limits_in, mode_in, names_in, state_in}
+use Rattle.nbfx_encoder.specs.Sending.{KeepsSettings, behind_message, first_state, kind_in}
+use Rattle.nbfx_encoder.specs.Sending.{limits_in, mode_in, names_in, state_in}
 use Rattle.nbfx_encoder.specs.Spelling.{encoded}
 use Rattle.nbfx_encoder.specs.declared.sender.SendState.TheVariants.{Ready, Spent}
 use Rattle.nbfx_encoder.specs.declared.sender.Side.TheVariants.{Initiator}
 use Rattle.stream_loop.specs.declared.reading_end.FeedFault.{FeedFault}
 use Rattle.stream_loop.specs.declared.reading_end.FeedFault.TheVariants.{Refused, Memory}
-use Rattle.document_lines.specs.Input.{Settings, Situation, behind_line, completed_line, is_full, is_singleton, payload_at, refused_line}
+use Rattle.document_lines.specs.Input.{Settings, Situation, behind_line, completed_line, is_full}
+use Rattle.document_lines.specs.Input.{is_singleton, payload_at, refused_line}
 use Rattle.document_lines.specs.Standing.{IsAt, IsSent, LineAnswers, SendAnswers}
 use Rattle.document_lines.specs.declared.InputFault.{InputFault}
 use Rattle.document_lines.specs.declared.InputFault.TheVariants.{Line}

@@ -1,15 +1,19 @@
 -- Where a line leads that a reader of lines answers.
-use Rattle.std.proofs.Common.{◌≡◌, ℕ, ◌+◌, ◌≤◌, List, [], ◌∷◌, Bool, true, false, Option, Some, None, Result, Ok, Err, ap, arith}
+use Rattle.std.proofs.Common.{◌≡◌, ℕ, ◌+◌, ◌≤◌, List, [], ◌∷◌, Bool, true, false, Option, Some}
+use Rattle.std.proofs.Common.{None, Result, Ok, Err, ap, arith}
 use Rattle.std.specs.Prelude.{if◌then◌else◌}
 use Rattle.nbfx_values.specs.Items.{is_valid_item}
 use Rattle.nbfx_values.specs.Positions.{moved}
 use Rattle.nbfx_values.specs.declared.content.Item.{Item}
-use Rattle.nbfx_values.specs.declared.content.Item.TheVariants.{Start, Xmlns, Attr, Text, Comment, Array, Close}
+use Rattle.nbfx_values.specs.declared.content.Item.TheVariants.{Start, Xmlns, Attr, Text, Comment}
+use Rattle.nbfx_values.specs.declared.content.Item.TheVariants.{Array, Close}
 use Rattle.nbfx_values.specs.declared.position.Position.TheVariants.{Before}
 use Rattle.line_notation.specs.Between.{IsUnrefused, is_between, next_line}
 use Rattle.line_notation.specs.Forms.{Form, form_of}
 use Rattle.line_notation.specs.Judging.{judged}
-use Rattle.line_notation.specs.Standing.{Placed, HasReadFewer, Standing, after, answer, answer_of, ends, failed, going, led, on, outcome, outcome_of, placed_at, standing_of}
+use Rattle.line_notation.specs.Standing.{Placed, HasReadFewer, Standing, after, answer, answer_of}
+use Rattle.line_notation.specs.Standing.{ends, failed, going, led, on, outcome, outcome_of}
+use Rattle.line_notation.specs.Standing.{placed_at, standing_of}
 use Rattle.line_notation.specs.declared.line.Line.{Line}
 use Rattle.line_notation.specs.declared.line.Line.TheVariants as says
 use Rattle.line_notation.specs.declared.reader.LineKind.{LineKind}

@@ -5,14 +5,16 @@ use Rattle.std.specs.Char.{encode_utf8}
 use Rattle.multibyte_ints.specs.Integer.{shortest, shortest_within}
 use Rattle.multibyte_ints.specs.Text.{string_bytes_of}
 use Rattle.unit_streams.specs.Grammar.{standing, peel, peeled}
-use Rattle.unit_streams.specs.Judging.{offence, history, history_from, event_at, refusal_at, ending_at}
+use Rattle.unit_streams.specs.Judging.{offence, history, history_from, event_at, refusal_at}
+use Rattle.unit_streams.specs.Judging.{ending_at}
 use Rattle.unit_streams.specs.Tellers.{report, told_along, state_behind}
 use Rattle.nbfx_values.specs.Limits.{Limits, limits, usual_limits}
 use Rattle.nbfx_values.specs.declared.session.Kind.{Kind}
 use Rattle.nbfx_values.specs.declared.session.Kind.TheVariants.{Plain, Session}
 use Rattle.nbfx_values.specs.declared.session.Mode.{Mode}
 use Rattle.nbfx_values.specs.declared.session.Mode.TheVariants.{Singleton, Duplex, Simplex}
-use Rattle.line_notation.specs.declared.reader.LineKind.TheVariants.{NotALine, OutOfPlace, Cut, WrongCount}
+use Rattle.line_notation.specs.declared.reader.LineKind.TheVariants.{NotALine, OutOfPlace, Cut}
+use Rattle.line_notation.specs.declared.reader.LineKind.TheVariants.{WrongCount}
 use Rattle.line_notation.proofs.OnLiterals.{lines_on_literals}
 use Rattle.nbfx_encoder.specs.declared.faults.EncodeFault.TheVariants.{TooDeep}
 use Rattle.document_lines.specs.Input.{Settings, lines_of_documents, envelopes_and_end}

@@ -1,5 +1,7 @@
 -- What is written of any input, and why it is refused.
-use Rattle.std.proofs.Common.{◌≡◌, ℕ, ◌+◌, ◌≤◌, inl, inr, List, [], ◌∷◌, ◌++◌, length, take, drop, Bool, true, false, Option, Some, None, Result, Ok, Err, refl, sym, ap, ◌∙◌, subst, arith, length-append}
+use Rattle.std.proofs.Common.{◌≡◌, ℕ, ◌+◌, ◌≤◌, inl, inr, List, [], ◌∷◌, ◌++◌, length, take, drop}
+use Rattle.std.proofs.Common.{Bool, true, false, Option, Some, None, Result, Ok, Err, refl, sym, ap}
+use Rattle.std.proofs.Common.{◌∙◌, subst, arith, length-append}
 use Rattle.std.specs.Prelude.{◌==◌, ◌&&◌, ◌||◌, not, nat_lt, if◌then◌else◌}
 use Rattle.std.proofs.lemmas.Bool.{cases_Bool, eqb-false, eqb-true, ltb-false}
 use Rattle.std.proofs.lemmas.List.{append-nil, nil_from_length}
@@ -16,21 +18,28 @@ use Rattle.nbfx_encoder.specs.Placing.{Placed}
 use Rattle.nbfx_encoder.specs.Spelling.{Unfit, encoded}
 use Rattle.line_notation.specs.Between.{IsUnrefused, is_between, next_line}
 use Rattle.line_notation.specs.Lines.{AreLinesOf, cut}
-use Rattle.line_notation.specs.Standing.{Standing as LineStanding, failed, going, after, answer, answer_of, at_start, document_of, documents_from, documents_of, ending, ends as ends_document, on as leads_on, outcome, Placed as PlacedLine, standing_from, standing_of}
+use Rattle.line_notation.specs.Standing.{Standing as LineStanding, failed, going, after, answer}
+use Rattle.line_notation.specs.Standing.{answer_of, at_start, document_of, documents_from}
+use Rattle.line_notation.specs.Standing.{documents_of, ending, ends as ends_document}
+use Rattle.line_notation.specs.Standing.{on as leads_on, outcome, Placed as PlacedLine}
+use Rattle.line_notation.specs.Standing.{standing_from, standing_of}
 use Rattle.line_notation.specs.declared.reader.LineFault.{LineFault}
 use Rattle.line_notation.specs.declared.reader.LineKind.{LineKind}
 use Rattle.line_notation.specs.declared.reader.LineKind.TheVariants.{Cut, WrongCount}
 use Rattle.line_notation.specs.declared.reader.LineStep.{LineStep}
 use Rattle.line_notation.specs.declared.reader.LineStep.TheVariants.{More, Done}
 use Rattle.line_notation.proofs.LinesAre.{read-documents}
-use Rattle.document_lines.specs.Input.{Settings, Situation, lines_of_documents, envelopes_and_end, line_at, behind_line, ending_fault, fault_of, is_full, is_singleton, refused_line, start_of}
+use Rattle.document_lines.specs.Input.{Settings, Situation, lines_of_documents, envelopes_and_end}
+use Rattle.document_lines.specs.Input.{line_at, behind_line, ending_fault, fault_of, is_full}
+use Rattle.document_lines.specs.Input.{is_singleton, refused_line, start_of}
 use Rattle.document_lines.specs.declared.InputFault.{InputFault}
 use Rattle.document_lines.specs.declared.InputFault.TheVariants.{Line, TooLong}
 use Rattle.document_lines.proofs.Built.{lines_of, joined, cuts, walk as envelopes_of}
 use Rattle.document_lines.proofs.Lines.{cut_line, readable, short_enough}
 use Rattle.document_lines.proofs.Standings.{no_lone}
 use Rattle.document_lines.specs.Laws.{Explains, InputIsWritten, IsWritten}
-use Rattle.document_lines.proofs.Walking.{Stop, Walk, at_quota, at_refusal, at_the_end, fills, goes_out, refuses, walk}
+use Rattle.document_lines.proofs.Walking.{Stop, Walk, at_quota, at_refusal, at_the_end, fills}
+use Rattle.document_lines.proofs.Walking.{goes_out, refuses, walk}
 
 -- lines may end between documents
 between_ends : (s : LineStanding) → is_between s ≡ true → ending s ≡ Ok tt

@@ -1,5 +1,6 @@
 -- Lines of documents as a stream: its units are lines, its events the envelopes of documents.
-use Rattle.std.specs.Prelude.{ℕ, ◌+◌, ◌==◌, nat_le, nat_lt, if◌then◌else◌, List, [], ◌∷◌, Bool, true, false, not, ◌&&◌, ◌||◌, Option, Some, None, Result, Ok, Err}
+use Rattle.std.specs.Prelude.{ℕ, ◌+◌, ◌==◌, nat_le, nat_lt, if◌then◌else◌, List, [], ◌∷◌, Bool}
+use Rattle.std.specs.Prelude.{true, false, not, ◌&&◌, ◌||◌, Option, Some, None, Result, Ok, Err}
 use Rattle.unit_streams.specs.Front.{Front, begun, whole, wrong}
 use Rattle.unit_streams.specs.Grammar.{Grammar}
 use Rattle.unit_streams.specs.Tellers.{Teller}

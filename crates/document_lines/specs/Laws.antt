@@ -1,5 +1,6 @@
 -- What holds of lines of documents by the definitions alone.
-use Rattle.std.specs.Prelude.{◌≡◌, ℕ, ◌+◌, ◌<◌, ◌≤◌, List, [], ◌∷◌, ◌++◌, length, true, false, Option, Some, None, Ok, Err}
+use Rattle.std.specs.Prelude.{◌≡◌, ℕ, ◌+◌, ◌<◌, ◌≤◌, List, [], ◌∷◌, ◌++◌, length, true, false}
+use Rattle.std.specs.Prelude.{Option, Some, None, Ok, Err}
 use Rattle.unit_streams.specs.Going.{IsPending}
 use Rattle.unit_streams.specs.Judging.{offence, refusal_at}
 use Rattle.unit_streams.specs.Tellers.{Closes, report}
@@ -13,7 +14,8 @@ use Rattle.nbfx_encoder.specs.Refusals.{told}
 use Rattle.nbfx_encoder.specs.Spelling.{Unfit, encoded}
 use Rattle.nbfx_encoder.specs.Envelopes.{envelopes_from}
 use Rattle.nbfx_encoder.specs.Placing.{Placed}
-use Rattle.document_lines.specs.Input.{Settings, lines_of_documents, envelopes_and_end, is_singleton}
+use Rattle.document_lines.specs.Input.{Settings, lines_of_documents, envelopes_and_end}
+use Rattle.document_lines.specs.Input.{is_singleton}
 use Rattle.document_lines.specs.declared.InputFault.{InputFault}
 use Rattle.document_lines.specs.declared.InputFault.TheVariants.{Line, Unfit as DoesNotFit, TooLong}
 

@@ -1,5 +1,6 @@
 -- What a reader of lines of documents stands for, and what its parts answer.
-use Rattle.std.specs.Prelude.{◌≡◌, ⊤, ℕ, ◌<◌, List, ◌++◌, length, take, true, Option, Some, None, Result, Ok, Err, if◌then◌else◌}
+use Rattle.std.specs.Prelude.{◌≡◌, ⊤, ℕ, ◌<◌, List, ◌++◌, length, take, true, Option, Some, None}
+use Rattle.std.specs.Prelude.{Result, Ok, Err, if◌then◌else◌}
 use Rattle.unit_streams.specs.Grammar.{standing}
 use Rattle.unit_streams.specs.Judging.{event_at, refusal_at}
 use Rattle.unit_streams.specs.Going.{IsGoing, IsQuiet, IsQuietBefore}
@@ -12,12 +13,14 @@ use Rattle.nbfx_encoder.specs.Envelopes.{envelope}
 use Rattle.nbfx_encoder.specs.Placing.{Placed}
 use Rattle.nbfx_encoder.specs.Refusals.{told}
 use Rattle.nbfx_encoder.specs.Spelling.{Unfit}
-use Rattle.nbfx_encoder.specs.Sending.{behind_message, kind_in, limits_in, mode_in, names_in, state_in}
+use Rattle.nbfx_encoder.specs.Sending.{behind_message, kind_in, limits_in, mode_in, names_in}
+use Rattle.nbfx_encoder.specs.Sending.{state_in}
 use Rattle.nbfx_encoder.specs.declared.sender.SendState.{SendState}
 use Rattle.nbfx_encoder.specs.declared.sender.SendState.TheVariants.{Ready, Spent}
 use Rattle.stream_loop.specs.declared.reading_end.FeedFault.{FeedFault}
 use Rattle.stream_loop.specs.declared.reading_end.FeedFault.TheVariants.{Refused, Memory}
-use Rattle.document_lines.specs.Input.{Settings, Situation, behind_line, completed_line, is_full, lines_of_documents, refused_line}
+use Rattle.document_lines.specs.Input.{Settings, Situation, behind_line, completed_line, is_full}
+use Rattle.document_lines.specs.Input.{lines_of_documents, refused_line}
 use Rattle.document_lines.specs.declared.InputFault.{InputFault}
 use Rattle.document_lines.specs.declared.InputFault.TheVariants.{Unfit as DoesNotFit}
 use Rattle.document_lines.specs.declared.line_encoder.LineEncoder.{LineEncoder}

@@ -1,5 +1,6 @@
 -- Bytes are cut at their line feeds, also where they came in pieces.
-use Rattle.std.proofs.Common.{◌≡◌, ℕ, List, [], ◌∷◌, ◌++◌, Bool, true, false, refl, sym, ap, ◌∙◌, append_assoc}
+use Rattle.std.proofs.Common.{◌≡◌, ℕ, List, [], ◌∷◌, ◌++◌, Bool, true, false, refl, sym, ap, ◌∙◌}
+use Rattle.std.proofs.Common.{append_assoc}
 use Rattle.std.specs.Prelude.{◌==◌}
 use Rattle.std.proofs.lemmas.List.{append-nil}
 use Rattle.std.proofs.lemmas.List.Folds.{list_all-append}
@@ -89,5 +90,6 @@ module _ (p a : List ℕ) (free : has_no_feed a ≡ true) where
   pub line_behind : cut (p ++ a ++ 10 ∷ []) ≡ ((cut p).0 ++ ((cut p).1 ++ a) ∷ [], [])
   line_behind =
       ap cut (append_assoc p a (10 ∷ [])) ∙ cut_append p (a ++ 10 ∷ [])
-      ∙ ap (λ (l : List ℕ). behind_lines (cut p).0 (cut l)) (sym (append_assoc (cut p).1 a (10 ∷ [])))
+      ∙ ap (λ (l : List ℕ). behind_lines (cut p).0 (cut l))
+      (sym (append_assoc (cut p).1 a (10 ∷ [])))
       ∙ ap (behind_lines (cut p).0) (line_cut ((cut p).1 ++ a) joined_free)

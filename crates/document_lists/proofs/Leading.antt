@@ -1,12 +1,16 @@
 -- Where lines lead that come behind others, and what that says of all bytes.
-use Rattle.std.proofs.Common.{◌≡◌, ℕ, ◌+◌, ◌-◌, ◌<◌, ◌≤◌, List, [], ◌∷◌, ◌++◌, length, take, Bool, true, false, Option, Some, None, Result, Ok, Err, refl, sym, ap, ◌∙◌, subst, append_assoc, length-append, arith}
+use Rattle.std.proofs.Common.{◌≡◌, ℕ, ◌+◌, ◌-◌, ◌<◌, ◌≤◌, List, [], ◌∷◌, ◌++◌, length, take, Bool}
+use Rattle.std.proofs.Common.{true, false, Option, Some, None, Result, Ok, Err, refl, sym, ap, ◌∙◌}
+use Rattle.std.proofs.Common.{subst, append_assoc, length-append, arith}
 use Rattle.std.specs.Prelude.{nat_le, if◌then◌else◌}
 use Rattle.std.proofs.lemmas.Bool.{le-leb, lt-leb}
 use Rattle.std.proofs.lemmas.List.{append-nil}
 use Rattle.std.proofs.Math.Seq.{take-append-add, take-append_seam}
 use Rattle.line_notation.specs.Between.{IsUnrefused}
 use Rattle.line_notation.specs.Lines.{cut}
-use Rattle.line_notation.specs.Standing.{Placed, Standing, after, answer, answer_of, document_of, documents_from, documents_of, ends, failed, going, on, outcome, standing, standing_from, standing_of}
+use Rattle.line_notation.specs.Standing.{Placed, Standing, after, answer, answer_of, document_of}
+use Rattle.line_notation.specs.Standing.{documents_from, documents_of, ends, failed, going, on}
+use Rattle.line_notation.specs.Standing.{outcome, standing, standing_from, standing_of}
 use Rattle.line_notation.specs.declared.reader.LineFault.{LineFault}
 use Rattle.line_notation.specs.declared.reader.LineFault.TheVariants.{Bad}
 use Rattle.line_notation.specs.declared.reader.LineKind.{LineKind}

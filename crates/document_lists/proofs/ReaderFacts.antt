@@ -1,5 +1,7 @@
 -- What a reader has read behind bytes of a line and behind its end, and what that says of a piece.
-use Rattle.std.proofs.Common.{◌≡◌, ℕ, ◌+◌, ◌<◌, ◌≤◌, List, [], ◌∷◌, ◌++◌, length, take, drop, true, Result, Ok, Err, sym, ap, ◌∙◌, subst, append_assoc, length-append, arith}
+use Rattle.std.proofs.Common.{◌≡◌, ℕ, ◌+◌, ◌<◌, ◌≤◌, List, [], ◌∷◌, ◌++◌, length, take, drop, true}
+use Rattle.std.proofs.Common.{Result, Ok, Err, sym, ap, ◌∙◌, subst, append_assoc, length-append}
+use Rattle.std.proofs.Common.{arith}
 use Rattle.std.specs.Prelude.{⊤}
 use Rattle.std.proofs.lemmas.List.{append-nil, take-append-drop}
 use Rattle.line_notation.specs.Between.{IsUnrefused}
@@ -16,7 +18,8 @@ use Rattle.document_lists.specs.declared.reading.ListFault.{ListFault}
 use Rattle.document_lists.specs.declared.reading.ListFault.TheVariants.{Refused, ReadFault, Memory}
 use Rattle.document_lists.specs.declared.reading.ListReader.{ListReader}
 use Rattle.document_lists.proofs.Cutting.{begun_behind, line_behind}
-use Rattle.document_lists.proofs.Leading.{documents_more, refused_leads, short_within, too_long, why_within}
+use Rattle.document_lists.proofs.Leading.{documents_more, refused_leads, short_within, too_long}
+use Rattle.document_lists.proofs.Leading.{why_within}
 
 module _ (old new : ListReader) (p bytes : List ℕ) (h : HasRead old p)
     (free : has_no_feed bytes ≡ true) where
@@ -120,7 +123,8 @@ module _ (quota : ℕ) (new : ListReader) (p piece : List ℕ) (w : ℕ) where
   grouped : (front more behind : List ℕ) → here ≡ front ++ more
       → (p ++ piece) ++ behind ≡ (p ++ front) ++ more ++ drop w piece ++ behind
   grouped front more behind split =
-      ap (λ l. (p ++ l) ++ behind) (sym (take-append-drop w piece) ∙ ap (λ l. l ++ drop w piece) split)
+      ap (λ l. (p ++ l) ++ behind) (sym (take-append-drop w piece) ∙ ap (λ l. l ++ drop w piece)
+      split)
       ∙ simp append_assoc
 
   -- a line of it is refused

@@ -1,5 +1,6 @@
 -- What was taken of a source, by how the taking ended.
-use Rattle.std.proofs.Common.{◌≡◌, ℕ, ◌<◌, ◌⊎◌, inl, inr, List, [], ◌++◌, length, Some, Result, Ok, Err, refl, sym, ap, ◌∙◌, subst}
+use Rattle.std.proofs.Common.{◌≡◌, ℕ, ◌<◌, ◌⊎◌, inl, inr, List, [], ◌++◌, length, Some, Result, Ok}
+use Rattle.std.proofs.Common.{Err, refl, sym, ap, ◌∙◌, subst}
 use Rattle.std.specs.Prelude.{⊤}
 use Rattle.std.proofs.lemmas.List.{append-nil}
 use Rattle.io_edges.specs.Faults.{CountsFaults, one_more}
@@ -31,7 +32,8 @@ module _ (quota : ℕ) (i i' : Input) (new : ListReader) where
   taken_lines bytes result left taken has asked counted = record {
     bytes = bytes;
     stream = known_told (λ all rest. all ≡ bytes ++ rest) i.left i'.left left;
-    took = known_told (λ t t'. t' ≡ t ++ bytes) i.taken i'.taken (λ t e. (t ++ bytes, taken t e, refl));
+    took = known_told (λ t t'. t' ≡ t ++ bytes) i.taken i'.taken
+        (λ t e. (t ++ bytes, taken t e, refl));
     has_taken = has;
     asked_once = asked;
     counted = counted;

@@ -1,5 +1,6 @@
 -- What lines of documents are read as: all their documents, or the first refusal.
-use Rattle.std.specs.Prelude.{ℕ, List, [], ◌∷◌, length, take, nat_le, if◌then◌else◌, Option, Some, None, Result, Ok, Err}
+use Rattle.std.specs.Prelude.{ℕ, List, [], ◌∷◌, length, take, nat_le, if◌then◌else◌, Option, Some}
+use Rattle.std.specs.Prelude.{None, Result, Ok, Err}
 use Rattle.line_notation.specs.Between.{is_between, next_line}
 use Rattle.line_notation.specs.Lines.{cut}
 use Rattle.line_notation.specs.Standing.{Standing, documents_of, failed, going, standing}

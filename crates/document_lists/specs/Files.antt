@@ -6,7 +6,8 @@ use Rattle.nbfx_values.specs.declared.content.Item.{Item}
 use Rattle.document_lines.specs.declared.InputFault.{InputFault}
 use Rattle.document_lists.specs.Documents.{documents_in}
 use Rattle.document_lists.specs.declared.fetching.FileFault.{FileFault}
-use Rattle.document_lists.specs.declared.fetching.FileFault.TheVariants.{Missing, Refused, Failed, Memory}
+use Rattle.document_lists.specs.declared.fetching.FileFault.TheVariants.{Missing, Refused, Failed}
+use Rattle.document_lists.specs.declared.fetching.FileFault.TheVariants.{Memory}
 
 -- what the bytes of a file are read as, if there is one
 abbrev pub read_of : Option (List ℕ) → Option (Result (List (List Item)) InputFault)

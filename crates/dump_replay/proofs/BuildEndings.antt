@@ -1,5 +1,7 @@
 -- The writing of a session: its preamble, and what its ending says.
-use Rattle.std.proofs.Common.{◌≡◌, ℕ, zero, suc, ◌+◌, ◌/◌, ◌%◌, ◌≤◌, List, [], ◌∷◌, ◌++◌, length, Bool, true, false, Option, Some, None, refl, sym, subst, arith, length-append}
+use Rattle.std.proofs.Common.{◌≡◌, ℕ, zero, suc, ◌+◌, ◌/◌, ◌%◌, ◌≤◌, List, [], ◌∷◌, ◌++◌, length}
+use Rattle.std.proofs.Common.{Bool, true, false, Option, Some, None, refl, sym, subst, arith}
+use Rattle.std.proofs.Common.{length-append}
 use Rattle.std.specs.Prelude.{nat_lt, if◌then◌else◌}
 use Rattle.nbfx_values.specs.Limits.{IsGood}
 use Rattle.nbfx_values.specs.Limits.{Limits}
@@ -18,7 +20,8 @@ use Rattle.document_lines.specs.Input.{Settings, envelopes_and_end, lines_of_doc
 use Rattle.document_lines.specs.declared.InputFault.{InputFault}
 use Rattle.document_lines.specs.declared.InputFault.TheVariants.{Line, Unfit, TooLong}
 use Rattle.document_lines.proofs.Lines.{begins, bounded, closes}
-use Rattle.dump_replay.specs.Building.{Builds, preamble_of, settings_for_building, status_of_building, with_preamble}
+use Rattle.dump_replay.specs.Building.{Builds, preamble_of, settings_for_building}
+use Rattle.dump_replay.specs.Building.{status_of_building, with_preamble}
 use Rattle.dump_replay.proofs.Beginnings.{ends_so, not_begun}
 
 -- the loop may read lines of documents

@@ -1,5 +1,6 @@
 -- What is written of documents is a session of them, and when it is written (specs/BuildLaws).
-use Rattle.std.proofs.Common.{◌≡◌, ℕ, ◌≤◌, ◌⊎◌, inl, inr, List, [], ◌∷◌, ◌++◌, length, map, true, IsUtf8, Option, Some, None, refl, sym, ap, ◌∙◌, subst}
+use Rattle.std.proofs.Common.{◌≡◌, ℕ, ◌≤◌, ◌⊎◌, inl, inr, List, [], ◌∷◌, ◌++◌, length, map, true}
+use Rattle.std.proofs.Common.{IsUtf8, Option, Some, None, refl, sym, ap, ◌∙◌, subst}
 use Rattle.std.proofs.lemmas.List.{append_assoc, append-nil}
 use Rattle.std.specs.List.{flat_map}
 use Rattle.io_edges.specs.Faults.{Rose}
@@ -12,7 +13,8 @@ use Rattle.string_tables.specs.StaticStrings.{Entry, IsStaticMap}
 use Rattle.initiator_machine.proofs.Openings.{openings_are_preambles}
 use Rattle.line_notation.specs.Lines.{AreLinesOf, cut}
 use Rattle.line_notation.specs.Standing.{documents_of}
-use Rattle.document_lines.specs.Input.{Settings as LineSettings, envelopes_and_end, is_singleton, lines_of_documents}
+use Rattle.document_lines.specs.Input.{Settings as LineSettings, envelopes_and_end, is_singleton}
+use Rattle.document_lines.specs.Input.{lines_of_documents}
 use Rattle.document_lines.specs.Laws.{Explains, IsWritten}
 use Rattle.document_lines.specs.declared.InputFault.{InputFault}
 use Rattle.document_lines.proofs.Written.{written}
@@ -21,11 +23,15 @@ use Rattle.session_ends.proofs.Sent.{sent_are_sessions}
 use Rattle.stream_loop.specs.Edges.{Input, Output}
 use Rattle.stream_loop.specs.declared.reporting.Ending.{Ending}
 use Rattle.stream_loop.specs.declared.reporting.Ending.TheVariants as endings
-use Rattle.stream_reader.specs.Sessions.{Carried, IsPreamble, IsSession, conversation, session_events}
+use Rattle.stream_reader.specs.Sessions.{Carried, IsPreamble, IsSession, conversation}
+use Rattle.stream_reader.specs.Sessions.{session_events}
 use Rattle.stream_reader.specs.Stream.{Settings}
 use Rattle.command_words.specs.Tasks.{Opening}
-use Rattle.dump_replay.specs.Laws.{BuildsAreComplete, BuiltAreSessions, IsBuiltOf, IsBuiltWell, IsSessionOf, ReadsAsMuch, input_offence, session_of, status_of_input}
-use Rattle.dump_replay.specs.Building.{Builds, preamble_of, settings_for_building, status_of_building}
+use Rattle.dump_replay.specs.Laws.{BuildsAreComplete, BuiltAreSessions, IsBuiltOf, IsBuiltWell}
+use Rattle.dump_replay.specs.Laws.{IsSessionOf, ReadsAsMuch, input_offence, session_of}
+use Rattle.dump_replay.specs.Laws.{status_of_input}
+use Rattle.dump_replay.specs.Building.{Builds, preamble_of, settings_for_building}
+use Rattle.dump_replay.specs.Building.{status_of_building}
 use Rattle.session_report.specs.Report.{report, told_of}
 use Rattle.session_report.proofs.Sessions.{reports_sessions}
 

@@ -1,5 +1,6 @@
 -- What a call leaves, by what became of it, and files of documents that aren't read.
-use Rattle.std.proofs.Common.{◌≡◌, ℕ, ◌≤◌, ◌⊎◌, inl, inr, List, Bool, true, false, Option, Some, None, Result, Ok, Err, refl, sym, ap, ◌∙◌, subst, arith}
+use Rattle.std.proofs.Common.{◌≡◌, ℕ, ◌≤◌, ◌⊎◌, inl, inr, List, Bool, true, false, Option, Some}
+use Rattle.std.proofs.Common.{None, Result, Ok, Err, refl, sym, ap, ◌∙◌, subst, arith}
 use Rattle.std.specs.Prelude.{◌||◌, if◌then◌else◌}
 use Rattle.io_edges.specs.Faults.{Rose}
 use Rattle.nbfx_values.specs.Limits.{Limits}
@@ -23,9 +24,12 @@ use Rattle.client.specs.declared.outcome.ClientIn.TheVariants as heard
 use Rattle.client.specs.declared.outcome.ClientOut.{ClientOut}
 use Rattle.client.specs.declared.outcome.ClientOut.TheVariants as out
 use Rattle.session_calls.specs.Places.{CallsOne, CallsPlace, Network}
-use Rattle.session_calls.specs.Statuses.{fails, fails_in, fails_out, fails_report, inbound_status, is_unfit, outcome_status, reason_status, status_of, wants_memory}
+use Rattle.session_calls.specs.Statuses.{fails, fails_in, fails_out, fails_report, inbound_status}
+use Rattle.session_calls.specs.Statuses.{is_unfit, outcome_status, reason_status, status_of}
+use Rattle.session_calls.specs.Statuses.{wants_memory}
 use Rattle.session_calls.specs.declared.called.Called.{Called}
-use Rattle.session_calls.specs.declared.called.Called.TheVariants.{WrongCount, Starved, Unconnected, Closed}
+use Rattle.session_calls.specs.declared.called.Called.TheVariants.{WrongCount, Starved, Unconnected}
+use Rattle.session_calls.specs.declared.called.Called.TheVariants.{Closed}
 use Rattle.dump_replay.specs.Building.{status_of_building}
 use Rattle.dump_replay.specs.Calling.{ending_of_list, status_of_documents}
 use Rattle.dump_replay.specs.Running.{CountsWire, IsJudged, IsStatus}

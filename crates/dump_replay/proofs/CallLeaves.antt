@@ -12,11 +12,15 @@ use Rattle.client.specs.Sent.{Sending, sending}
 use Rattle.session_calls.specs.Tags.{sent_line}
 use Rattle.session_calls.specs.declared.called.Called.{Called}
 use Rattle.command_words.specs.Tasks.{Opening}
-use Rattle.dump_replay.specs.Calling.{CalledOrNot, CalledPlace, TookNone, UnreadSecond, ending_of_list, network_of, output_of}
+use Rattle.dump_replay.specs.Calling.{CalledOrNot, CalledPlace, TookNone, UnreadSecond}
+use Rattle.dump_replay.specs.Calling.{ending_of_list, network_of, output_of}
 use Rattle.dump_replay.specs.Outside.{Outside, SeenShelf, seen}
 use Rattle.dump_replay.specs.Running.{CountsWire}
 use Rattle.dump_replay.specs.Working.{Leaves}
-use Rattle.dump_replay.proofs.CallEnds.{called_four, called_out, called_status, called_three, called_two, called_wire, called_writes, list_eight, list_four, list_three, second_four, second_status, second_three, second_two}
+use Rattle.dump_replay.proofs.CallEnds.{called_four, called_out, called_status, called_three}
+use Rattle.dump_replay.proofs.CallEnds.{called_two, called_wire, called_writes, list_eight}
+use Rattle.dump_replay.proofs.CallEnds.{list_four, list_three, second_four, second_status}
+use Rattle.dump_replay.proofs.CallEnds.{second_three, second_two}
 use Rattle.dump_replay.proofs.Works.{build_status, build_two}
 
 -- a file that isn't read leaves input and output

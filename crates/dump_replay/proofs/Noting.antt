@@ -1,5 +1,7 @@
 -- What a put of a note leaves.
-use Rattle.std.proofs.Common.{◌≡◌, ℕ, inl, inr, ◌⊎◌, List, [], ◌∷◌, ◌++◌, Bool, true, false, Option, Some, None, Result, Ok, Err, OnErr, OnOk, IsErrOf, refl, sym, ap, ◌∙◌, arith, append_assoc}
+use Rattle.std.proofs.Common.{◌≡◌, ℕ, inl, inr, ◌⊎◌, List, [], ◌∷◌, ◌++◌, Bool, true, false, Option}
+use Rattle.std.proofs.Common.{Some, None, Result, Ok, Err, OnErr, OnOk, IsErrOf, refl, sym, ap, ◌∙◌}
+use Rattle.std.proofs.Common.{arith, append_assoc}
 use Rattle.std.specs.Prelude.{⊤, codes}
 use Rattle.std.proofs.lemmas.List.{append-nil}
 use Rattle.io_edges.specs.Faults.{CountsFaults, Rose}
@@ -81,14 +83,15 @@ note_put (Err fault) p written refused emptied counted wanted settled =
 
 -- no note
 pub note_none : (w : Option (List ℕ)) (h : List ℕ) (f : ℕ) (m : Bool) → NotesText [] w w h f f m
-note_none w h f m = record { grows = nothing w; whole = λ sure well. none w; faults = omega arith } where
-  nothing : (w : Option (List ℕ)) → Told w w (λ w w'. GrowsByPrefix w w' (h ++ []))
-  nothing None = tt
-  nothing (Some l) = record { kept = 0; grown = sym (append-nil l) }
+note_none w h f m = record { grows = nothing w; whole = λ sure well. none w; faults = omega arith }
+  where
+    nothing : (w : Option (List ℕ)) → Told w w (λ w w'. GrowsByPrefix w w' (h ++ []))
+    nothing None = tt
+    nothing (Some l) = record { kept = 0; grown = sym (append-nil l) }
 
-  none : (w : Option (List ℕ)) → Told w w (λ w w'. (w' ≡ w ++ h ++ []) ⊎ (◌≡◌ {A = List ℕ} [] []))
-  none None = tt
-  none (Some l) = inr refl
+    none : (w : Option (List ℕ)) → Told w w (λ w w'. (w' ≡ w ++ h ++ []) ⊎ (◌≡◌ {A = List ℕ} [] []))
+    none None = tt
+    none (Some l) = inr refl
 
 -- the line of an offence is a note
 pub offence_line_some : (o : Offence) → offence_line o ≡ [] → ⊥

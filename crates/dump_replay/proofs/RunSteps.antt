@@ -1,5 +1,6 @@
 -- The words of a run, the files that it fetches, the shelf, and a file that isn't read.
-use Rattle.std.proofs.Common.{◌≡◌, ℕ, ◌⊎◌, inl, inr, List, [], ◌∷◌, Option, refl, sym, ap, ◌∙◌, subst}
+use Rattle.std.proofs.Common.{◌≡◌, ℕ, ◌⊎◌, inl, inr, List, [], ◌∷◌, Option, refl, sym, ap, ◌∙◌}
+use Rattle.std.proofs.Common.{subst}
 use Rattle.io_edges.specs.Faults.{one_more}
 use Rattle.io_edges.specs.Store.{Store}
 use Rattle.nbfx_values.specs.Limits.{Limits}
@@ -10,7 +11,8 @@ use Rattle.command_words.specs.Options.{value_of}
 use Rattle.command_words.specs.Requests.{AskForTask, Asked, IsRequest, Values}
 use Rattle.command_words.specs.Tasks.{Serving, Task, serve}
 use Rattle.command_words.specs.declared.action.Action.{Action}
-use Rattle.command_words.specs.declared.action.Action.TheVariants.{Check, Dump, Build, Replay, Serve, Call, Gen}
+use Rattle.command_words.specs.declared.action.Action.TheVariants.{Check, Dump, Build, Replay}
+use Rattle.command_words.specs.declared.action.Action.TheVariants.{Serve, Call, Gen}
 use Rattle.command_words.specs.declared.words.WordsFault.{WordsFault}
 use Rattle.command_words.specs.declared.words.WordsFault.TheVariants as words
 use Rattle.dump_replay.specs.Outside.{Outside, SeenShelf, shelf_at}

@@ -1,5 +1,6 @@
 -- What a status says of how the reporting of a stream ended.
-use Rattle.std.proofs.Common.{◌≡◌, ℕ, ◌⊎◌, inl, inr, List, ◌++◌, length, true, false, Option, Some, None, refl, sym, ap, ◌∙◌, subst, arith, append_assoc}
+use Rattle.std.proofs.Common.{◌≡◌, ℕ, ◌⊎◌, inl, inr, List, ◌++◌, length, true, false, Option, Some}
+use Rattle.std.proofs.Common.{None, refl, sym, ap, ◌∙◌, subst, arith, append_assoc}
 use Rattle.std.proofs.lemmas.Bool.{cases_Bool}
 use Rattle.std.proofs.lemmas.List.{take_all}
 use Rattle.io_edges.specs.Faults.{one_more}
@@ -12,7 +13,8 @@ use Rattle.stream_loop.specs.declared.reporting.Ending.{Ending}
 use Rattle.stream_loop.specs.declared.reporting.Ending.TheVariants as endings
 use Rattle.stream_loop.proofs.Writing.{counted_with}
 use Rattle.stream_reader.specs.Judging.{offence}
-use Rattle.stream_reader.specs.Sessions.{IsClosed, Parts, conversation, answer, lone_ack, broken_off, turned_down}
+use Rattle.stream_reader.specs.Sessions.{IsClosed, Parts, conversation, answer, lone_ack}
+use Rattle.stream_reader.specs.Sessions.{broken_off, turned_down}
 use Rattle.stream_reader.specs.Stream.{Settings, stream}
 use Rattle.stream_reader.proofs.Closed.{closed_or_refused}
 use Rattle.command_words.specs.declared.task.Detail.{Detail}
@@ -20,7 +22,8 @@ use Rattle.session_report.specs.declared.reporter.Outcome.{Outcome}
 use Rattle.session_report.specs.declared.reporter.Outcome.TheVariants.{Open, Ended, Faulted}
 use Rattle.dump_replay.specs.Reading.{status_at}
 use Rattle.session_report.specs.Report.{lines_of, outcome, report}
-use Rattle.dump_replay.specs.Reporting.{IsEnded, IsFaulted, IsOffended, IsReportStatus, Reports, closing_status, ends_by_fault}
+use Rattle.dump_replay.specs.Reporting.{IsEnded, IsFaulted, IsOffended, IsReportStatus, Reports}
+use Rattle.dump_replay.specs.Reporting.{closing_status, ends_by_fault}
 use Rattle.dump_replay.specs.Running.{IsJudged, is_session_too_long, status_of}
 use Rattle.session_report.proofs.Sessions.{closed_outcome, outcome_of, unoffended}
 

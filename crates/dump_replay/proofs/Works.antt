@@ -1,5 +1,6 @@
 -- What any task leaves, by what it does.
-use Rattle.std.proofs.Common.{◌≡◌, ℕ, ◌⊎◌, inl, inr, List, Option, Some, None, Result, Ok, Err, refl, sym, ap, ◌∙◌, subst, arith}
+use Rattle.std.proofs.Common.{◌≡◌, ℕ, ◌⊎◌, inl, inr, List, Option, Some, None, Result, Ok, Err}
+use Rattle.std.proofs.Common.{refl, sym, ap, ◌∙◌, subst, arith}
 use Rattle.std.proofs.lemmas.Bool.{cases_Bool}
 use Rattle.io_edges.specs.Faults.{Rose, one_more}
 use Rattle.nbfx_values.specs.Limits.{Limits}
@@ -144,7 +145,8 @@ module _ (s s' : SeenShelf) (i i' : Input) (o o' : Output) {R K : Type 0} (w w' 
     pub build_status : (e : Ending InputFault) → IsStatus (status_of_building e)
     build_status (endings.Judged None) = inl (inl refl)
     build_status (endings.Judged (Some (Line n kind))) = inr (inr (inr (inr (inr (inl refl)))))
-    build_status (endings.Judged (Some (Unfit number why))) = inr (inr (inr (inr (inr (inr (inl refl))))))
+    build_status (endings.Judged (Some (Unfit number why))) = inr
+        (inr (inr (inr (inr (inr (inl refl))))))
     build_status (endings.Judged (Some TooLong)) = inl (inr (inr (inr refl)))
     build_status endings.ReadFault = inr (inr (inl refl))
     build_status endings.WriteFault = inr (inr (inr (inl refl)))

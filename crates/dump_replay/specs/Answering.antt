@@ -7,7 +7,8 @@ use Rattle.stream_loop.specs.Edges.{Input, Output}
 use Rattle.stream_follower.specs.declared.writing.Outbound.{Outbound}
 use Rattle.stream_follower.specs.declared.writing.Outbound.TheVariants as outbounds
 use Rattle.action_dispatch.specs.declared.fault.ActionKind.{ActionKind}
-use Rattle.action_dispatch.specs.declared.fault.ActionKind.TheVariants.{Header, Fields, NotUtf8, Repeated}
+use Rattle.action_dispatch.specs.declared.fault.ActionKind.TheVariants.{Header, Fields, NotUtf8}
+use Rattle.action_dispatch.specs.declared.fault.ActionKind.TheVariants.{Repeated}
 use Rattle.duplex_server.specs.declared.outcome.Inbound.{Inbound}
 use Rattle.duplex_server.specs.declared.outcome.Inbound.TheVariants as inbounds
 use Rattle.duplex_server.specs.Owed.{answering}

@@ -7,11 +7,13 @@ use Rattle.string_tables.specs.StaticStrings.{Entry}
 use Rattle.nbfx_encoder.specs.declared.faults.EncodeFault.{EncodeFault}
 use Rattle.nbfx_encoder.specs.declared.faults.EncodeFault.TheVariants as unfit
 use Rattle.line_notation.specs.declared.reader.LineKind.{LineKind}
-use Rattle.line_notation.specs.declared.reader.LineKind.TheVariants.{NotALine, BadText, OutOfRange, OutOfPlace, Cut, WrongCount}
+use Rattle.line_notation.specs.declared.reader.LineKind.TheVariants.{NotALine, BadText, OutOfRange}
+use Rattle.line_notation.specs.declared.reader.LineKind.TheVariants.{OutOfPlace, Cut, WrongCount}
 use Rattle.stream_loop.specs.Edges.{Input, Output}
 use Rattle.stream_loop.specs.Reported.{EndsAs}
 use Rattle.stream_loop.specs.declared.reporting.Ending.{Ending}
-use Rattle.stream_loop.specs.declared.reporting.Ending.TheVariants.{Judged, ReadFault, WriteFault, Memory}
+use Rattle.stream_loop.specs.declared.reporting.Ending.TheVariants.{Judged, ReadFault, WriteFault}
+use Rattle.stream_loop.specs.declared.reporting.Ending.TheVariants.{Memory}
 use Rattle.document_lines.specs.Input.{Settings, lines_of_documents, envelopes_and_end}
 use Rattle.document_lines.specs.declared.InputFault.{InputFault}
 use Rattle.document_lines.specs.declared.InputFault.TheVariants.{Line, Unfit, TooLong}

@@ -1,5 +1,6 @@
 -- What the command that calls a peer leaves, by how that ended.
-use Rattle.std.specs.Prelude.{◌≡◌, ℕ, ◌⊎◌, List, [], ◌++◌, length, Option, Some, None, Result, Ok, Err, codes}
+use Rattle.std.specs.Prelude.{◌≡◌, ℕ, ◌⊎◌, List, [], ◌++◌, length, Option, Some, None, Result, Ok}
+use Rattle.std.specs.Prelude.{Err, codes}
 use Rattle.io_edges.specs.Faults.{Rose}
 use Rattle.io_edges.specs.Store.{Store}
 use Rattle.nbfx_values.specs.Limits.{Limits}

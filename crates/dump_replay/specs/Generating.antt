@@ -6,7 +6,8 @@ use Rattle.stream_loop.specs.Edges.{Output}
 use Rattle.session_generator.specs.Documents.{documents}
 use Rattle.session_summary.specs.Summary.{Summarizes, status_of}
 use Rattle.session_summary.specs.declared.summary.Summary.{Summary}
-use Rattle.session_summary.specs.declared.summary.Summary.TheVariants.{Written, TooLong, WriteFault, Memory}
+use Rattle.session_summary.specs.declared.summary.Summary.TheVariants.{Written, TooLong, WriteFault}
+use Rattle.session_summary.specs.declared.summary.Summary.TheVariants.{Memory}
 use Rattle.session_report.specs.Report.{offence_line}
 use Rattle.dump_replay.specs.Running.{note_of}
 

@@ -1,5 +1,6 @@
 -- What holds of sessions that are written of documents, by the definitions alone.
-use Rattle.std.specs.Prelude.{◌≡◌, ℕ, ◌≤◌, ◌⊎◌, List, [], ◌++◌, length, map, true, IsUtf8, Option, Some, None}
+use Rattle.std.specs.Prelude.{◌≡◌, ℕ, ◌≤◌, ◌⊎◌, List, [], ◌++◌, length, map, true, IsUtf8, Option}
+use Rattle.std.specs.Prelude.{Some, None}
 use Rattle.std.specs.List.{flat_map}
 use Rattle.io_edges.specs.Faults.{Rose}
 use Rattle.unit_streams.specs.Judging.{offence}
@@ -17,7 +18,8 @@ use Rattle.stream_reader.specs.Sessions.{Carried, IsSession, conversation, sessi
 use Rattle.stream_reader.specs.Stream.{Settings, initiators, serves}
 use Rattle.command_words.specs.Tasks.{Opening}
 use Rattle.command_words.specs.declared.task.Detail.{Detail}
-use Rattle.dump_replay.specs.Building.{Builds, preamble_of, settings_for_building, status_of_building, status_of_input_fault}
+use Rattle.dump_replay.specs.Building.{Builds, preamble_of, settings_for_building}
+use Rattle.dump_replay.specs.Building.{status_of_building, status_of_input_fault}
 use Rattle.session_report.specs.Report.{report, told_of}
 
 module _ (opening : Opening) (statics : List Entry) (limits : Limits) where

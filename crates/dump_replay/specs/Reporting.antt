@@ -1,6 +1,7 @@
 -- What a command that reports a stream leaves, by its status. The output may have held bytes
 -- before, which are written before what is put.
-use Rattle.std.specs.Prelude.{◌≡◌, ℕ, ◌⊎◌, List, ◌++◌, Bool, true, false, Option, Some, if◌then◌else◌}
+use Rattle.std.specs.Prelude.{◌≡◌, ℕ, ◌⊎◌, List, ◌++◌, Bool, true, false, Option, Some}
+use Rattle.std.specs.Prelude.{if◌then◌else◌}
 use Rattle.io_edges.specs.Faults.{CountsFaults, Rose, one_more}
 use Rattle.io_edges.specs.Flow.{GrowsByPrefix}
 use Rattle.nbfx_values.specs.declared.refusals.Offence.{Offence}

@@ -21,8 +21,10 @@ status_of_stop (Err stops.Wire) = 8
 status_of_stop (Err stops.Output) = 4
 status_of_stop (Err stops.Memory) = 5
 
--- Connections were answered so, as many as were asked for at most, by the service that is asked for,
--- with the status and the note of why no more were. The input isn't read. `Says` is what is known of
+-- Connections were answered so, as many as were asked for at most, by the service that is asked
+-- for,
+-- with the status and the note of why no more were. The input isn't read. `Says` is what is known
+-- of
 -- the note with a text, and `reader` and `writer` are what is seen of the ends of a connection.
 pub record AnsweredAll (Says : List ℕ → Type 0) {R K : Type 0} (reader : R → Input)
     (writer : K → SinkState) (connections : ℕ) (serving : Serving) (statics : List Entry)

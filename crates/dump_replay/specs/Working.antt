@@ -14,7 +14,8 @@ use Rattle.document_lines.specs.declared.InputFault.{InputFault}
 use Rattle.session_replay.specs.Responding.{reading_actions}
 use Rattle.connection_server.specs.Served.{SinkState}
 use Rattle.command_words.specs.Requests.{Asked, IsRequest}
-use Rattle.command_words.specs.Tasks.{Opening, Serving, Task, report, build, replay, serve, call, generate}
+use Rattle.command_words.specs.Tasks.{Opening, Serving, Task, report, build, replay, serve, call}
+use Rattle.command_words.specs.Tasks.{generate}
 use Rattle.dump_replay.specs.Answering.{Answered, action_kind_name}
 use Rattle.dump_replay.specs.Building.{Builds, note_of_building, status_of_building}
 use Rattle.dump_replay.specs.Calling.{CalledWith, HasNoSecond}

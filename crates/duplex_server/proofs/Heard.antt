@@ -1,15 +1,18 @@
 -- What is heard when a request more is answered, and what is written when the session is over.
-use Rattle.std.proofs.Common.{◌≡◌, ℕ, ◌⊎◌, inl, inr, List, [], ◌∷◌, ◌++◌, Bool, Option, Result, Ok, refl, sym, ap, ◌∙◌, subst}
+use Rattle.std.proofs.Common.{◌≡◌, ℕ, ◌⊎◌, inl, inr, List, [], ◌∷◌, ◌++◌, Bool, Option, Result, Ok}
+use Rattle.std.proofs.Common.{refl, sym, ap, ◌∙◌, subst}
 use Rattle.std.specs.Prelude.{⊤}
 use Rattle.io_edges.specs.declared.SinkFault.{SinkFault}
 use Rattle.nbfx_encoder.specs.declared.sender.Sender.{Sender}
 use Rattle.stream_follower.specs.declared.writing.Outbound.{Outbound}
 use Rattle.stream_follower.specs.declared.writing.Outbound.TheVariants.{Done, WriteFault, Memory}
 use Rattle.stream_follower.specs.Writing.{Goes, PutsTo, Writes, Wrote, outbound_by}
-use Rattle.stream_follower.proofs.Written.{begins, closes, goes_by, goes_nowhere, pauses, stays_closed, stays_so, steps, stops_last}
+use Rattle.stream_follower.proofs.Written.{begins, closes, goes_by, goes_nowhere, pauses}
+use Rattle.stream_follower.proofs.Written.{stays_closed, stays_so, steps, stops_last}
 use Rattle.duplex_server.specs.declared.requests.Request.{Request}
 use Rattle.duplex_server.specs.declared.requests.Request.TheVariants.{Ended, Acknowledged}
-use Rattle.duplex_server.specs.Owed.{Answering, Replying, messages_along, messages_behind, replies, start}
+use Rattle.duplex_server.specs.Owed.{Answering, Replying, messages_along, messages_behind, replies}
+use Rattle.duplex_server.specs.Owed.{start}
 use Rattle.duplex_server.specs.Replying.{Answers, HasHeard, replying}
 
 -- one request more

@@ -1,5 +1,6 @@
 -- What is known of a connection whose bytes are known.
-use Rattle.std.proofs.Common.{◌≡◌, ℕ, ◌⊎◌, inl, inr, List, [], ◌++◌, Bool, Option, Some, None, map, refl, sym, ap, ◌∙◌, subst}
+use Rattle.std.proofs.Common.{◌≡◌, ℕ, ◌⊎◌, inl, inr, List, [], ◌++◌, Bool, Option, Some, None, map}
+use Rattle.std.proofs.Common.{refl, sym, ap, ◌∙◌, subst}
 use Rattle.std.proofs.lemmas.List.{append-nil}
 use Rattle.unit_streams.specs.Judging.{History, events_of, offence}
 use Rattle.unit_streams.specs.Tellers.{told_along}
@@ -14,12 +15,14 @@ use Rattle.stream_follower.specs.Followed.{AreFirst, Breaks, Decides, Follows, I
 use Rattle.stream_follower.specs.Writing.{Wrote}
 use Rattle.stream_follower.proofs.Bringing.{first_of_open}
 use Rattle.duplex_server.specs.declared.outcome.Inbound.{Inbound}
-use Rattle.duplex_server.specs.declared.outcome.Inbound.TheVariants.{Ended, Offended, ReadFault, Memory}
+use Rattle.duplex_server.specs.declared.outcome.Inbound.TheVariants.{Ended, Offended, ReadFault}
+use Rattle.duplex_server.specs.declared.outcome.Inbound.TheVariants.{Memory}
 use Rattle.duplex_server.specs.declared.outcome.Outcome.{Outcome}
 use Rattle.duplex_server.specs.Owed.{Answering, closing_bytes, owed, replies, requests_to, start}
 use Rattle.duplex_server.specs.Requests.{request_for}
 use Rattle.duplex_server.specs.Serving.{HasServed, Judges, Serves, WritesOwed, ending_of}
-use Rattle.duplex_server.proofs.OwedFacts.{AllWritten, Grew, all_written, first_told, grew_more, whole_told, wrote_grew}
+use Rattle.duplex_server.proofs.OwedFacts.{AllWritten, Grew, all_written, first_told, grew_more}
+use Rattle.duplex_server.proofs.OwedFacts.{whole_told, wrote_grew}
 
 module _ {K : Type 0} (written : K → Option (List ℕ)) (held : K → List ℕ) (faults : K → ℕ)
     (may_want : K → Bool) (x : Answering) (endpoint : Option (List ℕ)) (i i' : Input)

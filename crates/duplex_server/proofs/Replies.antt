@@ -1,5 +1,6 @@
 -- What is left of the outgoing direction, by its sending half.
-use Rattle.std.proofs.Common.{◌≡◌, ℕ, List, [], ◌++◌, Bool, true, false, Option, Some, None, Ok, refl, sym, ap, ◌∙◌, subst}
+use Rattle.std.proofs.Common.{◌≡◌, ℕ, List, [], ◌++◌, Bool, true, false, Option, Some, None, Ok}
+use Rattle.std.proofs.Common.{refl, sym, ap, ◌∙◌, subst}
 use Rattle.io_edges.specs.Faults.{one_more}
 use Rattle.nbfx_values.specs.Limits.{Limits}
 use Rattle.nbfx_values.specs.declared.content.Item.{Item}
@@ -10,11 +11,13 @@ use Rattle.nbfx_encoder.specs.declared.sender.SendState.{SendState}
 use Rattle.nbfx_encoder.specs.declared.sender.Sender.{Sender}
 use Rattle.nbfx_encoder.specs.Envelopes.{envelope}
 use Rattle.nbfx_encoder.specs.Placing.{Placed}
-use Rattle.nbfx_encoder.specs.Sending.{behind_message, kind_in, limits_in, mode_in, names_in, state_in}
+use Rattle.nbfx_encoder.specs.Sending.{behind_message, kind_in, limits_in, mode_in, names_in}
+use Rattle.nbfx_encoder.specs.Sending.{state_in}
 use Rattle.nbfx_encoder.specs.Spelling.{encoded}
 use Rattle.action_dispatch.specs.declared.answers.Answer.TheVariants.{Reply}
 use Rattle.action_dispatch.specs.Refusals.{unfit_fault}
-use Rattle.duplex_server.specs.Owed.{Replying, behind_reply, first_fitting, payload_of, told_reply, when_ready}
+use Rattle.duplex_server.specs.Owed.{Replying, behind_reply, first_fitting, payload_of, told_reply}
+use Rattle.duplex_server.specs.Owed.{when_ready}
 use Rattle.duplex_server.specs.Replying.{replying}
 use Rattle.duplex_server.specs.Spelling.{Spells}
 

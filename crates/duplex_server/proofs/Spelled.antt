@@ -1,5 +1,6 @@
 -- What two tries of an envelope leave.
-use Rattle.std.proofs.Common.{◌≡◌, ℕ, List, ◌++◌, Bool, true, false, Option, Some, None, Result, Ok, Err, IfOk, refl, sym, ap, ◌∙◌, subst}
+use Rattle.std.proofs.Common.{◌≡◌, ℕ, List, ◌++◌, Bool, true, false, Option, Some, None, Result, Ok}
+use Rattle.std.proofs.Common.{Err, IfOk, refl, sym, ap, ◌∙◌, subst}
 use Rattle.unit_streams.specs.declared.memory.Memory.{Memory}
 use Rattle.nbfx_values.specs.declared.session.Mode.{Mode}
 use Rattle.string_tables.specs.StringTable.{StringTable}

@@ -1,4 +1,5 @@
--- What a server owes for the bytes of an initiator's stream: a fold over the stream's history, which
+-- What a server owes for the bytes of an initiator's stream: a fold over the stream's history,
+-- which
 -- carries the strings of the outgoing direction on.
 use Rattle.std.specs.Prelude.{ℕ, List, [], ◌∷◌, Option, Some, None, Result, Ok, Err}
 use Rattle.io_edges.specs.Faults.{one_more}
@@ -29,7 +30,8 @@ use Rattle.action_dispatch.specs.declared.answers.Answer.TheVariants.{Reply, Not
 use Rattle.action_dispatch.specs.Answers.{Serves, answered}
 use Rattle.action_dispatch.specs.Refusals.{unfit_fault}
 use Rattle.duplex_server.specs.declared.requests.Request.{Request}
-use Rattle.duplex_server.specs.declared.requests.Request.TheVariants.{Opened, Received, Ended, Acknowledged}
+use Rattle.duplex_server.specs.declared.requests.Request.TheVariants.{Opened, Received, Ended}
+use Rattle.duplex_server.specs.declared.requests.Request.TheVariants.{Acknowledged}
 use Rattle.duplex_server.specs.Requests.{request_for}
 
 -- how requests are answered: what the service says, the strings that both ends have, and the quotas

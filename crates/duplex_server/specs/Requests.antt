@@ -4,7 +4,8 @@ use Rattle.stream_reader.specs.declared.reader.StreamStep.{StreamStep}
 use Rattle.stream_reader.specs.declared.reader.StreamStep.TheVariants as steps
 use Rattle.stream_reader.specs.Stream.{StreamEvent, opened, accepted, message, ended, peer_fault}
 use Rattle.duplex_server.specs.declared.requests.Request.{Request}
-use Rattle.duplex_server.specs.declared.requests.Request.TheVariants.{Opened, Received, Ended, Acknowledged}
+use Rattle.duplex_server.specs.declared.requests.Request.TheVariants.{Opened, Received, Ended}
+use Rattle.duplex_server.specs.declared.requests.Request.TheVariants.{Acknowledged}
 
 abbrev pub request_for : StreamEvent → Request
 request_for (opened mode kind via) = Opened mode kind

@@ -13,7 +13,8 @@ use Rattle.stream_follower.specs.declared.writing.Outbound.TheVariants as outbou
 use Rattle.stream_follower.specs.Followed.{Follows}
 use Rattle.stream_follower.specs.Writing.{Wrote}
 use Rattle.duplex_server.specs.declared.outcome.Inbound.{Inbound}
-use Rattle.duplex_server.specs.declared.outcome.Inbound.TheVariants.{Ended, Offended, ReadFault, Memory}
+use Rattle.duplex_server.specs.declared.outcome.Inbound.TheVariants.{Ended, Offended, ReadFault}
+use Rattle.duplex_server.specs.declared.outcome.Inbound.TheVariants.{Memory}
 use Rattle.duplex_server.specs.declared.outcome.Outcome.{Outcome}
 use Rattle.duplex_server.specs.Requests.{request_for}
 use Rattle.duplex_server.specs.Owed.{Answering, closing_bytes, messages_along, replies, requests_to}

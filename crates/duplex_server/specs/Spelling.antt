@@ -1,5 +1,6 @@
 -- What the spelling of an answer appends, and what it leaves of the sending half.
-use Rattle.std.specs.Prelude.{◌≡◌, ⊤, ℕ, List, ◌++◌, Bool, true, false, Option, Some, None, Result, Ok, Err}
+use Rattle.std.specs.Prelude.{◌≡◌, ⊤, ℕ, List, ◌++◌, Bool, true, false, Option, Some, None, Result}
+use Rattle.std.specs.Prelude.{Ok, Err}
 use Rattle.unit_streams.specs.declared.memory.Memory.{Memory}
 use Rattle.nbfx_values.specs.declared.session.Mode.{Mode}
 use Rattle.string_tables.specs.StringTable.{StringTable}

@@ -3,7 +3,8 @@ use Rattle.std.proofs.Common.{◌≡◌, ℕ, ◌+◌, List, false, sym, refl}
 use Rattle.std.proofs.Math.Seq.{take-add}
 use Rattle.std.proofs.lemmas.List.{drop-drop}
 use Rattle.io_edges.specs.Plan.{Plan, is_due, after_call}
-use Rattle.io_edges.specs.InMemory.{PlannedSource, tape_at, advanced, next_count, after_take, with_take}
+use Rattle.io_edges.specs.InMemory.{PlannedSource, tape_at, advanced, next_count, after_take}
+use Rattle.io_edges.specs.InMemory.{with_take}
 
 -- n bytes further on in the bytes
 pub advanced-tape_at : (at n : ℕ) (bytes : List ℕ) (empty : ℕ)
@@ -26,6 +27,7 @@ after_good_take at n most room bytes empty empty' plan plan' good count counted 
 
 -- after a take that always gives what the room holds
 pub after_sure_take : (at n m : ℕ) (bytes : List ℕ) (empty empty' : ℕ) → n ≡ m
-    → empty' ≡ with_take n empty → tape_at (at + n) bytes empty' ≡ advanced m (tape_at at bytes empty)
+    → empty' ≡ with_take n empty → tape_at (at + n) bytes empty'
+    ≡ advanced m (tape_at at bytes empty)
 after_sure_take at n m bytes empty empty' count given =
     rw (← count, given) (sym (advanced-tape_at at n bytes empty))

@@ -22,21 +22,43 @@ holds_the_last = record { put = 2 ∷ 3 ∷ []; split = refl; grown = refl }
 five : PlannedSource
 five = new_source (1 ∷ 2 ∷ 3 ∷ 4 ∷ 5 ∷ []) 2 (1 ∷ [])
 
-first_take : after_take five 4 ≡ record { tape = record { taken = 1 ∷ 2 ∷ []; left = 3 ∷ 4 ∷ 5 ∷ []; empty_takes = 0 }; most = 2; plan = record { failing = 1 ∷ []; calls = 1; faults = 0 } }
+first_take : after_take five 4
+    ≡ record {
+      tape = record { taken = 1 ∷ 2 ∷ []; left = 3 ∷ 4 ∷ 5 ∷ []; empty_takes = 0 };
+      most =
+          2;
+      plan = record { failing = 1 ∷ []; calls = 1; faults = 0 };
+    }
 unfolding five
 first_take = refl
 
-second_take : after_take (after_take five 4) 4 ≡ record { tape = record { taken = 1 ∷ 2 ∷ []; left = 3 ∷ 4 ∷ 5 ∷ []; empty_takes = 0 }; most = 2; plan = record { failing = 1 ∷ []; calls = 2; faults = 1 } }
+second_take : after_take (after_take five 4) 4
+    ≡ record {
+      tape = record { taken = 1 ∷ 2 ∷ []; left = 3 ∷ 4 ∷ 5 ∷ []; empty_takes = 0 };
+      most =
+          2;
+      plan = record { failing = 1 ∷ []; calls = 2; faults = 1 };
+    }
 unfolding five
 second_take = refl
 
-third_take : after_take (after_take (after_take five 4) 4) 1 ≡ record { tape = record { taken = 1 ∷ 2 ∷ 3 ∷ []; left = 4 ∷ 5 ∷ []; empty_takes = 0 }; most = 2; plan = record { failing = 1 ∷ []; calls = 3; faults = 1 } }
+third_take : after_take (after_take (after_take five 4) 4) 1
+    ≡ record {
+      tape = record { taken = 1 ∷ 2 ∷ 3 ∷ []; left = 4 ∷ 5 ∷ []; empty_takes = 0 };
+      most =
+          2;
+      plan = record { failing = 1 ∷ []; calls = 3; faults = 1 };
+    }
 unfolding five
 third_take = refl
 
 -- the last call number stays due
 at_the_last_number : Plan
-at_the_last_number = record { failing = (2 ^ 64 - 1) ∷ []; calls = one_more (2 ^ 64 - 1); faults = 0 }
+at_the_last_number = record {
+  failing = (2 ^ 64 - 1) ∷ [];
+  calls = one_more (2 ^ 64 - 1);
+  faults = 0;
+}
 
 stays_due : is_due at_the_last_number ≡ true
 unfolding at_the_last_number

@@ -1,5 +1,6 @@
 -- What contracts see of the adapters over std's readers, writers and files.
-use Rattle.std.specs.Prelude.{◌≡◌, ◌≢◌, ℕ, List, take, Option, None, Result, Ok, Err, Vec, IsSome, OnOk, IfOk, IfErr, IfSome}
+use Rattle.std.specs.Prelude.{◌≡◌, ◌≢◌, ℕ, List, take, Option, None, Result, Ok, Err, Vec, IsSome}
+use Rattle.std.specs.Prelude.{OnOk, IfOk, IfErr, IfSome}
 use Rattle.std.specs.declared.alloc.Global.{Global}
 use Rattle.std.specs.declared.io.Error.{Error}
 use Rattle.std.specs.declared.io.ErrorKind.TheVariants.{NotFound}

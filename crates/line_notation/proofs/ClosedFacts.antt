@@ -1,5 +1,7 @@
--- The words of a line of a form have no space outside quotes, so that the line has just these words.
-use Rattle.std.proofs.Common.{◌≡◌, ◌<◌, inl, inr, List, [], ◌∷◌, ℕ, length, true, false, refl, arith}
+-- The words of a line of a form have no space outside quotes, so that the line has just these
+-- words.
+use Rattle.std.proofs.Common.{◌≡◌, ◌<◌, inl, inr, List, [], ◌∷◌, ℕ, length, true, false, refl}
+use Rattle.std.proofs.Common.{arith}
 use Rattle.line_notation.specs.Forms.{Form, IsForm}
 use Rattle.line_notation.specs.Words.{spaced, words_of}
 use Rattle.line_notation.proofs.LineWords.{AreWords, IsWord, line-words}
@@ -14,9 +16,12 @@ words-closed : (words : List (List ℕ)) → AreWords words → AreClosed words
 words-closed [] h = refl
 words-closed (word ∷ words) h = rw (word-closes word h.0, words-closed words h.1) refl
 
-some-words : (words : List (List ℕ)) → 0 < length words → AreClosed words → words_of (spaced words) ≡ words
+some-words : (words : List (List ℕ)) → 0 < length words → AreClosed words → words_of (spaced words)
+    ≡ words
 some-words [] some h = absurd (omega arith)
 some-words (word ∷ words) some h = words_of-spaced word words h
 
-pub form-words : (form : Form) (words : List (List ℕ)) → IsForm form words → words_of (spaced words) ≡ words
-form-words form words h = let w = line-words form words h in some-words words w.some (words-closed words w.are)
+pub form-words : (form : Form) (words : List (List ℕ)) → IsForm form words → words_of (spaced words)
+    ≡ words
+form-words form words h = let w = line-words form words h in some-words words w.some
+    (words-closed words w.are)

@@ -4,12 +4,19 @@ use Rattle.std.specs.Fmt.{decimal}
 use Rattle.std.proofs.lemmas.Fmt.{decimal_digit, decimal_step}
 
 pub one_digit : (n : ℕ) → n < 10 → decimal n ≡ (48 + n % 10) ∷ []
-one_digit n below = let same : n % 10 ≡ n = omega (arith, below) in decimal_digit n below ∙ rw same refl
+one_digit n below = let same : n % 10 ≡ n = omega (arith, below) in decimal_digit n below ∙ rw same
+    refl
 
 pub two_digits : (n : ℕ) → 10 ≤ n → n < 100 → decimal n ≡ (48 + n / 10 % 10) ∷ (48 + n % 10) ∷ []
-two_digits n more below = rw (decimal_step n more (omega arith), one_digit (n / 10) (omega arith)) refl
+two_digits n more below = rw (decimal_step n more (omega arith), one_digit (n / 10) (omega arith))
+    refl
 
-pub three_digits : (n : ℕ) → 100 ≤ n → n < 1000 → decimal n ≡ (48 + n / 100 % 10) ∷ (48 + n / 10 % 10) ∷ (48 + n % 10) ∷ []
+pub three_digits : (n : ℕ) → 100 ≤ n → n < 1000 → decimal n ≡ (48 + n / 100 % 10)
+    ∷ (48 + n / 10 % 10) ∷ (48 + n % 10) ∷ []
 three_digits n more below =
     let hundreds : n / 10 / 10 ≡ n / 100 = omega arith in
-    rw (decimal_step n (omega arith) (omega arith), two_digits (n / 10) (omega arith) (omega arith), hundreds) refl
+    rw (
+      decimal_step n (omega arith) (omega arith),
+      two_digits (n / 10) (omega arith) (omega arith),
+      hundreds,
+    ) refl

@@ -1,5 +1,7 @@
 -- A word writes an identifier exactly where the identifier is read out of it.
-use Rattle.std.proofs.Common.{◌≡◌, ◌∙◌, ◌==◌, ◌<◌, ◌≤◌, ◌⊎◌, ◌*◌, ◌+◌, ◌-◌, ◌&&◌, ℕ, suc, zero, List, [], ◌∷◌, length, map, slice_index, Bool, true, false, if◌then◌else◌, None, Some, inl, inr, refl, sym, ap, subst, arith, All}
+use Rattle.std.proofs.Common.{◌≡◌, ◌∙◌, ◌==◌, ◌<◌, ◌≤◌, ◌⊎◌, ◌*◌, ◌+◌, ◌-◌, ◌&&◌, ℕ, suc, zero}
+use Rattle.std.proofs.Common.{List, [], ◌∷◌, length, map, slice_index, Bool, true, false}
+use Rattle.std.proofs.Common.{if◌then◌else◌, None, Some, inl, inr, refl, sym, ap, subst, arith, All}
 use Rattle.std.specs.List.{list_all}
 use Rattle.std.specs.Str.{bytes_eq}
 use Rattle.std.proofs.lemmas.Bool.{and_parts, cases_lt, eqb-true, le-ltb, lt-ltb}
@@ -9,7 +11,9 @@ use Rattle.std.proofs.lemmas.List.Folds.{list_all-append}
 use Rattle.std.proofs.lemmas.Slice.Eq.{bytes_eq-Decides}
 use Rattle.hex.specs.Hex.{IsBytes}
 use Rattle.uuid.specs.Parts.{swap_fields}
-use Rattle.uuid.specs.Text.{by_index, byte_of_digits, digit_place, digits_of, has_hyphens, hex_digit, hyphenated_text, is_hex_digit, is_hyphen_place, lower, nibble, parsed, parsed_hyphenated, parsed_simple, value_of}
+use Rattle.uuid.specs.Text.{by_index, byte_of_digits, digit_place, digits_of, has_hyphens}
+use Rattle.uuid.specs.Text.{hex_digit, hyphenated_text, is_hex_digit, is_hyphen_place, lower}
+use Rattle.uuid.specs.Text.{nibble, parsed, parsed_hyphenated, parsed_simple, value_of}
 use Rattle.uuid.proofs.RoundTrips.{parses_hyphenated, swap_twice}
 use Rattle.uuid.proofs.TextLemmas.{by_index_at, by_index_length, nibble_small}
 use Rattle.nbfx_values.specs.Scalars.{are_bytes, is_identifier}
@@ -32,24 +36,30 @@ bytes-tested : (bytes : List ℕ) → IsBytes bytes → are_bytes bytes ≡ true
 bytes-tested [] h = refl
 bytes-tested (b ∷ bytes) h = rw (lt-ltb b 256 (h zero), bytes-tested bytes (λ i. h (suc i))) refl
 
-places-bytes : (bytes : List ℕ) → IsBytes bytes → (places : List ℕ) → IsBytes (map (slice_index bytes) places)
+places-bytes : (bytes : List ℕ) → IsBytes bytes → (places : List ℕ)
+    → IsBytes (map (slice_index bytes) places)
 places-bytes bytes h [] = bytes-none
-places-bytes bytes h (k ∷ places) = bytes-before (slice_index bytes k) (map (slice_index bytes) places) (h k) (places-bytes bytes h places)
+places-bytes bytes h (k ∷ places) = bytes-before (slice_index bytes k)
+    (map (slice_index bytes) places) (h k) (places-bytes bytes h places)
 
 swapped-bytes : (bytes : List ℕ) → IsBytes bytes → IsBytes (swap_fields bytes)
-swapped-bytes bytes h = places-bytes bytes h (3 ∷ 2 ∷ 1 ∷ 0 ∷ 5 ∷ 4 ∷ 7 ∷ 6 ∷ 8 ∷ 9 ∷ 10 ∷ 11 ∷ 12 ∷ 13 ∷ 14 ∷ 15 ∷ [])
+swapped-bytes bytes h = places-bytes bytes h (3 ∷ 2 ∷ 1 ∷ 0 ∷ 5 ∷ 4 ∷ 7 ∷ 6 ∷ 8 ∷ 9 ∷ 10 ∷ 11 ∷ 12
+    ∷ 13 ∷ 14 ∷ 15 ∷ [])
 
 bytes-all : (bytes : List ℕ) → IsBytes bytes → All (λ b. b < 256) bytes
 bytes-all bytes h k d below = subst (λ b. b < 256) (sym (get_or_default bytes k d 0 below)) (h k)
 
 -- what is put is read
-pub identifier_in-word : (bytes : List ℕ) → is_identifier bytes ≡ true → identifier_in (identifier_word bytes) ≡ Some bytes
+pub identifier_in-word : (bytes : List ℕ) → is_identifier bytes ≡ true
+    → identifier_in (identifier_word bytes) ≡ Some bytes
 identifier_in-word bytes h =
     let p = and_parts (length bytes == 16) (are_bytes bytes) h in
     let fields = swap_fields bytes in
     let word = hyphenated_text lower fields in
     let same : bytes_eq word word ≡ true = (bytes_eq-Decides word word).1 refl in
-    ap (λ read. read >>= if_identifier word) (sym (parses_hyphenated lower fields (inl refl) refl (bytes-all fields (swapped-bytes bytes (bytes-each bytes p.1)))))
+    ap (λ read. read >>= if_identifier word)
+    (sym (parses_hyphenated lower fields (inl refl) refl
+    (bytes-all fields (swapped-bytes bytes (bytes-each bytes p.1)))))
     ∙ ap (λ t. if t then Some (swap_fields fields) else None) same
     ∙ ap Some (swap_twice bytes (eqb-true (length bytes) 16 p.0))
 
@@ -58,10 +68,12 @@ record AreFields (fields : List ℕ) : Type 0 where
   count : length fields ≡ 16
   bytes : IsBytes fields
 
-all-at : (test : ℕ → Bool) (bytes : List ℕ) (k : ℕ) → k < length bytes → list_all test bytes ≡ true → test (slice_index bytes k) ≡ true
+all-at : (test : ℕ → Bool) (bytes : List ℕ) (k : ℕ) → k < length bytes → list_all test bytes ≡ true
+    → test (slice_index bytes k) ≡ true
 all-at test [] k below h = absurd (omega arith)
 all-at test (b ∷ bytes) zero below h = (and_parts (test b) (list_all test bytes) h).0
-all-at test (b ∷ bytes) (suc k) below h = all-at test bytes k (omega arith) (and_parts (test b) (list_all test bytes) h).1
+all-at test (b ∷ bytes) (suc k) below h = all-at test bytes k (omega arith)
+    (and_parts (test b) (list_all test bytes) h).1
 
 digit-small : (c : ℕ) → is_hex_digit c ≡ true → value_of c < 16
 digit-small c h = grind (arith, nat_tests)
@@ -69,39 +81,55 @@ digit-small c h = grind (arith, nat_tests)
 byte-small : (high low : ℕ) → high < 16 → low < 16 → high * 16 + low < 256
 byte-small high low h l = omega arith
 
-digits-bytes : (hex : List ℕ) → length hex ≡ 32 → list_all is_hex_digit hex ≡ true → AreFields (by_index 16 (byte_of_digits hex))
-digits-bytes hex count digits = record { count = by_index_length 16 (byte_of_digits hex); bytes = each }
+digits-bytes : (hex : List ℕ) → length hex ≡ 32 → list_all is_hex_digit hex ≡ true
+    → AreFields (by_index 16 (byte_of_digits hex))
+digits-bytes hex count digits = record {
+  count = by_index_length 16 (byte_of_digits hex);
+  bytes =
+      each;
+}
   where
     byte : (k : ℕ) → k < 16 → byte_of_digits hex k < 256
     byte k below =
-        byte-small _ _ (digit-small (slice_index hex (2 * k)) (all-at is_hex_digit hex (2 * k) (omega (arith, count)) digits))
-        (digit-small (slice_index hex (2 * k + 1)) (all-at is_hex_digit hex (2 * k + 1) (omega (arith, count)) digits))
+        byte-small _ _
+        (digit-small (slice_index hex (2 * k))
+        (all-at is_hex_digit hex (2 * k) (omega (arith, count)) digits))
+        (digit-small (slice_index hex (2 * k + 1))
+        (all-at is_hex_digit hex (2 * k + 1) (omega (arith, count)) digits))
 
     each : IsBytes (by_index 16 (byte_of_digits hex))
     each k = go (cases_lt k 16)
       where
         go : (k < 16) ⊎ (16 ≤ k) → slice_index (by_index 16 (byte_of_digits hex)) k < 256
-        go (inl below) = subst (λ b. b < 256) (sym (by_index_at 16 (byte_of_digits hex) k 0 below)) (byte k below)
+        go (inl below) = subst (λ b. b < 256) (sym (by_index_at 16 (byte_of_digits hex) k 0 below))
+            (byte k below)
         go (inr past) =
-            let over : length (by_index 16 (byte_of_digits hex)) ≤ k = rw (by_index_length 16 (byte_of_digits hex)) past in
-            subst (λ b. b < 256) (sym (get_or_past (by_index 16 (byte_of_digits hex)) k 0 over)) (omega arith)
+            let over : length (by_index 16 (byte_of_digits hex))
+            ≤ k = rw (by_index_length 16 (byte_of_digits hex)) past in
+            subst (λ b. b < 256) (sym (get_or_past (by_index 16 (byte_of_digits hex)) k 0 over))
+            (omega arith)
 
 simple-fields : (hex fields : List ℕ) → parsed_simple hex ≡ Some fields → AreFields fields
 simple-fields hex fields e = go (length hex == 32) (list_all is_hex_digit hex) refl refl e
   where
-    go : (s t : Bool) → (length hex == 32) ≡ s → list_all is_hex_digit hex ≡ t → (if s && t then Some (by_index 16 (byte_of_digits hex)) else None) ≡ Some fields → AreFields fields
-    go true true f g e = subst AreFields (some_same e) (digits-bytes hex (eqb-true (length hex) 32 f) g)
+    go : (s t : Bool) → (length hex == 32) ≡ s → list_all is_hex_digit hex ≡ t
+        → (if s && t then Some (by_index 16 (byte_of_digits hex)) else None) ≡ Some fields
+        → AreFields fields
+    go true true f g e = subst AreFields (some_same e)
+        (digits-bytes hex (eqb-true (length hex) 32 f) g)
     go true false f g e = absurd cc
     go false t f g e = absurd cc
 
 hyphenated-fields : (word fields : List ℕ) → parsed_hyphenated word ≡ Some fields → AreFields fields
 hyphenated-fields word fields e = go ((length word == 36) && has_hyphens word) e
   where
-    go : (t : Bool) → (if t then parsed_simple (digits_of word) else None) ≡ Some fields → AreFields fields
+    go : (t : Bool) → (if t then parsed_simple (digits_of word) else None) ≡ Some fields
+        → AreFields fields
     go true e = simple-fields (digits_of word) fields e
     go false e = absurd cc
 
-parsed-fields : (word fields : List ℕ) → length word ≡ 36 → parsed word ≡ Some fields → AreFields fields
+parsed-fields : (word fields : List ℕ) → length word ≡ 36 → parsed word ≡ Some fields
+    → AreFields fields
 parsed-fields word fields count e = hyphenated-fields word fields (sym (by-length word count) ∙ e)
   where
     by-length : (word : List ℕ) → length word ≡ 36 → parsed word ≡ parsed_hyphenated word
@@ -112,18 +140,26 @@ pub record IsIdentifier (bytes word : List ℕ) : Type 0 where
   pub identifier : is_identifier bytes ≡ true
   pub word_is : word ≡ identifier_word bytes
 
-pub is_identifier-word : (word bytes : List ℕ) → identifier_in word ≡ Some bytes → IsIdentifier bytes word
+pub is_identifier-word : (word bytes : List ℕ) → identifier_in word ≡ Some bytes
+    → IsIdentifier bytes word
 is_identifier-word word bytes e =
     let p = found (parsed word) (if_identifier word) bytes e in
     go p.value (bytes_eq (hyphenated_text lower p.value) word) refl p.read_is p.step_is
   where
-    inner : (fields : List ℕ) → hyphenated_text lower fields ≡ word → AreFields fields → swap_fields fields ≡ bytes → IsIdentifier bytes word
+    inner : (fields : List ℕ) → hyphenated_text lower fields ≡ word → AreFields fields
+        → swap_fields fields ≡ bytes → IsIdentifier bytes word
     inner fields same f swapped =
-        let tested : is_identifier (swap_fields fields) ≡ true = bytes-tested (swap_fields fields) (swapped-bytes fields f.bytes) in
+        let tested : is_identifier (swap_fields fields) ≡ true = bytes-tested (swap_fields fields)
+        (swapped-bytes fields f.bytes) in
         subst (λ b. IsIdentifier b word) swapped
-        (record { identifier = tested; word_is = sym same ∙ ap (hyphenated_text lower) (sym (swap_twice fields f.count)) })
+        (record {
+          identifier = tested;
+          word_is = sym same ∙ ap (hyphenated_text lower)
+              (sym (swap_twice fields f.count));
+        })
 
-    go : (fields : List ℕ) (t : Bool) → bytes_eq (hyphenated_text lower fields) word ≡ t → parsed word ≡ Some fields
+    go : (fields : List ℕ) (t : Bool) → bytes_eq (hyphenated_text lower fields) word ≡ t
+        → parsed word ≡ Some fields
         → (if t then Some (swap_fields fields) else None) ≡ Some bytes → IsIdentifier bytes word
     go fields true f read e =
         let same = (bytes_eq-Decides (hyphenated_text lower fields) word).0 f in
@@ -136,14 +172,19 @@ digit-solid : (d : ℕ) → d < 16 → is_solid (hex_digit lower d) ≡ true
 digit-solid d small = go (cases_lt d 10)
   where
     go : (d < 10) ⊎ (10 ≤ d) → is_solid (hex_digit lower d) ≡ true
-    go (inl low) = rw (lt-ltb d 10 low) (solid (48 + d) (omega arith) (omega arith) (λ e. omega (arith, e)) (λ e. omega (arith, e, low)))
+    go (inl low) = rw (lt-ltb d 10 low)
+        (solid (48 + d) (omega arith) (omega arith) (λ e. omega (arith, e))
+        (λ e. omega (arith, e, low)))
     go (inr high) =
-        rw (le-ltb d 10 high) (solid (97 + d - 10) (omega arith) (omega arith) (λ e. omega (arith, e, high)) (λ e. omega (arith, e, high)))
+        rw (le-ltb d 10 high) (solid (97 + d - 10) (omega arith) (omega arith)
+        (λ e. omega (arith, e, high)) (λ e. omega (arith, e, high)))
 
-all-listed : (test : ℕ → Bool) (n : ℕ) (f : ℕ → ℕ) → ((k : ℕ) → test (f k) ≡ true) → list_all test (by_index n f) ≡ true
+all-listed : (test : ℕ → Bool) (n : ℕ) (f : ℕ → ℕ) → ((k : ℕ) → test (f k) ≡ true)
+    → list_all test (by_index n f) ≡ true
 unfolding by_index
 all-listed test zero f h = refl
-all-listed test (suc n) f h = list_all-append test (by_index n f) (f n ∷ []) ∙ rw (all-listed test n f h, h n) refl
+all-listed test (suc n) f h = list_all-append test (by_index n f) (f n ∷ []) ∙
+    rw (all-listed test n f h, h n) refl
 
 pub identifier-solid : (bytes : List ℕ) → list_all is_solid (identifier_word bytes) ≡ true
 identifier-solid bytes = all-listed is_solid 36 _ (λ k. go k (is_hyphen_place k))
@@ -151,6 +192,7 @@ identifier-solid bytes = all-listed is_solid 36 _ (λ k. go k (is_hyphen_place k
     fields : List ℕ
     fields = swap_fields bytes
 
-    go : (k : ℕ) (t : Bool) → is_solid (if t then 45 else hex_digit lower (nibble fields (digit_place k))) ≡ true
+    go : (k : ℕ) (t : Bool)
+        → is_solid (if t then 45 else hex_digit lower (nibble fields (digit_place k))) ≡ true
     go k true = refl
     go k false = digit-solid (nibble fields (digit_place k)) (nibble_small fields (digit_place k))

@@ -3,16 +3,20 @@ pub mod OnLiterals
 pub mod Worked
 pub mod WorkedLines
 pub mod WorkedRefusals
--- putting: several puts as one (PutsFacts), numbers (DecimalFacts), quoted texts (QuotedFacts), items' texts
+-- putting: several puts as one (PutsFacts), numbers (DecimalFacts), quoted texts (QuotedFacts),
+-- items' texts
 -- (PrintFacts)
 pub mod DecimalFacts
 pub mod PrintFacts
 pub mod PutsFacts
 pub mod QuotedFacts
--- reading and judging at once: words (WordsFacts), texts (TextsFacts), those that stand in the line itself
+-- reading and judging at once: words (WordsFacts), texts (TextsFacts), those that stand in the line
+-- itself
 -- (PlainFacts), numbers (NumeralsFacts), values
--- (PartsFacts, TokenFacts, ValuesFacts, ValueFacts), all values of a line (GatherFacts, GatherSteps), the
--- words behind a keyword (ReadingFacts), what records can hold (ValidFacts, HeldFacts), and where a line
+-- (PartsFacts, TokenFacts, ValuesFacts, ValueFacts), all values of a line (GatherFacts,
+-- GatherSteps), the
+-- words behind a keyword (ReadingFacts), what records can hold (ValidFacts, HeldFacts), and where a
+-- line
 -- leads (PlacingFacts)
 pub mod GatherFacts
 pub mod GatherSteps
@@ -29,7 +33,8 @@ pub mod ValueFacts
 pub mod ValuesFacts
 pub mod WordsFacts
 -- what is written is what is read: lines and words (SpacedFacts), texts (PiecesFacts), numbers
--- (NaturalFacts, HexFacts), identifiers (IdentifierFacts), values (ScalarFacts, WrittenFacts), forms (FormFacts), whose words
+-- (NaturalFacts, HexFacts), identifiers (IdentifierFacts), values (ScalarFacts, WrittenFacts),
+-- forms (FormFacts), whose words
 -- are solid or quoted (LineWords), with no space outside quotes (ClosedFacts)
 pub mod ClosedFacts
 pub mod FormFacts
@@ -41,8 +46,10 @@ pub mod PiecesFacts
 pub mod ScalarFacts
 pub mod SpacedFacts
 pub mod WrittenFacts
--- documents: the lines that are put have their forms (PutForms), where lines lead (StepFacts), the lines
--- of documents are read (LinesRead), documents are read from their lines alone (LinesAre), why a line is
+-- documents: the lines that are put have their forms (PutForms), where lines lead (StepFacts), the
+-- lines
+-- of documents are read (LinesRead), documents are read from their lines alone (LinesAre), why a
+-- line is
 -- refused (RefusalFacts), no line holds a line feed (ShownFacts), each line
 -- leads on (StandingFacts), how many were read (Counting)
 pub mod Counting

@@ -1,5 +1,7 @@
 -- The lines that are put have the forms that they say, where records can hold what they say.
-use Rattle.std.proofs.Common.{◌≡◌, ◌∙◌, ◌<◌, ◌≤◌, ◌+◌, ◌/◌, ◌%◌, ◌^◌, ◌⊎◌, inl, inr, ℕ, List, [], ◌∷◌, ◌++◌, length, map, Bool, true, false, cond, nat_le, nat_lt, refl, sym, ap, arith, ℤ, pos, negsuc}
+use Rattle.std.proofs.Common.{◌≡◌, ◌∙◌, ◌<◌, ◌≤◌, ◌+◌, ◌/◌, ◌%◌, ◌^◌, ◌⊎◌, inl, inr, ℕ, List, []}
+use Rattle.std.proofs.Common.{◌∷◌, ◌++◌, length, map, Bool, true, false, cond, nat_le, nat_lt, refl}
+use Rattle.std.proofs.Common.{sym, ap, arith, ℤ, pos, negsuc}
 use Rattle.std.specs.Int.Signed.{mag}
 use Rattle.std.specs.List.{list_all}
 use Rattle.std.specs.Str.{is_utf8}
@@ -10,20 +12,27 @@ use Rattle.std.proofs.lemmas.List.Folds.{list_all-append}
 use Rattle.std.proofs.lemmas.Str.{IsUtf8-from_is_utf8}
 use Rattle.nbfx_values.specs.declared.content.ArrayItem.{ArrayItem}
 use Rattle.nbfx_values.specs.declared.content.AttrItem.{AttrItem}
-use Rattle.nbfx_values.specs.declared.content.AttrItem.TheVariants.{Xmlns as DeclaresOn, Attr as AttrOn}
+use Rattle.nbfx_values.specs.declared.content.AttrItem.TheVariants.{Xmlns as DeclaresOn}
+use Rattle.nbfx_values.specs.declared.content.AttrItem.TheVariants.{Attr as AttrOn}
 use Rattle.nbfx_values.specs.declared.content.Item.{Item}
-use Rattle.nbfx_values.specs.declared.content.Item.TheVariants.{Start, Xmlns, Attr, Text as TextItem, Comment, Array, Close}
+use Rattle.nbfx_values.specs.declared.content.Item.TheVariants.{Start, Xmlns, Attr}
+use Rattle.nbfx_values.specs.declared.content.Item.TheVariants.{Text as TextItem, Comment, Array}
+use Rattle.nbfx_values.specs.declared.content.Item.TheVariants.{Close}
 use Rattle.nbfx_values.specs.declared.scalars.Scalar.{Scalar}
-use Rattle.nbfx_values.specs.declared.scalars.Scalar.TheVariants.{Number, Truth, Float, Double, Decimal, DateTime, TimeSpan, Text, Bytes, UniqueId, Uuid, QName}
+use Rattle.nbfx_values.specs.declared.scalars.Scalar.TheVariants.{Number, Truth, Float, Double}
+use Rattle.nbfx_values.specs.declared.scalars.Scalar.TheVariants.{Decimal, DateTime, TimeSpan, Text}
+use Rattle.nbfx_values.specs.declared.scalars.Scalar.TheVariants.{Bytes, UniqueId, Uuid, QName}
 use Rattle.nbfx_values.specs.declared.scalars.Value.{Value}
 use Rattle.nbfx_values.specs.declared.scalars.Value.TheVariants.{One, List as ListOf}
 use Rattle.nbfx_values.specs.Items.{are_texts, is_valid_array, is_valid_attribute, is_valid_item}
 use Rattle.nbfx_values.specs.Scalars.{is_number, is_unsigned, is_valid_scalar, is_valid_value}
-use Rattle.line_notation.specs.Forms.{AreQuoted, Form, start, ns, attr, text, comment, array, values, close, IsForm, IsLine, form_words, line_of}
+use Rattle.line_notation.specs.Forms.{AreQuoted, Form, start, ns, attr, text, comment, array}
+use Rattle.line_notation.specs.Forms.{values, close, IsForm, IsLine, form_words, line_of}
 use Rattle.line_notation.specs.Lines.{AreLines, attribute_form, forms_of, item_forms, lines_of}
 use Rattle.line_notation.specs.Quoted.{IsQuoted, quoted}
 use Rattle.line_notation.specs.Scalars.{IsScalar, scalar_words}
-use Rattle.line_notation.specs.Values.{AreValues, IsOneValue, how_many, value_words, written_scalars, written_value}
+use Rattle.line_notation.specs.Values.{AreValues, IsOneValue, how_many, value_words}
+use Rattle.line_notation.specs.Values.{written_scalars, written_value}
 use Rattle.line_notation.proofs.NaturalFacts.{counted-natural, decimal-integer, decimal-natural}
 use Rattle.line_notation.proofs.PiecesFacts.{quoted-quoted}
 use Rattle.line_notation.proofs.PrintFacts.{how_many-scalars}
@@ -38,32 +47,50 @@ next-small bits = lt-ltb (128 + bits % 64) 256 (omega arith)
 
 encode-small : (c : ℕ) → scalar c ≡ true → are_small (encode c) ≡ true
 unfolding encode
-encode-small c is = go (nat_lt c 128) (nat_lt c 2048) (nat_lt c 65536) refl refl refl (below (scalar_cases c is))
+encode-small c is = go (nat_lt c 128) (nat_lt c 2048) (nat_lt c 65536) refl refl refl
+    (below (scalar_cases c is))
   where
     below : (c < 55296) ⊎ ((57344 ≤ c) × (c < 1114112)) → c < 1114112
     below (inl h) = omega arith
     below (inr (h, k)) = k
 
-    go : (one two three : Bool) → nat_lt c 128 ≡ one → nat_lt c 2048 ≡ two → nat_lt c 65536 ≡ three → c < 1114112
-        → are_small (cond one (c ∷ []) (cond two ((192 + c / 64) ∷ next c ∷ []) (cond three ((224 + c / 4096) ∷ next (c / 64) ∷ next c ∷ []) ((240 + c / 262144) ∷ next (c / 4096) ∷ next (c / 64) ∷ next c ∷ [])))) ≡ true
-    go true two three e f g most = let small = ltb-true c 128 e in rw (lt-ltb c 256 (omega arith)) refl
-    go false true three e f g most = let small = ltb-true c 2048 f in rw (lt-ltb (192 + c / 64) 256 (omega arith), next-small c) refl
-    go false false true e f g most = let small = ltb-true c 65536 g in rw (lt-ltb (224 + c / 4096) 256 (omega arith), next-small (c / 64), next-small c) refl
-    go false false false e f g most = rw (lt-ltb (240 + c / 262144) 256 (omega arith), next-small (c / 4096), next-small (c / 64), next-small c) refl
+    go : (one two three : Bool) → nat_lt c 128 ≡ one → nat_lt c 2048 ≡ two → nat_lt c 65536 ≡ three
+        → c < 1114112
+        → are_small
+        (cond one (c ∷ [])
+        (cond two ((192 + c / 64) ∷ next c ∷ [])
+        (cond three ((224 + c / 4096) ∷ next (c / 64) ∷ next c ∷ [])
+        ((240 + c / 262144) ∷ next (c / 4096) ∷ next (c / 64) ∷ next c ∷ [])))) ≡ true
+    go true two three e f g most = let small = ltb-true c 128 e in rw (lt-ltb c 256 (omega arith))
+        refl
+    go false true three e f g most = let small = ltb-true c 2048 f in
+        rw (lt-ltb (192 + c / 64) 256 (omega arith), next-small c) refl
+    go false false true e f g most = let small = ltb-true c 65536 g in
+        rw (lt-ltb (224 + c / 4096) 256 (omega arith), next-small (c / 64), next-small c) refl
+    go false false false e f g most = rw (
+      lt-ltb (240 + c / 262144) 256 (omega arith),
+      next-small
+          (c / 4096),
+      next-small (c / 64),
+      next-small c,
+    ) refl
 
 encodes-small : (cs : List ℕ) → scalars cs ≡ true → are_small (encodes cs) ≡ true
 encodes-small [] h = refl
 encodes-small (c ∷ cs) h =
     let p = and_parts (scalar c) (scalars cs) h in
-    list_all-append (λ b. nat_lt b 256) (encode c) (encodes cs) ∙ rw (encode-small c p.0, encodes-small cs p.1) refl
+    list_all-append (λ b. nat_lt b 256) (encode c) (encodes cs) ∙
+    rw (encode-small c p.0, encodes-small cs p.1) refl
 
 text-quoted : (bytes : List ℕ) → is_utf8 bytes ≡ true → IsQuoted bytes (quoted bytes)
 text-quoted bytes h =
     let u = IsUtf8-from_is_utf8 bytes h in
     quoted-quoted bytes (ap are_small (sym u.1.1) ∙ encodes-small u.0 u.1.0)
 
-texts-quoted : (first second : List ℕ) → are_texts first second ≡ true → AreQuoted first second (quoted first) (quoted second)
-texts-quoted first second h = let p = and_parts (is_utf8 first) (is_utf8 second) h in (text-quoted first p.0, text-quoted second p.1)
+texts-quoted : (first second : List ℕ) → are_texts first second ≡ true → AreQuoted first second
+    (quoted first) (quoted second)
+texts-quoted first second h = let p = and_parts (is_utf8 first) (is_utf8 second) h in
+    (text-quoted first p.0, text-quoted second p.1)
 
 -- a value's words
 number-small : (n : ℤ) → is_number n ≡ true → mag n + 1 < 10 ^ 64
@@ -80,10 +107,17 @@ scalar-put (Float bits) h = (h, refl)
 scalar-put (Double bits) h = (h, refl)
 scalar-put (Decimal d) h =
     let p = and_parts (nat_le d.scale 28) (is_unsigned 96 d.magnitude) h in
-    let scale = leb-true d.scale 28 p.0 in
-    (_, _, refl, decimal-natural d.scale (omega arith), decimal-natural d.magnitude (decimal-small d.magnitude (ltb-true d.magnitude (2 ^ 96) p.1)))
+    let scale = leb-true d.scale 28 p.0 in (
+      _,
+      _,
+      refl,
+      decimal-natural d.scale (omega arith),
+      decimal-natural d.magnitude
+          (decimal-small d.magnitude (ltb-true d.magnitude (2 ^ 96) p.1)),
+    )
 scalar-put (DateTime pattern) h = (h, refl)
-scalar-put (TimeSpan span) h = (_, refl, decimal-integer span (number-small span (number-64 span h)))
+scalar-put (TimeSpan span) h =
+    (_, refl, decimal-integer span (number-small span (number-64 span h)))
 scalar-put (Text bytes) h = (quoted bytes, refl, text-quoted bytes h)
 scalar-put (Bytes bytes) h = (h, refl)
 scalar-put (UniqueId bytes) h = (h, refl)
@@ -93,18 +127,32 @@ scalar-put (QName letter name) h =
     (leb-true letter 25 p.0, quoted name, refl, text-quoted name p.1)
 
 -- several values', and one value's
-scalars-put : (ss : List Scalar) → list_all is_valid_scalar ss ≡ true → AreValues (written_scalars ss) (value_words (written_scalars ss))
+scalars-put : (ss : List Scalar) → list_all is_valid_scalar ss ≡ true
+    → AreValues (written_scalars ss) (value_words (written_scalars ss))
 scalars-put [] h = refl
 scalars-put (s ∷ ss) h =
     let p = and_parts (is_valid_scalar s) (list_all is_valid_scalar ss) h in
     (scalar_words s, value_words (written_scalars ss), refl, scalar-put s p.0, scalars-put ss p.1)
 
-value-put : (v : Value) → is_valid_value v ≡ true → IsOneValue (written_value v) (value_words (written_value v))
-value-put (One s) h = record { one = refl; values = (scalar_words s, [], refl, scalar-put s h, refl) }
+value-put : (v : Value) → is_valid_value v ≡ true → IsOneValue (written_value v)
+    (value_words (written_value v))
+value-put (One s) h = record {
+  one = refl;
+  values = (scalar_words s, [], refl, scalar-put s h, refl);
+}
 value-put (ListOf ss) h =
     record {
       one = refl;
-      values = (_, value_words (written_scalars ss), [], refl, counted-natural (how_many (written_scalars ss)), scalars-put ss h, refl);
+      values = (
+        _,
+        value_words (written_scalars ss),
+        [],
+        refl,
+        counted-natural
+            (how_many (written_scalars ss)),
+        scalars-put ss h,
+        refl,
+      );
     }
 
 -- lines that are put
@@ -126,16 +174,21 @@ lines-put [] h = refl
 lines-put (form ∷ forms) h = (line_of form, map line_of forms, refl, h.0, lines-put forms h.1)
 
 -- those of attributes, of items and of documents
-attribute-put : (one : AttrItem) → is_valid_attribute one ≡ true → IsLine (attribute_form one) (line_of (attribute_form one))
-attribute-put (DeclaresOn prefix uri) h = line-put (ns prefix uri) (_, _, refl, texts-quoted prefix uri h)
+attribute-put : (one : AttrItem) → is_valid_attribute one ≡ true → IsLine (attribute_form one)
+    (line_of (attribute_form one))
+attribute-put (DeclaresOn prefix uri) h = line-put (ns prefix uri)
+    (_, _, refl, texts-quoted prefix uri h)
 attribute-put (AttrOn prefix local value) h =
     let p = and_parts (are_texts prefix local) (is_valid_value value) h in
-    line-put (attr prefix local (written_value value)) (_, _, _, refl, texts-quoted prefix local p.0, value-put value p.1)
+    line-put (attr prefix local (written_value value))
+    (_, _, _, refl, texts-quoted prefix local p.0, value-put value p.1)
 
-attributes-put : (all : List AttrItem) → list_all is_valid_attribute all ≡ true → ArePut (map attribute_form all)
+attributes-put : (all : List AttrItem) → list_all is_valid_attribute all ≡ true
+    → ArePut (map attribute_form all)
 unfolding ArePut
 attributes-put [] h = tt
-attributes-put (one ∷ all) h = let p = and_parts (is_valid_attribute one) (list_all is_valid_attribute all) h in (attribute-put one p.0, attributes-put all p.1)
+attributes-put (one ∷ all) h = let p = and_parts (is_valid_attribute one)
+    (list_all is_valid_attribute all) h in (attribute-put one p.0, attributes-put all p.1)
 
 array-put : (a : ArrayItem) → is_valid_array a ≡ true → ArePut (item_forms (Array a))
 unfolding ArePut
@@ -143,16 +196,26 @@ array-put a h =
     let p = array_parts a h in
     let some : 0 < length a.values = array-some a h in
     let counted : 0 < how_many (written_scalars a.values) = rw (how_many-scalars a.values) some in
-    put-append (array a.kind a.prefix a.local ∷ map attribute_form a.attrs) (values (written_scalars a.values) ∷ [])
-    (line-put (array a.kind a.prefix a.local) (_, _, refl, texts-quoted a.prefix a.local p.texts), attributes-put a.attrs p.attributes)
-    (line-put (values (written_scalars a.values)) (_, refl, record { some = counted; values = scalars-put a.values p.valid }), tt)
+    put-append (array a.kind a.prefix a.local ∷ map attribute_form a.attrs)
+    (values (written_scalars a.values) ∷ []) (
+      line-put (array a.kind a.prefix a.local) (_, _, refl, texts-quoted a.prefix a.local p.texts),
+      attributes-put a.attrs p.attributes,
+    ) (
+      line-put (values (written_scalars a.values))
+          (_, refl, record { some = counted; values = scalars-put a.values p.valid }),
+      tt,
+    )
 
 item-put : (item : Item) → is_valid_item item ≡ true → ArePut (item_forms item)
 unfolding ArePut
-item-put (Start prefix local) h = (line-put (start prefix local) (_, _, refl, texts-quoted prefix local h), tt)
+item-put (Start prefix local) h =
+    (line-put (start prefix local) (_, _, refl, texts-quoted prefix local h), tt)
 item-put (Xmlns prefix uri) h = (attribute-put (DeclaresOn prefix uri) h, tt)
 item-put (Attr prefix local value) h = (attribute-put (AttrOn prefix local value) h, tt)
-item-put (TextItem value) h = (line-put (text (written_value value)) (_, refl, value-put value h), tt)
+item-put (TextItem value) h = (
+  line-put (text (written_value value)) (_, refl, value-put value h),
+  tt,
+)
 item-put (Comment bytes) h = (line-put (comment bytes) (_, refl, text-quoted bytes h), tt)
 item-put (Array a) h = array-put a h
 item-put Close h = (line-put close refl, tt)
@@ -164,5 +227,6 @@ items-put (item ∷ items) h =
     let p = and_parts (is_valid_item item) (list_all is_valid_item items) h in
     put-append (item_forms item) (forms_of items) (item-put item p.0) (items-put items p.1)
 
-pub lines_of-lines : (items : List Item) → list_all is_valid_item items ≡ true → AreLines (forms_of items) (lines_of items)
+pub lines_of-lines : (items : List Item) → list_all is_valid_item items ≡ true
+    → AreLines (forms_of items) (lines_of items)
 lines_of-lines items h = lines-put (forms_of items) (items-put items h)

@@ -1,5 +1,7 @@
 -- No line of a form has a line feed in it, so that the text of lines is cut at its line feeds.
-use Rattle.std.proofs.Common.{◌≡◌, ◌∙◌, ◌==◌, ◌<◌, ◌/◌, ◌%◌, inl, inr, ℕ, List, [], ◌∷◌, ◌++◌, Bool, true, false, not, ◌&&◌, if◌then◌else◌, flat_map, nat_le, nat_lt, refl, ap, append_assoc, arith}
+use Rattle.std.proofs.Common.{◌≡◌, ◌∙◌, ◌==◌, ◌<◌, ◌/◌, ◌%◌, inl, inr, ℕ, List, [], ◌∷◌, ◌++◌, Bool}
+use Rattle.std.proofs.Common.{true, false, not, ◌&&◌, if◌then◌else◌, flat_map, nat_le, nat_lt, refl}
+use Rattle.std.proofs.Common.{ap, append_assoc, arith}
 use Rattle.std.specs.Fmt.{digit_glyph}
 use Rattle.std.specs.List.{list_all}
 use Rattle.std.proofs.lemmas.Bool.{and_parts, leb-true, not-true}
@@ -7,7 +9,8 @@ use Rattle.std.proofs.lemmas.List.Folds.{list_all-append}
 use Rattle.nbfx_values.specs.declared.content.Item.{Item}
 use Rattle.nbfx_values.specs.Items.{is_valid_item}
 use Rattle.line_notation.specs.Forms.{Form, IsLine}
-use Rattle.line_notation.specs.Lines.{AreLines, cut, cut_before, forms_of, has_no_feed, lines_of, items_text, with_line_feed}
+use Rattle.line_notation.specs.Lines.{AreLines, cut, cut_before, forms_of, has_no_feed, lines_of}
+use Rattle.line_notation.specs.Lines.{items_text, with_line_feed}
 use Rattle.line_notation.specs.Quoted.{ArePieces, IsPiece, IsQuoted, is_plain}
 use Rattle.line_notation.specs.Words.{behind_spaces, spaced}
 use Rattle.line_notation.proofs.LineWords.{AreWords, IsWord, glyph-solid, line-words}
@@ -46,15 +49,18 @@ digit-shown d small = solid-shown (digit_glyph false d) (glyph-solid d small)
 
 piece-shown : (b : ℕ) (piece : List ℕ) → IsPiece b piece → are_shown piece ≡ true
 piece-shown b piece (inl (plain, e)) = ap are_shown e ∙ rw (plain-shown b plain) refl
-piece-shown b piece (inr (small, e)) = ap are_shown e ∙ rw (digit-shown (b / 16) (omega arith), digit-shown (b % 16) (omega arith)) refl
+piece-shown b piece (inr (small, e)) = ap are_shown e ∙
+    rw (digit-shown (b / 16) (omega arith), digit-shown (b % 16) (omega arith)) refl
 
 pieces-shown : (bytes pieces : List ℕ) → ArePieces bytes pieces → are_shown pieces ≡ true
 pieces-shown [] pieces h = ap are_shown h
 pieces-shown (b ∷ bytes) pieces (piece, rest, e, is, more) =
-    ap are_shown e ∙ list_all-append is_shown piece rest ∙ rw (piece-shown b piece is, pieces-shown bytes rest more) refl
+    ap are_shown e ∙ list_all-append is_shown piece rest ∙
+    rw (piece-shown b piece is, pieces-shown bytes rest more) refl
 
 quoted-shown : (bytes word : List ℕ) → IsQuoted bytes word → are_shown word ≡ true
-quoted-shown bytes word (pieces, e, h) = ap are_shown e ∙ list_all-append is_shown pieces (34 ∷ []) ∙ rw (pieces-shown bytes pieces h) refl
+quoted-shown bytes word (pieces, e, h) = ap are_shown e ∙ list_all-append is_shown pieces (34 ∷ [])
+    ∙ rw (pieces-shown bytes pieces h) refl
 
 -- a line's words, and the line
 words-shown : (words : List (List ℕ)) → AreWords words → AreShown words
@@ -85,30 +91,39 @@ shown-no_feed (b ∷ line) h =
     rw (eqb-other b 10 (λ e. omega (arith, e, least)), shown-no_feed line p.1) refl
 
 pub line-no_feed : (form : Form) (line : List ℕ) → IsLine form line → has_no_feed line ≡ true
-line-no_feed form line (words, e, h) = ap has_no_feed e ∙ shown-no_feed (spaced words) (spaced-shown words (words-shown words (line-words form words h).are))
+line-no_feed form line (words, e, h) = ap has_no_feed e ∙ shown-no_feed (spaced words)
+    (spaced-shown words (words-shown words (line-words form words h).are))
 
 -- a text is cut behind its first line, and into all of its lines
 abbrev Cut : Type 0
 Cut = List (List ℕ) × List ℕ
 
-cut-line : (line rest : List ℕ) → has_no_feed line ≡ true → ◌≡◌ {A = Cut} (cut (line ++ 10 ∷ rest)) (line ∷ (cut rest).0, (cut rest).1)
+cut-line : (line rest : List ℕ) → has_no_feed line ≡ true → ◌≡◌ {A = Cut} (cut (line ++ 10 ∷ rest))
+    (line ∷ (cut rest).0, (cut rest).1)
 cut-line [] rest h = refl
 cut-line (b ∷ line) rest h =
     let p = and_parts (not (b == 10)) (has_no_feed line) h in
-    ap (λ t. let more = cut (line ++ 10 ∷ rest) in if t then ([] ∷ more.0, more.1) else cut_before b more) (not-true (b == 10) p.0)
+    ap (λ t. let more = cut (line ++ 10 ∷ rest) in if t then ([] ∷ more.0, more.1) else cut_before b
+    more) (not-true (b == 10) p.0)
     ∙ ap (cut_before b) (cut-line line rest p.1)
 
-cut-lines : (lines : List (List ℕ)) → list_all has_no_feed lines ≡ true → ◌≡◌ {A = Cut} (cut (flat_map with_line_feed lines)) (lines, [])
+cut-lines : (lines : List (List ℕ)) → list_all has_no_feed lines ≡ true
+    → ◌≡◌ {A = Cut} (cut (flat_map with_line_feed lines)) (lines, [])
 cut-lines [] h = refl
 cut-lines (line ∷ lines) h =
     let p = and_parts (has_no_feed line) (list_all has_no_feed lines) h in
-    ap cut (append_assoc line (10 ∷ []) (flat_map with_line_feed lines)) ∙ cut-line line (flat_map with_line_feed lines) p.0
+    ap cut (append_assoc line (10 ∷ []) (flat_map with_line_feed lines)) ∙ cut-line line
+    (flat_map with_line_feed lines) p.0
     ∙ ap (λ (c : Cut). (line ∷ c.0, c.1)) (cut-lines lines p.1)
 
-lines-no_feed : (forms : List Form) (lines : List (List ℕ)) → AreLines forms lines → list_all has_no_feed lines ≡ true
+lines-no_feed : (forms : List Form) (lines : List (List ℕ)) → AreLines forms lines
+    → list_all has_no_feed lines ≡ true
 lines-no_feed [] lines h = ap (list_all has_no_feed) h
-lines-no_feed (form ∷ forms) lines (line, rest, e, is, h) = ap (list_all has_no_feed) e ∙ rw (line-no_feed form line is, lines-no_feed forms rest h) refl
+lines-no_feed (form ∷ forms) lines (line, rest, e, is, h) = ap (list_all has_no_feed) e ∙
+    rw (line-no_feed form line is, lines-no_feed forms rest h) refl
 
-pub text-cut : (items : List Item) → list_all is_valid_item items ≡ true → ◌≡◌ {A = Cut} (cut (items_text items)) (lines_of items, [])
+pub text-cut : (items : List Item) → list_all is_valid_item items ≡ true
+    → ◌≡◌ {A = Cut} (cut (items_text items)) (lines_of items, [])
 unfolding items_text
-text-cut items h = cut-lines (lines_of items) (lines-no_feed (forms_of items) (lines_of items) (lines_of-lines items h))
+text-cut items h = cut-lines (lines_of items) (lines-no_feed (forms_of items) (lines_of items)
+    (lines_of-lines items h))

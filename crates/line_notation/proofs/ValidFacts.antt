@@ -1,13 +1,21 @@
 -- What fits an array is a value that records can hold.
-use Rattle.std.proofs.Common.{◌≡◌, ◌<◌, ℤ, pos, negsuc, true, List, [], ◌∷◌, length, nat_lt, refl, arith}
+use Rattle.std.proofs.Common.{◌≡◌, ◌<◌, ℤ, pos, negsuc, true, List, [], ◌∷◌, length, nat_lt, refl}
+use Rattle.std.proofs.Common.{arith}
 use Rattle.std.specs.List.{list_all}
 use Rattle.std.proofs.lemmas.Bool.{and_parts, ltb-true}
 use Rattle.std.proofs.lemmas.Bool.Decides.{nat_tests}
 use Rattle.nbfx_values.specs.declared.content.ArrayItem.{ArrayItem}
 use Rattle.nbfx_values.specs.declared.content.ArrayKind.{ArrayKind}
-use Rattle.nbfx_values.specs.declared.content.ArrayKind.TheVariants.{Bool as Bools, Int16, Int32, Int64, Float as Floats, Double as Doubles, Decimal as Decimals, DateTime as DateTimes, TimeSpan as TimeSpans, Uuid as Uuids}
+use Rattle.nbfx_values.specs.declared.content.ArrayKind.TheVariants.{Bool as Bools, Int16, Int32}
+use Rattle.nbfx_values.specs.declared.content.ArrayKind.TheVariants.{Int64, Float as Floats}
+use Rattle.nbfx_values.specs.declared.content.ArrayKind.TheVariants.{Double as Doubles}
+use Rattle.nbfx_values.specs.declared.content.ArrayKind.TheVariants.{Decimal as Decimals}
+use Rattle.nbfx_values.specs.declared.content.ArrayKind.TheVariants.{DateTime as DateTimes}
+use Rattle.nbfx_values.specs.declared.content.ArrayKind.TheVariants.{TimeSpan as TimeSpans}
+use Rattle.nbfx_values.specs.declared.content.ArrayKind.TheVariants.{Uuid as Uuids}
 use Rattle.nbfx_values.specs.declared.scalars.Scalar.{Scalar}
-use Rattle.nbfx_values.specs.declared.scalars.Scalar.TheVariants.{Number, Truth, Float, Double, Decimal, DateTime, TimeSpan, Uuid}
+use Rattle.nbfx_values.specs.declared.scalars.Scalar.TheVariants.{Number, Truth, Float, Double}
+use Rattle.nbfx_values.specs.declared.scalars.Scalar.TheVariants.{Decimal, DateTime, TimeSpan, Uuid}
 use Rattle.nbfx_values.specs.Items.{are_texts, fits_kind, is_valid_array, is_valid_attribute}
 use Rattle.nbfx_values.specs.Scalars.{is_number, is_signed, is_valid_scalar}
 
@@ -23,7 +31,8 @@ pub number-64 : (n : ℤ) → is_signed 64 n ≡ true → is_number n ≡ true
 number-64 (pos n) h = grind (arith, nat_tests)
 number-64 (negsuc n) h = grind (arith, nat_tests)
 
-pub fits-valid : (kind : ArrayKind) (s : Scalar) → fits_kind kind s ≡ true → is_valid_scalar s ≡ true
+pub fits-valid : (kind : ArrayKind) (s : Scalar) → fits_kind kind s ≡ true → is_valid_scalar s
+    ≡ true
 fits-valid Bools (Truth truth) h = refl
 fits-valid Int16 (Number n) h = number-16 n h
 fits-valid Int32 (Number n) h = number-32 n h
@@ -36,7 +45,8 @@ fits-valid TimeSpans (TimeSpan span) h = h
 fits-valid Uuids (Uuid bytes) h = h
 fits-valid kind s h = absurd cc
 
-pub fit-valid : (kind : ArrayKind) (ss : List Scalar) → list_all (fits_kind kind) ss ≡ true → list_all is_valid_scalar ss ≡ true
+pub fit-valid : (kind : ArrayKind) (ss : List Scalar) → list_all (fits_kind kind) ss ≡ true
+    → list_all is_valid_scalar ss ≡ true
 fit-valid kind [] h = refl
 fit-valid kind (s ∷ ss) h =
     let p = and_parts (fits_kind kind s) (list_all (fits_kind kind) ss) h in

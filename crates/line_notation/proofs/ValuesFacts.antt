@@ -14,18 +14,24 @@ use Rattle.line_notation.specs.Steps.{Stops}
 use Rattle.line_notation.specs.Values.{plain_at, scalar}
 
 -- a value that is no list, as a token
-abbrev pub as_token : Option (Result Scalar LineKind × List (List ℕ)) → Option (JudgedToken × List (List ℕ))
+abbrev pub as_token : Option (Result Scalar LineKind × List (List ℕ))
+    → Option (JudgedToken × List (List ℕ))
 as_token None = None
 as_token (Some (s, words)) = Some (tokens.Scalar s, words)
 
-token-judged : (read : Option (Scalar × List (List ℕ))) → judged_token_at (read >>= λ s. Some (scalar s.0, s.1)) ≡ as_token (judged_at read)
+token-judged : (read : Option (Scalar × List (List ℕ))) → judged_token_at
+    (read >>= λ s. Some (scalar s.0, s.1)) ≡ as_token (judged_at read)
 token-judged None = refl
 token-judged (Some s) = refl
 
-pub plain_at-judged : (word : List ℕ) (kind : ScalarKind) (words : List (List ℕ)) → scalar_kind_in word ≡ Some kind
+pub plain_at-judged : (word : List ℕ) (kind : ScalarKind) (words : List (List ℕ))
+    → scalar_kind_in word ≡ Some kind
     → judged_token_at (plain_at word words) ≡ as_token (judged_at (scalar_at kind words))
-plain_at-judged word kind words e = ap (λ found. judged_token_at (found >>= λ k. scalar_at k words >>= λ s. Some (scalar s.0, s.1))) e ∙ token-judged (scalar_at kind words)
+plain_at-judged word kind words e =
+    ap (λ found. judged_token_at (found >>= λ k. scalar_at k words >>= λ s. Some (scalar s.0, s.1)))
+    e ∙ token-judged (scalar_at kind words)
 
-pub stops-token : (stop : Stop) (read : Option (Result Scalar LineKind × List (List ℕ))) → Stops stop read → Stops stop (as_token read)
+pub stops-token : (stop : Stop) (read : Option (Result Scalar LineKind × List (List ℕ)))
+    → Stops stop read → Stops stop (as_token read)
 stops-token NotALine read h = ap as_token h
 stops-token Memory read h = tt

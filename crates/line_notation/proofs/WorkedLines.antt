@@ -1,9 +1,13 @@
 -- Worked cases: a line of each form, and one of each kind of value, as it is put and read.
-use Rattle.std.proofs.Common.{◌≡◌, ◌-◌, ◌^◌, ℕ, List, [], ◌∷◌, true, false, Some, map, pos, negsuc, codes, refl}
+use Rattle.std.proofs.Common.{◌≡◌, ◌-◌, ◌^◌, ℕ, List, [], ◌∷◌, true, false, Some, map, pos, negsuc}
+use Rattle.std.proofs.Common.{codes, refl}
 use Rattle.nbfx_values.specs.declared.content.ArrayKind.TheVariants as arrays
 use Rattle.nbfx_values.specs.declared.scalars.Scalar.{Scalar}
-use Rattle.nbfx_values.specs.declared.scalars.Scalar.TheVariants.{Number, Truth, Float, Double, Decimal, DateTime, TimeSpan, Text, Bytes, UniqueId, Uuid, QName}
-use Rattle.line_notation.specs.Forms.{Form, start, ns, attr, text, comment, array, values, close, form_of, line_of}
+use Rattle.nbfx_values.specs.declared.scalars.Scalar.TheVariants.{Number, Truth, Float, Double}
+use Rattle.nbfx_values.specs.declared.scalars.Scalar.TheVariants.{Decimal, DateTime, TimeSpan, Text}
+use Rattle.nbfx_values.specs.declared.scalars.Scalar.TheVariants.{Bytes, UniqueId, Uuid, QName}
+use Rattle.line_notation.specs.Forms.{Form, start, ns, attr, text, comment, array, values, close}
+use Rattle.line_notation.specs.Forms.{form_of, line_of}
 use Rattle.line_notation.specs.Values.{no_more, one, list}
 use Rattle.line_notation.proofs.OnLiterals.{lines_on_literals}
 
@@ -63,7 +67,8 @@ numbers : ArePutAndRead (
 unfolding lines_on_literals
 numbers = (refl, refl)
 
--- other values; the first string has plain bytes, a quote, a backslash, a line feed, 7F and a letter
+-- other values; the first string has plain bytes, a quote, a backslash, a line feed, 7F and a
+-- letter
 -- of two bytes
 other_values : ArePutAndRead (
     (of_value (Float 0x3F800000), codes "text float 3f800000") ∷

@@ -1,5 +1,6 @@
 -- Worked cases: each refusal, and of two the one that goes first.
-use Rattle.std.proofs.Common.{◌≡◌, ℕ, List, [], ◌∷◌, ◌++◌, true, Option, None, Some, Result, Ok, Err, codes, map, refl}
+use Rattle.std.proofs.Common.{◌≡◌, ℕ, List, [], ◌∷◌, ◌++◌, true, Option, None, Some, Result, Ok}
+use Rattle.std.proofs.Common.{Err, codes, map, refl}
 use Rattle.nbfx_values.specs.declared.content.ArrayItem.{ArrayItem}
 use Rattle.nbfx_values.specs.declared.content.ArrayKind.TheVariants as arrays
 use Rattle.nbfx_values.specs.declared.content.Item.{Item}
@@ -9,7 +10,8 @@ use Rattle.nbfx_values.specs.declared.scalars.Value.TheVariants.{One}
 use Rattle.line_notation.specs.declared.reader.LineFault.{LineFault}
 use Rattle.line_notation.specs.declared.reader.LineFault.TheVariants.{Bad}
 use Rattle.line_notation.specs.declared.reader.LineKind.{LineKind}
-use Rattle.line_notation.specs.declared.reader.LineKind.TheVariants.{NotALine, BadText, OutOfRange, OutOfPlace, Cut}
+use Rattle.line_notation.specs.declared.reader.LineKind.TheVariants.{NotALine, BadText, OutOfRange}
+use Rattle.line_notation.specs.declared.reader.LineKind.TheVariants.{OutOfPlace, Cut}
 use Rattle.line_notation.specs.Standing.{ending, failed, on, outcome, standing}
 use Rattle.line_notation.proofs.OnLiterals.{lines_on_literals}
 

@@ -9,7 +9,8 @@ use Rattle.line_notation.specs.declared.line.Keyword.TheVariants as keywords
 use Rattle.line_notation.specs.Options.{alone, ◌>>=◌}
 use Rattle.line_notation.specs.Quoted.{IsQuoted, quoted, quoted_in}
 use Rattle.line_notation.specs.Scalars.{one_word}
-use Rattle.line_notation.specs.Values.{AreSomeValues, IsOneValue, Written, if_some, value_in, value_words, values_in}
+use Rattle.line_notation.specs.Values.{AreSomeValues, IsOneValue, Written, if_some, value_in}
+use Rattle.line_notation.specs.Values.{value_words, values_in}
 use Rattle.line_notation.specs.Words.{next_in, spaced, words_of}
 
 -- what a line says, before it is judged

@@ -1,9 +1,11 @@
 -- What a line of a form is refused for by itself, and what it says else.
-use Rattle.std.specs.Prelude.{ℕ, List, [], ◌∷◌, ◌++◌, Bool, true, false, not, ◌&&◌, Option, None, Some, Result, Ok, Err, if◌then◌else◌}
+use Rattle.std.specs.Prelude.{ℕ, List, [], ◌∷◌, ◌++◌, Bool, true, false, not, ◌&&◌, Option, None}
+use Rattle.std.specs.Prelude.{Some, Result, Ok, Err, if◌then◌else◌}
 use Rattle.std.specs.Str.{is_utf8}
 use Rattle.nbfx_values.specs.declared.content.ArrayItem.{ArrayItem}
 use Rattle.nbfx_values.specs.declared.content.ArrayKind.{ArrayKind}
-use Rattle.nbfx_values.specs.declared.content.Item.TheVariants.{Start, Xmlns, Attr, Text as TextItem, Comment, Close}
+use Rattle.nbfx_values.specs.declared.content.Item.TheVariants.{Start, Xmlns, Attr}
+use Rattle.nbfx_values.specs.declared.content.Item.TheVariants.{Text as TextItem, Comment, Close}
 use Rattle.nbfx_values.specs.declared.scalars.Scalar.{Scalar}
 use Rattle.nbfx_values.specs.declared.scalars.Scalar.TheVariants.{Text, QName}
 use Rattle.nbfx_values.specs.declared.scalars.Value.{Value}
@@ -13,7 +15,8 @@ use Rattle.nbfx_values.specs.Scalars.{is_valid_scalar}
 use Rattle.line_notation.specs.declared.line.Line.{Line}
 use Rattle.line_notation.specs.declared.line.Line.TheVariants as says
 use Rattle.line_notation.specs.declared.reader.LineKind.{LineKind}
-use Rattle.line_notation.specs.declared.reader.LineKind.TheVariants.{BadText, OutOfRange, OutOfPlace}
+use Rattle.line_notation.specs.declared.reader.LineKind.TheVariants.{BadText, OutOfRange}
+use Rattle.line_notation.specs.declared.reader.LineKind.TheVariants.{OutOfPlace}
 use Rattle.line_notation.specs.Forms.{Form, start, ns, attr, text, comment, array, values, close}
 use Rattle.line_notation.specs.Values.{Written, no_more, one, list}
 

@@ -1,5 +1,6 @@
 -- What holds of lines, forms and documents by the definitions alone.
-use Rattle.std.specs.Prelude.{◌≡◌, ◌↔◌, ◌+◌, ◌++◌, ℕ, List, [], ◌∷◌, true, Option, None, Some, Ok, Err, length, map}
+use Rattle.std.specs.Prelude.{◌≡◌, ◌↔◌, ◌+◌, ◌++◌, ℕ, List, [], ◌∷◌, true, Option, None, Some, Ok}
+use Rattle.std.specs.Prelude.{Err, length, map}
 use Rattle.std.specs.List.{list_all}
 use Rattle.nbfx_values.specs.declared.content.ArrayItem.{ArrayItem}
 use Rattle.nbfx_values.specs.declared.content.Item.{Item}
@@ -9,8 +10,10 @@ use Rattle.line_notation.specs.declared.reader.LineFault.{LineFault}
 use Rattle.line_notation.specs.declared.reader.LineFault.TheVariants.{Bad}
 use Rattle.line_notation.specs.declared.reader.LineKind.{LineKind}
 use Rattle.line_notation.specs.Forms.{Form, array, IsLine, form_of}
-use Rattle.line_notation.specs.Lines.{AreLines, AreLinesOf, attribute_form, cut, forms_of, has_no_feed, lines_of, items_text}
-use Rattle.line_notation.specs.Standing.{Standing, after, documents_of, ending, failed, going, outcome, standing}
+use Rattle.line_notation.specs.Lines.{AreLines, AreLinesOf, attribute_form, cut, forms_of}
+use Rattle.line_notation.specs.Lines.{has_no_feed, lines_of, items_text}
+use Rattle.line_notation.specs.Standing.{Standing, after, documents_of, ending, failed, going}
+use Rattle.line_notation.specs.Standing.{outcome, standing}
 
 -- a line has the form that is read out of it, and no other
 abbrev pub HaveOneForm : Type 0

@@ -2,11 +2,14 @@
 use Rattle.std.specs.Prelude.{◌≡◌, ℕ, List, [], ◌∷◌, ◌++◌, Bool, not, ◌==◌, if◌then◌else◌, map}
 use Rattle.std.specs.List.{flat_map, list_all}
 use Rattle.nbfx_values.specs.declared.content.AttrItem.{AttrItem}
-use Rattle.nbfx_values.specs.declared.content.AttrItem.TheVariants.{Xmlns as DeclaresOn, Attr as AttrOn}
+use Rattle.nbfx_values.specs.declared.content.AttrItem.TheVariants.{Xmlns as DeclaresOn}
+use Rattle.nbfx_values.specs.declared.content.AttrItem.TheVariants.{Attr as AttrOn}
 use Rattle.nbfx_values.specs.declared.content.Item.{Item}
-use Rattle.nbfx_values.specs.declared.content.Item.TheVariants.{Start, Xmlns, Attr, Text, Comment, Array, Close}
+use Rattle.nbfx_values.specs.declared.content.Item.TheVariants.{Start, Xmlns, Attr, Text, Comment}
+use Rattle.nbfx_values.specs.declared.content.Item.TheVariants.{Array, Close}
 use Rattle.nbfx_values.specs.Documents.{IsDocument}
-use Rattle.line_notation.specs.Forms.{Form, start, ns, attr, text, comment, array, values, close, IsLine, line_of}
+use Rattle.line_notation.specs.Forms.{Form, start, ns, attr, text, comment, array, values, close}
+use Rattle.line_notation.specs.Forms.{IsLine, line_of}
 use Rattle.line_notation.specs.Values.{written_scalars, written_value}
 
 -- what the line of a declaration or an attribute of an array's element says

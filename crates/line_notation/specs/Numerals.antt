@@ -1,6 +1,8 @@
 -- Numbers as words: in decimal digits without zeros in front, and in a fixed number of hexadecimal
 -- digits.
-use Rattle.std.specs.Prelude.{◌≡◌, ℕ, suc, zero, List, [], ◌∷◌, length, ℤ, pos, negsuc, Bool, false, nat_lt, not, ◌==◌, ◌&&◌, ◌||◌, Option, None, Some, Ok, Err, Result, slice_index, if◌then◌else◌}
+use Rattle.std.specs.Prelude.{◌≡◌, ℕ, suc, zero, List, [], ◌∷◌, length, ℤ, pos, negsuc, Bool, false}
+use Rattle.std.specs.Prelude.{nat_lt, not, ◌==◌, ◌&&◌, ◌||◌, Option, None, Some, Ok, Err, Result}
+use Rattle.std.specs.Prelude.{slice_index, if◌then◌else◌}
 use Rattle.std.specs.Char.{is_ascii_digit}
 use Rattle.std.specs.Fmt.{digits_onto}
 use Rattle.std.specs.Int.{Width, byte_len, from_be_bytes, to_be_bytes}

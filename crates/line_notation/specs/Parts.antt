@@ -1,5 +1,7 @@
 -- The parts of a line, read and judged at once, for private calls.
-use Rattle.std.specs.Prelude.{ℕ, zero, suc, true, false, ◌&&◌, ◌+◌, ◌-◌, ◌^◌, ◌++◌, List, [], ◌∷◌, ℤ, pos, Bool, Option, None, Some, Result, Ok, Err, nat_le, ◌≤◌, ◌==◌, if◌then◌else◌}
+use Rattle.std.specs.Prelude.{ℕ, zero, suc, true, false, ◌&&◌, ◌+◌, ◌-◌, ◌^◌, ◌++◌, List, [], ◌∷◌}
+use Rattle.std.specs.Prelude.{ℤ, pos, Bool, Option, None, Some, Result, Ok, Err, nat_le, ◌≤◌, ◌==◌}
+use Rattle.std.specs.Prelude.{if◌then◌else◌}
 use Rattle.std.specs.Str.{is_utf8}
 use Rattle.nbfx_values.specs.declared.scalars.Scalar.{Scalar}
 use Rattle.nbfx_values.specs.Items.{fits_kind}
@@ -15,12 +17,14 @@ use Rattle.line_notation.specs.declared.values.Tally.{Tally}
 use Rattle.nbfx_values.specs.declared.content.ArrayKind.{ArrayKind}
 use Rattle.nbfx_values.specs.declared.scalars.Value.{Value}
 use Rattle.nbfx_values.specs.declared.scalars.Value.TheVariants.{One, List as ListOf}
-use Rattle.line_notation.specs.Judging.{are_in_range, are_scalars, has_good_text, have_good_texts, scalars_of, value_of}
+use Rattle.line_notation.specs.Judging.{are_in_range, are_scalars, has_good_text, have_good_texts}
+use Rattle.line_notation.specs.Judging.{scalars_of, value_of}
 use Rattle.line_notation.specs.Numerals.{integer_in, natural_in}
 use Rattle.line_notation.specs.Options.{◌>>=◌}
 use Rattle.line_notation.specs.Quoted.{pair_in, quoted_in}
 use Rattle.line_notation.specs.Scalars.{one_word}
-use Rattle.line_notation.specs.Values.{Token, Written, no_more, one, list, how_many, listed, scalar, value_in, values_in}
+use Rattle.line_notation.specs.Values.{Token, Written, no_more, one, list, how_many, listed, scalar}
+use Rattle.line_notation.specs.Values.{value_in, values_in}
 
 -- a value, where a test holds of it
 abbrev pub kept : {A : Type 0} → LineKind → (A → Bool) → A → Result A LineKind

@@ -1,5 +1,6 @@
 -- What a reader makes of what a line says, for private calls.
-use Rattle.std.specs.Prelude.{◌≡◌, ℕ, List, [], Bool, ◌&&◌, Option, None, Some, Result, Ok, Err, nat_lt, length, IsTrue}
+use Rattle.std.specs.Prelude.{◌≡◌, ℕ, List, [], Bool, ◌&&◌, Option, None, Some, Result, Ok, Err}
+use Rattle.std.specs.Prelude.{nat_lt, length, IsTrue}
 use Rattle.std.specs.List.{list_all}
 use Rattle.nbfx_values.specs.declared.content.ArrayItem.{ArrayItem}
 use Rattle.nbfx_values.specs.declared.content.ArrayKind.{ArrayKind}

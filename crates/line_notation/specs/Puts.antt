@@ -4,7 +4,9 @@ use Rattle.std.specs.Fmt.{decimal, signed_decimal}
 use Rattle.std.specs.List.{flat_map}
 use Rattle.hex.specs.Hex.{encode_lower}
 use Rattle.line_notation.specs.declared.puts.Word.{Word}
-use Rattle.line_notation.specs.declared.puts.Word.TheVariants.{Plain, Quoted, Natural, Integer, Digits, DigitsInQuotes, Identifier, Letter}
+use Rattle.line_notation.specs.declared.puts.Word.TheVariants.{Plain, Quoted, Natural, Integer}
+use Rattle.line_notation.specs.declared.puts.Word.TheVariants.{Digits, DigitsInQuotes, Identifier}
+use Rattle.line_notation.specs.declared.puts.Word.TheVariants.{Letter}
 use Rattle.line_notation.specs.Quoted.{quoted}
 use Rattle.line_notation.specs.Scalars.{digits_in_quotes, identifier_word, letter_word}
 

@@ -1,5 +1,7 @@
 -- A text in quotes: as it is put, in every way that it may be written, and how it is read.
-use Rattle.std.specs.Prelude.{◌≡◌, ℕ, ◌+◌, ◌-◌, ◌*◌, ◌/◌, ◌%◌, ◌<◌, List, [], ◌∷◌, ◌++◌, Bool, false, not, nat_lt, nat_le, ◌==◌, ◌&&◌, ◌⊎◌, IsTrue, length, take, drop, slice_index, Option, None, Some, if◌then◌else◌}
+use Rattle.std.specs.Prelude.{◌≡◌, ℕ, ◌+◌, ◌-◌, ◌*◌, ◌/◌, ◌%◌, ◌<◌, List, [], ◌∷◌, ◌++◌, Bool}
+use Rattle.std.specs.Prelude.{false, not, nat_lt, nat_le, ◌==◌, ◌&&◌, ◌⊎◌, IsTrue, length, take}
+use Rattle.std.specs.Prelude.{drop, slice_index, Option, None, Some, if◌then◌else◌}
 use Rattle.std.specs.Fmt.{digit_glyph}
 use Rattle.std.specs.List.{flat_map}
 use Rattle.line_notation.specs.Options.{◌>>=◌}

@@ -1,7 +1,9 @@
 -- What the words behind each keyword say, read and judged at once, for private calls.
-use Rattle.std.specs.Prelude.{ℕ, List, [], ◌∷◌, Option, None, Some, Result, Ok, Err, nat_lt, if◌then◌else◌}
+use Rattle.std.specs.Prelude.{ℕ, List, [], ◌∷◌, Option, None, Some, Result, Ok, Err, nat_lt}
+use Rattle.std.specs.Prelude.{if◌then◌else◌}
 use Rattle.nbfx_values.specs.declared.content.ArrayKind.{ArrayKind}
-use Rattle.nbfx_values.specs.declared.content.Item.TheVariants.{Start, Xmlns, Attr, Text, Comment, Close}
+use Rattle.nbfx_values.specs.declared.content.Item.TheVariants.{Start, Xmlns, Attr, Text, Comment}
+use Rattle.nbfx_values.specs.declared.content.Item.TheVariants.{Close}
 use Rattle.nbfx_values.specs.declared.scalars.Scalar.{Scalar}
 use Rattle.nbfx_values.specs.declared.scalars.Value.{Value}
 use Rattle.line_notation.specs.declared.line.Keyword.{Keyword}
@@ -12,7 +14,8 @@ use Rattle.line_notation.specs.declared.reader.LineKind.TheVariants.{OutOfPlace}
 use Rattle.line_notation.specs.Forms.{array_kind_in, form_behind, form_of}
 use Rattle.line_notation.specs.Judging.{begun_array, judged}
 use Rattle.line_notation.specs.Options.{alone, ◌>>=◌}
-use Rattle.line_notation.specs.Parts.{both, gathered_in, holder_of, judged_text_in, judged_texts_at, judged_value_in, mapped}
+use Rattle.line_notation.specs.Parts.{both, gathered_in, holder_of, judged_text_in, judged_texts_at}
+use Rattle.line_notation.specs.Parts.{judged_value_in, mapped}
 use Rattle.line_notation.specs.Scalars.{one_word}
 
 -- what a form says, if there is one

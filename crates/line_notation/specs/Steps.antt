@@ -1,5 +1,6 @@
 -- What a step of reading a line gives.
-use Rattle.std.specs.Prelude.{◌≡◌, ◌≤◌, ℕ, List, [], ◌∷◌, ◌++◌, true, Option, None, Some, Result, Ok, Err, length, take, drop}
+use Rattle.std.specs.Prelude.{◌≡◌, ◌≤◌, ℕ, List, [], ◌∷◌, ◌++◌, true, Option, None, Some, Result}
+use Rattle.std.specs.Prelude.{Ok, Err, length, take, drop}
 use Rattle.std.specs.List.{list_all}
 use Rattle.line_notation.specs.declared.words.Stop.{Stop}
 use Rattle.line_notation.specs.declared.words.Stop.TheVariants.{NotALine, Memory}

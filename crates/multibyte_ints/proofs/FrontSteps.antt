@@ -1,5 +1,6 @@
 -- An integer at the front of some bytes is read byte by byte.
-use Rattle.std.proofs.Common.{◌≡◌, ℕ, ◌+◌, ◌<◌, List, [], ◌∷◌, ◌++◌, length, take, drop, get_or, sym, ap, ◌∙◌, arith}
+use Rattle.std.proofs.Common.{◌≡◌, ℕ, ◌+◌, ◌<◌, List, [], ◌∷◌, ◌++◌, length, take, drop, get_or}
+use Rattle.std.proofs.Common.{sym, ap, ◌∙◌, arith}
 use Rattle.std.proofs.lemmas.List.{take_more, take-append-drop, length-take-le}
 use Rattle.unit_streams.specs.Front.{whole, wrong, ReadsFront}
 use Rattle.unit_streams.proofs.Peeling.{peels_front}
@@ -18,12 +19,16 @@ module _ (bytes : List ℕ) (at : ℕ) (lt : at < length bytes) where
   size = ap length one_more ∙ length-take-le (at + 1) bytes (omega (arith, lt))
 
   -- what the bytes up to there show stays
-  pub whole_there : (n : ℕ) → int_at (take at bytes ++ get_or bytes at 0 ∷ []) ≡ whole n (length (take at bytes ++ get_or bytes at 0 ∷ [])) → int_at bytes ≡ whole n (at + 1)
+  pub whole_there : (n : ℕ) → int_at (take at bytes ++ get_or bytes at 0 ∷ [])
+      ≡ whole n (length (take at bytes ++ get_or bytes at 0 ∷ [])) → int_at bytes ≡ whole n (at + 1)
   whole_there n e =
       ap int_at (sym (take-append-drop (at + 1) bytes))
-      ∙ reads.whole_stays (take (at + 1) bytes) (drop (at + 1) bytes) n (at + 1) (ap int_at (sym one_more) ∙ e ∙ ap (whole n) size)
+      ∙ reads.whole_stays (take (at + 1) bytes) (drop (at + 1) bytes) n (at + 1)
+      (ap int_at (sym one_more) ∙ e ∙ ap (whole n) size)
 
-  pub wrong_there : int_at (take at bytes ++ get_or bytes at 0 ∷ []) ≡ wrong tt 5 → int_at bytes ≡ wrong tt 5
+  pub wrong_there : int_at (take at bytes ++ get_or bytes at 0 ∷ []) ≡ wrong tt 5 → int_at bytes
+      ≡ wrong tt 5
   wrong_there e =
       ap int_at (sym (take-append-drop (at + 1) bytes))
-      ∙ reads.wrong_stays (take (at + 1) bytes) (drop (at + 1) bytes) tt 5 (ap int_at (sym one_more) ∙ e)
+      ∙ reads.wrong_stays (take (at + 1) bytes) (drop (at + 1) bytes) tt 5
+      (ap int_at (sym one_more) ∙ e)

@@ -1,5 +1,6 @@
 -- What one more byte makes of an integer that has begun, so that integers are read byte by byte.
-use Rattle.std.proofs.Common.{◌≡◌, ℕ, suc, ◌+◌, ◌*◌, ◌%◌, ◌^◌, ◌<◌, ◌≤◌, ◌⊎◌, inl, inr, List, [], ◌∷◌, ◌++◌, length, take, get_or, sym, ◌∙◌, ap, arith, length-append}
+use Rattle.std.proofs.Common.{◌≡◌, ℕ, suc, ◌+◌, ◌*◌, ◌%◌, ◌^◌, ◌<◌, ◌≤◌, ◌⊎◌, inl, inr, List, []}
+use Rattle.std.proofs.Common.{◌∷◌, ◌++◌, length, take, get_or, sym, ◌∙◌, ap, arith, length-append}
 use Rattle.std.specs.Prelude.{⊤}
 use Rattle.std.proofs.Math.ListN.{get_or-append}
 use Rattle.std.proofs.Math.Seq.{get_or-append_seam}
@@ -89,10 +90,12 @@ module _ (p : List ℕ) (b : ℕ) (w : Begun p) where
         fifth = λ four. rw (get_or-append_seam p b [] 0) (fifth four);
       }
 
-  pub ends : (length p ≡ 4 → b ≤ 7) → b < 128 → int_at (p ++ b ∷ []) ≡ whole (value_of p + 128 ^ length p * (b % 128)) (length (p ++ b ∷ []))
+  pub ends : (length p ≡ 4 → b ≤ 7) → b < 128 → int_at (p ++ b ∷ [])
+      ≡ whole (value_of p + 128 ^ length p * (b % 128)) (length (p ++ b ∷ []))
   ends fifth lt =
       let lens = length-append p (b ∷ []) in
-      let all : take (length p + 1) (p ++ b ∷ []) ≡ p ++ b ∷ [] = take_all (length p + 1) (p ++ b ∷ []) (omega arith) in
+      let all : take (length p + 1) (p ++ b ∷ []) ≡ p ++ b ∷ [] = take_all (length p + 1)
+      (p ++ b ∷ []) (omega arith) in
       let size : length p + 1 ≡ length (p ++ b ∷ []) = omega arith in
       whole_is (length p) (p ++ b ∷ []) (ends_there fifth lt)
       ∙ ap (λ c. whole (value_of c) (length p + 1)) all
@@ -101,7 +104,8 @@ module _ (p : List ℕ) (b : ℕ) (w : Begun p) where
 
   -- it is the last byte that decides
   ended_by : (length p ≡ 4 → b ≤ 7) → b < 128 → extent (int_at (p ++ b ∷ [])) ≡ suc (length p)
-  ended_by fifth lt = let lens = length-append p (b ∷ []) in omega (arith, ap extent (ends fifth lt))
+  ended_by fifth lt = let lens = length-append p (b ∷ []) in omega
+      (arith, ap extent (ends fifth lt))
 
   failed_by : length p ≡ 4 → 7 < b → extent (int_at (p ++ b ∷ [])) ≡ suc (length p)
   failed_by four above = omega (arith, ap extent (fails_at_fifth four above))
@@ -143,8 +147,10 @@ one_byte_stays b x said =
     elim (cases b) [
       | inl w ↦ absurd (omega (arith, ap extent (begun_is b w)))
       | inr (inl (k, w)) ↦
-          let same : take (k + 1) (b ++ x ∷ []) ≡ take (k + 1) b = take-append-le (k + 1) b (x ∷ []) (let within = w.within in omega arith) in
-          whole_is k (b ++ x ∷ []) (EndsAt-append k b (x ∷ []) w) ∙ ap (λ c. whole (value_of c) (k + 1)) same ∙ sym (whole_is k b w)
+          let same : take (k + 1) (b ++ x ∷ []) ≡ take (k + 1) b = take-append-le (k + 1) b (x ∷ [])
+          (let within = w.within in omega arith) in
+          whole_is k (b ++ x ∷ []) (EndsAt-append k b (x ∷ []) w) ∙
+          ap (λ c. whole (value_of c) (k + 1)) same ∙ sym (whole_is k b w)
       | inr (inr w) ↦ wrong_is (b ++ x ∷ []) (FifthIsAbove-append b (x ∷ []) w) ∙ sym (wrong_is b w)
     ]
 
@@ -160,6 +166,13 @@ pub int_reads_front : ReadsFront int_at
 int_reads_front = peels_front int_at int_peels
 
 -- and what is wrong with one that has begun is so with all its bytes
-pub wrong_at_last : (q : List ℕ) (b : ℕ) → int_at q ≡ begun → int_at (q ++ b ∷ []) ≡ wrong tt 5 → 5 ≡ length (q ++ b ∷ [])
+pub wrong_at_last : (q : List ℕ) (b : ℕ) → int_at q ≡ begun → int_at (q ++ b ∷ []) ≡ wrong tt 5 → 5
+    ≡ length (q ++ b ∷ [])
 wrong_at_last q b before e =
-    omega (arith, ap extent e, at_last int_at int_peels q b before (λ h. cc), length-append q (b ∷ []))
+    omega (
+      arith,
+      ap extent e,
+      at_last int_at int_peels q b before (λ h. cc),
+      length-append q
+          (b ∷ []),
+    )

@@ -1,7 +1,9 @@
 -- The integer at the front of some bytes, by the places of the bytes.
-use Rattle.std.proofs.Common.{◌≡◌, ℕ, ◌+◌, ◌<◌, ◌≤◌, List, length, take, get_or, true, false, ◌⊎◌, inl, inr, arith}
+use Rattle.std.proofs.Common.{◌≡◌, ℕ, ◌+◌, ◌<◌, ◌≤◌, List, length, take, get_or, true, false, ◌⊎◌}
+use Rattle.std.proofs.Common.{inl, inr, arith}
 use Rattle.std.specs.Prelude.{nat_le}
-use Rattle.std.proofs.lemmas.List.Sums.{prefix_len-le-length, prefix_len_is, prefix_len_passes, prefix_len_stops}
+use Rattle.std.proofs.lemmas.List.Sums.{prefix_len-le-length, prefix_len_is, prefix_len_passes}
+use Rattle.std.proofs.lemmas.List.Sums.{prefix_len_stops}
 use Rattle.std.proofs.lemmas.Bool.Decides.{nat_tests, leb_tells}
 use Rattle.unit_streams.specs.Front.{begun, whole, wrong}
 use Rattle.multibyte_ints.specs.Integer.{value_of, continued_len, int_ending_at, int_at}
@@ -45,7 +47,8 @@ begun_is b w =
     rw (continued_len_is b (length b) (omega arith) w.continued (λ h. absurd (omega arith)))
     (grind (arith, nat_tests))
 
-pub whole_is : (k : ℕ) (b : List ℕ) → EndsAt k b → int_at b ≡ whole (value_of (take (k + 1) b)) (k + 1)
+pub whole_is : (k : ℕ) (b : List ℕ) → EndsAt k b → int_at b ≡ whole (value_of (take (k + 1) b))
+    (k + 1)
 unfolding int_at int_ending_at
 whole_is k b w =
     rw (continued_len_is b k (omega arith) w.continued (λ _. w.ended))
@@ -64,7 +67,8 @@ wrong_is b w =
     let p = wrong_cases b w in
     grind (arith, nat_tests)
 
-ends_there : (b : List ℕ) → continued_len b < length b → continued_len b ≤ 4 → (continued_len b ≡ 4 → get_or b (continued_len b) 0 ≤ 7)
+ends_there : (b : List ℕ) → continued_len b < length b → continued_len b ≤ 4
+    → (continued_len b ≡ 4 → get_or b (continued_len b) 0 ≤ 7)
     → EndsAt (continued_len b) b
 ends_there b less few fifth = record {
   within = less;
@@ -85,7 +89,8 @@ ends_or_above b few less =
           continued = λ i lt. continued_before b i (omega arith);
           above = high.1;
         }))
-        | inr below ↦ inr (inl (continued_len b, ends_there b less (omega arith) (λ e. absurd (omega arith))))
+        | inr below ↦ inr
+            (inl (continued_len b, ends_there b less (omega arith) (λ e. absurd (omega arith))))
       ]
     ]
 

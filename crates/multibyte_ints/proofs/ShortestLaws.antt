@@ -1,5 +1,6 @@
 -- The shortest spelling is one, and no other has a last byte that isn't 0.
-use Rattle.std.proofs.Common.{◌≡◌, ℕ, zero, suc, ◌+◌, ◌-◌, ◌/◌, ◌%◌, ◌^◌, ◌<◌, ◌≤◌, List, [], ◌∷◌, length, get_or, refl, ap, inl, inr, arith}
+use Rattle.std.proofs.Common.{◌≡◌, ℕ, zero, suc, ◌+◌, ◌-◌, ◌/◌, ◌%◌, ◌^◌, ◌<◌, ◌≤◌, List, [], ◌∷◌}
+use Rattle.std.proofs.Common.{length, get_or, refl, ap, inl, inr, arith}
 use Rattle.std.proofs.Math.Nat.{pow-succ'}
 use Rattle.std.proofs.lemmas.Bool.Decides.{leb_tells}
 use Rattle.multibyte_ints.specs.Integer.{value_of, shortest, shortest_within, Spells, IsBytes}
@@ -14,7 +15,8 @@ record IsShortest (k n : ℕ) (b : List ℕ) : Type 0 where
   bytes : IsBytes b
   last : 1 < length b → 0 < get_or b (length b - 1) 0
 
-last_of_cons : (x y : ℕ) (ys : List ℕ) → get_or (x ∷ y ∷ ys) (length (x ∷ y ∷ ys) - 1) 0 ≡ get_or (y ∷ ys) (length (y ∷ ys) - 1) 0
+last_of_cons : (x y : ℕ) (ys : List ℕ) → get_or (x ∷ y ∷ ys) (length (x ∷ y ∷ ys) - 1) 0
+    ≡ get_or (y ∷ ys) (length (y ∷ ys) - 1) 0
 last_of_cons x y ys =
     let outer : length (x ∷ y ∷ ys) - 1 ≡ suc (length ys) = omega arith in
     let inner : length (y ∷ ys) - 1 ≡ length ys = omega arith in
@@ -40,7 +42,8 @@ bytes_of_more : (x : ℕ) (rest : List ℕ) → x < 256 → IsBytes rest → IsB
 bytes_of_more x rest lt h zero = lt
 bytes_of_more x rest lt h (suc i) = h i
 
-continued_more : (x : ℕ) (rest : List ℕ) → 128 ≤ x → ((i : ℕ) → i + 1 < length rest → 128 ≤ get_or rest i 0)
+continued_more : (x : ℕ) (rest : List ℕ) → 128 ≤ x
+    → ((i : ℕ) → i + 1 < length rest → 128 ≤ get_or rest i 0)
     → (i : ℕ) → i + 1 < length (x ∷ rest) → 128 ≤ get_or (x ∷ rest) i 0
 continued_more x rest le h zero lt = le
 continued_more x rest le h (suc i) lt = h i (omega arith)
@@ -51,7 +54,8 @@ last_positive k n [] s h = absurd (let some = s.some in omega arith)
 last_positive k n (x ∷ []) s h = let value = s.value in omega arith
 last_positive k n (x ∷ y ∷ ys) s h = s.last (omega arith)
 
-more : (k n : ℕ) (rest : List ℕ) → 128 ≤ n → IsShortest k (n / 128) rest → IsShortest (suc k) n ((n % 128 + 128) ∷ rest)
+more : (k n : ℕ) (rest : List ℕ) → 128 ≤ n → IsShortest k (n / 128) rest → IsShortest (suc k) n
+    ((n % 128 + 128) ∷ rest)
 unfolding value_of
 more k n [] le s = absurd (let some = s.some in omega arith)
 more k n (y ∷ ys) le s =
@@ -91,7 +95,8 @@ shortest_spells n lt =
       s.bytes,
     )
 
-value_positive : (b : List ℕ) → 0 < get_or b (length b - 1) 0 → get_or b (length b - 1) 0 < 128 → 0 < value_of b
+value_positive : (b : List ℕ) → 0 < get_or b (length b - 1) 0 → get_or b (length b - 1) 0 < 128 → 0
+    < value_of b
 unfolding value_of
 value_positive [] low high = low
 value_positive (x ∷ []) low high = omega arith
@@ -100,7 +105,8 @@ value_positive (x ∷ y ∷ ys) low high =
     let rest = value_positive (y ∷ ys) (rw same at low) (rw same at high) in omega arith
 
 -- behind a byte that says that another follows
-behind : (k n x y : ℕ) (ys : List ℕ) → IsShortest (suc k) n (x ∷ y ∷ ys) → IsShortest k (n / 128) (y ∷ ys)
+behind : (k n x y : ℕ) (ys : List ℕ) → IsShortest (suc k) n (x ∷ y ∷ ys) → IsShortest k (n / 128)
+    (y ∷ ys)
 unfolding value_of
 behind k n x y ys s =
     let same = last_of_cons x y ys in
@@ -136,14 +142,16 @@ only (suc k) n (x ∷ y ∷ ys) s =
     let first : 128 ≤ x = s.continued 0 (omega arith) in
     let byte : x < 256 = s.bytes 0 in
     let same = last_of_cons x y ys in
-    let positive : 0 < value_of (y ∷ ys) = value_positive (y ∷ ys) (rw same at (s.last (omega arith))) (rw same at s.ended) in
+    let positive : 0 < value_of (y ∷ ys) = value_positive (y ∷ ys)
+    (rw same at (s.last (omega arith))) (rw same at s.ended) in
     elim (leb_tells (suc n) 128) [
       | inl h ↦ absurd (omega arith)
       | inr h ↦ rw h.0 (let head : x ≡ n % 128 + 128 = omega arith in
           let tail = only k (n / 128) (y ∷ ys) (behind k n x y ys s) in cc)
     ]
 
-pub shortest_only : (n : ℕ) (b : List ℕ) → IsBytes b → Spells n b → (1 < length b → 0 < get_or b (length b - 1) 0) → b ≡ shortest n
+pub shortest_only : (n : ℕ) (b : List ℕ) → IsBytes b → Spells n b
+    → (1 < length b → 0 < get_or b (length b - 1) 0) → b ≡ shortest n
 unfolding shortest
 shortest_only n b bytes s last = only 4 n b (record {
   some = s.some;

@@ -1,5 +1,6 @@
 -- What one more byte makes of a string that has begun, so that strings are read byte by byte.
-use Rattle.std.proofs.Common.{◌≡◌, ℕ, suc, ◌+◌, ◌<◌, ◌≤◌, ◌⊎◌, inl, inr, List, [], ◌∷◌, ◌++◌, length, take, drop, sym, ◌∙◌, ap, arith, length-append, length-drop}
+use Rattle.std.proofs.Common.{◌≡◌, ℕ, suc, ◌+◌, ◌<◌, ◌≤◌, ◌⊎◌, inl, inr, List, [], ◌∷◌, ◌++◌}
+use Rattle.std.proofs.Common.{length, take, drop, sym, ◌∙◌, ap, arith, length-append, length-drop}
 use Rattle.std.specs.Str.{is_utf8}
 use Rattle.std.proofs.lemmas.Bool.{cases_Bool}
 use Rattle.std.proofs.lemmas.Bool.Decides.{leb_tells}
@@ -10,15 +11,20 @@ use Rattle.unit_streams.proofs.Taken.{at_last}
 use Rattle.multibyte_ints.specs.Integer.{int_at}
 use Rattle.multibyte_ints.specs.Text.{string_at}
 use Rattle.multibyte_ints.proofs.IntegerBytes.{int_peels, int_reads_front}
-use Rattle.multibyte_ints.proofs.TextFacts.{int_begun_is, int_wrong_is, above_is, waiting_is, text_is, no_text_is, int_begun, int_wrong, above, waiting, text, no_text, string_cases}
+use Rattle.multibyte_ints.proofs.TextFacts.{int_begun_is, int_wrong_is, above_is, waiting_is}
+use Rattle.multibyte_ints.proofs.TextFacts.{text_is, no_text_is, int_begun, int_wrong, above}
+use Rattle.multibyte_ints.proofs.TextFacts.{waiting, text, no_text, string_cases}
 
 -- the text behind j bytes is the same in a longer list
-same_text : (b more : List ℕ) (n j : ℕ) → j + n ≤ length b → take n (drop j (b ++ more)) ≡ take n (drop j b)
+same_text : (b more : List ℕ) (n j : ℕ) → j + n ≤ length b → take n (drop j (b ++ more))
+    ≡ take n (drop j b)
 same_text b more n j within =
-    rw (drop-append-le j b more (omega arith)) (take-append-le n (drop j b) more (simp length-drop (omega arith)))
+    rw (drop-append-le j b more (omega arith))
+    (take-append-le n (drop j b) more (simp length-drop (omega arith)))
 
 -- a text that is all there decides the string
-text_extent : (limit : ℕ) (b : List ℕ) (n j : ℕ) → int_at b ≡ whole n j → n ≤ limit → j + n ≤ length b → extent (string_at limit b) ≡ j + n
+text_extent : (limit : ℕ) (b : List ℕ) (n j : ℕ) → int_at b ≡ whole n j → n ≤ limit → j + n
+    ≤ length b → extent (string_at limit b) ≡ j + n
 text_extent limit b n j e low within =
     elim (cases_Bool (is_utf8 (take n (drop j b)))) [
       | inl u ↦ ap extent (text_is limit b n j e low within u)
@@ -27,21 +33,39 @@ text_extent limit b n j e low within =
 
 -- one more byte of the integer
 in_int : (limit : ℕ) (b : List ℕ) (x : ℕ) → int_at b ≡ begun
-    → (string_at limit (b ++ x ∷ []) ≡ begun) ⊎ (extent (string_at limit (b ++ x ∷ [])) ≡ suc (length b))
+    → (string_at limit (b ++ x ∷ []) ≡ begun)
+    ⊎ (extent (string_at limit (b ++ x ∷ [])) ≡ suc (length b))
 in_int limit b x i =
     let lens = length-append b (x ∷ []) in
     elim (string_cases limit (b ++ x ∷ [])) [
       | int_begun e is ↦ inl is
-      | int_wrong k e is ↦ inr (ap extent is ∙ sym (ap extent e) ∙ at_last int_at int_peels b x i (λ h. cc))
-      | above n j e up is ↦ inr (ap extent is ∙ sym (ap extent e) ∙ at_last int_at int_peels b x i (λ h. cc))
+      | int_wrong k e is ↦ inr (ap extent is ∙ sym (ap extent e) ∙ at_last int_at int_peels b x i
+          (λ h. cc))
+      | above n j e up is ↦ inr (ap extent is ∙ sym (ap extent e) ∙ at_last int_at int_peels b x i
+          (λ h. cc))
       | waiting n j e low few is ↦ inl is
-      | text n j e low within u is ↦ inr (omega (arith, ap extent is, ap extent e, at_last int_at int_peels b x i (λ h. cc), within))
-      | no_text n j e low within u is ↦ inr (omega (arith, ap extent is, ap extent e, at_last int_at int_peels b x i (λ h. cc), within))
+      | text n j e low within u is ↦ inr
+          (omega (
+            arith,
+            ap extent is,
+            ap extent e,
+            at_last int_at int_peels b x i (λ h. cc),
+            within,
+          ))
+      | no_text n j e low within u is ↦ inr
+          (omega (
+            arith,
+            ap extent is,
+            ap extent e,
+            at_last int_at int_peels b x i (λ h. cc),
+            within,
+          ))
     ]
 
 -- one more byte of the text
 in_text : (limit : ℕ) (b : List ℕ) (x n j : ℕ) → int_at b ≡ whole n j → n ≤ limit → length b < j + n
-    → (string_at limit (b ++ x ∷ []) ≡ begun) ⊎ (extent (string_at limit (b ++ x ∷ [])) ≡ suc (length b))
+    → (string_at limit (b ++ x ∷ []) ≡ begun)
+    ⊎ (extent (string_at limit (b ++ x ∷ [])) ≡ suc (length b))
 in_text limit b x n j e low few =
     let lens = length-append b (x ∷ []) in
     let there = int_reads_front.whole_stays b (x ∷ []) n j e in
@@ -51,7 +75,8 @@ in_text limit b x n j e low few =
     ]
 
 one_byte : (limit : ℕ) (b : List ℕ) (x : ℕ) → string_at limit b ≡ begun
-    → (string_at limit (b ++ x ∷ []) ≡ begun) ⊎ (extent (string_at limit (b ++ x ∷ [])) ≡ suc (length b))
+    → (string_at limit (b ++ x ∷ []) ≡ begun)
+    ⊎ (extent (string_at limit (b ++ x ∷ [])) ≡ suc (length b))
 one_byte limit b x h =
     elim (string_cases limit b) [
       | int_begun e is ↦ in_int limit b x e
@@ -62,20 +87,25 @@ one_byte limit b x h =
       | no_text n j e low within u is ↦ cc
     ]
 
-one_byte_stays : (limit : ℕ) (b : List ℕ) (x : ℕ) → 0 < extent (string_at limit b) → string_at limit (b ++ x ∷ []) ≡ string_at limit b
+one_byte_stays : (limit : ℕ) (b : List ℕ) (x : ℕ) → 0 < extent (string_at limit b) → string_at limit
+    (b ++ x ∷ []) ≡ string_at limit b
 one_byte_stays limit b x said =
     let more : List ℕ = x ∷ [] in
     elim (string_cases limit b) [
       | int_begun e is ↦ absurd (omega (arith, ap extent is))
-      | int_wrong k e is ↦ int_wrong_is limit (b ++ more) tt k (int_reads_front.wrong_stays b more tt k e) ∙ sym is
-      | above n j e up is ↦ above_is limit (b ++ more) n j (int_reads_front.whole_stays b more n j e) up ∙ sym is
+      | int_wrong k e is ↦ int_wrong_is limit (b ++ more) tt k
+          (int_reads_front.wrong_stays b more tt k e) ∙ sym is
+      | above n j e up is ↦ above_is limit (b ++ more) n j
+          (int_reads_front.whole_stays b more n j e) up ∙ sym is
       | waiting n j e low few is ↦ absurd (omega (arith, ap extent is))
       | text n j e low within u is ↦
           let same = same_text b more n j within in
-          text_is limit (b ++ more) n j (int_reads_front.whole_stays b more n j e) low (simp length-append (omega arith)) (ap is_utf8 same ∙ u)
+          text_is limit (b ++ more) n j (int_reads_front.whole_stays b more n j e) low
+          (simp length-append (omega arith)) (ap is_utf8 same ∙ u)
           ∙ ap (λ s. whole s (j + n)) same ∙ sym is
       | no_text n j e low within u is ↦
-          no_text_is limit (b ++ more) n j (int_reads_front.whole_stays b more n j e) low (simp length-append (omega arith))
+          no_text_is limit (b ++ more) n j (int_reads_front.whole_stays b more n j e) low
+          (simp length-append (omega arith))
           (ap is_utf8 (same_text b more n j within) ∙ u)
           ∙ sym is
     ]

@@ -8,9 +8,12 @@ use Rattle.unit_streams.specs.Front.{whole, wrong}
 use Rattle.multibyte_ints.specs.Integer.{int_at}
 use Rattle.multibyte_ints.specs.Text.{bad_int, too_long, bad_utf8, string_at}
 use Rattle.multibyte_ints.specs.Laws.{IsBadText}
-use Rattle.multibyte_ints.proofs.TextFacts.{int_wrong_is, above_is, no_text_is, StringCase, int_begun, int_wrong, above, waiting, text, no_text, string_cases}
+use Rattle.multibyte_ints.proofs.TextFacts.{int_wrong_is, above_is, no_text_is, StringCase}
+use Rattle.multibyte_ints.proofs.TextFacts.{int_begun, int_wrong, above, waiting, text, no_text}
+use Rattle.multibyte_ints.proofs.TextFacts.{string_cases}
 
-by_int : (limit : ℕ) (b : List ℕ) (k : ℕ) → string_at limit b ≡ wrong bad_int k → StringCase limit b → int_at b ≡ wrong tt k
+by_int : (limit : ℕ) (b : List ℕ) (k : ℕ) → string_at limit b ≡ wrong bad_int k → StringCase limit b
+    → int_at b ≡ wrong tt k
 by_int limit b k e (int_begun f is) = cc
 by_int limit b k e (int_wrong j f is) = let size : k ≡ j = cc in rw size f
 by_int limit b k e (above n j f lt is) = cc
@@ -18,13 +21,16 @@ by_int limit b k e (waiting n j f le lt is) = cc
 by_int limit b k e (text n j f le within u is) = cc
 by_int limit b k e (no_text n j f le within u is) = cc
 
-pub bad_int_cause : (limit : ℕ) (b : List ℕ) (k : ℕ) → string_at limit b ≡ wrong bad_int k → int_at b ≡ wrong tt k
+pub bad_int_cause : (limit : ℕ) (b : List ℕ) (k : ℕ) → string_at limit b ≡ wrong bad_int k
+    → int_at b ≡ wrong tt k
 bad_int_cause limit b k e = by_int limit b k e (string_cases limit b)
 
-pub bad_int_comes : (limit : ℕ) (b : List ℕ) (k : ℕ) → int_at b ≡ wrong tt k → string_at limit b ≡ wrong bad_int k
+pub bad_int_comes : (limit : ℕ) (b : List ℕ) (k : ℕ) → int_at b ≡ wrong tt k → string_at limit b
+    ≡ wrong bad_int k
 bad_int_comes limit b k e = int_wrong_is limit b tt k e
 
-by_length : (limit : ℕ) (b : List ℕ) (k : ℕ) → string_at limit b ≡ wrong too_long k → StringCase limit b
+by_length : (limit : ℕ) (b : List ℕ) (k : ℕ) → string_at limit b ≡ wrong too_long k
+    → StringCase limit b
     → (n : ℕ) × (int_at b ≡ whole n k) × (limit < n)
 by_length limit b k e (int_begun f is) = cc
 by_length limit b k e (int_wrong j f is) = cc
@@ -37,13 +43,15 @@ pub too_long_cause : (limit : ℕ) (b : List ℕ) (k : ℕ) → string_at limit 
     → (n : ℕ) × (int_at b ≡ whole n k) × (limit < n)
 too_long_cause limit b k e = by_length limit b k e (string_cases limit b)
 
-pub too_long_comes : (limit : ℕ) (b : List ℕ) (k n : ℕ) → int_at b ≡ whole n k → limit < n → string_at limit b ≡ wrong too_long k
+pub too_long_comes : (limit : ℕ) (b : List ℕ) (k n : ℕ) → int_at b ≡ whole n k → limit < n
+    → string_at limit b ≡ wrong too_long k
 too_long_comes limit b k n e lt = above_is limit b n k e lt
 
 not_utf8 : (s : List ℕ) → is_utf8 s ≡ false → IsUtf8 s → ⊥
 not_utf8 s fails u = let yes = is_utf8-from_IsUtf8 s u in cc
 
-by_text : (limit : ℕ) (b : List ℕ) (k : ℕ) → string_at limit b ≡ wrong bad_utf8 k → StringCase limit b → IsBadText limit b k
+by_text : (limit : ℕ) (b : List ℕ) (k : ℕ) → string_at limit b ≡ wrong bad_utf8 k → StringCase limit
+    b → IsBadText limit b k
 by_text limit b k e (int_begun f is) = cc
 by_text limit b k e (int_wrong j f is) = cc
 by_text limit b k e (above n j f lt is) = cc
@@ -51,12 +59,23 @@ by_text limit b k e (waiting n j f le lt is) = cc
 by_text limit b k e (text n j f le within u is) = cc
 by_text limit b k e (no_text n j f le within u is) =
     let size : k ≡ j + n = cc in
-    record { n = n; j = j; int = f; low = le; size = size; within = rw size within; bad = not_utf8 (take n (drop j b)) u }
+    record {
+      n = n;
+      j = j;
+      int = f;
+      low = le;
+      size = size;
+      within = rw size within;
+      bad = not_utf8
+          (take n (drop j b)) u;
+    }
 
-pub bad_text_cause : (limit : ℕ) (b : List ℕ) (k : ℕ) → string_at limit b ≡ wrong bad_utf8 k → IsBadText limit b k
+pub bad_text_cause : (limit : ℕ) (b : List ℕ) (k : ℕ) → string_at limit b ≡ wrong bad_utf8 k
+    → IsBadText limit b k
 bad_text_cause limit b k e = by_text limit b k e (string_cases limit b)
 
-pub bad_text_comes : (limit : ℕ) (b : List ℕ) (k : ℕ) → IsBadText limit b k → string_at limit b ≡ wrong bad_utf8 k
+pub bad_text_comes : (limit : ℕ) (b : List ℕ) (k : ℕ) → IsBadText limit b k → string_at limit b
+    ≡ wrong bad_utf8 k
 bad_text_comes limit b k w =
     no_text_is limit b w.n w.j w.int w.low (let within = w.within in omega (arith, w.size))
     (false_from_ne_true _ (λ e. w.bad (IsUtf8-from_is_utf8 _ e)))

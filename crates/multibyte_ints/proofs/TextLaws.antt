@@ -1,5 +1,6 @@
 -- The text at the front is the one whose string stands there.
-use Rattle.std.proofs.Common.{◌≡◌, ℕ, ◌+◌, ◌^◌, ◌<◌, ◌≤◌, List, [], ◌++◌, length, take, drop, true, refl, sym, ◌∙◌, ap, arith, length-append, length-drop}
+use Rattle.std.proofs.Common.{◌≡◌, ℕ, ◌+◌, ◌^◌, ◌<◌, ◌≤◌, List, [], ◌++◌, length, take, drop, true}
+use Rattle.std.proofs.Common.{refl, sym, ◌∙◌, ap, arith, length-append, length-drop}
 use Rattle.std.specs.Prelude.{IsUtf8}
 use Rattle.std.specs.Str.{is_utf8}
 use Rattle.std.proofs.lemmas.Str.{IsUtf8-from_is_utf8, is_utf8-from_IsUtf8}
@@ -11,13 +12,15 @@ use Rattle.multibyte_ints.specs.Integer.{Spells, shortest, int_at}
 use Rattle.multibyte_ints.specs.Text.{IsString, string_at, string_bytes_of}
 use Rattle.multibyte_ints.proofs.IntegerLaws.{spells_from_whole, whole_then}
 use Rattle.multibyte_ints.proofs.ShortestLaws.{shortest_spells}
-use Rattle.multibyte_ints.proofs.TextFacts.{text_is, int_begun, int_wrong, above, waiting, text, no_text, string_cases}
+use Rattle.multibyte_ints.proofs.TextFacts.{text_is, int_begun, int_wrong, above, waiting, text}
+use Rattle.multibyte_ints.proofs.TextFacts.{no_text, string_cases}
 use Rattle.multibyte_ints.proofs.TextBytes.{string_reads_front}
 
 text_len : (b : List ℕ) (n j : ℕ) → j + n ≤ length b → length (take n (drop j b)) ≡ n
 text_len b n j within = length-take-le n (drop j b) (simp length-drop (omega arith))
 
-string_there : (b : List ℕ) (n j : ℕ) → int_at b ≡ whole n j → j + n ≤ length b → is_utf8 (take n (drop j b)) ≡ true
+string_there : (b : List ℕ) (n j : ℕ) → int_at b ≡ whole n j → j + n ≤ length b
+    → is_utf8 (take n (drop j b)) ≡ true
     → IsString (take n (drop j b)) (take (j + n) b)
 string_there b n j e within utf8 = record {
   spelling = take j b;
@@ -45,17 +48,23 @@ joined_alone : (limit : ℕ) (p s : List ℕ) → Spells (length s) p → IsUtf8
     → string_at limit (p ++ s) ≡ whole s (length p + length s)
 joined_alone limit p s spelled utf8 low =
     let lens = length-append p s in
-    let same : take (length s) (drop (length p) (p ++ s)) ≡ s = ap (take (length s)) (drop-append_seam p s) ∙ take-length s in
-    text_is limit (p ++ s) (length s) (length p) (whole_then p s (length s) spelled) low (omega arith)
+    let same : take (length s) (drop (length p) (p ++ s)) ≡ s = ap (take (length s))
+    (drop-append_seam p s) ∙ take-length s in
+    text_is limit (p ++ s) (length s) (length p) (whole_then p s (length s) spelled) low
+    (omega arith)
     (ap is_utf8 same ∙ is_utf8-from_IsUtf8 s utf8)
     ∙ ap (λ t. whole t (length p + length s)) same
 
-pub string_alone : (limit : ℕ) (b s : List ℕ) → length s ≤ limit → IsString s b → string_at limit b ≡ whole s (length b)
+pub string_alone : (limit : ℕ) (b s : List ℕ) → length s ≤ limit → IsString s b → string_at limit b
+    ≡ whole s (length b)
 string_alone limit b s low is =
-    let lens : length b ≡ length is.spelling + length s = ap length is.joined ∙ length-append is.spelling s in
-    ap (string_at limit) is.joined ∙ joined_alone limit is.spelling s is.spelled is.utf8 low ∙ ap (whole s) (sym lens)
+    let lens : length b ≡ length is.spelling + length s = ap length is.joined ∙ length-append
+    is.spelling s in
+    ap (string_at limit) is.joined ∙ joined_alone limit is.spelling s is.spelled is.utf8 low ∙
+    ap (whole s) (sym lens)
 
-pub whole_from_string : (limit : ℕ) (b s : List ℕ) (k : ℕ) → k ≤ length b → length s ≤ limit → IsString s (take k b)
+pub whole_from_string : (limit : ℕ) (b s : List ℕ) (k : ℕ) → k ≤ length b → length s ≤ limit
+    → IsString s (take k b)
     → string_at limit b ≡ whole s k
 whole_from_string limit b s k within low is =
     ap (string_at limit) (sym (take-append-drop k b))

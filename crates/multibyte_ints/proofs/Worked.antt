@@ -4,7 +4,8 @@ use lib.Utf8.{encode}
 use Rattle.std.specs.Str.{is_utf8, chars}
 use Rattle.unit_streams.specs.Front.{Front, begun, whole, wrong}
 use Rattle.multibyte_ints.specs.Integer.{shortest, shortest_within, value_of, int_at, int_ending_at}
-use Rattle.multibyte_ints.specs.Text.{StringFault, string_at, text_behind, text_at, text_ending_at, string_bytes_of, too_long, bad_utf8}
+use Rattle.multibyte_ints.specs.Text.{StringFault, string_at, text_behind, text_at, text_ending_at}
+use Rattle.multibyte_ints.specs.Text.{string_bytes_of, too_long, bad_utf8}
 
 -- a number, and its shortest spelling
 abbrev Written : Type 0
@@ -55,7 +56,8 @@ strings : AreStrings (
     (9, 0x02 ∷ 0xC3 ∷ 0xA9 ∷ [], whole (0xC3 ∷ 0xA9 ∷ []) 3) ∷
     (9, 0x01 ∷ 0xC3 ∷ [], wrong bad_utf8 2) ∷
     [])
-unfolding string_at text_behind text_at text_ending_at int_at int_ending_at value_of is_utf8 chars encode
+unfolding string_at text_behind text_at text_ending_at int_at int_ending_at value_of is_utf8 chars
+    encode
 strings = refl
 
 hi : string_bytes_of (0x68 ∷ 0x69 ∷ []) ≡ 0x02 ∷ 0x68 ∷ 0x69 ∷ []

@@ -1,7 +1,9 @@
 -- The variable-length integer (MC-NBFX's MultiByteInt31, MC-NMF's record size): one to five bytes
 -- with seven value bits each, least significant first, where the top bit says that another byte
 -- follows.
-use Rattle.std.specs.Prelude.{◌≡◌, ℕ, zero, suc, ◌+◌, ◌-◌, ◌*◌, ◌/◌, ◌%◌, ◌^◌, ◌<◌, ◌≤◌, List, [], ◌∷◌, length, take, slice_index, ◌==◌, nat_lt, nat_le, ◌&&◌, if◌then◌else◌, ⊤}
+use Rattle.std.specs.Prelude.{◌≡◌, ℕ, zero, suc, ◌+◌, ◌-◌, ◌*◌, ◌/◌, ◌%◌, ◌^◌, ◌<◌, ◌≤◌, List, []}
+use Rattle.std.specs.Prelude.{◌∷◌, length, take, slice_index, ◌==◌, nat_lt, nat_le, ◌&&◌}
+use Rattle.std.specs.Prelude.{if◌then◌else◌, ⊤}
 use Rattle.std.specs.List.{prefix_len}
 use Rattle.unit_streams.specs.Front.{Front, begun, whole, wrong}
 

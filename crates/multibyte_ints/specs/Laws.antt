@@ -1,8 +1,10 @@
 -- What holds of integers and strings by their definitions alone, whatever bytes they are read from.
-use Rattle.std.specs.Prelude.{◌≡◌, ℕ, ◌+◌, ◌-◌, ◌^◌, ◌<◌, ◌≤◌, ◌↔◌, List, [], ◌++◌, length, take, drop, slice_index, IsUtf8}
+use Rattle.std.specs.Prelude.{◌≡◌, ℕ, ◌+◌, ◌-◌, ◌^◌, ◌<◌, ◌≤◌, ◌↔◌, List, [], ◌++◌, length, take}
+use Rattle.std.specs.Prelude.{drop, slice_index, IsUtf8}
 use Rattle.unit_streams.specs.Front.{begun, whole, wrong}
 use Rattle.multibyte_ints.specs.Integer.{Spells, IsBytes, shortest, int_at}
-use Rattle.multibyte_ints.specs.Text.{IsString, bad_int, too_long, bad_utf8, string_bytes_of, string_at}
+use Rattle.multibyte_ints.specs.Text.{IsString, bad_int, too_long, bad_utf8, string_bytes_of}
+use Rattle.multibyte_ints.specs.Text.{string_at}
 
 -- the integer at the front is the one that bytes there are a spelling of
 abbrev pub IntegersAreSpellings : Type 0

@@ -5,7 +5,8 @@ use Rattle.multibyte_ints.specs.declared.text.Part.{Part}
 use Rattle.multibyte_ints.specs.declared.text.Part.TheVariants.{Length, Text, Answered}
 use Rattle.multibyte_ints.specs.declared.text.StringReader.{StringReader}
 use Rattle.multibyte_ints.specs.declared.text.StringStep.{StringStep}
-use Rattle.multibyte_ints.specs.declared.text.StringStep.TheVariants.{More, Done, BadInt, TooLong, BadUtf8}
+use Rattle.multibyte_ints.specs.declared.text.StringStep.TheVariants.{More, Done, BadInt, TooLong}
+use Rattle.multibyte_ints.specs.declared.text.StringStep.TheVariants.{BadUtf8}
 use Rattle.unit_streams.specs.Front.{Front, begun, whole, wrong}
 use Rattle.multibyte_ints.specs.Integer.{int_at}
 use Rattle.multibyte_ints.specs.Text.{StringFault, bad_int, too_long, bad_utf8, string_at}

@@ -1,5 +1,6 @@
 -- What the next bytes of a payload are answered with, and what they leave.
-use Rattle.std.proofs.Common.{◌≡◌, ℕ, ◌+◌, ◌<◌, ◌≤◌, ◌^◌, List, [], ◌++◌, length, take, Some, None, Ok, Err, refl, sym, ap, ◌∙◌, subst, arith, length-append}
+use Rattle.std.proofs.Common.{◌≡◌, ℕ, ◌+◌, ◌<◌, ◌≤◌, ◌^◌, List, [], ◌++◌, length, take, Some, None}
+use Rattle.std.proofs.Common.{Ok, Err, refl, sym, ap, ◌∙◌, subst, arith, length-append}
 use Rattle.unit_streams.specs.Judging.{refusal_at, answer, goes_on, offends}
 use Rattle.unit_streams.specs.Going.{IsQuiet}
 use Rattle.unit_streams.proofs.Answers.{answers_are_first}
@@ -10,12 +11,14 @@ use Rattle.nbfx_decoder.specs.declared.faults.UnitFault.{UnitFault}
 use Rattle.nbfx_decoder.specs.declared.faults.UnitFault.TheVariants.{Refused, Memory}
 use Rattle.nbfx_decoder.specs.Answers.{ShowsFault}
 use Rattle.nbfx_decoder.specs.Payload.{refusal, payload}
-use Rattle.nbfx_decoder.specs.Standing.{IsPlacedAt, settings_of, taken_of, situation_of, from_of, StandsFor, FailedBehind, FailedWithin, ShownBy, FeedAnswers}
+use Rattle.nbfx_decoder.specs.Standing.{IsPlacedAt, settings_of, taken_of, situation_of, from_of}
+use Rattle.nbfx_decoder.specs.Standing.{StandsFor, FailedBehind, FailedWithin, ShownBy, FeedAnswers}
 use Rattle.nbfx_decoder.specs.Taking.{AllAnswers}
 use Rattle.nbfx_decoder.specs.Units.{HasStrings, Keeps, KeepsSettings}
 use Rattle.nbfx_decoder.proofs.AllSteps.{going_unrefused}
 use Rattle.nbfx_decoder.proofs.Keeping.{keeps_settings, settings_through, strings_kept}
-use Rattle.nbfx_decoder.proofs.StandsFacts.{settings_kept, stands_as, stands_of, failed_of, counts_taken, taken_is, still_pending}
+use Rattle.nbfx_decoder.proofs.StandsFacts.{settings_kept, stands_as, stands_of, failed_of}
+use Rattle.nbfx_decoder.proofs.StandsFacts.{counts_taken, taken_is, still_pending}
 
 module _ (d mid : Decoder) (strings : List (List ℕ)) (p y : List ℕ) (h : StandsFor d strings p)
     (kept : KeepsSettings d.units mid.units) where

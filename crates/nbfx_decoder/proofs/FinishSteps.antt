@@ -1,5 +1,7 @@
 -- What the end of a payload is answered with, and what it leaves.
-use Rattle.std.proofs.Common.{◌≡◌, ℕ, suc, ◌+◌, ◌↔◌, ◌⊎◌, inl, inr, List, [], ◌∷◌, ◌++◌, length, take, Option, Some, None, Result, Ok, Err, refl, sym, ap, ◌∙◌, subst, arith}
+use Rattle.std.proofs.Common.{◌≡◌, ℕ, suc, ◌+◌, ◌↔◌, ◌⊎◌, inl, inr, List, [], ◌∷◌, ◌++◌, length}
+use Rattle.std.proofs.Common.{take, Option, Some, None, Result, Ok, Err, refl, sym, ap, ◌∙◌, subst}
+use Rattle.std.proofs.Common.{arith}
 use Rattle.unit_streams.specs.Front.{Front, begun, whole, wrong}
 use Rattle.unit_streams.specs.Parts.{◌>>=◌, seen}
 use Rattle.unit_streams.specs.Judging.{ending_at}
@@ -25,8 +27,10 @@ use Rattle.nbfx_decoder.specs.declared.section.Section.{Section}
 use Rattle.nbfx_decoder.specs.declared.section.Section.TheVariants.{TableSize, Strings, Nodes}
 use Rattle.nbfx_decoder.specs.Sections.{first_section}
 use Rattle.nbfx_decoder.specs.Faults.{reason_of}
-use Rattle.nbfx_decoder.specs.Payload.{Settings, Situation, PayloadUnit, node, place_of, unit_of, unit_in, refusal, after, cut_at, payload}
-use Rattle.nbfx_decoder.specs.Standing.{IsPlacedAt, settings_of, situation_of, from_of, begun_of, StandsFor, FailedBehind, FinishAnswers}
+use Rattle.nbfx_decoder.specs.Payload.{Settings, Situation, PayloadUnit, node, place_of, unit_of}
+use Rattle.nbfx_decoder.specs.Payload.{unit_in, refusal, after, cut_at, payload}
+use Rattle.nbfx_decoder.specs.Standing.{IsPlacedAt, settings_of, situation_of, from_of, begun_of}
+use Rattle.nbfx_decoder.specs.Standing.{StandsFor, FailedBehind, FinishAnswers}
 use Rattle.nbfx_decoder.specs.Units.{Keeps}
 use Rattle.nbfx_decoder.specs.Laws.{MayBegin, IsUnrefused, IsWholePayload}
 use Rattle.nbfx_decoder.proofs.Keeping.{keeps_settings, strings_kept}
@@ -35,7 +39,9 @@ use Rattle.nbfx_decoder.proofs.Sound.{keeps_within}
 use Rattle.nbfx_decoder.proofs.PayloadAnswers.{finished_where_whole, strings_behind}
 use Rattle.nbfx_decoder.proofs.PayloadReasons.{refused_where_shown}
 use Rattle.nbfx_decoder.proofs.UnitCases.{UnitCase, a_size, a_string, a_node, unit_case}
-use Rattle.nbfx_decoder.proofs.StandsFacts.{settings_kept, stands_as, reached_of, items_here, failed_of, payload_small, depth_some, counts_taken, stands_first}
+use Rattle.nbfx_decoder.proofs.StandsFacts.{settings_kept, stands_as, reached_of, items_here}
+use Rattle.nbfx_decoder.proofs.StandsFacts.{failed_of, payload_small, depth_some, counts_taken}
+use Rattle.nbfx_decoder.proofs.StandsFacts.{stands_first}
 
 -- before the nodes there are no items
 abbrev pub NodesOrNone : Situation → Type 0
@@ -90,7 +96,8 @@ module _ (d : Decoder) (strings : List (List ℕ)) (p : List ℕ) (h : StandsFor
   -- the root has ended
   module _ (document : IsDocument d.units.document) where
     ended : position_of (situation_of (settings_of d) strings p).items ≡ Some positions.After
-    ended = ap position_of (sym (items_here d strings p h)) ∙ document-position d.units.document document
+    ended = ap position_of (sym (items_here d strings p h)) ∙ document-position d.units.document
+        document
 
     pub nothing_cut : ending_at (payload (settings_of d) strings) p ≡ None
     nothing_cut = ending_is ∙ ap (λ o. cut_at o (from_of (settings_of d) strings p)) ended
@@ -138,7 +145,8 @@ module _ (d : Decoder) (strings : List (List ℕ)) (p : List ℕ) (h : StandsFor
             → cut_at o (from_of (settings_of d) strings p)
             ≡ Some (refusal (from_of (settings_of d) strings p) DocumentCut)
         by_position (Some positions.After) e = absurd
-            (none (position_of-document d.units.document (ap position_of (items_here d strings p h) ∙ e)))
+            (none (position_of-document d.units.document
+            (ap position_of (items_here d strings p h) ∙ e)))
         by_position None e = refl
         by_position (Some positions.Before) e = refl
         by_position (Some (positions.Within inner attributes)) e = refl

@@ -10,11 +10,18 @@ pub keeps_settings : {old new : UnitReader} → Keeps old new → KeepsSettings 
 keeps_settings same = record { statics = same.statics; quotas = same.quotas; kind = same.kind }
 
 -- what keeps them twice keeps them
-pub settings_through : {old mid new : UnitReader} → KeepsSettings old mid → KeepsSettings mid new → KeepsSettings old new
-settings_through first then = record { statics = then.statics ∙ first.statics; quotas = then.quotas ∙ first.quotas; kind = then.kind ∙ first.kind }
+pub settings_through : {old mid new : UnitReader} → KeepsSettings old mid → KeepsSettings mid new
+    → KeepsSettings old new
+settings_through first then = record {
+  statics = then.statics ∙ first.statics;
+  quotas = then.quotas
+      ∙ first.quotas;
+  kind = then.kind ∙ first.kind;
+}
 
 -- its strings stay, wherever its unit begins
-pub strings_kept : {old new : UnitReader} {x : Settings} {strings : List (List ℕ)} {at from : ℕ} → Keeps old new → HasStrings old x strings at → new.from ≡ from → HasStrings new x strings from
+pub strings_kept : {old new : UnitReader} {x : Settings} {strings : List (List ℕ)} {at from : ℕ}
+    → Keeps old new → HasStrings old x strings at → new.from ≡ from → HasStrings new x strings from
 strings_kept same set from = record {
   statics = ap (λ s. s.now) same.statics ∙ set.statics;
   kind = same.kind ∙ set.kind;
@@ -24,7 +31,8 @@ strings_kept same set from = record {
 }
 
 -- where it stands where it stood, it is in the same situation
-pub stays_at : {old new : UnitReader} {x : Settings} {z : Situation} {from : ℕ} → Stays old new → IsAt old x z from → IsAt new x z from
+pub stays_at : {old new : UnitReader} {x : Settings} {z : Situation} {from : ℕ} → Stays old new
+    → IsAt old x z from → IsAt new x z from
 stays_at same at = record {
   set = strings_kept same.kept at.set (same.from_is ∙ at.set.from_is);
   section = same.section ∙ at.section;

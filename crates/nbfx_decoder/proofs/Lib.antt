@@ -25,7 +25,8 @@ pub mod ShownFacts
 -- what those know that call them
 pub mod Feeding
 -- for the laws. TableBytes: a string that is read of a table is what bytes there are. Counts: how
--- many items and values a node means. UnitCases: which unit was read. Sound: what bounds situations.
+-- many items and values a node means. UnitCases: which unit was read. Sound: what bounds
+-- situations.
 pub mod TableBytes
 pub mod Counts
 pub mod UnitCases

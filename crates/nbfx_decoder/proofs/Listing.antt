@@ -1,6 +1,7 @@
 -- What a list says, value by value, where all of it is there.
 use denote.Ref.{Bor}
-use Rattle.std.proofs.Common.{◌≡◌, ℕ, List, [], ◌∷◌, ◌++◌, Bool, true, false, Option, Some, None, Result, Ok, Err, refl, sym, ap, ◌∙◌, subst}
+use Rattle.std.proofs.Common.{◌≡◌, ℕ, List, [], ◌∷◌, ◌++◌, Bool, true, false, Option, Some, None}
+use Rattle.std.proofs.Common.{Result, Ok, Err, refl, sym, ap, ◌∙◌, subst}
 use Rattle.std.specs.Prelude.{IfOk, IsTrue, ◌&&◌}
 use Rattle.std.specs.List.{list_all}
 use Rattle.std.specs.Str.{is_utf8}
@@ -19,7 +20,9 @@ use Rattle.nbfx_records.specs.declared.nodes.Node.TheVariants as nodes
 use Rattle.nbfx_records.specs.declared.nodes.RecordFault.{RecordFault}
 use Rattle.nbfx_records.specs.declared.nodes.RawScalar.{RawScalar}
 use Rattle.nbfx_records.specs.declared.nodes.RawValue.TheVariants as values
-use Rattle.nbfx_records.specs.Contents.{attribute_node, behind_texts, contents, each, judge, led, name_is_text, scalar_is_text, scalar_judged, scalar_value, scalars_judged}
+use Rattle.nbfx_records.specs.Contents.{attribute_node, behind_texts, contents, each, judge, led}
+use Rattle.nbfx_records.specs.Contents.{name_is_text, scalar_is_text, scalar_judged, scalar_value}
+use Rattle.nbfx_records.specs.Contents.{scalars_judged}
 use Rattle.nbfx_records.specs.Meaning.{items_of, meant_scalar, name_text}
 use Rattle.nbfx_records.specs.Shapes.{ScalarShape, Shape, adds, attributes, has_text, several}
 use Rattle.nbfx_records.specs.Valid.{are_valid_names, is_valid_node, is_valid_raw}
@@ -33,17 +36,20 @@ use Rattle.nbfx_records.specs.declared.attributes.ValuePart.{ValuePart}
 use Rattle.nbfx_records.specs.declared.attributes.ValuePart.TheVariants.{List as ListAt}
 use Rattle.nbfx_records.specs.declared.records.RecordPart.{RecordPart}
 use Rattle.nbfx_records.specs.declared.records.RecordPart.TheVariants as records
-use Rattle.nbfx_records.specs.Views.{attribute_seen, listed, name_seen, prefix_seen, record_seen, value_seen}
+use Rattle.nbfx_records.specs.Views.{attribute_seen, listed, name_seen, prefix_seen, record_seen}
+use Rattle.nbfx_records.specs.Views.{value_seen}
 use Rattle.unit_streams.specs.declared.memory.Memory.{Memory}
 use Rattle.nbfx_decoder.specs.declared.meaning.Meant.{Meant}
 use Rattle.nbfx_decoder.specs.declared.meaning.Meant.TheVariants as meants
-use Rattle.nbfx_decoder.specs.Meant.{MeansAttribute, MeansValue, MeansValues, SaysAttribute, SaysText, SaysValues, items_in}
+use Rattle.nbfx_decoder.specs.Meant.{MeansAttribute, MeansValue, MeansValues, SaysAttribute}
+use Rattle.nbfx_decoder.specs.Meant.{SaysText, SaysValues, items_in}
 use Rattle.nbfx_decoder.specs.Units.{IsSaid, MakesValid, MayMake, names_in}
 use Rattle.nbfx_decoder.specs.declared.units.UnitReader.{UnitReader}
 use Rattle.nbfx_decoder.proofs.MeaningFacts.{AreFound, all_more, one_more}
 
 -- a list that is judged well has a first value that is, and others
-record IsLed {B : Type 0} (t : Bool) (v : Option B) (ts : Bool) (vs : Option (List B)) (raws : List B)
+record IsLed {B : Type 0} (t : Bool) (v : Option B) (ts : Bool) (vs : Option (List B))
+    (raws : List B)
     : Type 0 where
   first : B
   others : List B
@@ -130,7 +136,8 @@ module _ (table : StringTable) where
         record {
           made = far.made ++ raw ∷ [];
           same =
-              judged_more scalar_is_text scalar_value all here scalar rest far.made far.same first raw
+              judged_more scalar_is_text scalar_value all here scalar rest far.made far.same first
+              raw
               (ap (behind_texts (list_all scalar_is_text rest)) judged);
           are =
               one_more (meant_scalar table) is_valid_raw is_valid_scalar far.made said raw value
@@ -190,7 +197,8 @@ module _ (scalars : List ScalarShape) (ends : Bool) where
   list_means r table same (n, is, (more, found, fits)) makes =
       let it = list_of n is in
       let text = subst (λ (m : Node). items_of (names_in r) m ≡ Some more) it.2 found in
-      let here = subst (λ (t : StringTable). items_of t (nodes.Text (values.List it.0) ends) ≡ Some more) (sym same) text in
+      let here = subst (λ (t : StringTable). items_of t (nodes.Text (values.List it.0) ends)
+      ≡ Some more) (sym same) text in
       let value = mapped_some _ _ more here in
       let said = mapped_some said_values.List _ value.0 value.1 in
       record {
@@ -220,7 +228,8 @@ module _ (scalars : List ScalarShape) (ends : Bool) where
   list_all_said r table same (Err memory) h = tt
 
 -- an attribute whose value is a list is made of its prefix, its name and its values
-record OfAttribute (p n t : Bool) (found : Option (List RawScalar)) (prefix : List ℕ) (name : NameRef)
+record OfAttribute (p n t : Bool) (found : Option (List RawScalar)) (prefix : List ℕ)
+    (name : NameRef)
     (made : Node) : Type 0 where
   raws : List RawScalar
   prefix_is_text : p ≡ true
@@ -310,7 +319,8 @@ module _ (prefix : List ℕ) (name : NameRef) (scalars : List ScalarShape) where
     made = nodes.Attribute prefix name (values.List raws);
     is =
         attribute_made (is_utf8 prefix) (name_is_text name) (list_all scalar_is_text scalars)
-        (each scalar_value scalars) prefix name raws means.prefix_is_text means.named.is_text judged;
+        (each scalar_value scalars) prefix name raws means.prefix_is_text means.named.is_text
+        judged;
     means =
         subst
         (λ (t : StringTable).

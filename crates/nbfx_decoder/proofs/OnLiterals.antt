@@ -5,7 +5,8 @@ use Rattle.std.specs.Char.{encode_utf8}
 use Rattle.std.specs.Char.Utf16.{utf16_chars}
 use Rattle.std.specs.Str.{chars, is_utf8}
 use Rattle.unit_streams.specs.Grammar.{peel, peeled, standing}
-use Rattle.unit_streams.specs.Judging.{ending_at, event_at, history, history_from, offence, refusal_at}
+use Rattle.unit_streams.specs.Judging.{ending_at, event_at, history, history_from, offence}
+use Rattle.unit_streams.specs.Judging.{refusal_at}
 use Rattle.unit_streams.specs.Parts.{◌>>=◌, many, repeated}
 use Rattle.multibyte_ints.specs.Integer.{int_at, int_ending_at, value_of}
 use Rattle.nbfx_values.specs.Limits.{limits, usual_limits}
@@ -19,7 +20,10 @@ use Rattle.nbfx_decoder.specs.Tables.{head_at, table_string_at}
 
 -- what a proof unfolds to compute payloads
 unfoldable pub payloads_on_literals : ⊤
-unfolding encode_utf8 utf16_chars chars is_utf8 ◌>>=◌ many repeated int_at int_ending_at value_of record_kind array_at record_at shape_at scalar_of contents node_at head_at table_string_at unit_in after refused peeled peel standing event_at refusal_at ending_at history_from history offence
+unfolding encode_utf8 utf16_chars chars is_utf8 ◌>>=◌ many repeated int_at int_ending_at value_of
+    record_kind array_at record_at shape_at scalar_of contents node_at head_at table_string_at
+    unit_in after refused peeled peel standing event_at refusal_at ending_at history_from history
+    offence
 payloads_on_literals = tt
 
 -- the first strings of the published dictionary that an addressed envelope uses
@@ -38,4 +42,9 @@ usual kind = record { statics = envelope_strings; kind = kind; limits = usual_li
 -- one static string, four elements in one another, strings of eight bytes, twenty bytes of content
 abbrev pub narrow : Kind → Settings
 narrow kind =
-    record { statics = (2, codes "Envelope") ∷ []; kind = kind; limits = limits 4096 4 8 20 2048 4096 }
+    record {
+      statics = (2, codes "Envelope") ∷ [];
+      kind = kind;
+      limits = limits 4096 4 8 20 2048
+          4096;
+    }

@@ -1,5 +1,6 @@
 -- Which bytes of a payload give each reason for refusing it.
-use Rattle.std.proofs.Common.{◌≡◌, ℕ, zero, suc, inl, inr, List, ◌++◌, length, take, Bool, true, false, Option, Some, None, refl, sym, ap, ◌∙◌, subst, arith}
+use Rattle.std.proofs.Common.{◌≡◌, ℕ, zero, suc, inl, inr, List, ◌++◌, length, take, Bool, true}
+use Rattle.std.proofs.Common.{false, Option, Some, None, refl, sym, ap, ◌∙◌, subst, arith}
 use Rattle.std.specs.Prelude.{nat_lt, if◌then◌else◌}
 use Rattle.std.proofs.Math.Seq.{take-length}
 use Rattle.std.proofs.lemmas.Bool.{ltb-true, lt-ltb}
@@ -30,14 +31,18 @@ use Rattle.nbfx_records.proofs.NodeBytes.{read_of_all, records_are_read}
 use Rattle.nbfx_decoder.specs.declared.section.Section.{Section}
 use Rattle.nbfx_decoder.specs.declared.section.Section.TheVariants.{TableSize, Strings, Nodes}
 use Rattle.nbfx_decoder.specs.Faults.{reason_of}
-use Rattle.nbfx_decoder.specs.Laws.{CutWhereUnended, FirstReasonRefuses, RefusedWhereShown, ShowsNothing}
-use Rattle.nbfx_decoder.specs.Payload.{Refusal, Settings, Situation, PayloadUnit, table_size, table_string, node, cut_at, payload, reason_in, refusal, refusal_from, refused, room_for, table_in, unit_in, unit_of}
+use Rattle.nbfx_decoder.specs.Laws.{CutWhereUnended, FirstReasonRefuses, RefusedWhereShown}
+use Rattle.nbfx_decoder.specs.Laws.{ShowsNothing}
+use Rattle.nbfx_decoder.specs.Payload.{Refusal, Settings, Situation, PayloadUnit, table_size}
+use Rattle.nbfx_decoder.specs.Payload.{table_string, node, cut_at, payload, reason_in, refusal}
+use Rattle.nbfx_decoder.specs.Payload.{refusal_from, refused, room_for, table_in, unit_in, unit_of}
 use Rattle.nbfx_decoder.specs.Reasons.{IsCutAt, Shows, ShowsAtNode, ShowsFrom, node_place}
 use Rattle.nbfx_decoder.specs.Standing.{from_of, situation_of}
 use Rattle.nbfx_decoder.specs.Tables.{table_integer, table_string_at}
 use Rattle.nbfx_decoder.proofs.NodeReasons.{node_shows, part_wrong}
 use Rattle.nbfx_decoder.proofs.Readable.{readable}
-use Rattle.nbfx_decoder.proofs.TableReasons.{integer_shows, shows_integer, shows_string, string_shows}
+use Rattle.nbfx_decoder.proofs.TableReasons.{integer_shows, shows_integer, shows_string}
+use Rattle.nbfx_decoder.proofs.TableReasons.{string_shows}
 use Rattle.nbfx_decoder.proofs.UnitCases.{UnitCase, a_node, a_size, a_string, unit_case}
 
 seen_wrong : {A B R S : Type 0} (f : A → B) (h : R → S) (v : Front A R) (s : S) (k : ℕ) → seen f h v

@@ -18,8 +18,11 @@ use Rattle.nbfx_records.proofs.ShapeFronts.{node_fronts, node_of_nothing}
 use Rattle.nbfx_decoder.specs.declared.section.Section.{Section}
 use Rattle.nbfx_decoder.specs.declared.section.Section.TheVariants.{TableSize, Strings, Nodes}
 use Rattle.nbfx_decoder.specs.Faults.{reason_of}
-use Rattle.nbfx_decoder.specs.Tables.{StringHead, table_integer, length_judged, head_at, text_judged, table_text_at, table_string_at}
-use Rattle.nbfx_decoder.specs.Payload.{Settings, Situation, PayloadUnit, table_size, table_string, node, refusal, place_of, room_for, node_behind, unit_of, unit_in, payload}
+use Rattle.nbfx_decoder.specs.Tables.{StringHead, table_integer, length_judged, head_at}
+use Rattle.nbfx_decoder.specs.Tables.{text_judged, table_text_at, table_string_at}
+use Rattle.nbfx_decoder.specs.Payload.{Settings, Situation, PayloadUnit, table_size, table_string}
+use Rattle.nbfx_decoder.specs.Payload.{node, refusal, place_of, room_for, node_behind, unit_of}
+use Rattle.nbfx_decoder.specs.Payload.{unit_in, payload}
 
 -- an integer
 pub reads_integer : ReadsFront table_integer
@@ -32,15 +35,18 @@ no_integer = ap (seen (λ n. n) (λ _. BadInt)) int_peels.nothing
 module _ (room left : ℕ) (some : 0 < left) where
   pub reads_head : ReadsFront (head_at room left)
   unfolding head_at
-  reads_head = reads_judged_at (length_judged room left) (within left TableCut table_integer) (reads_within left TableCut table_integer reads_integer some)
+  reads_head = reads_judged_at (length_judged room left) (within left TableCut table_integer)
+      (reads_within left TableCut table_integer reads_integer some)
 
   pub no_head : head_at room left [] ≡ begun
   unfolding head_at
-  no_head = ap (judged_at (length_judged room left)) (within_nothing left TableCut table_integer reads_integer some no_integer)
+  no_head = ap (judged_at (length_judged room left))
+      (within_nothing left TableCut table_integer reads_integer some no_integer)
 
   pub reads_text : (head : StringHead) → ReadsFront (table_text_at head)
   reads_text head =
-      reads_seen (λ text. record { text = text; left = head.left }) (λ reason. reason) (λ b. judged text_judged (some_bytes head.size b))
+      reads_seen (λ text. record { text = text; left = head.left }) (λ reason. reason)
+      (λ b. judged text_judged (some_bytes head.size b))
       (reads_judged text_judged (some_bytes head.size) (reads_bytes head.size))
 
   pub reads_string : ReadsFront (table_string_at room left)
@@ -53,10 +59,12 @@ module _ (room left : ℕ) (some : 0 < left) where
 
 -- a node
 pub reads_node : (depth : ℕ) (items : List Item) → ReadsFront (node_behind depth items)
-reads_node depth items = reads_seen node reason_of (node_at (place_of depth (position_of items))) (node_fronts (place_of depth (position_of items)))
+reads_node depth items = reads_seen node reason_of (node_at (place_of depth (position_of items)))
+    (node_fronts (place_of depth (position_of items)))
 
 pub no_node : (depth : ℕ) (items : List Item) → node_behind depth items [] ≡ begun
-no_node depth items = ap (seen node reason_of) (node_of_nothing (place_of depth (position_of items)))
+no_node depth items = ap (seen node reason_of)
+    (node_of_nothing (place_of depth (position_of items)))
 
 -- nothing
 reads_nothing : ReadsFront {A = PayloadUnit} {R = Reason} (λ bytes. begun)
@@ -67,18 +75,22 @@ module _ (x : Settings) (z : Situation) where
   reads_section TableSize = reads_seen table_size (λ reason. reason) table_integer reads_integer
   reads_section (Strings zero) = reads_nothing
   reads_section (Strings (suc more)) =
-      reads_seen table_string (λ reason. reason) (table_string_at (room_for x.limits.dictionary z.strings) (suc more)) (reads_string (room_for x.limits.dictionary z.strings) (suc more) (omega arith))
+      reads_seen table_string (λ reason. reason)
+      (table_string_at (room_for x.limits.dictionary z.strings) (suc more))
+      (reads_string (room_for x.limits.dictionary z.strings) (suc more) (omega arith))
   reads_section Nodes = reads_node x.limits.depth z.items
 
   pub no_unit : (section : Section) → unit_of x z section [] ≡ begun
   no_unit TableSize = ap (seen table_size (λ reason. reason)) no_integer
   no_unit (Strings zero) = refl
-  no_unit (Strings (suc more)) = ap (seen table_string (λ reason. reason)) (no_string (room_for x.limits.dictionary z.strings) (suc more) (omega arith))
+  no_unit (Strings (suc more)) = ap (seen table_string (λ reason. reason))
+      (no_string (room_for x.limits.dictionary z.strings) (suc more) (omega arith))
   no_unit Nodes = no_node x.limits.depth z.items
 
   pub reads_unit : (from : ℕ) → ReadsFront (unit_in x z from)
   unfolding unit_in
-  reads_unit from = reads_seen (λ unit. unit) (refusal from) (unit_of x z z.section) (reads_section z.section)
+  reads_unit from = reads_seen (λ unit. unit) (refusal from) (unit_of x z z.section)
+      (reads_section z.section)
 
   pub nothing_read : (from : ℕ) → unit_in x z from [] ≡ begun
   unfolding unit_in

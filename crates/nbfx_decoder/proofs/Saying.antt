@@ -1,5 +1,6 @@
 -- A whole record is read where it stands, and what it means is put behind the items.
-use Rattle.std.proofs.Common.{◌≡◌, ℕ, ◌+◌, ◌^◌, ◌<◌, ◌≤◌, List, [], ◌++◌, length, Option, Some, None, Result, Ok, Err, inr, refl, sym, ap, ◌∙◌, subst, arith}
+use Rattle.std.proofs.Common.{◌≡◌, ℕ, ◌+◌, ◌^◌, ◌<◌, ◌≤◌, List, [], ◌++◌, length, Option, Some}
+use Rattle.std.proofs.Common.{None, Result, Ok, Err, inr, refl, sym, ap, ◌∙◌, subst, arith}
 use Rattle.std.specs.Prelude.{IsErrAnd, IsTrue}
 use Rattle.std.proofs.lemmas.Result.{err_from_is_err_and}
 use Rattle.std.proofs.lemmas.List.{append-nil}
@@ -43,10 +44,14 @@ use Rattle.nbfx_decoder.specs.declared.units.UnitRead.{UnitRead}
 use Rattle.nbfx_decoder.specs.declared.units.UnitReader.{UnitReader}
 use Rattle.nbfx_decoder.specs.Payload.{Settings, Situation, node, refused, unit_in}
 use Rattle.nbfx_decoder.specs.declared.units.UnitRead.TheVariants as units_read
-use Rattle.nbfx_decoder.specs.Units.{HasShape, IsAdded, IsAt, Judged, Judges, MayAdd, MayMake, RefusedAs, unfit, unnamed_in, too_much_in, Keeps, KeepsSettings, Reads, SayAnswers, StandsAt, UnitAnswers, names_in, place_in}
+use Rattle.nbfx_decoder.specs.Units.{HasShape, IsAdded, IsAt, Judged, Judges, MayAdd, MayMake}
+use Rattle.nbfx_decoder.specs.Units.{RefusedAs, unfit, unnamed_in, too_much_in, Keeps}
+use Rattle.nbfx_decoder.specs.Units.{KeepsSettings, Reads, SayAnswers, StandsAt, UnitAnswers}
+use Rattle.nbfx_decoder.specs.Units.{names_in, place_in}
 use Rattle.nbfx_decoder.specs.Faults.{stopped, unmade}
 use Rattle.nbfx_decoder.specs.Measuring.{Measured, weigh_node, weighed}
-use Rattle.nbfx_decoder.proofs.UnitSteps.{node_stands, node_unread, node_waits, node_whole, passed, too_much, unnamed}
+use Rattle.nbfx_decoder.proofs.UnitSteps.{node_stands, node_unread, node_waits, node_whole, passed}
+use Rattle.nbfx_decoder.proofs.UnitSteps.{too_much, unnamed}
 
 -- a record of any shape has some bytes
 shape_of_nothing : (place : NodePlace) → shape_at place [] ≡ begun

@@ -6,14 +6,17 @@ use Rattle.nbfx_decoder.specs.declared.decoder.Decoder.{Decoder}
 use Rattle.nbfx_decoder.specs.declared.faults.DecodeFault.{DecodeFault}
 use Rattle.nbfx_decoder.specs.Payload.{Settings, payload}
 use Rattle.nbfx_decoder.specs.Values.{values_of}
-use Rattle.nbfx_decoder.specs.Standing.{IsPlacedAt, settings_of, situation_of, from_of, begun_of, StandsFor, Failed, FailedBehind}
+use Rattle.nbfx_decoder.specs.Standing.{IsPlacedAt, settings_of, situation_of, from_of, begun_of}
+use Rattle.nbfx_decoder.specs.Standing.{StandsFor, Failed, FailedBehind}
 use Rattle.nbfx_decoder.specs.Units.{HasStrings, Keeps}
 use Rattle.string_tables.specs.SessionStrings.{used_cost}
 use Rattle.nbfx_decoder.specs.Bounds.{KeepsWithin}
 use Rattle.nbfx_decoder.proofs.Keeping.{keeps_settings, strings_kept}
 use Rattle.nbfx_decoder.proofs.Readable.{readable}
 use Rattle.nbfx_decoder.proofs.Sound.{keeps_within}
-use Rattle.nbfx_decoder.proofs.StandsFacts.{settings_kept, stands_as, reached_of, items_here, stands_of, failed_of, content_most, depth_some, counts_taken}
+use Rattle.nbfx_decoder.proofs.StandsFacts.{settings_kept, stands_as, reached_of, items_here}
+use Rattle.nbfx_decoder.proofs.StandsFacts.{stands_of, failed_of, content_most, depth_some}
+use Rattle.nbfx_decoder.proofs.StandsFacts.{counts_taken}
 
 -- what the decoder shows of what it stands for
 module _ (d : Decoder) (strings : List (List ℕ)) (p : List ℕ) (h : StandsFor d strings p) where

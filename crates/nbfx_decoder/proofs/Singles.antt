@@ -7,8 +7,10 @@ use Rattle.nbfx_records.specs.declared.nodes.Node.{Node}
 use Rattle.nbfx_records.specs.declared.nodes.Node.TheVariants as nodes
 use Rattle.nbfx_records.specs.declared.nodes.RawScalar.{RawScalar}
 use Rattle.nbfx_records.specs.declared.nodes.RawValue.TheVariants.{One}
-use Rattle.nbfx_records.specs.Contents.{attribute_node, contents, is_text, judge, node_of, scalar_value}
-use Rattle.nbfx_records.specs.Shapes.{Shape, adds, attributes, begins_element, comments, declares, ends_element, has_text, one, repeats, several}
+use Rattle.nbfx_records.specs.Contents.{attribute_node, contents, is_text, judge, node_of}
+use Rattle.nbfx_records.specs.Contents.{scalar_value}
+use Rattle.nbfx_records.specs.Shapes.{Shape, adds, attributes, begins_element, comments, declares}
+use Rattle.nbfx_records.specs.Shapes.{ends_element, has_text, one, repeats, several}
 use Rattle.nbfx_decoder.specs.Units.{IsSingle, IsSingleShape}
 
 found_in : (texts : Bool) (found : Option Node) (node : Node) → judge texts found ≡ Ok node

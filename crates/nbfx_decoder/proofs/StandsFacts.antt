@@ -1,5 +1,6 @@
 -- What a decoder stands for or shows, in the words of public clauses.
-use Rattle.std.proofs.Common.{◌≡◌, ℕ, ◌+◌, ◌<◌, ◌≤◌, ◌^◌, List, [], ◌++◌, length, take, false, Option, Some, None, refl, sym, ap, ◌∙◌, subst, arith}
+use Rattle.std.proofs.Common.{◌≡◌, ℕ, ◌+◌, ◌<◌, ◌≤◌, ◌^◌, List, [], ◌++◌, length, take, false}
+use Rattle.std.proofs.Common.{Option, Some, None, refl, sym, ap, ◌∙◌, subst, arith}
 use Rattle.unit_streams.specs.Front.{begun, whole}
 use Rattle.unit_streams.specs.Grammar.{Standing, standing}
 use Rattle.unit_streams.specs.Judging.{refusal_at, is_over_at}
@@ -11,7 +12,8 @@ use Rattle.nbfx_values.specs.QuotasOf.{limits_of}
 use Rattle.nbfx_decoder.specs.declared.decoder.Decoder.{Decoder}
 use Rattle.nbfx_decoder.specs.declared.faults.DecodeFault.{DecodeFault}
 use Rattle.nbfx_decoder.specs.Payload.{Settings, Situation, NoEvent, Refusal, beginning, payload}
-use Rattle.nbfx_decoder.specs.Standing.{settings_of, failure_of, taken_of, situation_of, Reached, StandsSo, StandsFor, Failed, FailedBehind}
+use Rattle.nbfx_decoder.specs.Standing.{settings_of, failure_of, taken_of, situation_of, Reached}
+use Rattle.nbfx_decoder.specs.Standing.{StandsSo, StandsFor, Failed, FailedBehind}
 use Rattle.nbfx_decoder.specs.Units.{IsAt, KeepsSettings}
 use Rattle.string_tables.specs.SessionStrings.{used_cost}
 use Rattle.nbfx_decoder.proofs.AllSteps.{going_unrefused}

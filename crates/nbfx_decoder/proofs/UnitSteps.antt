@@ -1,5 +1,7 @@
 -- A unit is read where all its bytes are there.
-use Rattle.std.proofs.Common.{◌≡◌, ℕ, zero, suc, ◌+◌, ◌-◌, ◌^◌, ◌<◌, ◌≤◌, inl, List, [], ◌∷◌, ◌++◌, length, true, Option, Some, None, Result, Err, refl, sym, ap, ◌∙◌, subst, arith, append_assoc}
+use Rattle.std.proofs.Common.{◌≡◌, ℕ, zero, suc, ◌+◌, ◌-◌, ◌^◌, ◌<◌, ◌≤◌, inl, List, [], ◌∷◌, ◌++◌}
+use Rattle.std.proofs.Common.{length, true, Option, Some, None, Result, Err, refl, sym, ap, ◌∙◌}
+use Rattle.std.proofs.Common.{subst, arith, append_assoc}
 use Rattle.std.specs.Prelude.{IsErrAnd, IsErrOf}
 use Rattle.std.specs.List.{list_all}
 use Rattle.std.proofs.lemmas.Bool.{lt-ltb, le-ltb}
@@ -24,7 +26,8 @@ use Rattle.nbfx_values.specs.declared.position.Position.{Position}
 use Rattle.nbfx_values.specs.declared.position.Position.TheVariants as positions
 use Rattle.nbfx_values.proofs.Positions.{position_from-append, position_from-none}
 use Rattle.nbfx_values.specs.declared.refusals.Reason.{Reason}
-use Rattle.nbfx_values.specs.declared.refusals.Reason.TheVariants.{BadInt, UnknownString, TooMuchContent}
+use Rattle.nbfx_values.specs.declared.refusals.Reason.TheVariants.{BadInt, UnknownString}
+use Rattle.nbfx_values.specs.declared.refusals.Reason.TheVariants.{TooMuchContent}
 use Rattle.string_tables.specs.SessionStrings.{used_cost}
 use Rattle.string_tables.specs.StringTable.{StringTable}
 use Rattle.session_dictionary.specs.Strings.{LimitedStrings}
@@ -47,7 +50,9 @@ use Rattle.nbfx_decoder.specs.declared.units.UnitReader.{UnitReader}
 use Rattle.nbfx_decoder.specs.Sections.{section_of, left_in}
 use Rattle.nbfx_decoder.specs.Faults.{reason_of}
 use Rattle.nbfx_decoder.specs.Tables.{TableString, table_string_at}
-use Rattle.nbfx_decoder.specs.Payload.{Settings, Situation, table_size, table_string, node, refusal, place_of, room_for, unit_of, unit_in, table_in, reason_in, added, after, refused}
+use Rattle.nbfx_decoder.specs.Payload.{Settings, Situation, table_size, table_string, node, refusal}
+use Rattle.nbfx_decoder.specs.Payload.{place_of, room_for, unit_of, unit_in, table_in, reason_in}
+use Rattle.nbfx_decoder.specs.Payload.{added, after, refused}
 use Rattle.nbfx_decoder.specs.Units.{AwaitsBytes, Keeps, IsAt, StringStands, UnitAnswers}
 use Rattle.nbfx_decoder.proofs.Keeping.{strings_kept}
 use Rattle.nbfx_decoder.proofs.Readable.{reads_string, no_string}
@@ -300,11 +305,13 @@ module _ (r : UnitReader) (x : Settings) (z : Situation) (from : ℕ) (at : IsAt
             ap (reason_in x.limits.content z.items) some ∙
             rw (le-ltb x.limits.content (content_of (z.items ++ items)) at_most) refl
 
-        pub unrefused : counted ≤ r.quotas.content → r.quotas.content < 2 ^ 32 → refused x z (node n)
+        pub unrefused : counted ≤ r.quotas.content → r.quotas.content < 2 ^ 32
+            → refused x z (node n)
             ≡ None
         unrefused le small = refused_as ∙ few le small
 
-        pub behind_node : counted ≤ r.quotas.content → r.quotas.content < 2 ^ 32 → (new : UnitReader)
+        pub behind_node : counted ≤ r.quotas.content → r.quotas.content < 2 ^ 32
+            → (new : UnitReader)
             → new.statics ≡ r.statics → new.kind ≡ r.kind → new.quotas ≡ r.quotas → new.table
             ≡ r.table
             → new.from ≡ r.from → new.section ≡ r.section → new.document ≡ document

@@ -4,7 +4,8 @@ use Rattle.std.specs.Prelude.{None, codes, map, pos, negsuc}
 use Rattle.unit_streams.specs.Judging.{offence}
 use Rattle.nbfx_values.specs.declared.content.ArrayKind.TheVariants.{Int32}
 use Rattle.nbfx_values.specs.declared.content.Item.{Item}
-use Rattle.nbfx_values.specs.declared.content.Item.TheVariants.{Start, Xmlns, Attr, Text, Array, Close}
+use Rattle.nbfx_values.specs.declared.content.Item.TheVariants.{Start, Xmlns, Attr, Text, Array}
+use Rattle.nbfx_values.specs.declared.content.Item.TheVariants.{Close}
 use Rattle.nbfx_values.specs.declared.scalars.Scalar.{Scalar}
 use Rattle.nbfx_values.specs.declared.scalars.Scalar.TheVariants.{Number, UniqueId, Text as TextOf}
 use Rattle.nbfx_values.specs.declared.scalars.Value.TheVariants.{One}
@@ -157,7 +158,8 @@ numbers : AreDecoded (
     (usual Plain, [], element (Number (pos 0)), [], 0x40 ∷ 0x01 ∷ 120 ∷ 0x81 ∷ []) ∷
     (usual Plain, [], element (Number (pos 1)), [], 0x40 ∷ 0x01 ∷ 120 ∷ 0x83 ∷ []) ∷
     (usual Plain, [], element (Number (negsuc 127)), [], 0x40 ∷ 0x01 ∷ 120 ∷ 0x89 ∷ 0x80 ∷ []) ∷
-    (usual Plain, [], element (Number (pos 128)), [], 0x40 ∷ 0x01 ∷ 120 ∷ 0x8b ∷ 0x80 ∷ 0x00 ∷ []) ∷ (
+    (usual Plain, [], element (Number (pos 128)), [], 0x40 ∷ 0x01 ∷ 120 ∷ 0x8b ∷ 0x80 ∷ 0x00 ∷ [])
+    ∷ (
       usual Plain,
       [],
       element (Number (pos 9223372036854775808)),

@@ -3,7 +3,12 @@
 use Rattle.std.proofs.Common.{◌≡◌, ℕ, List, [], ◌∷◌, Option, Some, refl}
 use Rattle.std.specs.Prelude.{codes, map}
 use Rattle.unit_streams.specs.Judging.{offence}
-use Rattle.nbfx_values.specs.declared.refusals.Reason.TheVariants.{BadArray, BadInt, BadUtf8, BadValue, DictionaryFull, DocumentCut, NodeOutOfPlace, TableCut, TooDeep, TooMuchContent, TrailingBytes, UnknownNode, UnknownString}
+use Rattle.nbfx_values.specs.declared.refusals.Reason.TheVariants.{BadArray, BadInt, BadUtf8}
+use Rattle.nbfx_values.specs.declared.refusals.Reason.TheVariants.{BadValue, DictionaryFull}
+use Rattle.nbfx_values.specs.declared.refusals.Reason.TheVariants.{DocumentCut, NodeOutOfPlace}
+use Rattle.nbfx_values.specs.declared.refusals.Reason.TheVariants.{TableCut, TooDeep}
+use Rattle.nbfx_values.specs.declared.refusals.Reason.TheVariants.{TooMuchContent, TrailingBytes}
+use Rattle.nbfx_values.specs.declared.refusals.Reason.TheVariants.{UnknownNode, UnknownString}
 use Rattle.nbfx_values.specs.declared.session.Kind.{Kind}
 use Rattle.nbfx_values.specs.declared.session.Kind.TheVariants.{Plain, Session}
 use Rattle.nbfx_decoder.specs.Payload.{Refusal, payload, refusal}

@@ -1,5 +1,6 @@
 -- What holds of payloads by their definitions alone.
-use Rattle.std.specs.Prelude.{◌≡◌, ℕ, ◌<◌, ◌≤◌, ◌↔◌, ◌⊎◌, List, [], ◌++◌, length, take, None, Some, IsSome, Ok}
+use Rattle.std.specs.Prelude.{◌≡◌, ℕ, ◌<◌, ◌≤◌, ◌↔◌, ◌⊎◌, List, [], ◌++◌, length, take, None, Some}
+use Rattle.std.specs.Prelude.{IsSome, Ok}
 use Rattle.unit_streams.specs.Judging.{answer, ending_at, goes_on, offence, offends, refusal_at}
 use Rattle.multibyte_ints.specs.Integer.{IsBytes}
 use Rattle.nbfx_values.specs.Positions.{position_of}

@@ -1,5 +1,6 @@
 -- What a node is found to mean. Public contracts cite none of this.
-use Rattle.std.specs.Prelude.{◌≡◌, ⊤, ℕ, Bool, IsTrue, List, [], ◌∷◌, Option, Some, None, Result, Ok, Err}
+use Rattle.std.specs.Prelude.{◌≡◌, ⊤, ℕ, Bool, IsTrue, List, [], ◌∷◌, Option, Some, None, Result}
+use Rattle.std.specs.Prelude.{Ok, Err}
 use Rattle.std.specs.List.{list_all}
 use Rattle.std.specs.Str.{is_utf8}
 use Rattle.nbfx_values.specs.declared.content.Item.{Item}

@@ -1,7 +1,9 @@
 -- What the meaning of a record counts in a document's content. Public contracts cite none of this.
-use Rattle.std.specs.Prelude.{◌≡◌, ⊤, ℕ, ◌+◌, List, length, sum_by, Option, Some, None, Result, Ok, Err}
+use Rattle.std.specs.Prelude.{◌≡◌, ⊤, ℕ, ◌+◌, List, length, sum_by, Option, Some, None, Result, Ok}
+use Rattle.std.specs.Prelude.{Err}
 use Rattle.std.specs.Option.{option_map}
-use Rattle.nbfx_values.specs.Measures.{array_content, attribute_content, capped, content_of, scalar_content, value_content}
+use Rattle.nbfx_values.specs.Measures.{array_content, attribute_content, capped, content_of}
+use Rattle.nbfx_values.specs.Measures.{scalar_content, value_content}
 use Rattle.string_tables.specs.StringTable.{StringTable}
 use Rattle.nbfx_records.specs.declared.nodes.ArrayNode.{ArrayNode}
 use Rattle.nbfx_records.specs.declared.nodes.AttrNode.{AttrNode}
@@ -13,7 +15,8 @@ use Rattle.nbfx_records.specs.declared.nodes.RawValue.{RawValue}
 use Rattle.nbfx_records.specs.declared.nodes.NodeFault.{NodeFault}
 use Rattle.nbfx_records.specs.declared.nodes.NodeFault.TheVariants.{Record, Memory}
 use Rattle.nbfx_records.specs.Contents.{each}
-use Rattle.nbfx_records.specs.Meaning.{items_of, meant_array, meant_part, meant_scalar, meant_value, name_text}
+use Rattle.nbfx_records.specs.Meaning.{items_of, meant_array, meant_part, meant_scalar, meant_value}
+use Rattle.nbfx_records.specs.Meaning.{name_text}
 
 -- how much something counts that is meant; none where an identifier names no string
 abbrev pub weighed : {B : Type 0} → (B → ℕ) → Option B → Option ℕ

@@ -1,6 +1,7 @@
 -- What an envelope's payload is read by (MC-NBFS, and MC-NBFSE where it begins with strings of its
 -- own): a table's size, the table's strings, and nodes.
-use Rattle.std.specs.Prelude.{ℕ, zero, suc, ◌+◌, ◌-◌, List, [], ◌∷◌, ◌++◌, false, Option, Some, None, nat_lt, if◌then◌else◌}
+use Rattle.std.specs.Prelude.{ℕ, zero, suc, ◌+◌, ◌-◌, List, [], ◌∷◌, ◌++◌, false, Option, Some}
+use Rattle.std.specs.Prelude.{None, nat_lt, if◌then◌else◌}
 use Rattle.unit_streams.specs.Front.{Front, begun}
 use Rattle.unit_streams.specs.Parts.{Reader, seen}
 use Rattle.unit_streams.specs.Grammar.{Grammar}

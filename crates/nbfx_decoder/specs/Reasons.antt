@@ -1,5 +1,6 @@
 -- Which bytes of a payload give each reason for refusing it.
-use Rattle.std.specs.Prelude.{◌≡◌, ℕ, suc, zero, ◌+◌, ◌<◌, ◌≤◌, ◌⊎◌, List, ◌++◌, length, take, max, None, Some, Contains, IsUtf8}
+use Rattle.std.specs.Prelude.{◌≡◌, ℕ, suc, zero, ◌+◌, ◌<◌, ◌≤◌, ◌⊎◌, List, ◌++◌, length, take, max}
+use Rattle.std.specs.Prelude.{None, Some, Contains, IsUtf8}
 use Rattle.unit_streams.specs.Refusals.{AreUnits}
 use Rattle.multibyte_ints.specs.Integer.{Spells}
 use Rattle.multibyte_ints.specs.Laws.{FifthIsAbove}

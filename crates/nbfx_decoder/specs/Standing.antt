@@ -1,6 +1,7 @@
 -- What a decoder stands for, and what it shows. Of a payload's bytes it keeps those of the unit
 -- that isn't whole.
-use Rattle.std.specs.Prelude.{◌≡◌, ⊤, ℕ, ◌+◌, ◌<◌, ◌≤◌, List, [], ◌++◌, length, take, Option, Some, None, Result, Ok, Err}
+use Rattle.std.specs.Prelude.{◌≡◌, ⊤, ℕ, ◌+◌, ◌<◌, ◌≤◌, List, [], ◌++◌, length, take, Option, Some}
+use Rattle.std.specs.Prelude.{None, Result, Ok, Err}
 use Rattle.unit_streams.specs.Grammar.{standing}
 use Rattle.unit_streams.specs.Judging.{answer, goes_on, offends, refusal_at, ending_at}
 use Rattle.unit_streams.specs.Going.{IsGoing, IsPending}

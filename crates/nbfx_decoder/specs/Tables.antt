@@ -5,7 +5,8 @@ use Rattle.std.specs.Str.{is_utf8}
 use Rattle.unit_streams.specs.Parts.{Reader, some_bytes, ◌>>=◌, seen, judged, judged_at, within}
 use Rattle.multibyte_ints.specs.Integer.{int_at}
 use Rattle.nbfx_values.specs.declared.refusals.Reason.{Reason}
-use Rattle.nbfx_values.specs.declared.refusals.Reason.TheVariants.{BadInt, TableCut, DictionaryFull, BadUtf8}
+use Rattle.nbfx_values.specs.declared.refusals.Reason.TheVariants.{BadInt, TableCut, DictionaryFull}
+use Rattle.nbfx_values.specs.declared.refusals.Reason.TheVariants.{BadUtf8}
 
 -- a string of a table, and how many bytes of the table are left behind it
 pub record TableString : Type 0 where

@@ -1,5 +1,6 @@
 -- What the steps of a decoder answer. Public contracts cite none of this.
-use Rattle.std.specs.Prelude.{◌≡◌, ℕ, ◌+◌, ◌<◌, ◌≤◌, List, ◌++◌, length, take, Some, None, Result, Ok, Err}
+use Rattle.std.specs.Prelude.{◌≡◌, ℕ, ◌+◌, ◌<◌, ◌≤◌, List, ◌++◌, length, take, Some, None, Result}
+use Rattle.std.specs.Prelude.{Ok, Err}
 use Rattle.unit_streams.specs.Judging.{refusal_at}
 use Rattle.unit_streams.specs.Going.{IsQuiet}
 use Rattle.nbfx_decoder.specs.declared.decoder.Decoder.{Decoder}

@@ -1,6 +1,7 @@
 -- What a reader of units answers. The public contracts cite of it, through Standing, where a unit
 -- may come, what it waits for and the strings that it has read.
-use Rattle.std.specs.Prelude.{◌≡◌, ⊤, ℕ, ◌+◌, ◌-◌, ◌<◌, ◌≤◌, ◌^◌, ◌⊎◌, max, List, ◌++◌, length, Option, Some, None, Result, Ok, Err, IfOk, IfSome, IfNone, IsTrue}
+use Rattle.std.specs.Prelude.{◌≡◌, ⊤, ℕ, ◌+◌, ◌-◌, ◌<◌, ◌≤◌, ◌^◌, ◌⊎◌, max, List, ◌++◌, length}
+use Rattle.std.specs.Prelude.{Option, Some, None, Result, Ok, Err, IfOk, IfSome, IfNone, IsTrue}
 use Rattle.unit_streams.specs.Front.{Front, begun, whole, wrong}
 use Rattle.nbfx_values.specs.Measures.{content_of}
 use Rattle.nbfx_values.specs.Positions.{position_of}
@@ -26,7 +27,8 @@ use Rattle.nbfx_records.specs.Judged.{Makes}
 use Rattle.nbfx_records.specs.Meaning.{items_of}
 use Rattle.nbfx_records.specs.Places.{Stands}
 use Rattle.nbfx_records.specs.Valid.{is_valid_node}
-use Rattle.nbfx_records.specs.Shapes.{Shape, ValueShape, adds, attributes, has_text, one, repeats, several, shape_at}
+use Rattle.nbfx_records.specs.Shapes.{Shape, ValueShape, adds, attributes, has_text, one, repeats}
+use Rattle.nbfx_records.specs.Shapes.{several, shape_at}
 use Rattle.nbfx_decoder.specs.declared.meaning.Meant.{Meant}
 use Rattle.nbfx_decoder.specs.declared.strings.Head.{Head}
 use Rattle.nbfx_decoder.specs.declared.strings.StringRead.{StringRead}
@@ -37,7 +39,8 @@ use Rattle.nbfx_decoder.specs.declared.units.UnitReader.{UnitReader}
 use Rattle.nbfx_decoder.specs.Faults.{reason_of}
 use Rattle.nbfx_decoder.specs.Meant.{items_in}
 use Rattle.nbfx_decoder.specs.Tables.{StringHead, head_at, table_string_at}
-use Rattle.nbfx_decoder.specs.Payload.{Settings, Situation, PayloadUnit, node, place_of, refusal, unit_in, after, refused}
+use Rattle.nbfx_decoder.specs.Payload.{Settings, Situation, PayloadUnit, node, place_of, refusal}
+use Rattle.nbfx_decoder.specs.Payload.{unit_in, after, refused}
 
 -- it has begun, and fewer than so many bytes in all decide nothing, however they go on
 pub record AwaitsBytes {A R : Type 0} (reader : List ℕ
@@ -135,7 +138,8 @@ UnitAnswers x z from bytes new (Err (Refused reason shown_by)) =
 UnitAnswers x z from bytes new (Err Memory) = HasStrings new x z.strings from
 
 -- what is left of the reading of a unit at the front of some bytes
-pub record Reads (old new : UnitReader) (bytes : List ℕ) (result : Result UnitRead UnitFault) : Type 0 where
+pub record Reads (old new : UnitReader) (bytes : List ℕ) (result : Result UnitRead UnitFault) : Type
+    0 where
   pub answers : (x : Settings) (z : Situation) (from : ℕ) → IsAt old x z from
       → UnitAnswers x z from bytes new result
   pub counts : IfOk result (Counts (length bytes))
@@ -226,7 +230,8 @@ pub record MakesOfRecord (r : UnitReader) (made : Result Node NodeFault) (used :
   pub stands : StandsAt r shape used
   pub makes : Makes made (contents shape)
 
--- what bytes are answered with, at whose front a whole record of so many bytes stands, where what it
+-- what bytes are answered with, at whose front a whole record of so many bytes stands, where what
+-- it
 -- means is put behind the items
 abbrev pub SayAnswers : Settings → Situation → ℕ → List ℕ → ℕ → UnitReader → Type 0
 SayAnswers x z from bytes used new = (n : Node) × (unit_in x z from bytes ≡ whole (node n) used)

@@ -1,5 +1,7 @@
 -- On the way through the items of a document.
-use Rattle.std.proofs.Common.{◌≡◌, ℕ, ◌+◌, ◌<◌, ◌≤◌, ◌^◌, List, [], ◌∷◌, ◌++◌, ◌-◌, length, drop, take, Some, None, Result, Ok, Err, refl, sym, ap, ◌∙◌, arith, append-nil, append_assoc}
+use Rattle.std.proofs.Common.{◌≡◌, ℕ, ◌+◌, ◌<◌, ◌≤◌, ◌^◌, List, [], ◌∷◌, ◌++◌, ◌-◌, length, drop}
+use Rattle.std.proofs.Common.{take, Some, None, Result, Ok, Err, refl, sym, ap, ◌∙◌, arith}
+use Rattle.std.proofs.Common.{append-nil, append_assoc}
 use Rattle.std.specs.Prelude.{flat_map, IsTrue}
 use Rattle.std.specs.List.{list_all}
 use Rattle.std.proofs.lemmas.Bool.{and_parts}
@@ -17,7 +19,8 @@ use Rattle.nbfx_encoder.specs.declared.speller.Speller.{Speller}
 use Rattle.nbfx_encoder.specs.Inside.{CantFirst, HasWritten, Keeps, PutFirst, names_of, writing_of}
 use Rattle.nbfx_encoder.specs.Placing.{Placed, Writing}
 use Rattle.nbfx_encoder.specs.Sound.{IsSound}
-use Rattle.nbfx_encoder.specs.Spelling.{Said, in_records, items_said, spell, spell_from, spell_said, with_first}
+use Rattle.nbfx_encoder.specs.Spelling.{Said, in_records, items_said, spell, spell_from, spell_said}
+use Rattle.nbfx_encoder.specs.Spelling.{with_first}
 use Rattle.nbfx_encoder.proofs.InLists.{keeps_on, keeps_sound, keeps_writing}
 
 -- nodes before those of the rest

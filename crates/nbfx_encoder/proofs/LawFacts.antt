@@ -1,5 +1,6 @@
 -- When a document is written, and what one more adds.
-use Rattle.std.proofs.Common.{◌≡◌, ℕ, ◌+◌, ◌≤◌, List, [], ◌∷◌, ◌++◌, length, Bool, true, false, Result, Ok, Err, refl, sym, ap, ◌∙◌, arith, append_assoc}
+use Rattle.std.proofs.Common.{◌≡◌, ℕ, ◌+◌, ◌≤◌, List, [], ◌∷◌, ◌++◌, length, Bool, true, false}
+use Rattle.std.proofs.Common.{Result, Ok, Err, refl, sym, ap, ◌∙◌, arith, append_assoc}
 use Rattle.std.specs.Prelude.{nat_lt, if◌then◌else◌}
 use Rattle.std.proofs.Math.Nat.{add-zero}
 use Rattle.std.proofs.lemmas.Bool.{ltb-false, le-ltb}
@@ -9,10 +10,12 @@ use Rattle.nbfx_values.specs.declared.content.Item.{Item}
 use Rattle.nbfx_values.specs.declared.session.Kind.{Kind}
 use Rattle.nbfx_values.specs.declared.session.Mode.{Mode}
 use Rattle.string_tables.specs.StringTable.{StringTable}
-use Rattle.nbfx_encoder.specs.Envelopes.{UnfitAt, behind_bytes, envelope, envelope_then, envelopes_from}
+use Rattle.nbfx_encoder.specs.Envelopes.{UnfitAt, behind_bytes, envelope, envelope_then}
+use Rattle.nbfx_encoder.specs.Envelopes.{envelopes_from}
 use Rattle.nbfx_encoder.specs.Laws.{SendsOneMore, WritesWhatFits}
 use Rattle.nbfx_encoder.specs.Placing.{Placed}
-use Rattle.nbfx_encoder.specs.Spelling.{Fits, Unfit, chosen, encoded, too_deep, too_large, too_much, within_payload, writing}
+use Rattle.nbfx_encoder.specs.Spelling.{Fits, Unfit, chosen, encoded, too_deep, too_large, too_much}
+use Rattle.nbfx_encoder.specs.Spelling.{within_payload, writing}
 
 -- of two ways out by a comparison
 record NotAbove (most n : ℕ) {X : Type 0} (otherwise : X) (is : X) : Type 0 where
@@ -29,7 +32,8 @@ not_above most n e otherwise t is = by (nat_lt most n) refl is
     by false below is = record { within = ltb-false most n below; rest = is }
 
 -- a payload within the quota
-pub record IsShort (most : ℕ) (answer : Result (Placed (List ℕ)) ℕ) (payload : Placed (List ℕ)) : Type 0
+pub record IsShort (most : ℕ) (answer : Result (Placed (List ℕ)) ℕ) (payload : Placed (List ℕ)) :
+    Type 0
   where
     pub is : answer ≡ Ok payload
     pub within : length payload.0 ≤ most

@@ -1,5 +1,6 @@
 -- What a payload begins with has few bytes.
-use Rattle.std.proofs.Common.{◌≡◌, ℕ, ◌<◌, ◌≤◌, ◌^◌, List, [], ◌++◌, length, take, drop, Result, Ok, Err, sym, ap, ◌∙◌, arith, append_assoc}
+use Rattle.std.proofs.Common.{◌≡◌, ℕ, ◌<◌, ◌≤◌, ◌^◌, List, [], ◌++◌, length, take, drop, Result, Ok}
+use Rattle.std.proofs.Common.{Err, sym, ap, ◌∙◌, arith, append_assoc}
 use Rattle.std.specs.Prelude.{IsErr, flat_map}
 use Rattle.nbfx_records.specs.Putting.{Puts}
 use Rattle.std.proofs.lemmas.List.{take-append-drop}

@@ -1,5 +1,6 @@
 -- What is written of an attribute and of an array, by what their parts wrote.
-use Rattle.std.proofs.Common.{◌≡◌, ℕ, List, [], ◌++◌, Option, Result, Ok, Err, refl, sym, ap, ◌∙◌, append-nil, append_assoc}
+use Rattle.std.proofs.Common.{◌≡◌, ℕ, List, [], ◌++◌, Option, Result, Ok, Err, refl, sym, ap, ◌∙◌}
+use Rattle.std.proofs.Common.{append-nil, append_assoc}
 use Rattle.std.specs.Prelude.{⊤}
 use Rattle.std.specs.Option.{option_map}
 use Rattle.nbfx_encoder.specs.declared.speller.Speller.{Speller}

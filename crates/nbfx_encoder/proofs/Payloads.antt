@@ -1,5 +1,7 @@
 -- What is written of a document that fits is a payload of it.
-use Rattle.std.proofs.Common.{◌≡◌, ℕ, ◌+◌, ◌≤◌, ◌<◌, ◌^◌, List, [], ◌∷◌, ◌++◌, length, drop, true, false, Option, Some, None, Result, Ok, Err, refl, sym, ap, ◌∙◌, subst, arith}
+use Rattle.std.proofs.Common.{◌≡◌, ℕ, ◌+◌, ◌≤◌, ◌<◌, ◌^◌, List, [], ◌∷◌, ◌++◌, length, drop, true}
+use Rattle.std.proofs.Common.{false, Option, Some, None, Result, Ok, Err, refl, sym, ap, ◌∙◌, subst}
+use Rattle.std.proofs.Common.{arith}
 use Rattle.std.specs.Prelude.{flat_map}
 use Rattle.std.specs.List.{list_all}
 use Rattle.std.specs.Str.{is_utf8}
@@ -12,7 +14,8 @@ use Rattle.nbfx_values.specs.Items.{is_valid_item}
 use Rattle.nbfx_values.specs.Limits.{IsGood, Limits}
 use Rattle.nbfx_values.specs.Measures.{content_of, item_content}
 use Rattle.nbfx_values.specs.declared.content.Item.{Item}
-use Rattle.nbfx_values.specs.declared.content.Item.TheVariants.{Start, Xmlns, Attr, Text, Comment, Array, Close}
+use Rattle.nbfx_values.specs.declared.content.Item.TheVariants.{Start, Xmlns, Attr, Text, Comment}
+use Rattle.nbfx_values.specs.declared.content.Item.TheVariants.{Array, Close}
 use Rattle.nbfx_values.specs.declared.session.Kind.{Kind}
 use Rattle.nbfx_values.specs.declared.session.Kind.TheVariants.{Plain, Session}
 use Rattle.string_tables.specs.SessionStrings.{used_cost}
@@ -28,7 +31,9 @@ use Rattle.nbfx_records.proofs.PayloadFacts.{written_are_records, written_is_tab
 use Rattle.nbfx_records.proofs.WritableFacts.{said_may_be_written}
 use Rattle.nbfx_encoder.specs.Laws.{ChosenIsPayload}
 use Rattle.nbfx_encoder.specs.Placing.{Placed, Writing, brings_strings}
-use Rattle.nbfx_encoder.specs.Spelling.{Said, an_item, and_then, chosen_of, in_records, items_said, joined, last_text, opening_bytes, spell, spell_from, spell_said, strings_behind, with_first, writing}
+use Rattle.nbfx_encoder.specs.Spelling.{Said, an_item, and_then, chosen_of, in_records, items_said}
+use Rattle.nbfx_encoder.specs.Spelling.{joined, last_text, opening_bytes, spell, spell_from}
+use Rattle.nbfx_encoder.specs.Spelling.{spell_said, strings_behind, with_first, writing}
 use Rattle.nbfx_encoder.specs.Sound.{IsSound}
 use Rattle.nbfx_encoder.proofs.Growing.{Grows, grows_not, grows_on, sound_behind}
 use Rattle.nbfx_encoder.proofs.Saying.{Spells}

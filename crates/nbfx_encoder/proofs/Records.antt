@@ -1,5 +1,7 @@
 -- What is written of a record, by what was written of what it says.
-use Rattle.std.proofs.Common.{◌≡◌, ℕ, ◌<◌, ◌≤◌, List, [], ◌∷◌, length, drop, get_or, true, Option, Some, None, Result, Ok, Err, refl, sym, ap, ◌∙◌, subst, arith, append-nil}
+use Rattle.std.proofs.Common.{◌≡◌, ℕ, ◌<◌, ◌≤◌, List, [], ◌∷◌, length, drop, get_or, true, Option}
+use Rattle.std.proofs.Common.{Some, None, Result, Ok, Err, refl, sym, ap, ◌∙◌, subst, arith}
+use Rattle.std.proofs.Common.{append-nil}
 use Rattle.std.specs.Prelude.{⊤, IfErr, OnOk}
 use Rattle.std.specs.Option.{option_map}
 use Rattle.std.proofs.lemmas.List.{drop_more}
@@ -21,7 +23,8 @@ use Rattle.nbfx_encoder.specs.declared.speller.SpellFault.{SpellFault}
 use Rattle.nbfx_encoder.specs.declared.speller.SpellFault.TheVariants.{Unnamed, Memory}
 use Rattle.nbfx_encoder.specs.Inside.{Answers, PutsRecord, fault_told, names_of, writing_of}
 use Rattle.nbfx_encoder.specs.Placing.{Placed, Writing, place, spell_part, spell_value}
-use Rattle.nbfx_encoder.specs.Spelling.{Said, an_item, in_records, items_said, last_text, spell_item, spell_said}
+use Rattle.nbfx_encoder.specs.Spelling.{Said, an_item, in_records, items_said, last_text}
+use Rattle.nbfx_encoder.specs.Spelling.{spell_item, spell_said}
 use Rattle.nbfx_encoder.proofs.Parts.{made_answers}
 
 -- the node of a declaration or an attribute

@@ -1,6 +1,7 @@
 -- What is spelled of declarations, attributes and arrays, and of each item, says it under the table
 -- behind it.
-use Rattle.std.proofs.Common.{◌≡◌, ℕ, List, [], ◌∷◌, ◌++◌, Bool, true, false, Option, Some, None, refl, ap, ◌∙◌, subst}
+use Rattle.std.proofs.Common.{◌≡◌, ℕ, List, [], ◌∷◌, ◌++◌, Bool, true, false, Option, Some, None}
+use Rattle.std.proofs.Common.{refl, ap, ◌∙◌, subst}
 use Rattle.std.specs.Prelude.{◌&&◌, flat_map, nat_lt, length}
 use Rattle.std.specs.List.{list_all}
 use Rattle.std.specs.Option.{option_map}
@@ -27,16 +28,22 @@ use Rattle.nbfx_records.specs.declared.nodes.AttrNode.TheVariants as attribute_n
 use Rattle.nbfx_records.specs.declared.nodes.ArrayNode.{ArrayNode}
 use Rattle.nbfx_records.specs.declared.nodes.Node.{Node}
 use Rattle.nbfx_records.specs.declared.nodes.Node.TheVariants as nodes
-use Rattle.nbfx_records.specs.Meaning.{ArrayMeans, EachMeans, Means, PartMeans, ScalarMeans, identifiers, ids_of_name, ids_of_part, ids_of_scalar, ids_of_value}
+use Rattle.nbfx_records.specs.Meaning.{ArrayMeans, EachMeans, Means, PartMeans, ScalarMeans}
+use Rattle.nbfx_records.specs.Meaning.{identifiers, ids_of_name, ids_of_part, ids_of_scalar}
+use Rattle.nbfx_records.specs.Meaning.{ids_of_value}
 use Rattle.nbfx_records.specs.Valid.{names_qnames, names_qnames_part, names_qnames_raw}
 use Rattle.nbfx_records.proofs.StayFacts.{node_stays, part_stays}
-use Rattle.nbfx_encoder.specs.Placing.{Placed, Writing, place, spell_array, spell_each, spell_part, spell_scalar, spell_value}
-use Rattle.nbfx_encoder.specs.Spelling.{Said, an_item, items_said, last_text, spell_item, spell_said}
+use Rattle.nbfx_encoder.specs.Placing.{Placed, Writing, place, spell_array, spell_each, spell_part}
+use Rattle.nbfx_encoder.specs.Placing.{spell_scalar, spell_value}
+use Rattle.nbfx_encoder.specs.Spelling.{Said, an_item, items_said, last_text, spell_item}
+use Rattle.nbfx_encoder.specs.Spelling.{spell_said}
 use Rattle.nbfx_values.specs.declared.scalars.Scalar.{Scalar}
 use Rattle.nbfx_values.specs.Scalars.{is_valid_scalar}
 use Rattle.nbfx_encoder.specs.Sound.{IsSound}
 use Rattle.nbfx_encoder.proofs.Growing.{Grows, grows_not, grows_on, sound_behind}
-use Rattle.nbfx_encoder.proofs.Saying.{Says, SaysName, SaysScalar, SaysValue, Small, Spells, each_says, name_says_behind, placed_says, says_behind, scalar_says, scalar_says_behind}
+use Rattle.nbfx_encoder.proofs.Saying.{Says, SaysName, SaysScalar, SaysValue, Small, Spells}
+use Rattle.nbfx_encoder.proofs.Saying.{each_says, name_says_behind, placed_says, says_behind}
+use Rattle.nbfx_encoder.proofs.Saying.{scalar_says, scalar_says_behind}
 
 -- identifiers of both, and of each of many
 both_small : (ids others : List ℕ) → Small ids → Small others → Small (ids ++ others)

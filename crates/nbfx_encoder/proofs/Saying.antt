@@ -1,5 +1,6 @@
 -- What is spelled of a name, a value or an item says it under the table behind it.
-use Rattle.std.proofs.Common.{◌≡◌, ℕ, ◌+◌, ◌*◌, ◌≤◌, ◌^◌, List, [], ◌∷◌, ◌++◌, length, Bool, true, false, Option, Some, None, refl, sym, subst, arith, inr}
+use Rattle.std.proofs.Common.{◌≡◌, ℕ, ◌+◌, ◌*◌, ◌≤◌, ◌^◌, List, [], ◌∷◌, ◌++◌, length, Bool, true}
+use Rattle.std.proofs.Common.{false, Option, Some, None, refl, sym, subst, arith, inr}
 use Rattle.std.specs.Prelude.{nat_le}
 use Rattle.std.specs.Option.{option_map, option_and_then}
 use Rattle.std.specs.List.{list_all}
@@ -19,10 +20,13 @@ use Rattle.nbfx_records.specs.declared.nodes.NameRef.TheVariants.{Inline, Id}
 use Rattle.nbfx_records.specs.declared.nodes.RawScalar.{RawScalar}
 use Rattle.nbfx_records.specs.declared.nodes.RawScalar.TheVariants.{Known, QName}
 use Rattle.nbfx_records.specs.declared.nodes.RawValue.{RawValue}
-use Rattle.nbfx_records.specs.Meaning.{EachMeans, NameMeans, ScalarMeans, ValueMeans, ids_of_name, ids_of_scalar, ids_of_value}
+use Rattle.nbfx_records.specs.Meaning.{EachMeans, NameMeans, ScalarMeans, ValueMeans, ids_of_name}
+use Rattle.nbfx_records.specs.Meaning.{ids_of_scalar, ids_of_value}
 use Rattle.nbfx_records.specs.Valid.{names_qnames_raw, names_qnames_text}
 use Rattle.nbfx_records.proofs.StayFacts.{name_stays, scalar_stays}
-use Rattle.nbfx_encoder.specs.Placing.{Placed, Writing, brings_strings, has_room, place, place_found, place_new, qualified, spell_each, spell_scalar, spell_text, text_found}
+use Rattle.nbfx_encoder.specs.Placing.{Placed, Writing, brings_strings, has_room, place}
+use Rattle.nbfx_encoder.specs.Placing.{place_found, place_new, qualified, spell_each, spell_scalar}
+use Rattle.nbfx_encoder.specs.Placing.{spell_text, text_found}
 use Rattle.nbfx_encoder.specs.Sound.{IsSound}
 use Rattle.nbfx_encoder.proofs.Growing.{Grows, grows_not, grows_on, sound_behind}
 

@@ -3,12 +3,16 @@ use Rattle.std.proofs.Common.{ℕ, List, [], ◌∷◌, ◌++◌, true, false, r
 use Rattle.std.specs.List.{repeat}
 use Rattle.std.specs.Prelude.{codes, pos, negsuc}
 use Rattle.nbfx_values.specs.declared.content.ArrayKind.TheVariants.{Bool, Int32}
-use Rattle.nbfx_values.specs.declared.content.AttrItem.TheVariants.{Xmlns as PartXmlns, Attr as PartAttr}
+use Rattle.nbfx_values.specs.declared.content.AttrItem.TheVariants.{Xmlns as PartXmlns}
+use Rattle.nbfx_values.specs.declared.content.AttrItem.TheVariants.{Attr as PartAttr}
 use Rattle.nbfx_values.specs.declared.content.Item.{Item}
-use Rattle.nbfx_values.specs.declared.content.Item.TheVariants.{Start, Xmlns, Attr, Text, Comment, Array, Close}
-use Rattle.nbfx_values.specs.declared.scalars.Scalar.TheVariants.{Number, Truth, Text as TextOf, UniqueId, QName}
+use Rattle.nbfx_values.specs.declared.content.Item.TheVariants.{Start, Xmlns, Attr, Text, Comment}
+use Rattle.nbfx_values.specs.declared.content.Item.TheVariants.{Array, Close}
+use Rattle.nbfx_values.specs.declared.scalars.Scalar.TheVariants.{Number, Truth, Text as TextOf}
+use Rattle.nbfx_values.specs.declared.scalars.Scalar.TheVariants.{UniqueId, QName}
 use Rattle.nbfx_values.specs.declared.scalars.Value.TheVariants.{One, List as ListOf}
-use Rattle.nbfx_encoder.proofs.OnLiterals.{AreChosen, AreInside, ArePlain, message, text, writing_on_literals, x}
+use Rattle.nbfx_encoder.proofs.OnLiterals.{AreChosen, AreInside, ArePlain, message, text}
+use Rattle.nbfx_encoder.proofs.OnLiterals.{writing_on_literals, x}
 
 -- an envelope with an action, an identifier and a body of one text
 abbrev envelope : List Item

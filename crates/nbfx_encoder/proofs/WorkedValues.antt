@@ -3,9 +3,13 @@ use Rattle.std.proofs.Common.{ℕ, ℤ, List, [], ◌∷◌, map, true, false, r
 use Rattle.std.specs.List.{repeat}
 use Rattle.std.specs.Prelude.{codes, pos, negsuc}
 use Rattle.nbfx_values.specs.declared.content.Item.TheVariants.{Attr, Text, Comment}
-use Rattle.nbfx_values.specs.declared.scalars.Scalar.TheVariants.{Number, Truth, Float, Double, Decimal, DateTime, TimeSpan, Text as TextOf, Bytes, UniqueId, Uuid}
+use Rattle.nbfx_values.specs.declared.scalars.Scalar.TheVariants.{Number, Truth, Float, Double}
+use Rattle.nbfx_values.specs.declared.scalars.Scalar.TheVariants.{Decimal, DateTime, TimeSpan}
+use Rattle.nbfx_values.specs.declared.scalars.Scalar.TheVariants.{Text as TextOf, Bytes, UniqueId}
+use Rattle.nbfx_values.specs.declared.scalars.Scalar.TheVariants.{Uuid}
 use Rattle.nbfx_values.specs.declared.scalars.Value.TheVariants.{List as ListOf}
-use Rattle.nbfx_encoder.proofs.OnLiterals.{AreChosen, AreInside, message, text, writing_on_literals, x}
+use Rattle.nbfx_encoder.proofs.OnLiterals.{AreChosen, AreInside, message, text, writing_on_literals}
+use Rattle.nbfx_encoder.proofs.OnLiterals.{x}
 
 -- a number that is all that an element holds, and its record
 abbrev AreNumbers : List (ℤ × List ℕ) → Type 0

@@ -6,7 +6,8 @@ use Rattle.nbfx_values.specs.declared.session.Kind.{Kind}
 use Rattle.nbfx_values.specs.declared.session.Mode.{Mode}
 use Rattle.nbfx_values.specs.declared.session.Mode.TheVariants.{Singleton}
 use Rattle.string_tables.specs.StringTable.{StringTable}
-use Rattle.nmf_records.specs.declared.frame.Frame.TheVariants.{Chunk, SizedEnvelope, UnsizedEnvelope}
+use Rattle.nmf_records.specs.declared.frame.Frame.TheVariants.{Chunk, SizedEnvelope}
+use Rattle.nmf_records.specs.declared.frame.Frame.TheVariants.{UnsizedEnvelope}
 use Rattle.nmf_records.specs.Writing.{frame_bytes_of}
 use Rattle.nbfx_encoder.specs.Placing.{Placed}
 use Rattle.nbfx_encoder.specs.Spelling.{Unfit, encoded}
@@ -29,7 +30,8 @@ pub record UnfitAt : Type 0 where
   pub why : Unfit
 
 -- bytes before those of more envelopes
-abbrev pub behind_bytes : List ℕ → Result (Placed (List ℕ)) UnfitAt → Result (Placed (List ℕ)) UnfitAt
+abbrev pub behind_bytes : List ℕ → Result (Placed (List ℕ)) UnfitAt → Result (Placed (List ℕ))
+    UnfitAt
 behind_bytes bytes (Ok more) = Ok (bytes ++ more.0, more.1)
 behind_bytes bytes (Err unfit) = Err unfit
 

@@ -1,5 +1,6 @@
 -- What a speller stands for, and what its parts answer.
-use Rattle.std.specs.Prelude.{◌≡◌, ◌≤◌, ⊤, ℕ, List, ◌∷◌, ◌++◌, drop, flat_map, length, Option, Some, None, Result, Ok, Err}
+use Rattle.std.specs.Prelude.{◌≡◌, ◌≤◌, ⊤, ℕ, List, ◌∷◌, ◌++◌, drop, flat_map, length, Option, Some}
+use Rattle.std.specs.Prelude.{None, Result, Ok, Err}
 use Rattle.string_tables.specs.SessionStrings.{used_cost}
 use Rattle.string_tables.specs.StringTable.{StringTable}
 use Rattle.nbfx_encoder.specs.declared.speller.Speller.{Speller}
@@ -50,7 +51,8 @@ Answers found bytes (Err Unnamed) old new = found ≡ None
 Answers found bytes (Err Memory) old new = ⊤
 
 -- what is spelled was chosen, and the table is the one behind it
-abbrev pub Chooses : Option (Placed RawScalar) → Result ScalarChoice SpellFault → StringTable → Type 0
+abbrev pub Chooses : Option (Placed RawScalar) → Result ScalarChoice SpellFault → StringTable
+    → Type 0
 Chooses found (Ok choice) behind = found ≡ Some (choice_seen choice, behind)
 Chooses found (Err Unnamed) behind = found ≡ None
 Chooses found (Err Memory) behind = ⊤

@@ -1,11 +1,14 @@
--- The spelling of a document that a writer chooses (MC-NBFX, MC-NBFS, and MC-NBFSE where payloads bring
+-- The spelling of a document that a writer chooses (MC-NBFX, MC-NBFS, and MC-NBFSE where payloads
+-- bring
 -- strings): one fold over its items, which carries the session's strings on.
-use Rattle.std.specs.Prelude.{◌≡◌, ℕ, ◌+◌, ◌≤◌, List, [], ◌∷◌, ◌++◌, true, false, length, drop, flat_map, nat_lt, Option, Some, None, Result, Ok, Err, if◌then◌else◌}
+use Rattle.std.specs.Prelude.{◌≡◌, ℕ, ◌+◌, ◌≤◌, List, [], ◌∷◌, ◌++◌, true, false, length, drop}
+use Rattle.std.specs.Prelude.{flat_map, nat_lt, Option, Some, None, Result, Ok, Err, if◌then◌else◌}
 use Rattle.std.specs.Option.{option_map}
 use Rattle.nbfx_values.specs.Limits.{Limits}
 use Rattle.nbfx_values.specs.Measures.{capped, content_of, depth_of}
 use Rattle.nbfx_values.specs.declared.content.Item.{Item}
-use Rattle.nbfx_values.specs.declared.content.Item.TheVariants.{Start, Xmlns, Attr, Text, Comment, Array, Close}
+use Rattle.nbfx_values.specs.declared.content.Item.TheVariants.{Start, Xmlns, Attr, Text, Comment}
+use Rattle.nbfx_values.specs.declared.content.Item.TheVariants.{Array, Close}
 use Rattle.nbfx_values.specs.declared.scalars.Value.{Value}
 use Rattle.nbfx_values.specs.declared.session.Kind.{Kind}
 use Rattle.nbfx_values.specs.declared.session.Kind.TheVariants.{Plain, Session}
@@ -66,7 +69,8 @@ abbrev pub and_then : Option (Placed Node) → ℕ → (StringTable → Result (
 and_then None at next = Err at
 and_then (Some placed) at next = with_first placed.0 (next placed.1)
 
--- the nodes of records, of which the first begins with the item of this number; or the number of the
+-- the nodes of records, of which the first begins with the item of this number; or the number of
+-- the
 -- first item that has a QName whose name gets no identifier
 abbrev pub spell_from : Writing → StringTable → ℕ → List Said → Result (Placed (List Node)) ℕ
 spell_from w table at [] = Ok ([], table)
@@ -92,7 +96,8 @@ payload_of kind table placed =
     (opening_bytes kind (strings_behind table placed.1) ++ flat_map chosen_bytes placed.0, placed.1)
 
 -- the chosen payload of a document; or the number of the item that has none
-abbrev pub chosen_of : Kind → StringTable → Result (Placed (List Node)) ℕ → Result (Placed (List ℕ)) ℕ
+abbrev pub chosen_of : Kind → StringTable → Result (Placed (List Node)) ℕ → Result (Placed (List ℕ))
+    ℕ
 chosen_of kind table (Ok placed) = Ok (payload_of kind table placed)
 chosen_of kind table (Err item) = Err item
 
@@ -104,12 +109,13 @@ abbrev pub writing : Limits → Kind → Writing
 writing limits kind = record { kind = kind; dictionary = limits.dictionary }
 
 -- a document fits: its nesting, its content, an identifier for each QName, and its payload
-pub record Fits (limits : Limits) (kind : Kind) (table : StringTable) (items : List Item) : Type 0 where
-  pub depth : depth_of items ≤ limits.depth
-  pub content : content_of items ≤ limits.content
-  pub payload : Placed (List ℕ)
-  pub chosen_is : chosen (writing limits kind) table items ≡ Ok payload
-  pub within : length payload.0 ≤ limits.payload
+pub record Fits (limits : Limits) (kind : Kind) (table : StringTable) (items : List Item) : Type 0
+  where
+    pub depth : depth_of items ≤ limits.depth
+    pub content : content_of items ≤ limits.content
+    pub payload : Placed (List ℕ)
+    pub chosen_is : chosen (writing limits kind) table items ≡ Ok payload
+    pub within : length payload.0 ≤ limits.payload
 
 -- why one doesn't: by the first of these
 pub data Unfit : Type 0 where

@@ -26,7 +26,8 @@ unfoldable pub names_in : Encoder → StringTable
 names_in e = names_of e.speller
 
 -- a payload was appended, and its strings are those of the session now
-pub record Writes (answer : Result (Placed (List ℕ)) Unfit) (old new : List ℕ) (behind : StringTable)
+pub record Writes (answer : Result (Placed (List ℕ)) Unfit) (old new : List ℕ)
+    (behind : StringTable)
     : Type 0 where
   pub payload : Placed (List ℕ)
   pub answer_is : answer ≡ Ok payload
@@ -43,7 +44,8 @@ Refuses (Err unfit) fault = fault ≡ told unfit
 unfoldable pub payload_in : Encoder → List ℕ
 payload_in e = e.head.items ++ (e.strings.items ++ e.speller.nodes.items)
 
--- where a document was prepared to be written: its payload is in the rooms, and the session's strings
+-- where a document was prepared to be written: its payload is in the rooms, and the session's
+-- strings
 -- are those behind it, which can be taken back
 pub record HasPrepared (answer : Result (Placed (List ℕ)) Unfit) (prepared : Prepared)
     (old new : Encoder) : Type 0 where

@@ -1,5 +1,6 @@
 -- The parts of a record whose kind is known stand behind its type byte.
-use Rattle.std.proofs.Common.{◌≡◌, ◌≤◌, length, ℕ, List, [], ◌∷◌, get_or, Bool, Option, Some, None, Result, Ok, Err, refl, sym, ap, ◌∙◌, subst}
+use Rattle.std.proofs.Common.{◌≡◌, ◌≤◌, length, ℕ, List, [], ◌∷◌, get_or, Bool, Option, Some, None}
+use Rattle.std.proofs.Common.{Result, Ok, Err, refl, sym, ap, ◌∙◌, subst}
 use Rattle.std.specs.Prelude.{IfNone, slice_get}
 use Rattle.unit_streams.specs.Parts.{Reader, a_byte, seen}
 use Rattle.nbfx_records.specs.declared.cursor.Stop.{Stop}
@@ -21,7 +22,10 @@ use Rattle.nbfx_records.specs.Asked as asked
 use Rattle.nbfx_records.specs.Beginning.{BeginsKind, MayStand}
 use Rattle.nbfx_records.specs.Cursor.{IsWhole, Tells}
 use Rattle.nbfx_records.specs.Kinds.{record_kind}
-use Rattle.nbfx_records.specs.Shapes.{Shape, NamedShape, ScalarShape, adds, attribute_at, begins_element, declaration_at, element_at, ends_element, has_text, misplaced, one, placed, record_at, scalar_at, shape_at, text_at, unless_misplaced}
+use Rattle.nbfx_records.specs.Shapes.{Shape, NamedShape, ScalarShape, adds, attribute_at}
+use Rattle.nbfx_records.specs.Shapes.{begins_element, declaration_at, element_at, ends_element}
+use Rattle.nbfx_records.specs.Shapes.{has_text, misplaced, one, placed, record_at, scalar_at}
+use Rattle.nbfx_records.specs.Shapes.{shape_at, text_at, unless_misplaced}
 use Rattle.nbfx_records.specs.Views.{attribute_seen, named_seen, record_seen, scalar_seen}
 use Rattle.nbfx_records.proofs.CursorFacts.{given_tells, seen_stops, seen_tells, then_tells}
 

@@ -1,5 +1,7 @@
 -- The values of an array, one after the other.
-use Rattle.std.proofs.Common.{◌≡◌, ℕ, suc, ◌+◌, ◌*◌, ◌<◌, ◌≤◌, List, [], ◌∷◌, ◌++◌, length, take, drop, true, Option, Some, None, Ok, Err, refl, sym, ap, ◌∙◌, subst, arith, length-drop}
+use Rattle.std.proofs.Common.{◌≡◌, ℕ, suc, ◌+◌, ◌*◌, ◌<◌, ◌≤◌, List, [], ◌∷◌, ◌++◌, length, take}
+use Rattle.std.proofs.Common.{drop, true, Option, Some, None, Ok, Err, refl, sym, ap, ◌∙◌, subst}
+use Rattle.std.proofs.Common.{arith, length-drop}
 use Rattle.std.proofs.Common.{◌-◌}
 use Rattle.std.proofs.lemmas.List.{append-nil}
 use Rattle.std.specs.Prelude.{◌||◌, not}
@@ -13,7 +15,8 @@ use Rattle.nbfx_records.specs.declared.nodes.NodeFault.TheVariants.{Record, Memo
 use Rattle.nbfx_records.specs.declared.kinds.TextKind.{TextKind}
 use Rattle.nbfx_records.specs.Kinds.{text_kind_in, width_of}
 use Rattle.nbfx_records.specs.Shapes.{CellsShape}
-use Rattle.nbfx_records.specs.Contents.{scalar_of, judge, known_judged, cell_values, cells_judged, led}
+use Rattle.nbfx_records.specs.Contents.{scalar_of, judge, known_judged, cell_values, cells_judged}
+use Rattle.nbfx_records.specs.Contents.{led}
 use Rattle.nbfx_records.specs.Judged.{Makes}
 use Rattle.nbfx_records.proofs.ArrayBytes.{cell_plain}
 use Rattle.nbfx_records.proofs.JudgedFacts.{led_led}

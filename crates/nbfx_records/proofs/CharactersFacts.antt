@@ -15,12 +15,14 @@ use Rattle.nbfx_records.specs.Shapes.{bytes_of, has_text, one}
 abbrev pub node_of_text : Bool → List ℕ → Node
 node_of_text ends text = nodes.Text (One (Known (scalars.Text text))) ends
 
-judged : (bytes t : List ℕ) (ends texts : Bool) → judge texts (Some bytes) ≡ Ok t → judge {A = Node} texts (Some (node_of_text ends bytes)) ≡ Ok (node_of_text ends t)
+judged : (bytes t : List ℕ) (ends texts : Bool) → judge texts (Some bytes) ≡ Ok t → judge {A = Node}
+    texts (Some (node_of_text ends bytes)) ≡ Ok (node_of_text ends t)
 judged bytes t ends true e = cc
 judged bytes t ends false e = cc
 
 -- the node of a text of characters
-pub characters_are : (kind : TextKind) → IsTrue (is_chars kind) → (bytes t : List ℕ) (ends : Bool) → text_judged bytes ≡ Ok t
+pub characters_are : (kind : TextKind) → IsTrue (is_chars kind) → (bytes t : List ℕ) (ends : Bool)
+    → text_judged bytes ≡ Ok t
     → contents (has_text (one (bytes_of kind bytes)) ends) ≡ Ok (node_of_text ends t)
 unfolding contents scalar_of
 characters_are texts.Chars8 is bytes t ends e = judged bytes t ends (is_utf8 bytes) e

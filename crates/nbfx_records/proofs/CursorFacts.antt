@@ -1,6 +1,9 @@
 -- Parts that are read from an offset on, by what their readers say of the bytes there.
-use Rattle.std.proofs.Common.{◌≡◌, ℕ, ◌+◌, ◌%◌, ◌-◌, ◌<◌, ◌≤◌, List, [], ◌∷◌, ◌++◌, length, take, drop, get_or, Result, Ok, Err, refl, sym, ap, ◌∙◌, subst, arith, append_assoc, length-append, length-drop}
-use Rattle.std.proofs.lemmas.List.{append-nil, length-take-le, take-append-drop, drop-append-le, drop-drop, take_more, get_or-drop}
+use Rattle.std.proofs.Common.{◌≡◌, ℕ, ◌+◌, ◌%◌, ◌-◌, ◌<◌, ◌≤◌, List, [], ◌∷◌, ◌++◌, length, take}
+use Rattle.std.proofs.Common.{drop, get_or, Result, Ok, Err, refl, sym, ap, ◌∙◌, subst, arith}
+use Rattle.std.proofs.Common.{append_assoc, length-append, length-drop}
+use Rattle.std.proofs.lemmas.List.{append-nil, length-take-le, take-append-drop, drop-append-le}
+use Rattle.std.proofs.lemmas.List.{drop-drop, take_more, get_or-drop}
 use Rattle.std.specs.Prelude.{IsErrAnd}
 use Rattle.std.proofs.lemmas.Result.{err_from_is_err_and}
 use Rattle.unit_streams.specs.Front.{Front, begun, whole, wrong, ReadsFront}
@@ -19,7 +22,8 @@ use Rattle.nbfx_records.specs.declared.nodes.RecordFault.TheVariants as faults
 use Rattle.nbfx_records.specs.Shapes.{an_integer}
 use Rattle.nbfx_records.proofs.ShapeFronts.{reads_integer}
 use Rattle.nbfx_records.specs.Asked.{Either, here, later}
-use Rattle.nbfx_records.specs.Cursor.{read_from, IsWhole, IsWrong, Why, AsksAt, Stops, PartTold, Tells}
+use Rattle.nbfx_records.specs.Cursor.{read_from, IsWhole, IsWrong, Why, AsksAt, Stops, PartTold}
+use Rattle.nbfx_records.specs.Cursor.{Tells}
 
 -- bytes that follow, behind an offset
 drop_more : (bytes more : List ℕ) (at : ℕ) → at ≤ length bytes → drop at (bytes ++ more)

@@ -1,5 +1,6 @@
 -- The causes of each fault of a record.
-use Rattle.std.proofs.Common.{◌≡◌, ℕ, List, drop, Bool, true, false, Option, Some, None, Ok, Err, Result, refl, sym, ap, ◌∙◌, inl, inr, ◌⊎◌, [], ◌∷◌}
+use Rattle.std.proofs.Common.{◌≡◌, ℕ, List, drop, Bool, true, false, Option, Some, None, Ok, Err}
+use Rattle.std.proofs.Common.{Result, refl, sym, ap, ◌∙◌, inl, inr, ◌⊎◌, [], ◌∷◌}
 use Rattle.std.specs.Prelude.{◌&&◌, ◌||◌, not, if◌then◌else◌, ok_or}
 use Rattle.unit_streams.specs.Front.{Front, begun, whole, wrong}
 use Rattle.unit_streams.specs.Parts.{judged, judged_whole}
@@ -12,14 +13,21 @@ use Rattle.nbfx_records.specs.declared.nodes.RecordFault.{RecordFault}
 use Rattle.nbfx_records.specs.declared.nodes.RecordFault.TheVariants as faults
 use Rattle.nbfx_records.specs.declared.nodes.NodePlace.{NodePlace}
 use Rattle.nbfx_records.specs.declared.nodes.NodePlace.TheVariants.{BeforeRoot, Within, AfterRoot}
-use Rattle.nbfx_records.specs.Causes.{Caused, HasBadText, HasBadValue, InRecord, IsRefused, IsWrongPart, Part, cells_refused, cells_type, count, element_refused, element_type, integer, item_refused, item_type, long_length, part_refused, part_type, record_refused, record_type, type_refused, value_refused, value_type}
+use Rattle.nbfx_records.specs.Causes.{Caused, HasBadText, HasBadValue, InRecord, IsRefused}
+use Rattle.nbfx_records.specs.Causes.{IsWrongPart, Part, cells_refused, cells_type, count}
+use Rattle.nbfx_records.specs.Causes.{element_refused, element_type, integer, item_refused}
+use Rattle.nbfx_records.specs.Causes.{item_type, long_length, part_refused, part_type}
+use Rattle.nbfx_records.specs.Causes.{record_refused, record_type, type_refused, value_refused}
+use Rattle.nbfx_records.specs.Causes.{value_type}
 use Rattle.nbfx_records.specs.Contents.{contents, is_text, node_of}
 use Rattle.nbfx_records.specs.Kinds.{array_kind, record_kind}
 use Rattle.nbfx_records.specs.Laws.{WrongByPart, WrongByText, WrongByValue}
 use Rattle.nbfx_records.specs.Reading.{node_at}
-use Rattle.nbfx_records.specs.Shapes.{Shape, ends_list, is_attribute, is_element, misplaced, opens, shape_at}
+use Rattle.nbfx_records.specs.Shapes.{Shape, ends_list, is_attribute, is_element, misplaced, opens}
+use Rattle.nbfx_records.specs.Shapes.{shape_at}
 use Rattle.nbfx_records.proofs.CauseFacts.{carried}
-use Rattle.nbfx_records.proofs.ContentCauses.{bad_text, bad_value, good_texts, text_is_bad, texts_are_good, value_is_bad}
+use Rattle.nbfx_records.proofs.ContentCauses.{bad_text, bad_value, good_texts, text_is_bad}
+use Rattle.nbfx_records.proofs.ContentCauses.{texts_are_good, value_is_bad}
 use Rattle.nbfx_records.proofs.PartCauses.{shape_just}
 
 -- a fault of the structure

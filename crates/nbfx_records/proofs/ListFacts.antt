@@ -1,5 +1,7 @@
 -- A list that is read value by value, and its bytes.
-use Rattle.std.proofs.Common.{◌≡◌, ℕ, ◌-◌, ◌<◌, ◌≤◌, List, [], ◌∷◌, ◌++◌, length, take, drop, Bool, true, false, Option, Some, None, refl, sym, ap, ◌∙◌, subst, arith, length-drop}
+use Rattle.std.proofs.Common.{◌≡◌, ℕ, ◌-◌, ◌<◌, ◌≤◌, List, [], ◌∷◌, ◌++◌, length, take, drop, Bool}
+use Rattle.std.proofs.Common.{true, false, Option, Some, None, refl, sym, ap, ◌∙◌, subst, arith}
+use Rattle.std.proofs.Common.{length-drop}
 use Rattle.std.proofs.lemmas.List.{append-nil, length-take-le, take_all}
 use Rattle.unit_streams.specs.Front.{begun, whole, on_whole}
 use Rattle.unit_streams.specs.Parts.{Reader, a_byte, further, Turn, more, stop, Many, AreMany}
@@ -18,7 +20,8 @@ use Rattle.nbfx_records.specs.Views.{listed, IsList}
 use Rattle.nbfx_records.proofs.ShapeFronts.{reads_list_turn, reads_list}
 use Rattle.nbfx_records.proofs.PartBytes.{TurnIs, IsTurn, just_list}
 use Rattle.nbfx_records.proofs.CursorFacts.{further_whole}
-use Rattle.nbfx_records.proofs.ManyFacts.{moves, all_stop, all_more, never_stops, many_whole, many_stops, passes_more}
+use Rattle.nbfx_records.proofs.ManyFacts.{moves, all_stop, all_more, never_stops, many_whole}
+use Rattle.nbfx_records.proofs.ManyFacts.{many_stops, passes_more}
 
 pub nothing_turned : (may_close : Bool) → list_turn may_close [] ≡ begun
 nothing_turned may_close = then_begun a_byte _ [] refl

@@ -1,8 +1,10 @@
 -- Things one behind the other that are read from an offset on, and what they are together.
-use Rattle.std.proofs.Common.{◌≡◌, ℕ, ◌+◌, ◌<◌, List, [], ◌∷◌, ◌++◌, length, drop, refl, sym, ap, ◌∙◌, subst, arith, append_assoc, length-append, length-drop}
+use Rattle.std.proofs.Common.{◌≡◌, ℕ, ◌+◌, ◌<◌, List, [], ◌∷◌, ◌++◌, length, drop, refl, sym, ap}
+use Rattle.std.proofs.Common.{◌∙◌, subst, arith, append_assoc, length-append, length-drop}
 use Rattle.std.proofs.lemmas.List.{append-nil, drop-drop}
 use Rattle.unit_streams.specs.Front.{Front, begun, whole, wrong, ReadsFront}
-use Rattle.unit_streams.specs.Parts.{Reader, further, seen, Turn, more, stop, Many, with_first, turned, repeated, many}
+use Rattle.unit_streams.specs.Parts.{Reader, further, seen, Turn, more, stop, Many, with_first}
+use Rattle.unit_streams.specs.Parts.{turned, repeated, many}
 use Rattle.unit_streams.proofs.Parts.{then_begun, then_wrong, then_whole}
 use Rattle.unit_streams.proofs.Fronts.{whole_some}
 use Rattle.unit_streams.proofs.Repeated.{many_is}
@@ -12,7 +14,8 @@ use Rattle.nbfx_records.specs.declared.nodes.RecordFault.{RecordFault}
 use Rattle.nbfx_records.specs.Causes.{BehindMany, BehindThese}
 use Rattle.nbfx_records.specs.Cursor.{read_from, IsWhole, Why, AsksAt, Stops}
 use Rattle.nbfx_records.specs.Resuming.{AreMore, Passes}
-use Rattle.nbfx_records.proofs.CursorFacts.{further_whole, further_begun, further_wrong, further_more}
+use Rattle.nbfx_records.proofs.CursorFacts.{further_whole, further_begun, further_wrong}
+use Rattle.nbfx_records.proofs.CursorFacts.{further_more}
 
 module _ {A B : Type 0} (turn : Reader (Turn A B) RecordFault) (reads : ReadsFront turn)
     (nothing : turn [] ≡ begun) where

@@ -1,9 +1,11 @@
 -- What is missing where some of a list are needed and one isn't found.
-use Rattle.std.proofs.Common.{◌≡◌, List, [], ◌∷◌, ◌++◌, zero, suc, Option, Some, None, refl, sym, ap, ◌∙◌, subst, inl, inr, arith, ◌⊎◌}
+use Rattle.std.proofs.Common.{◌≡◌, List, [], ◌∷◌, ◌++◌, zero, suc, Option, Some, None, refl, sym}
+use Rattle.std.proofs.Common.{ap, ◌∙◌, subst, inl, inr, arith, ◌⊎◌}
 use Rattle.std.specs.Prelude.{◌↔◌, Contains, flat_map}
 use Rattle.std.specs.Option.{option_map}
 use Rattle.std.proofs.lemmas.List.Concat.{flat_map-cons}
-use Rattle.std.proofs.lemmas.List.Elements.{Contains-append_left, Contains-append_right, Contains-append_cases}
+use Rattle.std.proofs.lemmas.List.Elements.{Contains-append_left, Contains-append_right}
+use Rattle.std.proofs.lemmas.List.Elements.{Contains-append_cases}
 use Rattle.nbfx_records.specs.Contents.{each}
 use Rattle.nbfx_records.specs.Meaning.{with_both}
 
@@ -26,7 +28,8 @@ module _ {X Y : Type 0} (found : X → Option Y) where
       only other (zero, lt, is) = ap found is
       only other (suc k, lt, is) = absurd (omega (arith, lt))
 
-  pub mapped_none : {A B : Type 0} (f : A → B) (o : Option A) (xs : List X) → NoneFor o xs → NoneFor (option_map f o) xs
+  pub mapped_none : {A B : Type 0} (f : A → B) (o : Option A) (xs : List X) → NoneFor o xs
+      → NoneFor (option_map f o) xs
   mapped_none f None xs h = (λ e. h.0 refl, λ lacks. refl)
   mapped_none f (Some a) xs h = (λ e. cc, λ lacks. let none = h.1 lacks in cc)
 
@@ -43,7 +46,8 @@ module _ {X Y : Type 0} (found : X → Option Y) where
         | inr behind ↦ inr (x, behind, none)
       ]
 
-  pub both_none : {A B C : Type 0} (make : A → B → C) (first : Option A) (second : Option B) (xs others : List X) → NoneFor first xs → NoneFor second others
+  pub both_none : {A B C : Type 0} (make : A → B → C) (first : Option A) (second : Option B)
+      (xs others : List X) → NoneFor first xs → NoneFor second others
       → NoneFor (with_both make first second) (xs ++ others)
   both_none make None second xs others f s = (λ e. left xs others (f.0 refl), λ lacks. refl)
   both_none make (Some a) None xs others f s = (λ e. right xs others (s.0 refl), λ lacks. refl)
@@ -55,8 +59,11 @@ module _ {X Y : Type 0} (found : X → Option Y) where
     ],
   )
 
-  pub each_none : {A B : Type 0} (f : A → Option B) (needs : A → List X) → ((a : A) → NoneFor (f a) (needs a)) → (as_given : List A) → NoneFor (each f as_given) (flat_map needs as_given)
+  pub each_none : {A B : Type 0} (f : A → Option B) (needs : A → List X)
+      → ((a : A) → NoneFor (f a) (needs a)) → (as_given : List A) → NoneFor (each f as_given)
+      (flat_map needs as_given)
   each_none f needs none [] = there []
   each_none f needs none (a ∷ more) =
       subst (NoneFor (each f (a ∷ more))) (sym (flat_map-cons needs a more))
-      (both_none (λ b rest. b ∷ rest) (f a) (each f more) (needs a) (flat_map needs more) (none a) (each_none f needs none more))
+      (both_none (λ b rest. b ∷ rest) (f a) (each f more) (needs a) (flat_map needs more) (none a)
+      (each_none f needs none more))

@@ -16,7 +16,9 @@ use Rattle.nbfx_records.specs.Contents.{scalar_of, contents}
 use Rattle.nbfx_records.specs.Reading.{node_at}
 
 unfoldable pub records_on_literals : ⊤
-unfolding encode_utf8 utf16_chars chars is_utf8 ◌>>=◌ many repeated int_at int_ending_at value_of shortest shortest_within string_bytes_of record_kind array_at record_at shape_at scalar_of contents node_at
+unfolding encode_utf8 utf16_chars chars is_utf8 ◌>>=◌ many repeated int_at int_ending_at value_of
+    shortest shortest_within string_bytes_of record_kind array_at record_at shape_at scalar_of
+    contents node_at
 records_on_literals = tt
 
 -- a node, and the bytes of its record

@@ -1,11 +1,14 @@
 -- What the bytes of each part of a record are, up to a list, where no text and no value is judged.
-use Rattle.std.proofs.Common.{◌≡◌, ℕ, List, [], ◌∷◌, ◌++◌, length, take, Bool, true, false, Option, Some, None, refl, sym, ap, ◌∙◌, subst}
+use Rattle.std.proofs.Common.{◌≡◌, ℕ, List, [], ◌∷◌, ◌++◌, length, take, Bool, true, false, Option}
+use Rattle.std.proofs.Common.{Some, None, refl, sym, ap, ◌∙◌, subst}
 use Rattle.std.specs.Prelude.{if◌then◌else◌}
 use Rattle.std.specs.Int.{byte_len}
 use Rattle.std.proofs.lemmas.List.{append-nil}
-use Rattle.unit_streams.specs.Parts.{Reader, given, refuse, a_byte, some_bytes, ◌>>=◌, seen, Turn, more, stop, Many, ReadsJust, Joined, AreMany}
+use Rattle.unit_streams.specs.Parts.{Reader, given, refuse, a_byte, some_bytes, ◌>>=◌, seen, Turn}
+use Rattle.unit_streams.specs.Parts.{more, stop, Many, ReadsJust, Joined, AreMany}
 use Rattle.unit_streams.proofs.Parts.{then_begun}
-use Rattle.unit_streams.proofs.Spelled.{just_given, just_refuse, just_byte, just_bytes, just_then, just_seen}
+use Rattle.unit_streams.proofs.Spelled.{just_given, just_refuse, just_byte, just_bytes, just_then}
+use Rattle.unit_streams.proofs.Spelled.{just_seen}
 use Rattle.unit_streams.proofs.Repeated.{just_many}
 use Rattle.multibyte_ints.specs.Integer.{Spells, int_at}
 use Rattle.multibyte_ints.proofs.IntegerLaws.{spells_from_whole, whole_from_spells}
@@ -22,10 +25,14 @@ use Rattle.nbfx_records.specs.declared.kinds.Body.{Body}
 use Rattle.nbfx_records.specs.declared.kinds.LengthForm.{LengthForm}
 use Rattle.nbfx_records.specs.declared.kinds.PrefixForm.TheVariants.{Unprefixed, Lettered, Prefixed}
 use Rattle.nbfx_records.specs.declared.kinds.NameForm.TheVariants.{Inlined, Identified}
-use Rattle.nbfx_records.specs.declared.kinds.Body.TheVariants.{Fixed, Counted, Named, Qualified, Listed, Ending}
+use Rattle.nbfx_records.specs.declared.kinds.Body.TheVariants.{Fixed, Counted, Named, Qualified}
+use Rattle.nbfx_records.specs.declared.kinds.Body.TheVariants.{Listed, Ending}
 use Rattle.nbfx_records.specs.declared.kinds.RecordKind.TheVariants as records
 use Rattle.nbfx_records.specs.Kinds.{record_kind, body_of}
-use Rattle.nbfx_records.specs.Shapes.{ScalarShape, bytes_of, named_by, qualified_by, an_integer, a_string, prefix_at, name_at, width_in, is_negative, length_of, said_length, given_or, a_length, counted_bytes, body_at, scalar_at, turn_of, list_turn, list_at}
+use Rattle.nbfx_records.specs.Shapes.{ScalarShape, bytes_of, named_by, qualified_by, an_integer}
+use Rattle.nbfx_records.specs.Shapes.{a_string, prefix_at, name_at, width_in, is_negative}
+use Rattle.nbfx_records.specs.Shapes.{length_of, said_length, given_or, a_length, counted_bytes}
+use Rattle.nbfx_records.specs.Shapes.{body_at, scalar_at, turn_of, list_turn, list_at}
 use Rattle.nbfx_records.proofs.ShapeFronts.{reads_list_turn}
 
 -- the same bytes, said otherwise

@@ -1,17 +1,21 @@
 -- What makes each part of a record wrong, from numbers up to the whole record.
-use Rattle.std.proofs.Common.{◌≡◌, ℕ, ◌+◌, ◌*◌, ◌^◌, ◌<◌, ◌≤◌, List, [], ◌∷◌, length, take, drop, Bool, true, false, Option, Some, None, refl, sym, ap, ◌∙◌, inl, inr, arith, ◌⊎◌}
+use Rattle.std.proofs.Common.{◌≡◌, ℕ, ◌+◌, ◌*◌, ◌^◌, ◌<◌, ◌≤◌, List, [], ◌∷◌, length, take, drop}
+use Rattle.std.proofs.Common.{Bool, true, false, Option, Some, None, refl, sym, ap, ◌∙◌, inl, inr}
+use Rattle.std.proofs.Common.{arith, ◌⊎◌}
 use Rattle.std.specs.Prelude.{⊤, ◌↔◌, nat_le, nat_lt, ◌==◌, ◌&&◌, ◌||◌, not, if◌then◌else◌}
 use Rattle.std.specs.Int.{w32, from_le_bytes}
 use Rattle.std.proofs.lemmas.Bool.{cases_lt, lt-ltb, le-ltb, le-leb, leb-true, eqb-true}
 use Rattle.unit_streams.specs.Front.{Front, begun, whole, wrong}
-use Rattle.unit_streams.specs.Parts.{Reader, given, refuse, a_byte, some_bytes, further, ◌>>=◌, seen, more, stop}
+use Rattle.unit_streams.specs.Parts.{Reader, given, refuse, a_byte, some_bytes, further, ◌>>=◌}
+use Rattle.unit_streams.specs.Parts.{seen, more, stop}
 use Rattle.unit_streams.proofs.Parts.{then_begun, then_wrong, then_whole}
 use Rattle.multibyte_ints.specs.Integer.{int_at}
 use Rattle.multibyte_ints.proofs.IntegerBytes.{above_from}
 use Rattle.multibyte_ints.proofs.IntegerFacts.{wrong_is}
 use Rattle.nbfx_values.specs.declared.content.ArrayKind.{ArrayKind}
 use Rattle.nbfx_records.specs.declared.kinds.Body.{Body}
-use Rattle.nbfx_records.specs.declared.kinds.Body.TheVariants.{Fixed, Counted, Named, Qualified, Listed, Ending}
+use Rattle.nbfx_records.specs.declared.kinds.Body.TheVariants.{Fixed, Counted, Named, Qualified}
+use Rattle.nbfx_records.specs.declared.kinds.Body.TheVariants.{Listed, Ending}
 use Rattle.nbfx_records.specs.declared.kinds.LengthForm.TheVariants.{OneByte, TwoBytes, FourBytes}
 use Rattle.nbfx_records.specs.declared.kinds.NameForm.{NameForm}
 use Rattle.nbfx_records.specs.declared.kinds.NameForm.TheVariants.{Inlined, Identified}
@@ -27,9 +31,28 @@ use Rattle.nbfx_records.specs.declared.nodes.RecordFault.TheVariants as faults
 use Rattle.nbfx_records.specs.declared.nodes.NodePlace.{NodePlace}
 use Rattle.nbfx_records.specs.declared.nodes.NodePlace.TheVariants.{BeforeRoot, Within, AfterRoot}
 use Rattle.nbfx_records.specs.Kinds.{array_kind, body_of, record_kind, width_of}
-use Rattle.nbfx_records.specs.Shapes.{CellsShape, NamedShape, a_length, a_string, adds, an_integer, array_at, array_cells, array_element, array_part, array_parts, array_shape, array_turn, array_values, attribute_at, attributes, begins_element, body_at, bytes_of, cells_of, cells_shape, comments, counted_bytes, counted_cells, declaration_at, declares, element_at, element_of, ends_element, ends_list, given_or, has_text, is_attribute, list_at, list_turn, misplaced, name_at, named_by, named_shape, one, opens, placed, prefix_at, qualified_by, record_at, repeats, said_length, scalar_at, several, shape_at, text_at, turn_of, unless_misplaced, value_at, value_of_kind}
-use Rattle.nbfx_records.specs.Causes.{Behind, InArray, InAttribute, InBody, InCells, InCellsOf, InElement, InElementOf, InItem, InList, InNamed, InPartOf, InParts, InPlaced, InPrefix, InRecord, InRecordOf, InText, InTurn, InValue, InValueOf, IsBadInt, IsNegative, IsNone, Now, cells_refused, cells_type, count, element_refused, element_type, integer, item_refused, item_type, long_length, part_refused, part_type, record_refused, record_type, value_refused, value_type}
-use Rattle.nbfx_records.proofs.CauseFacts.{BranchOf, Nowhere, WrongJust, after_never, carried, leaf, never_wrong, refuses, then_never, unseen, wrong_as, wrong_both, wrong_many, wrong_seen, wrong_typed}
+use Rattle.nbfx_records.specs.Shapes.{CellsShape, NamedShape, a_length, a_string, adds, an_integer}
+use Rattle.nbfx_records.specs.Shapes.{array_at, array_cells, array_element, array_part, array_parts}
+use Rattle.nbfx_records.specs.Shapes.{array_shape, array_turn, array_values, attribute_at}
+use Rattle.nbfx_records.specs.Shapes.{attributes, begins_element, body_at, bytes_of, cells_of}
+use Rattle.nbfx_records.specs.Shapes.{cells_shape, comments, counted_bytes, counted_cells}
+use Rattle.nbfx_records.specs.Shapes.{declaration_at, declares, element_at, element_of}
+use Rattle.nbfx_records.specs.Shapes.{ends_element, ends_list, given_or, has_text, is_attribute}
+use Rattle.nbfx_records.specs.Shapes.{list_at, list_turn, misplaced, name_at, named_by, named_shape}
+use Rattle.nbfx_records.specs.Shapes.{one, opens, placed, prefix_at, qualified_by, record_at}
+use Rattle.nbfx_records.specs.Shapes.{repeats, said_length, scalar_at, several, shape_at, text_at}
+use Rattle.nbfx_records.specs.Shapes.{turn_of, unless_misplaced, value_at, value_of_kind}
+use Rattle.nbfx_records.specs.Causes.{Behind, InArray, InAttribute, InBody, InCells, InCellsOf}
+use Rattle.nbfx_records.specs.Causes.{InElement, InElementOf, InItem, InList, InNamed, InPartOf}
+use Rattle.nbfx_records.specs.Causes.{InParts, InPlaced, InPrefix, InRecord, InRecordOf, InText}
+use Rattle.nbfx_records.specs.Causes.{InTurn, InValue, InValueOf, IsBadInt, IsNegative, IsNone, Now}
+use Rattle.nbfx_records.specs.Causes.{cells_refused, cells_type, count, element_refused}
+use Rattle.nbfx_records.specs.Causes.{element_type, integer, item_refused, item_type, long_length}
+use Rattle.nbfx_records.specs.Causes.{part_refused, part_type, record_refused, record_type}
+use Rattle.nbfx_records.specs.Causes.{value_refused, value_type}
+use Rattle.nbfx_records.proofs.CauseFacts.{BranchOf, Nowhere, WrongJust, after_never, carried, leaf}
+use Rattle.nbfx_records.proofs.CauseFacts.{never_wrong, refuses, then_never, unseen, wrong_as}
+use Rattle.nbfx_records.proofs.CauseFacts.{wrong_both, wrong_many, wrong_seen, wrong_typed}
 use Rattle.nbfx_records.proofs.CursorFacts.{further_wrong}
 use Rattle.nbfx_records.proofs.ListFacts.{nothing_turned}
 use Rattle.nbfx_records.proofs.PartsFacts.{nothing_parted}
@@ -409,7 +432,8 @@ may_branch place kind (Some fault) is = inl (fault, refl, λ bytes. refl, λ par
 may_branch place kind None is = inr (
   refl,
   wrong_as (InRecordOf kind) (λ part bytes k. (None ≡ None) × InRecordOf kind part bytes k)
-      (λ part bytes k h. (refl, h)) (λ part bytes k h. h.1) (record_just kind (no_end place kind is)),
+      (λ part bytes k h. (refl, h)) (λ part bytes k h. h.1)
+      (record_just kind (no_end place kind is)),
 )
 
 placed_branch : (place : NodePlace) (k : Option RecordKind) → BranchOf (record_refused place k)

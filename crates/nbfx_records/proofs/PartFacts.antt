@@ -15,8 +15,10 @@ use Rattle.nbfx_records.specs.declared.kinds.RecordKind.{RecordKind}
 use Rattle.nbfx_records.specs.Kinds.{record_kind}
 use Rattle.nbfx_records.specs.declared.kinds.TextKind.{TextKind}
 use Rattle.nbfx_records.specs.declared.kinds.TextKind.TheVariants as texts
-use Rattle.nbfx_records.specs.Shapes.{width_in, said_length, given_or, a_length, scalar_at, text_turn}
-use Rattle.nbfx_records.proofs.CursorFacts.{then_stops, then_tells, then_stops_behind, seen_stops, given_tells, refuse_stops}
+use Rattle.nbfx_records.specs.Shapes.{width_in, said_length, given_or, a_length, scalar_at}
+use Rattle.nbfx_records.specs.Shapes.{text_turn}
+use Rattle.nbfx_records.proofs.CursorFacts.{then_stops, then_tells, then_stops_behind, seen_stops}
+use Rattle.nbfx_records.proofs.CursorFacts.{given_tells, refuse_stops}
 
 -- a length, by its bytes
 module _ (form : LengthForm) (bytes : List ℕ) (at width : ℕ)

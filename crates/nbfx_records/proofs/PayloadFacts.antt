@@ -1,5 +1,6 @@
 -- Records one behind the other, and the strings of a table as they are written.
-use Rattle.std.proofs.Common.{◌≡◌, ℕ, ◌+◌, ◌*◌, ◌^◌, ◌<◌, ◌≤◌, List, [], ◌∷◌, ◌++◌, length, drop, true, refl, sym, ap, ◌∙◌, subst, arith, append_assoc, length-append}
+use Rattle.std.proofs.Common.{◌≡◌, ℕ, ◌+◌, ◌*◌, ◌^◌, ◌<◌, ◌≤◌, List, [], ◌∷◌, ◌++◌, length, drop}
+use Rattle.std.proofs.Common.{true, refl, sym, ap, ◌∙◌, subst, arith, append_assoc, length-append}
 use Rattle.std.specs.Prelude.{◌&&◌, flat_map}
 use Rattle.std.specs.List.{list_all}
 use Rattle.std.specs.Str.{is_utf8}
@@ -17,9 +18,11 @@ use Rattle.multibyte_ints.proofs.TextLaws.{string_alone, string_bytes_are}
 use Rattle.nbfx_values.specs.declared.content.Item.{Item}
 use Rattle.string_tables.specs.SessionStrings.{cost, used_cost}
 use Rattle.nbfx_records.specs.Chosen.{chosen_bytes}
-use Rattle.nbfx_records.specs.Payloads.{AreRecords, AreStrings, IsRecordMeaning, no_record, record_then}
+use Rattle.nbfx_records.specs.Payloads.{AreRecords, AreStrings, IsRecordMeaning, no_record}
+use Rattle.nbfx_records.specs.Payloads.{record_then}
 use Rattle.nbfx_records.specs.Valid.{fits_node, is_short, is_valid_node}
-use Rattle.nbfx_records.specs.WritingLaws.{RecordsJoin, RecordsStay, StringsAreOnce, WrittenAreRecords, WrittenAreStrings, WrittenIsTable}
+use Rattle.nbfx_records.specs.WritingLaws.{RecordsJoin, RecordsStay, StringsAreOnce}
+use Rattle.nbfx_records.specs.WritingLaws.{WrittenAreRecords, WrittenAreStrings, WrittenIsTable}
 use Rattle.nbfx_records.proofs.ChosenNodes.{chosen_is}
 use Rattle.nbfx_records.proofs.StayFacts.{meanings_stay}
 

@@ -1,5 +1,7 @@
 -- What a reader of records answers to a piece.
-use Rattle.std.proofs.Common.{◌≡◌, ℕ, zero, suc, ◌+◌, ◌-◌, ◌<◌, ◌≤◌, List, [], ◌∷◌, ◌++◌, length, take, drop, Result, Ok, Err, inl, inr, sym, ap, ◌∙◌, subst, arith, append_assoc, length-append, length-drop}
+use Rattle.std.proofs.Common.{◌≡◌, ℕ, zero, suc, ◌+◌, ◌-◌, ◌<◌, ◌≤◌, List, [], ◌∷◌, ◌++◌, length}
+use Rattle.std.proofs.Common.{take, drop, Result, Ok, Err, inl, inr, sym, ap, ◌∙◌, subst, arith}
+use Rattle.std.proofs.Common.{append_assoc, length-append, length-drop}
 use Rattle.std.proofs.Math.Nat.{min-le_right}
 use Rattle.std.proofs.Math.Seq.{take-add}
 use Rattle.std.proofs.lemmas.List.{length-take-le, take-append-drop, take_all}
@@ -108,7 +110,8 @@ module _ (place : NodePlace) (p piece bytes : List ℕ) (all : bytes ≡ p ++ pi
         (used, there (wrong fault used) (whole_wrong place bytes shape used fault h m.made))
     by_why Memory m = tt
 
-    pub fed_unfit : (why : NodeFault) (r : Result (ℕ × NodeStep) NodeFault) → IsErrAnd r (λ y. y ≡ why)
+    pub fed_unfit : (why : NodeFault) (r : Result (ℕ × NodeStep) NodeFault)
+        → IsErrAnd r (λ y. y ≡ why)
         → Makes {X = Node} (Err why) (contents shape) → FeedAnswers place p piece r
     fed_unfit why r e m =
         let q = err_from_is_err_and r e in

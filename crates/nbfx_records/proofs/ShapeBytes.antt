@@ -1,9 +1,12 @@
 -- What the bytes of attributes, arrays and whole records are, where no text and no value is judged.
-use Rattle.std.proofs.Common.{◌≡◌, ℕ, ◌*◌, List, [], ◌∷◌, ◌++◌, length, Bool, true, false, Option, Some, None, refl, sym, ap, ◌∙◌}
+use Rattle.std.proofs.Common.{◌≡◌, ℕ, ◌*◌, List, [], ◌∷◌, ◌++◌, length, Bool, true, false, Option}
+use Rattle.std.proofs.Common.{Some, None, refl, sym, ap, ◌∙◌}
 use Rattle.std.specs.Prelude.{◌==◌, if◌then◌else◌}
-use Rattle.unit_streams.specs.Parts.{refuse, a_byte, some_bytes, ◌>>=◌, seen, Turn, more, stop, Many, ReadsJust, Joined, AreMany}
+use Rattle.unit_streams.specs.Parts.{refuse, a_byte, some_bytes, ◌>>=◌, seen, Turn, more, stop}
+use Rattle.unit_streams.specs.Parts.{Many, ReadsJust, Joined, AreMany}
 use Rattle.unit_streams.proofs.Parts.{then_begun}
-use Rattle.unit_streams.proofs.Spelled.{just_given, just_refuse, just_byte, just_bytes, just_then, just_seen}
+use Rattle.unit_streams.proofs.Spelled.{just_given, just_refuse, just_byte, just_bytes, just_then}
+use Rattle.unit_streams.proofs.Spelled.{just_seen}
 use Rattle.unit_streams.proofs.Repeated.{just_many}
 use Rattle.multibyte_ints.specs.Integer.{Spells}
 use Rattle.nbfx_values.specs.declared.content.ArrayKind.{ArrayKind}
@@ -19,9 +22,21 @@ use Rattle.nbfx_records.specs.declared.kinds.NameForm.{NameForm}
 use Rattle.nbfx_records.specs.declared.kinds.RecordKind.{RecordKind}
 use Rattle.nbfx_records.specs.declared.kinds.RecordKind.TheVariants as records
 use Rattle.nbfx_records.specs.Kinds.{array_kind, width_of}
-use Rattle.nbfx_records.specs.Shapes.{ScalarShape, ValueShape, one, several, AttributeShape, attributes, declares, ArrayShape, Shape, ends_element, comments, begins_element, adds, has_text, repeats, NamedShape, named_shape, an_integer, a_string, prefix_at, name_at, scalar_at, list_at, value_of_kind, value_at, attribute_at, declaration_at, array_part, array_turn, array_parts, array_values, element_at, element_of, array_element, CellsShape, cells_shape, cells_of, array_cells, array_shape, array_at, text_at, record_at, misplaced, unless_misplaced, placed, shape_at}
+use Rattle.nbfx_records.specs.Shapes.{ScalarShape, ValueShape, one, several, AttributeShape}
+use Rattle.nbfx_records.specs.Shapes.{attributes, declares, ArrayShape, Shape, ends_element}
+use Rattle.nbfx_records.specs.Shapes.{comments, begins_element, adds, has_text, repeats, NamedShape}
+use Rattle.nbfx_records.specs.Shapes.{named_shape, an_integer, a_string, prefix_at, name_at}
+use Rattle.nbfx_records.specs.Shapes.{scalar_at, list_at, value_of_kind, value_at, attribute_at}
+use Rattle.nbfx_records.specs.Shapes.{declaration_at, array_part, array_turn, array_parts}
+use Rattle.nbfx_records.specs.Shapes.{array_values, element_at, element_of, array_element}
+use Rattle.nbfx_records.specs.Shapes.{CellsShape, cells_shape, cells_of, array_cells, array_shape}
+use Rattle.nbfx_records.specs.Shapes.{array_at, text_at, record_at, misplaced, unless_misplaced}
+use Rattle.nbfx_records.specs.Shapes.{placed, shape_at}
 use Rattle.nbfx_records.proofs.ShapeFronts.{reads_array_turn}
-use Rattle.nbfx_records.proofs.PartBytes.{just_as, just_then_as, just_integer, IsRawString, just_string, PrefixIs, just_prefix, NameIs, just_name, ScalarIs, just_scalar, Typed, just_typed, ListIs, just_list}
+use Rattle.nbfx_records.proofs.PartBytes.{just_as, just_then_as, just_integer, IsRawString}
+use Rattle.nbfx_records.proofs.PartBytes.{just_string, PrefixIs, just_prefix, NameIs, just_name}
+use Rattle.nbfx_records.proofs.PartBytes.{ScalarIs, just_scalar, Typed, just_typed, ListIs}
+use Rattle.nbfx_records.proofs.PartBytes.{just_list}
 
 -- the value of an attribute
 abbrev pub ValueIs : Option RecordKind → ValueShape → List ℕ → Type 0

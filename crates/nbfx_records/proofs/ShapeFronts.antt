@@ -3,7 +3,8 @@ use Rattle.std.proofs.Common.{◌≡◌, ℕ, [], Bool, true, false, Option, Som
 use Rattle.std.specs.Prelude.{◌==◌, ◌*◌, if◌then◌else◌}
 use Rattle.unit_streams.specs.Front.{begun, ReadsFront}
 use Rattle.unit_streams.specs.Parts.{refuse, a_byte, some_bytes, judged, more}
-use Rattle.unit_streams.proofs.Parts.{reads_given, reads_refuse, reads_byte, reads_bytes, reads_then, reads_seen, reads_judged, then_begun}
+use Rattle.unit_streams.proofs.Parts.{reads_given, reads_refuse, reads_byte, reads_bytes}
+use Rattle.unit_streams.proofs.Parts.{reads_then, reads_seen, reads_judged, then_begun}
 use Rattle.unit_streams.proofs.Repeated.{reads_many}
 use Rattle.multibyte_ints.specs.Integer.{int_at}
 use Rattle.multibyte_ints.proofs.IntegerBytes.{int_reads_front}
@@ -21,13 +22,20 @@ use Rattle.nbfx_records.specs.declared.kinds.Body.{Body}
 use Rattle.nbfx_records.specs.declared.kinds.LengthForm.{LengthForm}
 use Rattle.nbfx_records.specs.declared.kinds.PrefixForm.TheVariants.{Unprefixed, Lettered, Prefixed}
 use Rattle.nbfx_records.specs.declared.kinds.NameForm.TheVariants.{Inlined, Identified}
-use Rattle.nbfx_records.specs.declared.kinds.Body.TheVariants.{Fixed, Counted, Named, Qualified, Listed, Ending}
+use Rattle.nbfx_records.specs.declared.kinds.Body.TheVariants.{Fixed, Counted, Named, Qualified}
+use Rattle.nbfx_records.specs.declared.kinds.Body.TheVariants.{Listed, Ending}
 use Rattle.nbfx_records.specs.declared.kinds.RecordKind.TheVariants as records
 use Rattle.nbfx_records.specs.Kinds.{record_kind, body_of, array_kind}
 use Rattle.nbfx_records.specs.Kinds.{width_of}
 use Rattle.nbfx_records.specs.Contents.{contents}
 use Rattle.nbfx_records.specs.Reading.{node_at}
-use Rattle.nbfx_records.specs.Shapes.{one, has_text, array_turn, an_integer, a_string, prefix_at, name_at, said_length, given_or, a_length, counted_bytes, body_at, scalar_at, turn_of, list_turn, list_at, value_of_kind, value_at, attribute_at, declaration_at, array_part, array_parts, array_values, element_at, element_of, array_element, cells_of, array_cells, array_at, text_at, record_at, unless_misplaced, placed, shape_at}
+use Rattle.nbfx_records.specs.Shapes.{one, has_text, array_turn, an_integer, a_string, prefix_at}
+use Rattle.nbfx_records.specs.Shapes.{name_at, said_length, given_or, a_length, counted_bytes}
+use Rattle.nbfx_records.specs.Shapes.{body_at, scalar_at, turn_of, list_turn, list_at}
+use Rattle.nbfx_records.specs.Shapes.{value_of_kind, value_at, attribute_at, declaration_at}
+use Rattle.nbfx_records.specs.Shapes.{array_part, array_parts, array_values, element_at, element_of}
+use Rattle.nbfx_records.specs.Shapes.{array_element, cells_of, array_cells, array_at, text_at}
+use Rattle.nbfx_records.specs.Shapes.{record_at, unless_misplaced, placed, shape_at}
 
 pub reads_integer : ReadsFront an_integer
 reads_integer = reads_seen (λ n. n) (λ _. faults.BadInt) int_at int_reads_front
@@ -44,12 +52,14 @@ pub reads_name : (form : NameForm) → ReadsFront (name_at form)
 reads_name Inlined = reads_seen _ _ a_string reads_string
 reads_name Identified = reads_seen _ _ an_integer reads_integer
 
-pub reads_given_or : {A : Type 0} (fault : RecordFault) (o : Option A) → ReadsFront (given_or fault o)
+pub reads_given_or : {A : Type 0} (fault : RecordFault) (o : Option A)
+    → ReadsFront (given_or fault o)
 reads_given_or fault None = reads_refuse fault
 reads_given_or fault (Some a) = reads_given a
 
 pub reads_length : (form : LengthForm) → ReadsFront (a_length form)
-reads_length form = reads_then (some_bytes _) _ (reads_bytes _) (λ said. reads_given_or faults.BadInt (said_length form said))
+reads_length form = reads_then (some_bytes _) _ (reads_bytes _)
+    (λ said. reads_given_or faults.BadInt (said_length form said))
 
 pub reads_counted : (form : LengthForm) → ReadsFront (counted_bytes form)
 reads_counted form = reads_then (a_length form) some_bytes (reads_length form) (λ n. reads_bytes n)
@@ -58,47 +68,60 @@ reads_body : (kind : TextKind) (body : Body) → ReadsFront (body_at kind body)
 reads_body kind (Fixed n) = reads_seen _ _ (some_bytes n) (reads_bytes n)
 reads_body kind (Counted form) = reads_seen _ _ (counted_bytes form) (reads_counted form)
 reads_body kind Named = reads_seen _ _ an_integer reads_integer
-reads_body kind Qualified = reads_then a_byte _ reads_byte (λ letter. reads_seen _ _ an_integer reads_integer)
+reads_body kind Qualified = reads_then a_byte _ reads_byte
+    (λ letter. reads_seen _ _ an_integer reads_integer)
 reads_body kind Listed = reads_refuse _
 reads_body kind Ending = reads_refuse _
 
 pub reads_scalar : (kind : TextKind) → ReadsFront (scalar_at kind)
 reads_scalar kind = reads_body kind (body_of kind)
 
-pub reads_turn_of : (may_close : Bool) (kind : Option RecordKind) → ReadsFront (turn_of may_close kind)
+pub reads_turn_of : (may_close : Bool) (kind : Option RecordKind)
+    → ReadsFront (turn_of may_close kind)
 reads_turn_of may_close None = reads_refuse _
 reads_turn_of may_close (Some (records.Text texts.EndList false)) = reads_given _
 reads_turn_of true (Some (records.Text texts.EndList true)) = reads_given _
 reads_turn_of false (Some (records.Text texts.EndList true)) = reads_refuse _
-reads_turn_of may_close (Some (records.Text kind false)) = reads_seen more (λ fault. fault) (scalar_at kind) (reads_scalar kind)
+reads_turn_of may_close (Some (records.Text kind false)) = reads_seen more (λ fault. fault)
+    (scalar_at kind) (reads_scalar kind)
 reads_turn_of may_close (Some _) = reads_refuse _
 
 pub reads_list_turn : (may_close : Bool) → ReadsFront (list_turn may_close)
-reads_list_turn may_close = reads_then a_byte _ reads_byte (λ byte. reads_turn_of may_close (record_kind byte))
+reads_list_turn may_close = reads_then a_byte _ reads_byte
+    (λ byte. reads_turn_of may_close (record_kind byte))
 
 pub reads_list : (may_close : Bool) → ReadsFront (list_at may_close)
-reads_list may_close = reads_many (list_turn may_close) (reads_list_turn may_close) (then_begun a_byte _ [] refl)
+reads_list may_close = reads_many (list_turn may_close) (reads_list_turn may_close)
+    (then_begun a_byte _ [] refl)
 
 pub reads_value_of_kind : (kind : Option RecordKind) → ReadsFront (value_of_kind kind)
 reads_value_of_kind None = reads_refuse _
-reads_value_of_kind (Some (records.Text texts.StartList false)) = reads_seen _ _ (list_at false) (reads_list false)
-reads_value_of_kind (Some (records.Text kind false)) = reads_seen one (λ fault. fault) (scalar_at kind) (reads_scalar kind)
+reads_value_of_kind (Some (records.Text texts.StartList false)) = reads_seen _ _ (list_at false)
+    (reads_list false)
+reads_value_of_kind (Some (records.Text kind false)) = reads_seen one (λ fault. fault)
+    (scalar_at kind) (reads_scalar kind)
 reads_value_of_kind (Some _) = reads_refuse _
 
 pub reads_value : ReadsFront value_at
 reads_value = reads_then a_byte _ reads_byte (λ byte. reads_value_of_kind (record_kind byte))
 
-pub reads_attribute : (prefix : PrefixForm) (name : NameForm) → ReadsFront (attribute_at prefix name)
+pub reads_attribute : (prefix : PrefixForm) (name : NameForm)
+    → ReadsFront (attribute_at prefix name)
 reads_attribute prefix name =
-    reads_then (prefix_at prefix) _ (reads_prefix prefix) (λ p. reads_then (name_at name) _ (reads_name name) (λ n. reads_seen _ _ value_at reads_value))
+    reads_then (prefix_at prefix) _ (reads_prefix prefix)
+    (λ p. reads_then (name_at name) _ (reads_name name) (λ n. reads_seen _ _ value_at reads_value))
 
-pub reads_declaration : (prefix : PrefixForm) (uri : NameForm) → ReadsFront (declaration_at prefix uri)
-reads_declaration prefix uri = reads_then (prefix_at prefix) _ (reads_prefix prefix) (λ p. reads_seen _ _ (name_at uri) (reads_name uri))
+pub reads_declaration : (prefix : PrefixForm) (uri : NameForm)
+    → ReadsFront (declaration_at prefix uri)
+reads_declaration prefix uri = reads_then (prefix_at prefix) _ (reads_prefix prefix)
+    (λ p. reads_seen _ _ (name_at uri) (reads_name uri))
 
 pub reads_array_part : (kind : Option RecordKind) → ReadsFront (array_part kind)
 reads_array_part None = reads_refuse _
-reads_array_part (Some (records.Attribute prefix name)) = reads_seen _ _ (attribute_at prefix name) (reads_attribute prefix name)
-reads_array_part (Some (records.Declaration prefix uri)) = reads_seen _ _ (declaration_at prefix uri) (reads_declaration prefix uri)
+reads_array_part (Some (records.Attribute prefix name)) = reads_seen _ _ (attribute_at prefix name)
+    (reads_attribute prefix name)
+reads_array_part (Some (records.Declaration prefix uri)) = reads_seen _ _
+    (declaration_at prefix uri) (reads_declaration prefix uri)
 reads_array_part (Some records.EndElement) = reads_given _
 reads_array_part (Some _) = reads_refuse _
 
@@ -110,12 +133,14 @@ reads_array_parts = reads_many array_turn reads_array_turn (then_begun a_byte _ 
 
 reads_array_values : (kind : ArrayKind) (count : ℕ) → ReadsFront (array_values kind count)
 reads_array_values kind count = by (count == 0) where
-  by : (none : Bool) → ReadsFront (if none then refuse faults.BadArray else some_bytes (count * width_of kind))
+  by : (none : Bool)
+      → ReadsFront (if none then refuse faults.BadArray else some_bytes (count * width_of kind))
   by true = reads_refuse _
   by false = reads_bytes _
 
 pub reads_element : (prefix : PrefixForm) (name : NameForm) → ReadsFront (element_at prefix name)
-reads_element prefix name = reads_then (prefix_at prefix) _ (reads_prefix prefix) (λ p. reads_seen _ _ (name_at name) (reads_name name))
+reads_element prefix name = reads_then (prefix_at prefix) _ (reads_prefix prefix)
+    (λ p. reads_seen _ _ (name_at name) (reads_name name))
 
 pub reads_element_of : (kind : Option RecordKind) → ReadsFront (element_of kind)
 reads_element_of None = reads_refuse _
@@ -127,29 +152,37 @@ reads_array_element = reads_then a_byte _ reads_byte (λ byte. reads_element_of 
 
 reads_cells_of : (kind : Option ArrayKind) → ReadsFront (cells_of kind)
 reads_cells_of None = reads_refuse _
-reads_cells_of (Some kind) = reads_then an_integer _ reads_integer (λ count. reads_seen _ _ (array_values kind count) (reads_array_values kind count))
+reads_cells_of (Some kind) = reads_then an_integer _ reads_integer
+    (λ count. reads_seen _ _ (array_values kind count) (reads_array_values kind count))
 
 pub reads_array : ReadsFront array_at
 unfolding array_at
 reads_array =
     reads_then array_element _ reads_array_element
-    (λ it. reads_then array_parts _ reads_array_parts (λ parts. reads_seen _ _ array_cells (reads_then a_byte _ reads_byte (λ byte. reads_cells_of (array_kind byte)))))
+    (λ it. reads_then array_parts _ reads_array_parts
+    (λ parts. reads_seen _ _ array_cells
+    (reads_then a_byte _ reads_byte (λ byte. reads_cells_of (array_kind byte)))))
 
 pub reads_text : (kind : TextKind) (ends : Bool) → ReadsFront (text_at kind ends)
 reads_text texts.StartList ends = reads_seen _ _ (list_at true) (reads_list true)
-reads_text kind ends = reads_seen (λ scalar. has_text (one scalar) ends) (λ fault. fault) (scalar_at kind) (reads_scalar kind)
+reads_text kind ends = reads_seen (λ scalar. has_text (one scalar) ends) (λ fault. fault)
+    (scalar_at kind) (reads_scalar kind)
 
 pub reads_record : (kind : RecordKind) → ReadsFront (record_at kind)
 unfolding record_at
 reads_record records.EndElement = reads_given _
 reads_record records.Comment = reads_seen _ _ a_string reads_string
 reads_record records.Array = reads_seen _ _ array_at reads_array
-reads_record (records.Attribute prefix name) = reads_seen _ _ (attribute_at prefix name) (reads_attribute prefix name)
-reads_record (records.Declaration prefix uri) = reads_seen _ _ (declaration_at prefix uri) (reads_declaration prefix uri)
-reads_record (records.Element prefix name) = reads_seen _ _ (element_at prefix name) (reads_element prefix name)
+reads_record (records.Attribute prefix name) = reads_seen _ _ (attribute_at prefix name)
+    (reads_attribute prefix name)
+reads_record (records.Declaration prefix uri) = reads_seen _ _ (declaration_at prefix uri)
+    (reads_declaration prefix uri)
+reads_record (records.Element prefix name) = reads_seen _ _ (element_at prefix name)
+    (reads_element prefix name)
 reads_record (records.Text kind ends) = reads_text kind ends
 
-reads_unless : (fault : Option RecordFault) (kind : RecordKind) → ReadsFront (unless_misplaced fault kind)
+reads_unless : (fault : Option RecordFault) (kind : RecordKind)
+    → ReadsFront (unless_misplaced fault kind)
 reads_unless None kind = reads_record kind
 reads_unless (Some fault) kind = reads_refuse fault
 

@@ -20,7 +20,8 @@ text_of_5 = later (0x98, 1, 6, refl, refl, later (5, 1, 5, refl, refl, (omega ar
 -- an element's prefix of two
 prefix_of_2 : asked.shape_at within (0x41 ∷ 2 ∷ 0x70 ∷ []) 4
 unfolding records_on_literals
-prefix_of_2 = later (0x41, 1, 3, refl, refl, here (later (2, 1, 2, refl, refl, (omega arith, refl))))
+prefix_of_2 = later
+    (0x41, 1, 3, refl, refl, here (later (2, 1, 2, refl, refl, (omega arith, refl))))
 
 -- the length of a comment
 length_begun : asked.shape_at within (2 ∷ 0x80 ∷ []) 3

@@ -5,14 +5,16 @@ use Rattle.std.specs.Prelude.{pos, negsuc}
 use Rattle.nbfx_values.specs.declared.content.ArrayKind.{ArrayKind}
 use Rattle.nbfx_values.specs.declared.content.ArrayKind.TheVariants as arrays
 use Rattle.nbfx_values.specs.declared.scalars.Scalar.{Scalar}
-use Rattle.nbfx_values.specs.declared.scalars.Scalar.TheVariants.{Number, Truth, Float, Double, Decimal, DateTime, TimeSpan, Uuid}
+use Rattle.nbfx_values.specs.declared.scalars.Scalar.TheVariants.{Number, Truth, Float, Double}
+use Rattle.nbfx_values.specs.declared.scalars.Scalar.TheVariants.{Decimal, DateTime, TimeSpan, Uuid}
 use Rattle.nbfx_records.specs.declared.nodes.AttrNode.TheVariants as attribute_nodes
 use Rattle.nbfx_records.specs.declared.nodes.NameRef.TheVariants.{Inline, Id}
 use Rattle.nbfx_records.specs.declared.nodes.RawScalar.TheVariants.{Known}
 use Rattle.nbfx_records.specs.declared.nodes.RawValue.{RawValue}
 use Rattle.nbfx_records.specs.declared.nodes.RawValue.TheVariants.{One, List as ListOf}
 use Rattle.nbfx_records.specs.declared.nodes.Node.{Node}
-use Rattle.nbfx_records.specs.declared.nodes.Node.TheVariants.{EndElement, Comment, Array, Attribute, Xmlns, Element}
+use Rattle.nbfx_records.specs.declared.nodes.Node.TheVariants.{EndElement, Comment, Array}
+use Rattle.nbfx_records.specs.declared.nodes.Node.TheVariants.{Attribute, Xmlns, Element}
 use Rattle.nbfx_records.proofs.OnLiterals.{AllRead, AllWritten, records_on_literals}
 
 abbrev one : RawValue

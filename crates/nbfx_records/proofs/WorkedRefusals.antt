@@ -3,7 +3,10 @@ use Rattle.std.proofs.Common.{◌≡◌, List, ℕ, [], ◌∷◌, true, false, 
 use Rattle.std.specs.Prelude.{map}
 use Rattle.unit_streams.specs.Front.{begun, wrong}
 use Rattle.nbfx_records.specs.declared.nodes.RecordFault.{RecordFault}
-use Rattle.nbfx_records.specs.declared.nodes.RecordFault.TheVariants.{UnknownNode, OutOfPlace, TrailingBytes, TooDeep, BadInt, BadArray, BadUtf8, BadValue}
+use Rattle.nbfx_records.specs.declared.nodes.RecordFault.TheVariants.{UnknownNode, OutOfPlace}
+use Rattle.nbfx_records.specs.declared.nodes.RecordFault.TheVariants.{TrailingBytes, TooDeep}
+use Rattle.nbfx_records.specs.declared.nodes.RecordFault.TheVariants.{BadInt, BadArray, BadUtf8}
+use Rattle.nbfx_records.specs.declared.nodes.RecordFault.TheVariants.{BadValue}
 use Rattle.nbfx_records.specs.declared.nodes.NodePlace.{NodePlace}
 use Rattle.nbfx_records.specs.declared.nodes.NodePlace.TheVariants.{BeforeRoot, Within, AfterRoot}
 use Rattle.nbfx_records.specs.Reading.{node_at}

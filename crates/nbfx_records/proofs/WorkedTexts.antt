@@ -4,7 +4,10 @@ use Rattle.std.proofs.Common.{ℕ, List, [], ◌∷◌, true, false, refl}
 use Rattle.std.specs.Prelude.{pos, negsuc}
 use Rattle.nbfx_values.specs.declared.scalars.Dec.{Dec}
 use Rattle.nbfx_values.specs.declared.scalars.Scalar.{Scalar}
-use Rattle.nbfx_values.specs.declared.scalars.Scalar.TheVariants.{Number, Truth, Float, Double, Decimal, DateTime, TimeSpan, Text as TextOf, Bytes, UniqueId, Uuid}
+use Rattle.nbfx_values.specs.declared.scalars.Scalar.TheVariants.{Number, Truth, Float, Double}
+use Rattle.nbfx_values.specs.declared.scalars.Scalar.TheVariants.{Decimal, DateTime, TimeSpan}
+use Rattle.nbfx_values.specs.declared.scalars.Scalar.TheVariants.{Text as TextOf, Bytes, UniqueId}
+use Rattle.nbfx_values.specs.declared.scalars.Scalar.TheVariants.{Uuid}
 use Rattle.nbfx_records.specs.declared.nodes.Node.{Node}
 use Rattle.nbfx_records.specs.declared.nodes.RawScalar.TheVariants.{Known, Dictionary, QName}
 use Rattle.nbfx_records.specs.declared.nodes.RawValue.TheVariants.{One, List as ListOf}

@@ -1,6 +1,7 @@
 -- A node that says what is valid, with no more content and no greater identifiers than 31 bits
 -- hold, may be written.
-use Rattle.std.proofs.Common.{◌≡◌, ℕ, ◌+◌, ◌^◌, ◌<◌, ◌≤◌, List, [], ◌∷◌, ◌++◌, length, Bool, true, refl, sym, ap, ◌∙◌, subst, arith}
+use Rattle.std.proofs.Common.{◌≡◌, ℕ, ◌+◌, ◌^◌, ◌<◌, ◌≤◌, List, [], ◌∷◌, ◌++◌, length, Bool, true}
+use Rattle.std.proofs.Common.{refl, sym, ap, ◌∙◌, subst, arith}
 use Rattle.std.specs.Prelude.{◌&&◌, nat_le, nat_lt, flat_map, sum_by}
 use Rattle.std.specs.List.{list_all}
 use Rattle.std.specs.Str.{is_utf8}
@@ -10,7 +11,8 @@ use Rattle.std.proofs.lemmas.List.Folds.{list_all-append}
 use Rattle.std.proofs.lemmas.List.Sums.{sum_by-cons}
 use Rattle.nbfx_values.specs.Items as items_spec
 use Rattle.nbfx_values.specs.Items.{are_texts, fits_kind, is_valid_attribute, is_valid_item}
-use Rattle.nbfx_values.specs.Measures.{array_content, attribute_content, content_of, item_content, scalar_content, value_content}
+use Rattle.nbfx_values.specs.Measures.{array_content, attribute_content, content_of, item_content}
+use Rattle.nbfx_values.specs.Measures.{scalar_content, value_content}
 use Rattle.nbfx_values.specs.Scalars.{is_unsigned, is_valid_scalar, is_valid_value}
 use Rattle.nbfx_values.specs.declared.content.ArrayItem.{ArrayItem}
 use Rattle.nbfx_values.specs.declared.content.ArrayKind.{ArrayKind}
@@ -32,9 +34,16 @@ use Rattle.nbfx_records.specs.declared.nodes.AttrNode.{AttrNode}
 use Rattle.nbfx_records.specs.declared.nodes.AttrNode.TheVariants as attribute_nodes
 use Rattle.nbfx_records.specs.declared.nodes.ArrayNode.{ArrayNode}
 use Rattle.nbfx_records.specs.declared.nodes.Node.{Node}
-use Rattle.nbfx_records.specs.declared.nodes.Node.TheVariants.{EndElement, Comment, Array, Attribute, Xmlns, Element, Text}
-use Rattle.nbfx_records.specs.Meaning.{ArrayMeans, EachMeans, Means, NameMeans, PartMeans, ScalarMeans, ValueMeans, closing, identifiers, ids_of_name, ids_of_part, ids_of_scalar, ids_of_value}
-use Rattle.nbfx_records.specs.Valid.{are_valid_names, fit_names, fits_array, fits_known, fits_node, fits_part, fits_raw, fits_text, is_short, is_valid_array, is_valid_known, is_valid_node, is_valid_part, is_valid_raw, is_valid_text, names_qnames, names_qnames_part, names_qnames_raw, names_qnames_text}
+use Rattle.nbfx_records.specs.declared.nodes.Node.TheVariants.{EndElement, Comment, Array}
+use Rattle.nbfx_records.specs.declared.nodes.Node.TheVariants.{Attribute, Xmlns, Element, Text}
+use Rattle.nbfx_records.specs.Meaning.{ArrayMeans, EachMeans, Means, NameMeans, PartMeans}
+use Rattle.nbfx_records.specs.Meaning.{ScalarMeans, ValueMeans, closing, identifiers, ids_of_name}
+use Rattle.nbfx_records.specs.Meaning.{ids_of_part, ids_of_scalar, ids_of_value}
+use Rattle.nbfx_records.specs.Valid.{are_valid_names, fit_names, fits_array, fits_known, fits_node}
+use Rattle.nbfx_records.specs.Valid.{fits_part, fits_raw, fits_text, is_short, is_valid_array}
+use Rattle.nbfx_records.specs.Valid.{is_valid_known, is_valid_node, is_valid_part, is_valid_raw}
+use Rattle.nbfx_records.specs.Valid.{is_valid_text, names_qnames, names_qnames_part}
+use Rattle.nbfx_records.specs.Valid.{names_qnames_raw, names_qnames_text}
 use Rattle.nbfx_records.specs.WritingLaws.{SaidMayBeWritten}
 
 -- in both ways a record asks for

@@ -1,6 +1,7 @@
 -- How many bytes are asked for where the bytes end within a part of a record: those of a text, of
 -- bytes or of values whose number is known, to their last; else one more.
-use Rattle.std.specs.Prelude.{◌≡◌, ℕ, ◌+◌, ◌*◌, ◌<◌, List, [], length, Bool, true, false, Option, Some, None}
+use Rattle.std.specs.Prelude.{◌≡◌, ℕ, ◌+◌, ◌*◌, ◌<◌, List, [], length, Bool, true, false, Option}
+use Rattle.std.specs.Prelude.{Some, None}
 use Rattle.std.specs.Int.{byte_len}
 use Rattle.unit_streams.specs.Front.{begun}
 use Rattle.unit_streams.specs.Parts as parts

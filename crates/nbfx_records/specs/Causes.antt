@@ -1,6 +1,8 @@
 -- What may be wrong with a record: a type byte or a number in it, once those before are whole; or a
 -- text or a value of one that is whole.
-use Rattle.std.specs.Prelude.{◌≡◌, ◌≢◌, ⊤, ℕ, ◌+◌, ◌%◌, ◌^◌, ◌<◌, ◌≤◌, ◌⊎◌, List, [], ◌∷◌, ◌++◌, length, take, drop, slice_index, Bool, true, false, not, ◌&&◌, if◌then◌else◌, Option, Some, None, IsUtf8, Contains, flat_map}
+use Rattle.std.specs.Prelude.{◌≡◌, ◌≢◌, ⊤, ℕ, ◌+◌, ◌%◌, ◌^◌, ◌<◌, ◌≤◌, ◌⊎◌, List, [], ◌∷◌, ◌++◌}
+use Rattle.std.specs.Prelude.{length, take, drop, slice_index, Bool, true, false, not, ◌&&◌}
+use Rattle.std.specs.Prelude.{if◌then◌else◌, Option, Some, None, IsUtf8, Contains, flat_map}
 use Rattle.std.specs.Int.{w32, from_le_bytes}
 use Rattle.std.specs.Char.Utf16.{has_unpaired_surrogate}
 use Rattle.unit_streams.specs.Front.{whole}
@@ -26,7 +28,11 @@ use Rattle.nbfx_records.specs.declared.nodes.NameRef.{NameRef}
 use Rattle.nbfx_records.specs.declared.nodes.NameRef.TheVariants.{Inline, Id}
 use Rattle.nbfx_records.specs.Contents.{cells, is_chars, units_of}
 use Rattle.nbfx_records.specs.Kinds.{array_kind, body_of, record_kind, text_kind_in, width_of}
-use Rattle.nbfx_records.specs.Shapes.{ScalarShape, bytes_of, qualified_by, ValueShape, one, several, AttributeShape, attributes, declares, ArrayShape, Shape, ends_element, comments, begins_element, adds, has_text, repeats, array_element, array_parts, array_turn, list_turn, misplaced, name_at, prefix_at, shape_at}
+use Rattle.nbfx_records.specs.Shapes.{ScalarShape, bytes_of, qualified_by, ValueShape, one, several}
+use Rattle.nbfx_records.specs.Shapes.{AttributeShape, attributes, declares, ArrayShape, Shape}
+use Rattle.nbfx_records.specs.Shapes.{ends_element, comments, begins_element, adds, has_text}
+use Rattle.nbfx_records.specs.Shapes.{repeats, array_element, array_parts, array_turn, list_turn}
+use Rattle.nbfx_records.specs.Shapes.{misplaced, name_at, prefix_at, shape_at}
 
 -- what can be wrong in the structure of a record
 pub data Part : Type 0 where
@@ -170,7 +176,8 @@ InItem _ part bytes k = ⊥
 abbrev pub InTurn : Bool → Part → List ℕ → ℕ → Type 0
 InTurn may_close part bytes k =
     Now (item_type may_close) part k
-    ⊎ Behind (a_byte {R = RecordFault}) (λ byte rest i. InItem (record_kind byte) part rest i) bytes k
+    ⊎ Behind (a_byte {R = RecordFault}) (λ byte rest i. InItem (record_kind byte) part rest i) bytes
+    k
 
 abbrev pub InList : Bool → Part → List ℕ → ℕ → Type 0
 InList may_close part bytes k = BehindMany (list_turn may_close) (InTurn may_close part) bytes k
@@ -255,7 +262,8 @@ InPlaced place None part bytes k = ⊥
 abbrev pub InRecord : NodePlace → Part → List ℕ → ℕ → Type 0
 InRecord place part bytes k =
     Now (record_type place) part k
-    ⊎ Behind (a_byte {R = RecordFault}) (λ byte rest i. InPlaced place (record_kind byte) part rest i)
+    ⊎ Behind (a_byte {R = RecordFault}) (λ byte rest i. InPlaced place (record_kind byte) part rest
+    i)
     bytes k
 
 -- some part is wrong of those that come so, as the first n bytes show

@@ -1,6 +1,9 @@
 -- What a whole shape says: its node, unless one of its texts isn't UTF-8 or one of its values is
 -- none of its kind.
-use Rattle.std.specs.Prelude.{ℕ, zero, suc, ◌+◌, ◌*◌, ◌%◌, ◌^◌, pos, List, [], ◌∷◌, ◌++◌, length, take, drop, slice_index, Bool, true, false, Option, Some, None, ok_or, Result, Ok, Err, nat_le, ◌==◌, ◌&&◌, ◌||◌, not, if◌then◌else◌, encode_utf8_all}
+use Rattle.std.specs.Prelude.{ℕ, zero, suc, ◌+◌, ◌*◌, ◌%◌, ◌^◌, pos, List, [], ◌∷◌, ◌++◌, length}
+use Rattle.std.specs.Prelude.{take, drop, slice_index, Bool, true, false, Option, Some, None, ok_or}
+use Rattle.std.specs.Prelude.{Result, Ok, Err, nat_le, ◌==◌, ◌&&◌, ◌||◌, not, if◌then◌else◌}
+use Rattle.std.specs.Prelude.{encode_utf8_all}
 use Rattle.std.specs.Int.{Width, w8, w16, w32, w64, from_le_bytes, cast_signed}
 use Rattle.std.specs.Char.Utf16.{has_unpaired_surrogate, utf16_lossy_chars}
 use Rattle.std.specs.List.{list_all}
@@ -25,7 +28,10 @@ use Rattle.nbfx_records.specs.declared.nodes.Node.TheVariants as nodes
 use Rattle.nbfx_records.specs.declared.nodes.RecordFault.{RecordFault}
 use Rattle.nbfx_records.specs.declared.nodes.RecordFault.TheVariants as faults
 use Rattle.nbfx_records.specs.Kinds.{text_kind_in, width_of}
-use Rattle.nbfx_records.specs.Shapes.{ScalarShape, bytes_of, named_by, qualified_by, ValueShape, one, several, AttributeShape, attributes, declares, NamedShape, CellsShape, ArrayShape, Shape, ends_element, comments, begins_element, adds, has_text, repeats}
+use Rattle.nbfx_records.specs.Shapes.{ScalarShape, bytes_of, named_by, qualified_by, ValueShape}
+use Rattle.nbfx_records.specs.Shapes.{one, several, AttributeShape, attributes, declares}
+use Rattle.nbfx_records.specs.Shapes.{NamedShape, CellsShape, ArrayShape, Shape, ends_element}
+use Rattle.nbfx_records.specs.Shapes.{comments, begins_element, adds, has_text, repeats}
 
 -- two bytes a unit, the lower first, as far as there are two
 abbrev pub units_of : List ℕ → List ℕ

@@ -10,5 +10,6 @@ Made (Ok x) judged = judged ≡ Ok x
 Made (Err (Record fault)) judged = judged ≡ Err fault
 Made (Err Memory) judged = ⊤
 
-pub record Makes {X : Type 0} (result : Result X NodeFault) (judged : Result X RecordFault) : Type 0 where
-  pub made : Made result judged
+pub record Makes {X : Type 0} (result : Result X NodeFault) (judged : Result X RecordFault) : Type 0
+  where
+    pub made : Made result judged

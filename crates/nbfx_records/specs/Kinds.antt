@@ -1,5 +1,6 @@
 -- What begins with which type byte.
-use Rattle.std.specs.Prelude.{ℕ, ◌+◌, ◌-◌, ◌/◌, ◌%◌, Bool, true, false, Option, Some, None, nat_lt, ◌==◌, if◌then◌else◌, slice_get}
+use Rattle.std.specs.Prelude.{ℕ, ◌+◌, ◌-◌, ◌/◌, ◌%◌, Bool, true, false, Option, Some, None, nat_lt}
+use Rattle.std.specs.Prelude.{◌==◌, if◌then◌else◌, slice_get}
 use Rattle.std.specs.Option.{option_and_then}
 use Rattle.nbfx_values.specs.declared.content.ArrayKind.{ArrayKind}
 use Rattle.nbfx_values.specs.declared.content.ArrayKind.TheVariants as arrays
@@ -12,7 +13,8 @@ use Rattle.nbfx_records.specs.declared.kinds.NameForm.TheVariants.{Inlined, Iden
 use Rattle.nbfx_records.specs.declared.kinds.RecordKind.{RecordKind}
 use Rattle.nbfx_records.specs.declared.kinds.RecordKind.TheVariants as records
 use Rattle.nbfx_records.specs.declared.kinds.Body.{Body}
-use Rattle.nbfx_records.specs.declared.kinds.Body.TheVariants.{Fixed, Counted, Named, Qualified, Listed, Ending}
+use Rattle.nbfx_records.specs.declared.kinds.Body.TheVariants.{Fixed, Counted, Named, Qualified}
+use Rattle.nbfx_records.specs.declared.kinds.Body.TheVariants.{Listed, Ending}
 use Rattle.nbfx_records.specs.declared.kinds.LengthForm.TheVariants.{OneByte, TwoBytes, FourBytes}
 use Rattle.nbfx_records.specs.declared.kinds.TheConstants.{TEXT_KINDS}
 

@@ -1,11 +1,15 @@
 -- What the bytes of each node are, one row for each record of MC-NBFX.
-use Rattle.std.specs.Prelude.{◌≡◌, ℕ, ◌+◌, ◌*◌, ◌^◌, ◌<◌, ◌≤◌, ◌⊎◌, pos, List, [], ◌∷◌, ◌++◌, length, Bool, true, false, Some, IsUtf8, if◌then◌else◌}
+use Rattle.std.specs.Prelude.{◌≡◌, ℕ, ◌+◌, ◌*◌, ◌^◌, ◌<◌, ◌≤◌, ◌⊎◌, pos, List, [], ◌∷◌, ◌++◌}
+use Rattle.std.specs.Prelude.{length, Bool, true, false, Some, IsUtf8, if◌then◌else◌}
 use Rattle.std.specs.Int.{Width, w8, w16, w32, w64, byte_len, from_le_bytes, cast_signed}
 use Rattle.multibyte_ints.specs.Integer.{Spells}
 use Rattle.multibyte_ints.specs.Text.{IsString}
 use Rattle.nbfx_values.specs.declared.content.ArrayKind.{ArrayKind}
 use Rattle.nbfx_values.specs.declared.scalars.Scalar.{Scalar}
-use Rattle.nbfx_values.specs.declared.scalars.Scalar.TheVariants.{Number, Truth, Float, Double, Decimal, DateTime, TimeSpan, Text as TextOf, Bytes, UniqueId, Uuid}
+use Rattle.nbfx_values.specs.declared.scalars.Scalar.TheVariants.{Number, Truth, Float, Double}
+use Rattle.nbfx_values.specs.declared.scalars.Scalar.TheVariants.{Decimal, DateTime, TimeSpan}
+use Rattle.nbfx_values.specs.declared.scalars.Scalar.TheVariants.{Text as TextOf, Bytes, UniqueId}
+use Rattle.nbfx_values.specs.declared.scalars.Scalar.TheVariants.{Uuid}
 use Rattle.nbfx_records.specs.declared.kinds.TextKind.{TextKind}
 use Rattle.nbfx_records.specs.declared.kinds.TextKind.TheVariants as texts
 use Rattle.nbfx_records.specs.declared.nodes.NameRef.{NameRef}
@@ -18,7 +22,8 @@ use Rattle.nbfx_records.specs.declared.nodes.AttrNode.{AttrNode}
 use Rattle.nbfx_records.specs.declared.nodes.AttrNode.TheVariants as attribute_nodes
 use Rattle.nbfx_records.specs.declared.nodes.ArrayNode.{ArrayNode}
 use Rattle.nbfx_records.specs.declared.nodes.Node.{Node}
-use Rattle.nbfx_records.specs.declared.nodes.Node.TheVariants.{EndElement, Comment, Array, Attribute, Xmlns, Element, Text}
+use Rattle.nbfx_records.specs.declared.nodes.Node.TheVariants.{EndElement, Comment, Array}
+use Rattle.nbfx_records.specs.declared.nodes.Node.TheVariants.{Attribute, Xmlns, Element, Text}
 use Rattle.nbfx_records.specs.declared.kinds.RecordKind.TheVariants as records
 use Rattle.nbfx_records.specs.Kinds.{text_kind_in}
 use Rattle.nbfx_records.specs.TypeBytes.{byte_of}

@@ -1,5 +1,6 @@
 -- How far a record that isn't whole was seen to be whole: positions alone.
-use Rattle.std.specs.Prelude.{◌≡◌, ⊤, ℕ, ◌<◌, ◌≤◌, List, [], ◌∷◌, length, Bool, true, false, Option, Some, None}
+use Rattle.std.specs.Prelude.{◌≡◌, ⊤, ℕ, ◌<◌, ◌≤◌, List, [], ◌∷◌, length, Bool, true, false, Option}
+use Rattle.std.specs.Prelude.{Some, None}
 use Rattle.unit_streams.specs.Front.{begun, whole}
 use Rattle.unit_streams.specs.Parts.{Reader, Turn, more, a_byte}
 use Rattle.nbfx_records.specs.declared.nodes.RecordFault.{RecordFault}
@@ -13,10 +14,12 @@ use Rattle.nbfx_records.specs.declared.kinds.TextKind.TheVariants as texts
 use Rattle.nbfx_records.specs.declared.resume.Resume.{Resume}
 use Rattle.nbfx_records.specs.Cursor.{IsWhole, read_from}
 use Rattle.nbfx_records.specs.Kinds.{record_kind}
-use Rattle.nbfx_records.specs.Shapes.{NamedShape, list_turn, array_element, array_parts, array_turn, name_at, prefix_at}
+use Rattle.nbfx_records.specs.Shapes.{NamedShape, list_turn, array_element, array_parts, array_turn}
+use Rattle.nbfx_records.specs.Shapes.{name_at, prefix_at}
 
 -- whole things one behind the other, from an offset to another
-abbrev pub AreMore : {A B : Type 0} → Reader (Turn A B) RecordFault → List ℕ → ℕ → List A → ℕ → Type 0
+abbrev pub AreMore : {A B : Type 0} → Reader (Turn A B) RecordFault → List ℕ → ℕ → List A → ℕ
+    → Type 0
 AreMore turn bytes from [] to = from ≡ to
 AreMore turn bytes from (a ∷ items) to =
     (mid : ℕ) × (from < mid) × IsWhole turn bytes from (more a) mid

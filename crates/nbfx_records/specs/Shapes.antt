@@ -1,9 +1,11 @@
 -- What stands at the front of some bytes, as the parts of a record: type bytes and lengths are
 -- judged where they are read, and no text or value yet.
-use Rattle.std.specs.Prelude.{ℕ, ◌*◌, ◌^◌, List, [], ◌∷◌, Bool, true, false, Option, Some, None, nat_le, ◌==◌, ◌&&◌, ◌||◌, not, if◌then◌else◌}
+use Rattle.std.specs.Prelude.{ℕ, ◌*◌, ◌^◌, List, [], ◌∷◌, Bool, true, false, Option, Some, None}
+use Rattle.std.specs.Prelude.{nat_le, ◌==◌, ◌&&◌, ◌||◌, not, if◌then◌else◌}
 use Rattle.std.specs.Int.{Width, w8, w16, w32, byte_len, from_le_bytes}
 use Rattle.unit_streams.specs.Front.{wrong}
-use Rattle.unit_streams.specs.Parts.{Reader, given, refuse, a_byte, some_bytes, ◌>>=◌, seen, Turn, more, stop, Many, many}
+use Rattle.unit_streams.specs.Parts.{Reader, given, refuse, a_byte, some_bytes, ◌>>=◌, seen, Turn}
+use Rattle.unit_streams.specs.Parts.{more, stop, Many, many}
 use Rattle.multibyte_ints.specs.Integer.{int_at}
 use Rattle.nbfx_values.specs.declared.content.ArrayKind.{ArrayKind}
 use Rattle.nbfx_records.specs.declared.kinds.TextKind.{TextKind}
@@ -21,7 +23,8 @@ use Rattle.nbfx_records.specs.declared.kinds.Body.{Body}
 use Rattle.nbfx_records.specs.declared.kinds.LengthForm.{LengthForm}
 use Rattle.nbfx_records.specs.declared.kinds.PrefixForm.TheVariants.{Unprefixed, Lettered, Prefixed}
 use Rattle.nbfx_records.specs.declared.kinds.NameForm.TheVariants.{Inlined, Identified}
-use Rattle.nbfx_records.specs.declared.kinds.Body.TheVariants.{Fixed, Counted, Named, Qualified, Listed, Ending}
+use Rattle.nbfx_records.specs.declared.kinds.Body.TheVariants.{Fixed, Counted, Named, Qualified}
+use Rattle.nbfx_records.specs.declared.kinds.Body.TheVariants.{Listed, Ending}
 use Rattle.nbfx_records.specs.declared.kinds.LengthForm.TheVariants.{OneByte, TwoBytes, FourBytes}
 use Rattle.nbfx_records.specs.declared.kinds.RecordKind.TheVariants as records
 use Rattle.nbfx_records.specs.Kinds.{record_kind, body_of, array_kind, width_of}

@@ -5,7 +5,8 @@ use Rattle.std.specs.Str.{is_utf8}
 use Rattle.nbfx_values.specs.Items.{fits_kind}
 use Rattle.nbfx_values.specs.Scalars.{is_unsigned, is_valid_scalar}
 use Rattle.nbfx_values.specs.declared.scalars.Scalar.{Scalar}
-use Rattle.nbfx_values.specs.declared.scalars.Scalar.TheVariants.{Text as TextOf, Bytes, QName as NamedBy}
+use Rattle.nbfx_values.specs.declared.scalars.Scalar.TheVariants.{Text as TextOf, Bytes}
+use Rattle.nbfx_values.specs.declared.scalars.Scalar.TheVariants.{QName as NamedBy}
 use Rattle.nbfx_records.specs.declared.nodes.NameRef.{NameRef}
 use Rattle.nbfx_records.specs.declared.nodes.NameRef.TheVariants.{Inline, Id}
 use Rattle.nbfx_records.specs.declared.nodes.RawScalar.{RawScalar}
@@ -16,7 +17,8 @@ use Rattle.nbfx_records.specs.declared.nodes.AttrNode.{AttrNode}
 use Rattle.nbfx_records.specs.declared.nodes.AttrNode.TheVariants as attribute_nodes
 use Rattle.nbfx_records.specs.declared.nodes.ArrayNode.{ArrayNode}
 use Rattle.nbfx_records.specs.declared.nodes.Node.{Node}
-use Rattle.nbfx_records.specs.declared.nodes.Node.TheVariants.{EndElement, Comment, Array, Attribute, Xmlns, Element, Text}
+use Rattle.nbfx_records.specs.declared.nodes.Node.TheVariants.{EndElement, Comment, Array}
+use Rattle.nbfx_records.specs.declared.nodes.Node.TheVariants.{Attribute, Xmlns, Element, Text}
 
 -- a QName names a string, and so is no value by itself
 abbrev pub is_valid_known : Scalar → Bool

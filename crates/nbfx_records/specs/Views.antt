@@ -16,12 +16,15 @@ use Rattle.nbfx_records.specs.declared.lists.ListHolder.TheVariants as holders
 use Rattle.nbfx_records.specs.declared.lists.ListTurn.{ListTurn}
 use Rattle.nbfx_records.specs.declared.lists.ListTurn.TheVariants.{Value, End}
 use Rattle.nbfx_records.specs.declared.attributes.ValuePart.{ValuePart}
-use Rattle.nbfx_records.specs.declared.attributes.ValuePart.TheVariants.{One as OneAt, List as ListAt}
+use Rattle.nbfx_records.specs.declared.attributes.ValuePart.TheVariants.{One as OneAt}
+use Rattle.nbfx_records.specs.declared.attributes.ValuePart.TheVariants.{List as ListAt}
 use Rattle.nbfx_records.specs.declared.attributes.AttributePart.{AttributePart}
-use Rattle.nbfx_records.specs.declared.attributes.AttributePart.TheVariants.{Attribute as AttributeAt, Declaration as DeclarationAt}
+use Rattle.nbfx_records.specs.declared.attributes.AttributePart.TheVariants.{Attribute as AttributeAt}
+use Rattle.nbfx_records.specs.declared.attributes.AttributePart.TheVariants.{Declaration as DeclarationAt}
 use Rattle.nbfx_records.specs.declared.parts.NamedPart.{NamedPart}
 use Rattle.nbfx_records.specs.declared.arrays.ArrayTurn.{ArrayTurn}
-use Rattle.nbfx_records.specs.declared.arrays.ArrayTurn.TheVariants.{Part as AttributePartAt, End as EndOfParts}
+use Rattle.nbfx_records.specs.declared.arrays.ArrayTurn.TheVariants.{Part as AttributePartAt}
+use Rattle.nbfx_records.specs.declared.arrays.ArrayTurn.TheVariants.{End as EndOfParts}
 use Rattle.nbfx_records.specs.declared.arrays.CellsPart.{CellsPart}
 use Rattle.nbfx_records.specs.declared.arrays.ArrayPart.{ArrayPart}
 use Rattle.nbfx_records.specs.declared.records.RecordPart.{RecordPart}
@@ -29,7 +32,11 @@ use Rattle.nbfx_records.specs.declared.records.RecordPart.TheVariants as records
 use Rattle.nbfx_records.specs.declared.nodes.NameRef.{NameRef}
 use Rattle.nbfx_records.specs.declared.nodes.NameRef.TheVariants.{Inline, Id}
 use Rattle.nbfx_records.specs.Kinds.{width_of}
-use Rattle.nbfx_records.specs.Shapes.{ScalarShape, bytes_of, named_by, qualified_by, ValueShape, one, several, AttributeShape, attributes, declares, NamedShape, named_shape, CellsShape, cells_shape, ArrayShape, array_shape, Shape, ends_element, comments, begins_element, adds, has_text, repeats, list_at, array_parts}
+use Rattle.nbfx_records.specs.Shapes.{ScalarShape, bytes_of, named_by, qualified_by, ValueShape}
+use Rattle.nbfx_records.specs.Shapes.{one, several, AttributeShape, attributes, declares}
+use Rattle.nbfx_records.specs.Shapes.{NamedShape, named_shape, CellsShape, cells_shape, ArrayShape}
+use Rattle.nbfx_records.specs.Shapes.{array_shape, Shape, ends_element, comments, begins_element}
+use Rattle.nbfx_records.specs.Shapes.{adds, has_text, repeats, list_at, array_parts}
 
 abbrev pub prefix_seen : PrefixPart → List ℕ
 prefix_seen (Letter letter) = letter ∷ []

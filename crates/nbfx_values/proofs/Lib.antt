@@ -1,4 +1,5 @@
--- where items lead one by one (Positions), what that has to do with documents (Walks), how deep they are (Heights)
+-- where items lead one by one (Positions), what that has to do with documents (Walks), how deep
+-- they are (Heights)
 pub mod Positions
 pub mod LastTexts
 pub mod Walks

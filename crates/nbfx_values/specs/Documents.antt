@@ -1,11 +1,14 @@
 -- A document is what the walk over one element gives.
-use Rattle.std.specs.Prelude.{◌≡◌, ◌≤◌, ◌<◌, ◌+◌, ℕ, max, List, [], ◌∷◌, ◌++◌, IsTrue, length, map, take}
+use Rattle.std.specs.Prelude.{◌≡◌, ◌≤◌, ◌<◌, ◌+◌, ℕ, max, List, [], ◌∷◌, ◌++◌, IsTrue, length, map}
+use Rattle.std.specs.Prelude.{take}
 use Rattle.std.specs.List.{list_all}
 use Rattle.nbfx_values.specs.declared.content.ArrayItem.{ArrayItem}
 use Rattle.nbfx_values.specs.declared.content.AttrItem.{AttrItem}
-use Rattle.nbfx_values.specs.declared.content.AttrItem.TheVariants.{Xmlns as DeclaresOn, Attr as AttrOn}
+use Rattle.nbfx_values.specs.declared.content.AttrItem.TheVariants.{Xmlns as DeclaresOn}
+use Rattle.nbfx_values.specs.declared.content.AttrItem.TheVariants.{Attr as AttrOn}
 use Rattle.nbfx_values.specs.declared.content.Item.{Item}
-use Rattle.nbfx_values.specs.declared.content.Item.TheVariants.{Start, Xmlns, Attr, Text, Comment, Array, Close}
+use Rattle.nbfx_values.specs.declared.content.Item.TheVariants.{Start, Xmlns, Attr, Text, Comment}
+use Rattle.nbfx_values.specs.declared.content.Item.TheVariants.{Array, Close}
 use Rattle.nbfx_values.specs.declared.scalars.Value.{Value}
 use Rattle.nbfx_values.specs.Items.{is_valid_item}
 

@@ -1,7 +1,9 @@
 -- Where in a document a list of items ends that may be the front of one.
-use Rattle.std.specs.Prelude.{◌≡◌, ◌≤◌, ◌<◌, ◌+◌, ℕ, zero, suc, Bool, true, false, if◌then◌else◌, List, [], ◌∷◌, Option, None, Some, IsSome, length, take}
+use Rattle.std.specs.Prelude.{◌≡◌, ◌≤◌, ◌<◌, ◌+◌, ℕ, zero, suc, Bool, true, false, if◌then◌else◌}
+use Rattle.std.specs.Prelude.{List, [], ◌∷◌, Option, None, Some, IsSome, length, take}
 use Rattle.nbfx_values.specs.declared.content.Item.{Item}
-use Rattle.nbfx_values.specs.declared.content.Item.TheVariants.{Start, Xmlns, Attr, Text, Comment, Array, Close}
+use Rattle.nbfx_values.specs.declared.content.Item.TheVariants.{Start, Xmlns, Attr, Text, Comment}
+use Rattle.nbfx_values.specs.declared.content.Item.TheVariants.{Array, Close}
 use Rattle.nbfx_values.specs.declared.position.Position.{Position}
 use Rattle.nbfx_values.specs.declared.position.Position.TheVariants.{Before, Within, After}
 use Rattle.nbfx_values.specs.Items.{is_valid_item}

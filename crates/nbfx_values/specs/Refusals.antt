@@ -1,7 +1,18 @@
 -- The number and the name of each reason for refusing a stream.
 use Rattle.std.specs.Prelude.{ℕ, List, codes}
 use Rattle.nbfx_values.specs.declared.refusals.Reason.{Reason}
-use Rattle.nbfx_values.specs.declared.refusals.Reason.TheVariants.{BadInt, UnknownRecord, OutOfOrder, BadVersion, BadMode, TextTooLong, TextNotUtf8, EndpointNotFound, BadEncoding, UpgradeRefused, MessageTooLarge, TableCut, BadUtf8, DictionaryFull, UnknownNode, NodeOutOfPlace, UnknownString, BadValue, BadArray, TooDeep, TooMuchContent, DocumentCut, TrailingBytes, Truncated, SessionTooLong}
+use Rattle.nbfx_values.specs.declared.refusals.Reason.TheVariants.{BadInt, UnknownRecord}
+use Rattle.nbfx_values.specs.declared.refusals.Reason.TheVariants.{OutOfOrder, BadVersion, BadMode}
+use Rattle.nbfx_values.specs.declared.refusals.Reason.TheVariants.{TextTooLong, TextNotUtf8}
+use Rattle.nbfx_values.specs.declared.refusals.Reason.TheVariants.{EndpointNotFound, BadEncoding}
+use Rattle.nbfx_values.specs.declared.refusals.Reason.TheVariants.{UpgradeRefused, MessageTooLarge}
+use Rattle.nbfx_values.specs.declared.refusals.Reason.TheVariants.{TableCut, BadUtf8}
+use Rattle.nbfx_values.specs.declared.refusals.Reason.TheVariants.{DictionaryFull, UnknownNode}
+use Rattle.nbfx_values.specs.declared.refusals.Reason.TheVariants.{NodeOutOfPlace, UnknownString}
+use Rattle.nbfx_values.specs.declared.refusals.Reason.TheVariants.{BadValue, BadArray, TooDeep}
+use Rattle.nbfx_values.specs.declared.refusals.Reason.TheVariants.{TooMuchContent, DocumentCut}
+use Rattle.nbfx_values.specs.declared.refusals.Reason.TheVariants.{TrailingBytes, Truncated}
+use Rattle.nbfx_values.specs.declared.refusals.Reason.TheVariants.{SessionTooLong}
 
 abbrev pub reason_number : Reason → ℕ
 reason_number BadInt = 1

@@ -1,10 +1,13 @@
 -- Which values a record of MC-NBFX can hold. Numbers have no greatest here, and a text is any list,
 -- so what the types of a program keep anyway is said too.
-use Rattle.std.specs.Prelude.{◌^◌, ◌-◌, ℤ, pos, negsuc, Bool, true, not, ◌&&◌, nat_le, nat_lt, int_lt, ◌==◌, length, List, ℕ}
+use Rattle.std.specs.Prelude.{◌^◌, ◌-◌, ℤ, pos, negsuc, Bool, true, not, ◌&&◌, nat_le, nat_lt}
+use Rattle.std.specs.Prelude.{int_lt, ◌==◌, length, List, ℕ}
 use Rattle.std.specs.List.{list_all}
 use Rattle.std.specs.Str.{is_utf8}
 use Rattle.nbfx_values.specs.declared.scalars.Scalar.{Scalar}
-use Rattle.nbfx_values.specs.declared.scalars.Scalar.TheVariants.{Number, Truth, Float, Double, Decimal, DateTime, TimeSpan, Text, Bytes, UniqueId, Uuid, QName}
+use Rattle.nbfx_values.specs.declared.scalars.Scalar.TheVariants.{Number, Truth, Float, Double}
+use Rattle.nbfx_values.specs.declared.scalars.Scalar.TheVariants.{Decimal, DateTime, TimeSpan, Text}
+use Rattle.nbfx_values.specs.declared.scalars.Scalar.TheVariants.{Bytes, UniqueId, Uuid, QName}
 use Rattle.nbfx_values.specs.declared.scalars.Value.{Value}
 use Rattle.nbfx_values.specs.declared.scalars.Value.TheVariants.{One, List as ListOf}
 

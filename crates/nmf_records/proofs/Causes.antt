@@ -1,5 +1,6 @@
 -- The cause of each fault: what holds of bytes that are wrong by it.
-use Rattle.std.proofs.Common.{◌≡◌, ℕ, ◌+◌, ◌≤◌, ◌<◌, List, [], ◌∷◌, ◌++◌, length, take, drop, true, refl, sym, ap, ◌∙◌, inl, inr, arith}
+use Rattle.std.proofs.Common.{◌≡◌, ℕ, ◌+◌, ◌≤◌, ◌<◌, List, [], ◌∷◌, ◌++◌, length, take, drop, true}
+use Rattle.std.proofs.Common.{refl, sym, ap, ◌∙◌, inl, inr, arith}
 use Rattle.std.specs.Prelude.{nat_lt, ◌==◌, ◌||◌, ⊤}
 use Rattle.std.proofs.lemmas.Bool.{cond_both}
 use Rattle.std.proofs.lemmas.Bool.Decides.{nat_tests}
@@ -19,8 +20,10 @@ use Rattle.nmf_records.specs.declared.frame.Expect.TheVariants.{Types, Chunk}
 use Rattle.nmf_records.specs.declared.frame.FrameFault.{FrameFault}
 use Rattle.nmf_records.specs.declared.frame.FrameFault.TheVariants as faults
 use Rattle.nmf_records.specs.Records.{Read}
-use Rattle.nmf_records.specs.Reading.{size_at, text_at, version_at, byte_at, typed_at, allows, frame_at, as_size, as_text}
-use Rattle.nmf_records.specs.Laws.{BeginsUnknown, BeginsUnexpected, has_integer, IntegerComes, HasLongText, HasBadText}
+use Rattle.nmf_records.specs.Reading.{size_at, text_at, version_at, byte_at, typed_at, allows}
+use Rattle.nmf_records.specs.Reading.{frame_at, as_size, as_text}
+use Rattle.nmf_records.specs.Laws.{BeginsUnknown, BeginsUnexpected, has_integer, IntegerComes}
+use Rattle.nmf_records.specs.Laws.{HasLongText, HasBadText}
 use Rattle.nmf_records.proofs.Typed.{type_known}
 use Rattle.nmf_records.proofs.TypeCases.{by_type}
 
@@ -34,7 +37,8 @@ OfWrong P (wrong fault n) = P fault n
 abbrev pub HasCause : ℕ → Expect → List ℕ → FrameFault → ℕ → Type 0
 HasCause limit expect bytes faults.UnknownRecord n = (n ≡ 1) × BeginsUnknown expect bytes
 HasCause limit expect bytes (faults.Unexpected t) n = (n ≡ 1) × BeginsUnexpected expect bytes t
-HasCause limit expect bytes faults.BadInt n = (k : ℕ) × IntegerComes expect bytes k × (n ≡ k + 5) × FifthIsAbove (drop k bytes)
+HasCause limit expect bytes faults.BadInt n = (k : ℕ) × IntegerComes expect bytes k × (n ≡ k + 5)
+    × FifthIsAbove (drop k bytes)
 HasCause limit expect bytes faults.TextTooLong n = HasLongText limit expect bytes n
 HasCause limit expect bytes faults.TextNotUtf8 n = HasBadText limit expect bytes n
 
@@ -45,11 +49,14 @@ module _ (limit types kind : ℕ) (bytes : List ℕ) (may : allows types kind �
   Of = OfWrong (HasCause limit (Types types) (kind ∷ bytes))
 
   -- a wrong integer behind the type byte
-  int_causes : (k : ℕ) → has_integer kind ≡ true → int_at bytes ≡ wrong tt k → HasCause limit (Types types) (kind ∷ bytes) faults.BadInt (1 + k)
-  int_causes k has e = let c = above_from bytes tt k e in (1, (refl, may, has), ap (λ j. 1 + j) c.0, c.1)
+  int_causes : (k : ℕ) → has_integer kind ≡ true → int_at bytes ≡ wrong tt k
+      → HasCause limit (Types types) (kind ∷ bytes) faults.BadInt (1 + k)
+  int_causes k has e = let c = above_from bytes tt k e in
+      (1, (refl, may, has), ap (λ j. 1 + j) c.0, c.1)
 
   -- a text whose length is above the limit
-  long_text : (k : ℕ) → ((kind == VIA) || (kind == FAULT)) ≡ true → string_at limit bytes ≡ wrong too_long k → HasLongText limit (Types types) (kind ∷ bytes) (1 + k)
+  long_text : (k : ℕ) → ((kind == VIA) || (kind == FAULT)) ≡ true → string_at limit bytes
+      ≡ wrong too_long k → HasLongText limit (Types types) (kind ∷ bytes) (1 + k)
   long_text k text e =
       let c = too_long_cause limit bytes k e in
       let s = spells_from_whole bytes c.0 k c.1 in
@@ -66,18 +73,22 @@ module _ (limit types kind : ℕ) (bytes : List ℕ) (may : allows types kind �
       }
 
   -- a text that isn't UTF-8
-  bad_text : (k : ℕ) → ((kind == VIA) || (kind == FAULT)) ≡ true → string_at limit bytes ≡ wrong bad_utf8 k → HasBadText limit (Types types) (kind ∷ bytes) (1 + k)
+  bad_text : (k : ℕ) → ((kind == VIA) || (kind == FAULT)) ≡ true → string_at limit bytes
+      ≡ wrong bad_utf8 k → HasBadText limit (Types types) (kind ∷ bytes) (1 + k)
   bad_text k text e =
       let c = bad_text_cause limit bytes k e in
       let s = spells_from_whole bytes c.n c.j c.int in
-      let len : length (take c.n (drop c.j bytes)) ≡ c.n = length-take-le c.n (drop c.j bytes) (omega (arith, length-drop c.j bytes, c.within, c.size)) in
+      let len : length (take c.n (drop c.j bytes)) ≡ c.n = length-take-le c.n (drop c.j bytes)
+      (omega (arith, length-drop c.j bytes, c.within, c.size)) in
       record {
         begins = rw (may, text) refl;
         kind = kind;
         spelling = take c.j bytes;
         text = take c.n (drop c.j bytes);
         rest = drop c.n (drop c.j bytes);
-        joined = ap (λ b. kind ∷ b) (sym (ap (λ b. take c.j bytes ++ b) (take-append-drop c.n (drop c.j bytes)) ∙ take-append-drop c.j bytes));
+        joined = ap (λ b. kind ∷ b)
+            (sym (ap (λ b. take c.j bytes ++ b) (take-append-drop c.n (drop c.j bytes)) ∙
+            take-append-drop c.j bytes));
         spelled = rw len s.1;
         within = omega (arith, len, c.low);
         bad = c.bad;
@@ -85,10 +96,12 @@ module _ (limit types kind : ℕ) (bytes : List ℕ) (may : allows types kind �
       }
 
   -- a text is wrong by its integer, its length or its bytes
-  text_causes : (frame : Frame) → ((kind == VIA) || (kind == FAULT)) ≡ true → has_integer kind ≡ true → Of (text_at limit frame bytes)
+  text_causes : (frame : Frame) → ((kind == VIA) || (kind == FAULT)) ≡ true → has_integer kind
+      ≡ true → Of (text_at limit frame bytes)
   text_causes frame text has = by_string (string_at limit bytes) refl
     where
-      by_string : (y : Front (List ℕ) StringFault) → string_at limit bytes ≡ y → Of (as_text frame y)
+      by_string : (y : Front (List ℕ) StringFault) → string_at limit bytes ≡ y
+          → Of (as_text frame y)
       by_string begun h = tt
       by_string (whole s k) h = tt
       by_string (wrong bad_int k) h = int_causes k has (bad_int_cause limit bytes k h)
@@ -111,12 +124,14 @@ version_causes P (major ∷ []) = tt
 version_causes P (major ∷ minor ∷ rest) = tt
 
 -- nor a record of one byte
-byte_causes : (P : FrameFault → ℕ → Type 0) (frame : ℕ → Frame) (bytes : List ℕ) → OfWrong P (byte_at frame bytes)
+byte_causes : (P : FrameFault → ℕ → Type 0) (frame : ℕ → Frame) (bytes : List ℕ)
+    → OfWrong P (byte_at frame bytes)
 byte_causes P frame [] = tt
 byte_causes P frame (x ∷ rest) = tt
 
 -- behind a type byte that may come
-typed_causes : (limit types kind : ℕ) (bytes : List ℕ) (may : allows types kind ≡ true) → kind ≤ GREATEST → Of limit types kind bytes may (typed_at limit kind bytes)
+typed_causes : (limit types kind : ℕ) (bytes : List ℕ) (may : allows types kind ≡ true) → kind
+    ≤ GREATEST → Of limit types kind bytes may (typed_at limit kind bytes)
 typed_causes limit types kind bytes may le =
     let P : FrameFault → ℕ → Type 0 = HasCause limit (Types types) (kind ∷ bytes) in
     by_type limit kind bytes (Of limit types kind bytes may) le record {
@@ -138,23 +153,31 @@ above_known : (kind : ℕ) → nat_lt GREATEST kind ≡ true → GREATEST < kind
 above_known kind e = grind (arith, nat_tests)
 
 -- a front is no fault, or one with its cause
-front_causes : (limit : ℕ) (expect : Expect) (bytes : List ℕ) → OfWrong (HasCause limit expect bytes) (frame_at limit expect bytes)
+front_causes : (limit : ℕ) (expect : Expect) (bytes : List ℕ)
+    → OfWrong (HasCause limit expect bytes) (frame_at limit expect bytes)
 front_causes limit (Types types) [] = tt
 front_causes limit (Types types) (kind ∷ bytes) =
-    let P : Front Read FrameFault → Type 0 = OfWrong (HasCause limit (Types types) (kind ∷ bytes)) in
+    let P : Front Read FrameFault → Type 0 = OfWrong (HasCause limit (Types types) (kind ∷ bytes))
+    in
     cond_both (nat_lt GREATEST kind) _ _ P (λ above. (refl, above_known kind above))
-    (λ known. cond_both (allows types kind) _ _ P (λ may. typed_causes limit types kind bytes may (type_known kind known)) (λ not_due. (refl, (refl, type_known kind known, inl not_due))))
+    (λ known. cond_both (allows types kind) _ _ P
+    (λ may. typed_causes limit types kind bytes may (type_known kind known))
+    (λ not_due. (refl, (refl, type_known kind known, inl not_due))))
 front_causes limit Chunk bytes = by_int (int_at bytes) refl
   where
-    by_int : (y : Front ℕ ⊤) → int_at bytes ≡ y → OfWrong (HasCause limit Chunk bytes) (as_size 0 frames.Chunk y)
+    by_int : (y : Front ℕ ⊤) → int_at bytes ≡ y → OfWrong (HasCause limit Chunk bytes)
+        (as_size 0 frames.Chunk y)
     by_int begun h = tt
     by_int (whole n k) h = tt
     by_int (wrong r k) h = let c = above_from bytes tt k h in (0, refl, ap (λ j. 0 + j) c.0, c.1)
 
 -- what holds of a fault holds of this one
-OfWrong_at : (P : FrameFault → ℕ → Type 0) (y : Front Read FrameFault) (fault : FrameFault) (n : ℕ) → y ≡ wrong fault n → OfWrong P y → P fault n
+OfWrong_at : (P : FrameFault → ℕ → Type 0) (y : Front Read FrameFault) (fault : FrameFault) (n : ℕ)
+    → y ≡ wrong fault n → OfWrong P y → P fault n
 OfWrong_at P y fault n e h = rw e at h
 
 -- bytes that are wrong by a fault have its cause
-pub fault_cause : (limit : ℕ) (expect : Expect) (bytes : List ℕ) (fault : FrameFault) (n : ℕ) → frame_at limit expect bytes ≡ wrong fault n → HasCause limit expect bytes fault n
-fault_cause limit expect bytes fault n e = OfWrong_at (HasCause limit expect bytes) (frame_at limit expect bytes) fault n e (front_causes limit expect bytes)
+pub fault_cause : (limit : ℕ) (expect : Expect) (bytes : List ℕ) (fault : FrameFault) (n : ℕ)
+    → frame_at limit expect bytes ≡ wrong fault n → HasCause limit expect bytes fault n
+fault_cause limit expect bytes fault n e = OfWrong_at (HasCause limit expect bytes)
+    (frame_at limit expect bytes) fault n e (front_causes limit expect bytes)

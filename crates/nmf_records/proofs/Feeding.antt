@@ -1,5 +1,7 @@
 -- How a reader comes along a piece.
-use Rattle.std.proofs.Common.{◌≡◌, ℕ, ◌+◌, ◌-◌, ◌≤◌, ◌<◌, Bool, true, false, List, [], ◌∷◌, ◌++◌, length, take, drop, refl, sym, ap, ◌∙◌, subst, arith, append_assoc, length-append, Some}
+use Rattle.std.proofs.Common.{◌≡◌, ℕ, ◌+◌, ◌-◌, ◌≤◌, ◌<◌, Bool, true, false, List, [], ◌∷◌, ◌++◌}
+use Rattle.std.proofs.Common.{length, take, drop, refl, sym, ap, ◌∙◌, subst, arith, append_assoc}
+use Rattle.std.proofs.Common.{length-append, Some}
 use Rattle.std.specs.Prelude.{if◌then◌else◌}
 use Rattle.std.proofs.Math.Seq.{take-add}
 use Rattle.std.proofs.lemmas.List.{append-nil, take_rest, length-take-le, take-append-drop}
@@ -13,7 +15,9 @@ use Rattle.nmf_records.specs.declared.stage.Stage.TheVariants as stages
 use Rattle.nmf_records.specs.declared.reader.FrameReader.{FrameReader}
 use Rattle.nmf_records.specs.Records.{Read}
 use Rattle.nmf_records.specs.Reading.{frame_at, begins_text}
-use Rattle.nmf_records.specs.Reader.{StandsFor, ShowsText, HoldsText, text_after, text_read, limit_of, pending_of, failure_of, refusal_in, HasShape, kind_of_text}
+use Rattle.nmf_records.specs.Reader.{StandsFor, ShowsText, HoldsText, text_after, text_read}
+use Rattle.nmf_records.specs.Reader.{limit_of, pending_of, failure_of, refusal_in, HasShape}
+use Rattle.nmf_records.specs.Reader.{kind_of_text}
 use Rattle.unit_streams.proofs.Peeling.{goes_on, decided_some}
 use Rattle.nmf_records.proofs.Frames.{frame_peels}
 use Rattle.nmf_records.proofs.Showing.{plain_shows, field_head, size_head, text_shows}
@@ -26,72 +30,100 @@ module _ (p piece : List ℕ) (used n : ℕ) where
 
   -- n more of its bytes lie behind the used ones
   pub along : (p ++ take used piece) ++ take n rest_of ≡ p ++ take (used + n) piece
-  along = append_assoc p (take used piece) (take n rest_of) ∙ ap (λ x. p ++ x) (ap (λ r. take used piece ++ take n r) (take_rest piece used) ∙ sym (take-add used n piece))
+  along = append_assoc p (take used piece) (take n rest_of) ∙ ap (λ x. p ++ x)
+      (ap (λ r. take used piece ++ take n r) (take_rest piece used) ∙ sym (take-add used n piece))
 
   -- and the others behind those
   pub all_along : ((p ++ take used piece) ++ take n rest_of) ++ drop n rest_of ≡ p ++ piece
   all_along =
       append_assoc (p ++ take used piece) (take n rest_of) (drop n rest_of)
       ∙ ap (λ r. (p ++ take used piece) ++ r) (take-append-drop n rest_of ∙ take_rest piece used)
-      ∙ append_assoc p (take used piece) (drop used piece) ∙ ap (λ r. p ++ r) (take-append-drop used piece)
+      ∙ append_assoc p (take used piece) (drop used piece) ∙ ap (λ r. p ++ r)
+      (take-append-drop used piece)
 
   -- how many bytes there are then
-  pub len_along : used + n ≤ length piece → length ((p ++ take used piece) ++ take n rest_of) ≡ length p + (used + n)
-  len_along le = ap length along ∙ simp length-append (omega (arith, length-take-le (used + n) piece le))
+  pub len_along : used + n ≤ length piece → length ((p ++ take used piece) ++ take n rest_of)
+      ≡ length p + (used + n)
+  len_along le = ap length along ∙ simp length-append
+      (omega (arith, length-take-le (used + n) piece le))
 
 -- what is decided stays so
-pub decided_along : (limit : ℕ) (expect : Expect) (b c : List ℕ) → (frame_at limit expect b ≡ begun → ⊥) → frame_at limit expect (b ++ c) ≡ frame_at limit expect b
+pub decided_along : (limit : ℕ) (expect : Expect) (b c : List ℕ)
+    → (frame_at limit expect b ≡ begun → ⊥) → frame_at limit expect (b ++ c) ≡ frame_at limit expect
+    b
 decided_along limit expect b c said =
     let peels = frame_peels limit expect in
     goes_on (frame_at limit expect) peels b c (decided_some (frame_at limit expect) peels b said)
 
 -- a text that has begun is known by its first byte
-head_along : (expect : Expect) (b c : List ℕ) → 0 < length b → begins_text expect (b ++ c) ≡ begins_text expect b
+head_along : (expect : Expect) (b c : List ℕ) → 0 < length b → begins_text expect (b ++ c)
+    ≡ begins_text expect b
 head_along expect [] c lt = absurd (omega arith)
 head_along (Types types) (kind ∷ b) c lt = refl
 head_along Chunk (kind ∷ b) c lt = refl
 
 -- nothing is decided by no byte
-decided_length : (limit : ℕ) (expect : Expect) (b : List ℕ) → (frame_at limit expect b ≡ begun → ⊥) → 0 < length b
+decided_length : (limit : ℕ) (expect : Expect) (b : List ℕ) → (frame_at limit expect b ≡ begun → ⊥)
+    → 0 < length b
 decided_length limit expect [] said = absurd (said (frame_peels limit expect).nothing)
 decided_length limit expect (x ∷ b) said = omega arith
 
 -- the text shown behind b and more is shown all along
 pub after_after : (s : List ℕ) (expect : Expect) (b c : List ℕ) (reading : Front Read FrameFault)
-    → text_after (text_after s expect b begun) expect (b ++ c) reading ≡ text_after s expect (b ++ c) reading
+    → text_after (text_after s expect b begun) expect (b ++ c) reading ≡ text_after s expect
+    (b ++ c) reading
 after_after s (Types types) [] c reading = refl
 after_after s Chunk b c reading = refl
-after_after s (Types types) (kind ∷ b) c reading = by_case (begins_text (Types types) (kind ∷ b)) where
-  by_case : (t : Bool) → (if t then text_read reading else (if t then [] else s)) ≡ (if t then text_read reading else s)
-  by_case true = refl
-  by_case false = refl
+after_after s (Types types) (kind ∷ b) c reading = by_case (begins_text (Types types) (kind ∷ b))
+  where
+    by_case : (t : Bool) → (if t then text_read reading else (if t then [] else s))
+        ≡ (if t then text_read reading else s)
+    by_case true = refl
+    by_case false = refl
 
 -- what is shown where a record is decided is shown however it goes on
-pub after_along : (s : List ℕ) (limit : ℕ) (expect : Expect) (b c : List ℕ) → (frame_at limit expect b ≡ begun → ⊥)
-    → text_after s expect b (frame_at limit expect b) ≡ text_after s expect (b ++ c) (frame_at limit expect (b ++ c))
-after_along s limit expect b c said = rw (head_along expect b c (decided_length limit expect b said), decided_along limit expect b c said) refl
+pub after_along : (s : List ℕ) (limit : ℕ) (expect : Expect) (b c : List ℕ)
+    → (frame_at limit expect b ≡ begun → ⊥)
+    → text_after s expect b (frame_at limit expect b) ≡ text_after s expect (b ++ c)
+    (frame_at limit expect (b ++ c))
+after_along s limit expect b c said =
+    rw (
+      head_along expect b c (decided_length limit expect b said),
+      decided_along limit expect b c
+          said,
+    ) refl
 
 -- a reader shows what it has of a record that has begun
-pub begun_shows : (r : FrameReader) (expect : Expect) (p s : List ℕ) → StandsFor r expect p → ShowsText r s → ShowsText r (text_after s expect p begun)
+pub begun_shows : (r : FrameReader) (expect : Expect) (p s : List ℕ) → StandsFor r expect p
+    → ShowsText r s → ShowsText r (text_after s expect p begun)
 unfolding StandsFor
 begun_shows r expect p s stands h = by_stage r.stage stands.shape stands.text where
   none_begins : (expect : Expect) → begins_text expect [] ≡ false
   none_begins (Types types) = refl
   none_begins Chunk = refl
 
-  by_stage : (stage : Stage) → HasShape expect stage p → HoldsText stage r.text p → ShowsText r (text_after s expect p begun)
-  by_stage stages.Type shape text = plain_shows r s expect p begun (ap (begins_text expect) shape ∙ none_begins expect) h
-  by_stage (stages.Field field) shape text = plain_shows r s expect p begun (ap (begins_text expect) (sym (append-nil p)) ∙ field_head expect field p [] shape) h
-  by_stage (stages.Size size) shape text = plain_shows r s expect p begun (ap (begins_text expect) (sym (append-nil p)) ∙ size_head expect size p [] shape) h
+  by_stage : (stage : Stage) → HasShape expect stage p → HoldsText stage r.text p
+      → ShowsText r (text_after s expect p begun)
+  by_stage stages.Type shape text = plain_shows r s expect p begun
+      (ap (begins_text expect) shape ∙ none_begins expect) h
+  by_stage (stages.Field field) shape text = plain_shows r s expect p begun
+      (ap (begins_text expect) (sym (append-nil p)) ∙ field_head expect field p [] shape) h
+  by_stage (stages.Size size) shape text = plain_shows r s expect p begun
+      (ap (begins_text expect) (sym (append-nil p)) ∙ size_head expect size p [] shape) h
   by_stage (stages.Failed fault) shape text = absurd shape
   by_stage (stages.Text t) shape text =
-      let h' : frame_at (limit_of r) expect (kind_of_text t ∷ drop 1 p) ≡ begun = ap (frame_at (limit_of r) expect) (sym shape) ∙ stands.begun in
+      let h' : frame_at (limit_of r) expect (kind_of_text t ∷ drop 1 p)
+      ≡ begun = ap (frame_at (limit_of r) expect) (sym shape) ∙ stands.begun in
       let shown = text_shows (limit_of r) r s expect t (drop 1 p) (drop 1 p) refl h' text in
-      let e : text_after s expect (kind_of_text t ∷ drop 1 p) (frame_at (limit_of r) expect (kind_of_text t ∷ drop 1 p)) ≡ text_after s expect p begun = ap (text_after s expect (kind_of_text t ∷ drop 1 p)) h' ∙ ap (λ x. text_after s expect x begun) (sym shape) in
+      let e : text_after s expect (kind_of_text t ∷ drop 1 p)
+      (frame_at (limit_of r) expect (kind_of_text t ∷ drop 1 p)) ≡ text_after s expect p begun =
+      ap (text_after s expect (kind_of_text t ∷ drop 1 p)) h' ∙
+      ap (λ x. text_after s expect x begun) (sym shape) in
       subst (ShowsText r) e shown
 
 -- what a reader stands for has begun
-pub begun_still : (limit : ℕ) (r : FrameReader) (expect : Expect) (p : List ℕ) → limit_of r ≡ limit → StandsFor r expect p → frame_at limit expect p ≡ begun
+pub begun_still : (limit : ℕ) (r : FrameReader) (expect : Expect) (p : List ℕ) → limit_of r ≡ limit
+    → StandsFor r expect p → frame_at limit expect p ≡ begun
 unfolding StandsFor
 begun_still limit r expect p e stands = ap (λ l. frame_at l expect p) (sym e) ∙ stands.begun
 
@@ -102,11 +134,13 @@ unfolding failure_of pending_of
 refusal_is reader fault e = ap (λ stage. refusal_in stage reader.pending) e
 
 -- and another stage none
-pub no_refusal : (reader : FrameReader) (refusal : FrameRefusal) → ((fault : FrameFault) → reader.stage ≡ stages.Failed fault → ⊥)
+pub no_refusal : (reader : FrameReader) (refusal : FrameRefusal)
+    → ((fault : FrameFault) → reader.stage ≡ stages.Failed fault → ⊥)
     → failure_of reader ≡ Some refusal → ⊥
 unfolding failure_of
 no_refusal reader refusal isnt e = by_stage reader.stage isnt e where
-  by_stage : (stage : Stage) → ((fault : FrameFault) → stage ≡ stages.Failed fault → ⊥) → refusal_in stage reader.pending ≡ Some refusal → ⊥
+  by_stage : (stage : Stage) → ((fault : FrameFault) → stage ≡ stages.Failed fault → ⊥)
+      → refusal_in stage reader.pending ≡ Some refusal → ⊥
   by_stage stages.Type isnt e = cc
   by_stage (stages.Field field) isnt e = cc
   by_stage (stages.Text text) isnt e = cc
@@ -114,23 +148,31 @@ no_refusal reader refusal isnt e = by_stage reader.stage isnt e where
   by_stage (stages.Failed fault) isnt e = isnt fault refl
 
 -- what n bytes of the rest of a piece decide, the whole piece decides
-module _ (limit limit' : ℕ) (expect : Expect) (p piece : List ℕ) (used n : ℕ) (same : limit ≡ limit') where
+module _ (limit limit' : ℕ) (expect : Expect) (p piece : List ℕ) (used n : ℕ)
+    (same : limit ≡ limit') where
   -- the bytes so far with n more
   abbrev pub upto : List ℕ
   upto = (p ++ take used piece) ++ take n (rest_of p piece used n)
 
   -- what these decide is decided by the whole piece
-  pub piece_decided : (frame_at limit expect upto ≡ begun → ⊥) → frame_at limit' expect (p ++ piece) ≡ frame_at limit expect upto
+  pub piece_decided : (frame_at limit expect upto ≡ begun → ⊥) → frame_at limit' expect (p ++ piece)
+      ≡ frame_at limit expect upto
   piece_decided said =
-      ap (λ l. frame_at l expect (p ++ piece)) (sym same) ∙ ap (frame_at limit expect) (sym (all_along p piece used n)) ∙ decided_along limit expect upto (drop n (rest_of p piece used n)) said
+      ap (λ l. frame_at l expect (p ++ piece)) (sym same) ∙ ap (frame_at limit expect)
+      (sym (all_along p piece used n)) ∙ decided_along limit expect upto
+      (drop n (rest_of p piece used n)) said
 
   -- and so is the text that is shown
   pub piece_shows : (new : FrameReader) (s : List ℕ) → (frame_at limit expect upto ≡ begun → ⊥)
-      → ShowsText new (text_after (text_after s expect (p ++ take used piece) begun) expect upto (frame_at limit expect upto))
+      → ShowsText new (text_after (text_after s expect (p ++ take used piece) begun) expect upto
+      (frame_at limit expect upto))
       → ShowsText new (text_after s expect (p ++ piece) (frame_at limit' expect (p ++ piece)))
   piece_shows new s said h =
       let b : List ℕ = p ++ take used piece in
       let more : List ℕ = take n (rest_of p piece used n) in
-      let shown = after_after s expect b more (frame_at limit expect (b ++ more)) ∙ after_along s limit expect upto (drop n (rest_of p piece used n)) said in
-      subst (λ l. ShowsText new (text_after s expect (p ++ piece) (frame_at l expect (p ++ piece)))) same
-      (subst (λ q. ShowsText new (text_after s expect q (frame_at limit expect q))) (all_along p piece used n) (subst (ShowsText new) shown h))
+      let shown = after_after s expect b more (frame_at limit expect (b ++ more)) ∙ after_along s
+      limit expect upto (drop n (rest_of p piece used n)) said in
+      subst (λ l. ShowsText new (text_after s expect (p ++ piece) (frame_at l expect (p ++ piece))))
+      same
+      (subst (λ q. ShowsText new (text_after s expect q (frame_at limit expect q)))
+      (all_along p piece used n) (subst (ShowsText new) shown h))

@@ -1,14 +1,19 @@
 -- Records are read byte by byte.
-use Rattle.std.proofs.Common.{◌≡◌, ℕ, suc, ◌<◌, ◌⊎◌, inl, inr, Bool, true, false, nat_lt, List, [], ◌∷◌, ◌++◌, length, refl, arith}
+use Rattle.std.proofs.Common.{◌≡◌, ℕ, suc, ◌<◌, ◌⊎◌, inl, inr, Bool, true, false, nat_lt, List, []}
+use Rattle.std.proofs.Common.{◌∷◌, ◌++◌, length, refl, arith}
 use Rattle.std.specs.Prelude.{◌==◌, if◌then◌else◌}
 use Rattle.unit_streams.specs.Front.{Front, begun, ReadsFront}
 use Rattle.unit_streams.proofs.Peeling.{extent, IsPeeling, peels_front}
-use Rattle.unit_streams.proofs.Behind.{behind_peels, after_byte, after_byte_peels, decided_byte_peels, by_first_peels}
+use Rattle.unit_streams.proofs.Behind.{behind_peels, after_byte, after_byte_peels}
+use Rattle.unit_streams.proofs.Behind.{decided_byte_peels, by_first_peels}
 use Rattle.multibyte_ints.specs.Integer.{int_at}
 use Rattle.multibyte_ints.specs.Text.{string_at}
 use Rattle.multibyte_ints.proofs.IntegerBytes.{int_peels}
 use Rattle.multibyte_ints.proofs.TextBytes.{string_peels}
-use Rattle.nmf_records.specs.declared.record_types.TheConstants.{VERSION, MODE, VIA, KNOWN_ENCODING, UNSIZED_ENVELOPE, SIZED_ENVELOPE, END, FAULT, PREAMBLE_ACK, PREAMBLE_END, GREATEST}
+use Rattle.nmf_records.specs.declared.record_types.TheConstants.{VERSION, MODE, VIA, KNOWN_ENCODING}
+use Rattle.nmf_records.specs.declared.record_types.TheConstants.{UNSIZED_ENVELOPE, SIZED_ENVELOPE}
+use Rattle.nmf_records.specs.declared.record_types.TheConstants.{END, FAULT, PREAMBLE_ACK}
+use Rattle.nmf_records.specs.declared.record_types.TheConstants.{PREAMBLE_END, GREATEST}
 use Rattle.nmf_records.specs.declared.frame.Frame.{Frame}
 use Rattle.nmf_records.specs.declared.frame.Frame.TheVariants as frames
 use Rattle.nmf_records.specs.declared.frame.Expect.{Expect}
@@ -16,24 +21,28 @@ use Rattle.nmf_records.specs.declared.frame.Expect.TheVariants.{Types, Chunk}
 use Rattle.nmf_records.specs.declared.frame.FrameFault.{FrameFault}
 use Rattle.nmf_records.specs.declared.frame.FrameFault.TheVariants as faults
 use Rattle.nmf_records.specs.Records.{Read}
-use Rattle.nmf_records.specs.Reading.{with_text, bare, fault_of, size_at, text_at, version_at, byte_at, typed_at, allows, record_at, frame_at}
+use Rattle.nmf_records.specs.Reading.{with_text, bare, fault_of, size_at, text_at, version_at}
+use Rattle.nmf_records.specs.Reading.{byte_at, typed_at, allows, record_at, frame_at}
 
 -- what is read behind a type byte is read byte by byte
 abbrev PeelsBehindType : (List ℕ → Front Read FrameFault) → Type 0
 PeelsBehindType f = IsPeeling (after_byte f)
 
 size_peels : (frame : ℕ → Frame) → PeelsBehindType (size_at 1 frame)
-size_peels frame = after_byte_peels (λ size. bare (frame size)) (λ _. faults.BadInt) int_at int_peels
+size_peels frame = after_byte_peels (λ size. bare (frame size)) (λ _. faults.BadInt) int_at
+    int_peels
 
 text_peels : (limit : ℕ) (frame : Frame) → PeelsBehindType (text_at limit frame)
-text_peels limit frame = after_byte_peels (with_text frame) fault_of (string_at limit) (string_peels limit)
+text_peels limit frame = after_byte_peels (with_text frame) fault_of (string_at limit)
+    (string_peels limit)
 
 version_peels : PeelsBehindType version_at
 version_peels = record { nothing = refl; byte = at; stays = after } where
   read : List ℕ → Front Read FrameFault
   read = after_byte version_at
 
-  at : (b : List ℕ) (x : ℕ) → read b ≡ begun → (read (b ++ x ∷ []) ≡ begun) ⊎ (extent (read (b ++ x ∷ [])) ≡ suc (length b))
+  at : (b : List ℕ) (x : ℕ) → read b ≡ begun → (read (b ++ x ∷ []) ≡ begun)
+      ⊎ (extent (read (b ++ x ∷ [])) ≡ suc (length b))
   at [] x h = inl refl
   at (kind ∷ []) x h = inl refl
   at (kind ∷ major ∷ []) x h = inr refl
@@ -50,7 +59,8 @@ byte_peels frame = record { nothing = refl; byte = at; stays = after } where
   read : List ℕ → Front Read FrameFault
   read = after_byte (byte_at frame)
 
-  at : (b : List ℕ) (x : ℕ) → read b ≡ begun → (read (b ++ x ∷ []) ≡ begun) ⊎ (extent (read (b ++ x ∷ [])) ≡ suc (length b))
+  at : (b : List ℕ) (x : ℕ) → read b ≡ begun → (read (b ++ x ∷ []) ≡ begun)
+      ⊎ (extent (read (b ++ x ∷ [])) ≡ suc (length b))
   at [] x h = inl refl
   at (kind ∷ []) x h = inr refl
   at (kind ∷ y ∷ rest) x h = cc
@@ -61,7 +71,8 @@ byte_peels frame = record { nothing = refl; byte = at; stays = after } where
   after (kind ∷ y ∷ rest) x lt = refl
 
 -- of two readings the one that a test takes
-choice_peels : (test : Bool) (f g : List ℕ → Front Read FrameFault) → PeelsBehindType f → PeelsBehindType g → PeelsBehindType (λ b. if test then f b else g b)
+choice_peels : (test : Bool) (f g : List ℕ → Front Read FrameFault) → PeelsBehindType f
+    → PeelsBehindType g → PeelsBehindType (λ b. if test then f b else g b)
 choice_peels true f g p q = p
 choice_peels false f g p q = q
 
@@ -76,7 +87,8 @@ typed_peels limit kind =
     choice_peels (kind == END) _ _ (decided_byte_peels _ refl) (
     choice_peels (kind == FAULT) _ _ (text_peels limit frames.Fault) (
     choice_peels (kind == PREAMBLE_ACK) _ _ (decided_byte_peels _ refl) (
-    choice_peels (kind == PREAMBLE_END) _ _ (decided_byte_peels _ refl) (decided_byte_peels _ refl))))))))))
+    choice_peels (kind == PREAMBLE_END) _ _ (decided_byte_peels _ refl)
+    (decided_byte_peels _ refl))))))))))
 
 record_peels : (limit types : ℕ) → IsPeeling (record_at limit types)
 record_peels limit types =
@@ -87,7 +99,8 @@ record_peels limit types =
 -- a record, or a chunk's size, is read byte by byte
 pub frame_peels : (limit : ℕ) (expect : Expect) → IsPeeling (frame_at limit expect)
 frame_peels limit (Types types) = record_peels limit types
-frame_peels limit Chunk = behind_peels (λ size. bare (frames.Chunk size)) (λ _. faults.BadInt) int_at int_peels
+frame_peels limit Chunk = behind_peels (λ size. bare (frames.Chunk size)) (λ _. faults.BadInt)
+    int_at int_peels
 
 -- so a record is known by its own bytes
 pub frames_front : (limit : ℕ) (expect : Expect) → ReadsFront (frame_at limit expect)

@@ -1,5 +1,6 @@
 -- The records that come with each message, where they are whole at the front of a piece.
-use Rattle.std.proofs.Common.{◌≡◌, ℕ, ◌+◌, ◌≤◌, true, false, List, [], ◌∷◌, ◌++◌, length, Some, Ok, refl, sym, ap, ◌∙◌, arith}
+use Rattle.std.proofs.Common.{◌≡◌, ℕ, ◌+◌, ◌≤◌, true, false, List, [], ◌∷◌, ◌++◌, length, Some, Ok}
+use Rattle.std.proofs.Common.{refl, sym, ap, ◌∙◌, arith}
 use Rattle.unit_streams.specs.Front.{whole}
 use Rattle.multibyte_ints.specs.Integer.{int_at}
 use Rattle.multibyte_ints.specs.Reader.{StandsFor as IntStandsFor}
@@ -14,7 +15,8 @@ use Rattle.nmf_records.specs.declared.frame.FrameStep.TheVariants.{Done}
 use Rattle.nmf_records.specs.declared.reader.FrameReader.{FrameReader}
 use Rattle.nmf_records.specs.declared.stage.Stage.TheVariants as stages
 use Rattle.nmf_records.specs.Reading.{allows, as_size, bare, begins_text, frame_at}
-use Rattle.nmf_records.specs.Reader.{FrameAnswers, ShowsText, StandsFor, failure_of, limit_of, shown_behind, size_bytes}
+use Rattle.nmf_records.specs.Reader.{FrameAnswers, ShowsText, StandsFor, failure_of, limit_of}
+use Rattle.nmf_records.specs.Reader.{shown_behind, size_bytes}
 use Rattle.nmf_records.proofs.Feeding.{no_refusal}
 use Rattle.nmf_records.proofs.Frames.{frame_peels, frames_front}
 use Rattle.nmf_records.proofs.Showing.{plain_shows}

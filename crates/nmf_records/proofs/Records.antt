@@ -1,5 +1,6 @@
 -- A record that is read is the bytes that it is read of, and a record's bytes are read as it.
-use Rattle.std.proofs.Common.{◌≡◌, ℕ, suc, ◌+◌, ◌≤◌, List, [], ◌∷◌, ◌++◌, length, take, drop, true, refl, sym, ap, ◌∙◌, arith}
+use Rattle.std.proofs.Common.{◌≡◌, ℕ, suc, ◌+◌, ◌≤◌, List, [], ◌∷◌, ◌++◌, length, take, drop, true}
+use Rattle.std.proofs.Common.{refl, sym, ap, ◌∙◌, arith}
 use Rattle.std.specs.Prelude.{nat_lt, ⊤, Some}
 use Rattle.std.proofs.lemmas.Bool.{cond_both}
 use Rattle.std.proofs.lemmas.List.{length-take-le, take-append-drop}
@@ -9,14 +10,19 @@ use Rattle.multibyte_ints.specs.Integer.{int_at}
 use Rattle.multibyte_ints.specs.Text.{string_at, StringFault}
 use Rattle.multibyte_ints.proofs.IntegerLaws.{spells_from_whole, whole_from_all}
 use Rattle.multibyte_ints.proofs.TextLaws.{string_from_whole, string_alone}
-use Rattle.nmf_records.specs.declared.record_types.TheConstants.{VERSION, MODE, VIA, KNOWN_ENCODING, UNSIZED_ENVELOPE, SIZED_ENVELOPE, END, FAULT, PREAMBLE_ACK, PREAMBLE_END, GREATEST}
+use Rattle.nmf_records.specs.declared.record_types.TheConstants.{VERSION, MODE, VIA, KNOWN_ENCODING}
+use Rattle.nmf_records.specs.declared.record_types.TheConstants.{UNSIZED_ENVELOPE, SIZED_ENVELOPE}
+use Rattle.nmf_records.specs.declared.record_types.TheConstants.{END, FAULT, PREAMBLE_ACK}
+use Rattle.nmf_records.specs.declared.record_types.TheConstants.{PREAMBLE_END, GREATEST}
 use Rattle.nmf_records.specs.declared.frame.Frame.{Frame}
 use Rattle.nmf_records.specs.declared.frame.Frame.TheVariants as frames
 use Rattle.nmf_records.specs.declared.frame.Expect.{Expect}
 use Rattle.nmf_records.specs.declared.frame.Expect.TheVariants.{Types, Chunk}
 use Rattle.nmf_records.specs.declared.frame.FrameFault.{FrameFault}
 use Rattle.nmf_records.specs.Records.{Read, type_of, IsTextRecord, IsRecordOf, IsRecord}
-use Rattle.nmf_records.specs.Reading.{with_text, size_at, text_at, version_at, byte_at, lone, typed_at, allows, allows_type, MayCome, frame_at, as_size, as_text}
+use Rattle.nmf_records.specs.Reading.{with_text, size_at, text_at, version_at, byte_at, lone}
+use Rattle.nmf_records.specs.Reading.{typed_at, allows, allows_type, MayCome, frame_at, as_size}
+use Rattle.nmf_records.specs.Reading.{as_text}
 use Rattle.nmf_records.proofs.Frames.{frames_front}
 use Rattle.nmf_records.proofs.Typed.{type_known}
 use Rattle.nmf_records.proofs.TypeCases.{by_type, read_by_type}
@@ -29,7 +35,8 @@ OfWhole P (wrong fault n) = Unit {0}
 
 -- the bytes at the front are the record, which may come, and its text is within the limit
 abbrev IsReadOf : ℕ → Expect → List ℕ → Read → ℕ → Type 0
-IsReadOf limit expect bytes read n = IsRecord read (take n bytes) × MayCome expect read.frame × (length read.text ≤ limit)
+IsReadOf limit expect bytes read n = IsRecord read (take n bytes) × MayCome expect read.frame
+    × (length read.text ≤ limit)
 
 -- behind a type byte that may come
 module _ (limit types kind : ℕ) (bytes : List ℕ) (may : allows types kind ≡ true) where
@@ -38,7 +45,8 @@ module _ (limit types kind : ℕ) (bytes : List ℕ) (may : allows types kind �
   Of = OfWhole (IsReadOf limit (Types types) (kind ∷ bytes))
 
   -- a record of the type may come
-  type_may : (frame : Frame) (n : ℕ) → kind ≡ n → type_of frame ≡ Some n → MayCome (Types types) frame
+  type_may : (frame : Frame) (n : ℕ) → kind ≡ n → type_of frame ≡ Some n → MayCome (Types types)
+      frame
   type_may frame n e is = ap (allows_type types) is ∙ ap (allows types) (sym e) ∙ may
 
   -- the type byte before the others
@@ -46,18 +54,31 @@ module _ (limit types kind : ℕ) (bytes : List ℕ) (may : allows types kind �
   first_more n k e = let s : 1 + k ≡ suc k = omega arith in rw (s, e) refl
 
   -- a type byte alone is its bytes
-  read_lone : (frame : Frame) (n : ℕ) → kind ≡ n → type_of frame ≡ Some n → ((b : List ℕ) → b ≡ n ∷ [] → IsRecordOf frame [] b) → Of (lone frame)
-  read_lone frame n e is record_of = (record_of (kind ∷ []) (ap (λ t. t ∷ []) e), type_may frame n e is, omega arith)
+  read_lone : (frame : Frame) (n : ℕ) → kind ≡ n → type_of frame ≡ Some n
+      → ((b : List ℕ) → b ≡ n ∷ [] → IsRecordOf frame [] b) → Of (lone frame)
+  read_lone frame n e is record_of = (
+    record_of (kind ∷ []) (ap (λ t. t ∷ []) e),
+    type_may frame n e
+        is,
+    omega arith,
+  )
 
   -- a record with a text is its bytes
-  read_text : (frame : Frame) (n : ℕ) → kind ≡ n → type_of frame ≡ Some n → ((text b : List ℕ) → IsTextRecord n text b → IsRecordOf frame text b) → Of (text_at limit frame bytes)
+  read_text : (frame : Frame) (n : ℕ) → kind ≡ n → type_of frame ≡ Some n
+      → ((text b : List ℕ) → IsTextRecord n text b → IsRecordOf frame text b)
+      → Of (text_at limit frame bytes)
   read_text frame n e is record_of = by_string (string_at limit bytes) refl
     where
-      by_string : (y : Front (List ℕ) StringFault) → string_at limit bytes ≡ y → Of (as_text frame y)
+      by_string : (y : Front (List ℕ) StringFault) → string_at limit bytes ≡ y
+          → Of (as_text frame y)
       by_string begun h = tt
       by_string (whole s k) h =
-          let w = string_from_whole limit bytes s k h in
-          (record_of s (take (1 + k) (kind ∷ bytes)) (take k bytes, w.2, first_more n k e), type_may frame n e is, w.1)
+          let w = string_from_whole limit bytes s k h in (
+            record_of s (take (1 + k) (kind ∷ bytes)) (take k bytes, w.2, first_more n k e),
+            type_may
+                frame n e is,
+            w.1,
+          )
       by_string (wrong r k) h = tt
 
   -- an envelope's head is its bytes
@@ -66,109 +87,173 @@ module _ (limit types kind : ℕ) (bytes : List ℕ) (may : allows types kind �
     where
       by_int : (y : Front ℕ ⊤) → int_at bytes ≡ y → Of (as_size 1 frames.SizedEnvelope y)
       by_int begun h = tt
-      by_int (whole n k) h = ((refl, take k bytes, (spells_from_whole bytes n k h).1, first_more SIZED_ENVELOPE k e), type_may (frames.SizedEnvelope n) SIZED_ENVELOPE e refl, omega arith)
+      by_int (whole n k) h = (
+        (refl, take k bytes, (spells_from_whole bytes n k h).1, first_more SIZED_ENVELOPE k e),
+        type_may (frames.SizedEnvelope n) SIZED_ENVELOPE e refl,
+        omega arith,
+      )
       by_int (wrong r k) h = tt
 
 -- a Version record is its bytes
-read_version : (limit types kind : ℕ) (bytes : List ℕ) (may : allows types kind ≡ true) → kind ≡ VERSION → Of limit types kind bytes may (version_at bytes)
+read_version : (limit types kind : ℕ) (bytes : List ℕ) (may : allows types kind ≡ true) → kind
+    ≡ VERSION → Of limit types kind bytes may (version_at bytes)
 read_version limit types kind [] may e = tt
 read_version limit types kind (major ∷ []) may e = tt
-read_version limit types kind (major ∷ minor ∷ rest) may e =
-    ((refl, ap (λ t. t ∷ major ∷ minor ∷ []) e), type_may limit types kind (major ∷ minor ∷ rest) may (frames.Version major minor) VERSION e refl, omega arith)
+read_version limit types kind (major ∷ minor ∷ rest) may e = (
+  (refl, ap (λ t. t ∷ major ∷ minor ∷ []) e),
+  type_may limit types kind (major ∷ minor ∷ rest)
+      may (frames.Version major minor) VERSION e refl,
+  omega arith,
+)
 
 -- a record of one byte is its bytes
-read_byte : (limit types kind : ℕ) (bytes : List ℕ) (may : allows types kind ≡ true) (frame : ℕ → Frame) (n : ℕ) → kind ≡ n → ((x : ℕ) → type_of (frame x) ≡ Some n)
-    → ((x : ℕ) (b : List ℕ) → b ≡ n ∷ x ∷ [] → IsRecordOf (frame x) [] b) → Of limit types kind bytes may (byte_at frame bytes)
+read_byte : (limit types kind : ℕ) (bytes : List ℕ) (may : allows types kind ≡ true)
+    (frame : ℕ → Frame) (n : ℕ) → kind ≡ n → ((x : ℕ) → type_of (frame x) ≡ Some n)
+    → ((x : ℕ) (b : List ℕ) → b ≡ n ∷ x ∷ [] → IsRecordOf (frame x) [] b) → Of limit types kind
+    bytes may (byte_at frame bytes)
 read_byte limit types kind [] may frame n e is record_of = tt
-read_byte limit types kind (x ∷ rest) may frame n e is record_of =
-    (record_of x (kind ∷ x ∷ []) (ap (λ t. t ∷ x ∷ []) e), type_may limit types kind (x ∷ rest) may (frame x) n e (is x), omega arith)
+read_byte limit types kind (x ∷ rest) may frame n e is record_of = (
+  record_of x (kind ∷ x ∷ []) (ap (λ t. t ∷ x ∷ []) e),
+  type_may limit types kind (x ∷ rest) may
+      (frame x) n e (is x),
+  omega arith,
+)
 
 -- a record of a type is its bytes
-read_typed : (limit types kind : ℕ) (bytes : List ℕ) (may : allows types kind ≡ true) → kind ≤ GREATEST → Of limit types kind bytes may (typed_at limit kind bytes)
-read_typed limit types kind bytes may le = by_type limit kind bytes (Of limit types kind bytes may) le record {
-  version = read_version limit types kind bytes may;
-  mode = λ e. read_byte limit types kind bytes may frames.Mode MODE e (λ x. refl) (λ x b h. (refl, h));
-  via = λ e. read_text limit types kind bytes may frames.Via VIA e refl (λ text b h. h);
-  encoding = λ e. read_byte limit types kind bytes may frames.KnownEncoding KNOWN_ENCODING e (λ x. refl) (λ x b h. (refl, h));
-  unsized_envelope = λ e. read_lone limit types kind bytes may frames.UnsizedEnvelope UNSIZED_ENVELOPE e refl (λ b h. (refl, h));
-  sized_envelope = read_size limit types kind bytes may;
-  end = λ e. read_lone limit types kind bytes may frames.End END e refl (λ b h. (refl, h));
-  fault = λ e. read_text limit types kind bytes may frames.Fault FAULT e refl (λ text b h. h);
-  preamble_ack = λ e. read_lone limit types kind bytes may frames.PreambleAck PREAMBLE_ACK e refl (λ b h. (refl, h));
-  preamble_end = λ e. read_lone limit types kind bytes may frames.PreambleEnd PREAMBLE_END e refl (λ b h. (refl, h));
-  other = λ e. tt;
-}
+read_typed : (limit types kind : ℕ) (bytes : List ℕ) (may : allows types kind ≡ true) → kind
+    ≤ GREATEST → Of limit types kind bytes may (typed_at limit kind bytes)
+read_typed limit types kind bytes may le = by_type limit kind bytes (Of limit types kind bytes may)
+    le record {
+      version = read_version limit types kind bytes may;
+      mode = λ e. read_byte limit types kind bytes may frames.Mode MODE e (λ x. refl)
+          (λ x b h. (refl, h));
+      via = λ e. read_text limit types kind bytes may frames.Via VIA e refl (λ text b h. h);
+      encoding = λ e. read_byte limit types kind bytes may frames.KnownEncoding KNOWN_ENCODING e
+          (λ x. refl) (λ x b h. (refl, h));
+      unsized_envelope = λ e. read_lone limit types kind bytes may frames.UnsizedEnvelope
+          UNSIZED_ENVELOPE e refl (λ b h. (refl, h));
+      sized_envelope = read_size limit types kind bytes may;
+      end = λ e. read_lone limit types kind bytes may frames.End END e refl (λ b h. (refl, h));
+      fault = λ e. read_text limit types kind bytes may frames.Fault FAULT e refl (λ text b h. h);
+      preamble_ack = λ e. read_lone limit types kind bytes may frames.PreambleAck PREAMBLE_ACK e refl
+          (λ b h. (refl, h));
+      preamble_end = λ e. read_lone limit types kind bytes may frames.PreambleEnd PREAMBLE_END e refl
+          (λ b h. (refl, h));
+      other = λ e. tt;
+    }
 
 -- a record, or a chunk's size, is its bytes
-read_front : (limit : ℕ) (expect : Expect) (bytes : List ℕ) → OfWhole (IsReadOf limit expect bytes) (frame_at limit expect bytes)
+read_front : (limit : ℕ) (expect : Expect) (bytes : List ℕ) → OfWhole (IsReadOf limit expect bytes)
+    (frame_at limit expect bytes)
 read_front limit (Types types) [] = tt
 read_front limit (Types types) (kind ∷ bytes) =
-    let P : Front Read FrameFault → Type 0 = OfWhole (IsReadOf limit (Types types) (kind ∷ bytes)) in
+    let P : Front Read FrameFault → Type 0 = OfWhole (IsReadOf limit (Types types) (kind ∷ bytes))
+    in
     cond_both (nat_lt GREATEST kind) _ _ P (λ _. tt)
-    (λ known. cond_both (allows types kind) _ _ P (λ may. read_typed limit types kind bytes may (type_known kind known)) (λ _. tt))
+    (λ known. cond_both (allows types kind) _ _ P
+    (λ may. read_typed limit types kind bytes may (type_known kind known)) (λ _. tt))
 read_front limit Chunk bytes = by_int (int_at bytes) refl
   where
-    by_int : (y : Front ℕ ⊤) → int_at bytes ≡ y → OfWhole (IsReadOf limit Chunk bytes) (as_size 0 frames.Chunk y)
+    by_int : (y : Front ℕ ⊤) → int_at bytes ≡ y → OfWhole (IsReadOf limit Chunk bytes)
+        (as_size 0 frames.Chunk y)
     by_int begun h = tt
-    by_int (whole n k) h = let z : 0 + k ≡ k = omega arith in ((refl, rw z (spells_from_whole bytes n k h).1), refl, omega arith)
+    by_int (whole n k) h = let z : 0 + k ≡ k = omega arith in
+        ((refl, rw z (spells_from_whole bytes n k h).1), refl, omega arith)
     by_int (wrong r k) h = tt
 
 -- what holds of a whole record holds of this one
-OfWhole_at : (P : Read → ℕ → Type 0) (y : Front Read FrameFault) (read : Read) (n : ℕ) → y ≡ whole read n → OfWhole P y → P read n
+OfWhole_at : (P : Read → ℕ → Type 0) (y : Front Read FrameFault) (read : Read) (n : ℕ) → y
+    ≡ whole read n → OfWhole P y → P read n
 OfWhole_at P y read n e h = rw e at h
 
--- the bytes that a record is read of are the record, which may come, and its text is within the limit
-pub read_record : (limit : ℕ) (expect : Expect) (bytes : List ℕ) (read : Read) (n : ℕ) → frame_at limit expect bytes ≡ whole read n
+-- the bytes that a record is read of are the record, which may come, and its text is within the
+-- limit
+pub read_record : (limit : ℕ) (expect : Expect) (bytes : List ℕ) (read : Read) (n : ℕ)
+    → frame_at limit expect bytes ≡ whole read n
     → IsRecord read (take n bytes) × MayCome expect read.frame × (length read.text ≤ limit)
-read_record limit expect bytes read n e = OfWhole_at (IsReadOf limit expect bytes) (frame_at limit expect bytes) read n e (read_front limit expect bytes)
+read_record limit expect bytes read n e = OfWhole_at (IsReadOf limit expect bytes)
+    (frame_at limit expect bytes) read n e (read_front limit expect bytes)
 
 -- a Via's or a Fault's bytes are read as it
-text_record_read : (limit : ℕ) (expect : Expect) (frame : Frame) (kind : ℕ) (text b : List ℕ) → kind ≤ GREATEST → type_of frame ≡ Some kind
-    → ((c : List ℕ) → typed_at limit kind c ≡ text_at limit frame c) → IsTextRecord kind text b → MayCome expect frame → length text ≤ limit
+text_record_read : (limit : ℕ) (expect : Expect) (frame : Frame) (kind : ℕ) (text b : List ℕ) → kind
+    ≤ GREATEST → type_of frame ≡ Some kind
+    → ((c : List ℕ) → typed_at limit kind c ≡ text_at limit frame c) → IsTextRecord kind text b
+    → MayCome expect frame → length text ≤ limit
     → frame_at limit expect b ≡ whole (with_text frame text) (length b)
 text_record_read limit expect frame kind text b le is reads h may low =
     let size : 1 + length h.0 ≡ suc (length h.0) = omega arith in
-    rw (h.2, read_by_type limit expect frame kind h.0 le is may, reads h.0, string_alone limit h.0 text low h.1, size) refl
+    rw (
+      h.2,
+      read_by_type limit expect frame kind h.0 le is may,
+      reads h.0,
+      string_alone limit h.0
+          text low h.1,
+      size,
+    ) refl
 
 -- each record's bytes are read as it
-record_of_read : (limit : ℕ) (expect : Expect) (frame : Frame) (text b : List ℕ) → IsRecordOf frame text b → MayCome expect frame → length text ≤ limit
+record_of_read : (limit : ℕ) (expect : Expect) (frame : Frame) (text b : List ℕ) → IsRecordOf frame
+    text b → MayCome expect frame → length text ≤ limit
     → frame_at limit expect b ≡ whole (with_text frame text) (length b)
 record_of_read limit expect (frames.Version major minor) text b h may low =
-    rw (h.0, h.1) (read_by_type limit expect (frames.Version major minor) VERSION (major ∷ minor ∷ []) (omega arith) refl may)
+    rw (h.0, h.1) (read_by_type limit expect (frames.Version major minor) VERSION
+    (major ∷ minor ∷ []) (omega arith) refl may)
 record_of_read limit expect (frames.Mode mode) text b h may low =
-    rw (h.0, h.1) (read_by_type limit expect (frames.Mode mode) MODE (mode ∷ []) (omega arith) refl may)
-record_of_read limit expect frames.Via text b h may low = text_record_read limit expect frames.Via VIA text b (omega arith) refl (λ c. refl) h may low
+    rw (h.0, h.1) (read_by_type limit expect (frames.Mode mode) MODE (mode ∷ []) (omega arith) refl
+    may)
+record_of_read limit expect frames.Via text b h may low = text_record_read limit expect frames.Via
+    VIA text b (omega arith) refl (λ c. refl) h may low
 record_of_read limit expect (frames.KnownEncoding encoding) text b h may low =
-    rw (h.0, h.1) (read_by_type limit expect (frames.KnownEncoding encoding) KNOWN_ENCODING (encoding ∷ []) (omega arith) refl may)
-record_of_read limit expect frames.UnsizedEnvelope text b h may low = rw (h.0, h.1) (read_by_type limit expect frames.UnsizedEnvelope UNSIZED_ENVELOPE [] (omega arith) refl may)
+    rw (h.0, h.1) (read_by_type limit expect (frames.KnownEncoding encoding) KNOWN_ENCODING
+    (encoding ∷ []) (omega arith) refl may)
+record_of_read limit expect frames.UnsizedEnvelope text b h may low = rw (h.0, h.1)
+    (read_by_type limit expect frames.UnsizedEnvelope UNSIZED_ENVELOPE [] (omega arith) refl may)
 record_of_read limit Chunk (frames.Chunk size) text b h may low =
     let none : 0 + length b ≡ length b = omega arith in
     rw (h.0, whole_from_all b size h.1, none) refl
 record_of_read limit (Types types) (frames.Chunk size) text b h may low = cc
 record_of_read limit expect (frames.SizedEnvelope size) text b h may low =
     let n : 1 + length h.1 ≡ suc (length h.1) = omega arith in
-    rw (h.0, h.3, read_by_type limit expect (frames.SizedEnvelope size) SIZED_ENVELOPE h.1 (omega arith) refl may, whole_from_all h.1 size h.2, n) refl
-record_of_read limit expect frames.End text b h may low = rw (h.0, h.1) (read_by_type limit expect frames.End END [] (omega arith) refl may)
-record_of_read limit expect frames.Fault text b h may low = text_record_read limit expect frames.Fault FAULT text b (omega arith) refl (λ c. refl) h may low
-record_of_read limit expect frames.PreambleAck text b h may low = rw (h.0, h.1) (read_by_type limit expect frames.PreambleAck PREAMBLE_ACK [] (omega arith) refl may)
-record_of_read limit expect frames.PreambleEnd text b h may low = rw (h.0, h.1) (read_by_type limit expect frames.PreambleEnd PREAMBLE_END [] (omega arith) refl may)
+    rw (
+      h.0,
+      h.3,
+      read_by_type limit expect (frames.SizedEnvelope size) SIZED_ENVELOPE h.1
+          (omega arith) refl may,
+      whole_from_all h.1 size h.2,
+      n,
+    ) refl
+record_of_read limit expect frames.End text b h may low = rw (h.0, h.1)
+    (read_by_type limit expect frames.End END [] (omega arith) refl may)
+record_of_read limit expect frames.Fault text b h may low = text_record_read limit expect
+    frames.Fault FAULT text b (omega arith) refl (λ c. refl) h may low
+record_of_read limit expect frames.PreambleAck text b h may low = rw (h.0, h.1)
+    (read_by_type limit expect frames.PreambleAck PREAMBLE_ACK [] (omega arith) refl may)
+record_of_read limit expect frames.PreambleEnd text b h may low = rw (h.0, h.1)
+    (read_by_type limit expect frames.PreambleEnd PREAMBLE_END [] (omega arith) refl may)
 
 -- a record's bytes are read as it, where it may come and its text is within the limit
-pub record_read : (limit : ℕ) (expect : Expect) (read : Read) (bytes : List ℕ) → IsRecord read bytes → MayCome expect read.frame → length read.text ≤ limit
+pub record_read : (limit : ℕ) (expect : Expect) (read : Read) (bytes : List ℕ) → IsRecord read bytes
+    → MayCome expect read.frame → length read.text ≤ limit
     → frame_at limit expect bytes ≡ whole read (length bytes)
-record_read limit expect read bytes h may low = record_of_read limit expect read.frame read.text bytes h may low
+record_read limit expect read bytes h may low = record_of_read limit expect read.frame read.text
+    bytes h may low
 
 -- and whatever follows them
-pub record_read_on : (limit : ℕ) (expect : Expect) (read : Read) (bytes : List ℕ) (n : ℕ) → n ≤ length bytes → IsRecord read (take n bytes) → MayCome expect read.frame
+pub record_read_on : (limit : ℕ) (expect : Expect) (read : Read) (bytes : List ℕ) (n : ℕ) → n
+    ≤ length bytes → IsRecord read (take n bytes) → MayCome expect read.frame
     → length read.text ≤ limit → frame_at limit expect bytes ≡ whole read n
 record_read_on limit expect read bytes n within h may low =
-    let alone : frame_at limit expect (take n bytes) ≡ whole read n = record_read limit expect read (take n bytes) h may low ∙ ap (whole read) (length-take-le n bytes within) in
-    ap (frame_at limit expect) (sym (take-append-drop n bytes)) ∙ (frames_front limit expect).whole_stays (take n bytes) (drop n bytes) read n alone
+    let alone : frame_at limit expect (take n bytes) ≡ whole read n = record_read limit expect read
+    (take n bytes) h may low ∙ ap (whole read) (length-take-le n bytes within) in
+    ap (frame_at limit expect) (sym (take-append-drop n bytes)) ∙
+    (frames_front limit expect).whole_stays (take n bytes) (drop n bytes) read n alone
 
 -- no record goes on to a longer one that may come in its place, and none is two
-pub no_longer_record : (expect : Expect) (one other : Read) (bytes more : List ℕ) → MayCome expect one.frame → MayCome expect other.frame
+pub no_longer_record : (expect : Expect) (one other : Read) (bytes more : List ℕ)
+    → MayCome expect one.frame → MayCome expect other.frame
     → IsRecord one bytes → IsRecord other (bytes ++ more) → (more ≡ []) × (one ≡ other)
 no_longer_record expect one other bytes more may may' h h' =
     let limit : ℕ = length one.text + length other.text in
     none_goes_on (frame_at limit expect) (frames_front limit expect) bytes more one other
-    (record_read limit expect one bytes h may (omega arith)) (record_read limit expect other (bytes ++ more) h' may' (omega arith))
+    (record_read limit expect one bytes h may (omega arith))
+    (record_read limit expect other (bytes ++ more) h' may' (omega arith))

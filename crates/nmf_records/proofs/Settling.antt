@@ -1,5 +1,6 @@
 -- Where a reader stands once it has gone on to where some bytes led.
-use Rattle.std.proofs.Common.{◌≡◌, ℕ, ◌+◌, ◌-◌, ◌^◌, ◌≤◌, min, List, ◌++◌, length, take, refl, ap, ◌∙◌, arith}
+use Rattle.std.proofs.Common.{◌≡◌, ℕ, ◌+◌, ◌-◌, ◌^◌, ◌≤◌, min, List, ◌++◌, length, take, refl, ap}
+use Rattle.std.proofs.Common.{◌∙◌, arith}
 use Rattle.multibyte_ints.specs.TextReader.{limit_of as text_limit_of}
 use Rattle.nmf_records.specs.declared.frame.Expect.{Expect}
 use Rattle.nmf_records.specs.declared.stage.Progress.{Progress}
@@ -21,13 +22,16 @@ pub record IsSettled (mid new : FrameReader) (n : ℕ) (progress : Progress) : T
   pub text : new.text ≡ mid.text
 
 -- the limit stays
-pub settled_limit : (mid new : FrameReader) (n : ℕ) (progress : Progress) → IsSettled mid new n progress → limit_of new ≡ limit_of mid
+pub settled_limit : (mid new : FrameReader) (n : ℕ) (progress : Progress) → IsSettled mid new n
+    progress → limit_of new ≡ limit_of mid
 unfolding limit_of
 settled_limit mid new n progress s = ap text_limit_of s.text
 
 -- a reader stands for the bytes that led there
-pub settled_steps : (limit : ℕ) (expect : Expect) (p bytes : List ℕ) (n : ℕ) (mid new : FrameReader) (progress : Progress)
-    → n ≤ length bytes → limit_of new ≡ limit → mid.pending ≡ length p → Progresses limit expect (p ++ take n bytes) mid progress → IsSettled mid new n progress
+pub settled_steps : (limit : ℕ) (expect : Expect) (p bytes : List ℕ) (n : ℕ) (mid new : FrameReader)
+    (progress : Progress)
+    → n ≤ length bytes → limit_of new ≡ limit → mid.pending ≡ length p → Progresses limit expect
+    (p ++ take n bytes) mid progress → IsSettled mid new n progress
     → Steps limit expect (p ++ take n bytes) new progress
 unfolding StandsFor pending_of
 settled_steps limit expect p bytes n mid new (Going stage) within lim counted leads settled =
@@ -58,7 +62,8 @@ settled_steps limit expect p bytes n mid new (Wrong fault) within lim counted le
     (leads, omega (arith, settled.pending, len, short, counted, size))
 
 -- and keeps a fault
-pub settled_keeps : (mid new : FrameReader) (n : ℕ) (progress : Progress) → IsSettled mid new n progress → Keeps new progress
+pub settled_keeps : (mid new : FrameReader) (n : ℕ) (progress : Progress) → IsSettled mid new n
+    progress → Keeps new progress
 unfolding failure_of pending_of
 settled_keeps mid new n (Going stage) s = tt
 settled_keeps mid new n (Done frame) s = tt

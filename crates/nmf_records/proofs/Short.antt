@@ -1,5 +1,6 @@
 -- A record that has begun is short, and so is what decides one.
-use Rattle.std.proofs.Common.{◌≡◌, ℕ, ◌+◌, ◌-◌, ◌^◌, ◌≤◌, ◌<◌, inl, inr, min, Bool, true, false, nat_lt, List, [], ◌∷◌, length, take, ap, arith}
+use Rattle.std.proofs.Common.{◌≡◌, ℕ, ◌+◌, ◌-◌, ◌^◌, ◌≤◌, ◌<◌, inl, inr, min, Bool, true, false}
+use Rattle.std.proofs.Common.{nat_lt, List, [], ◌∷◌, length, take, ap, arith}
 use Rattle.std.specs.Prelude.{◌==◌, if◌then◌else◌}
 use Rattle.std.proofs.lemmas.List.{length-take-le}
 use Rattle.unit_streams.specs.Front.{Front, begun, wrong}
@@ -9,8 +10,12 @@ use Rattle.multibyte_ints.specs.Integer.{int_at}
 use Rattle.multibyte_ints.specs.Text.{string_at}
 use Rattle.multibyte_ints.proofs.IntegerBytes.{begun_from, ended_from}
 use Rattle.multibyte_ints.proofs.IntegerLaws.{spells_from_whole}
-use Rattle.multibyte_ints.proofs.TextFacts.{int_begun, int_wrong, above, waiting, text, no_text, string_cases}
-use Rattle.nmf_records.specs.declared.record_types.TheConstants.{VERSION, MODE, VIA, KNOWN_ENCODING, UNSIZED_ENVELOPE, SIZED_ENVELOPE, END, FAULT, PREAMBLE_ACK, PREAMBLE_END, GREATEST}
+use Rattle.multibyte_ints.proofs.TextFacts.{int_begun, int_wrong, above, waiting, text, no_text}
+use Rattle.multibyte_ints.proofs.TextFacts.{string_cases}
+use Rattle.nmf_records.specs.declared.record_types.TheConstants.{VERSION, MODE, VIA, KNOWN_ENCODING}
+use Rattle.nmf_records.specs.declared.record_types.TheConstants.{UNSIZED_ENVELOPE, SIZED_ENVELOPE}
+use Rattle.nmf_records.specs.declared.record_types.TheConstants.{END, FAULT, PREAMBLE_ACK}
+use Rattle.nmf_records.specs.declared.record_types.TheConstants.{PREAMBLE_END, GREATEST}
 use Rattle.nmf_records.specs.declared.frame.Frame.{Frame}
 use Rattle.nmf_records.specs.declared.frame.Frame.TheVariants as frames
 use Rattle.nmf_records.specs.declared.frame.Expect.{Expect}
@@ -18,7 +23,8 @@ use Rattle.nmf_records.specs.declared.frame.Expect.TheVariants.{Types, Chunk}
 use Rattle.nmf_records.specs.declared.frame.FrameFault.{FrameFault}
 use Rattle.nmf_records.specs.declared.frame.FrameFault.TheVariants as faults
 use Rattle.nmf_records.specs.Records.{Read}
-use Rattle.nmf_records.specs.Reading.{with_text, bare, fault_of, size_at, text_at, version_at, byte_at, lone, typed_at, allows, record_at, frame_at}
+use Rattle.nmf_records.specs.Reading.{with_text, bare, fault_of, size_at, text_at, version_at}
+use Rattle.nmf_records.specs.Reading.{byte_at, lone, typed_at, allows, record_at, frame_at}
 use Rattle.nmf_records.proofs.Frames.{frame_peels}
 
 -- the most bytes that a text within the limit can have: an integer is below 2^31
@@ -48,12 +54,14 @@ string_short limit b e =
 -- a size is
 size_short : (limit n : ℕ) → n ≤ 1 → (frame : ℕ → Frame) → IsShort limit n (size_at n frame)
 size_short limit n le frame b e =
-    let w = (begun_from b (behind_begun n (λ size. bare (frame size)) (λ _. faults.BadInt) (int_at b) e)).short in
+    let w = (begun_from b (behind_begun n (λ size. bare (frame size)) (λ _. faults.BadInt)
+    (int_at b) e)).short in
     omega arith
 
 -- a text is
 text_short : (limit : ℕ) (frame : Frame) → IsShort limit 1 (text_at limit frame)
-text_short limit frame b e = string_short limit b (behind_begun 1 (with_text frame) fault_of (string_at limit b) e)
+text_short limit frame b e = string_short limit b
+    (behind_begun 1 (with_text frame) fault_of (string_at limit b) e)
 
 -- a Version record is
 version_short : (limit : ℕ) → IsShort limit 1 version_at
@@ -71,11 +79,13 @@ lone_short : (limit : ℕ) (frame : Frame) → IsShort limit 1 (λ (b : List ℕ
 lone_short limit frame b e = cc
 
 -- nor has what is wrong by it
-wrong_short : (limit : ℕ) (fault : FrameFault) → IsShort limit 1 (λ (b : List ℕ). let front : Front Read FrameFault = wrong fault 1 in front)
+wrong_short : (limit : ℕ) (fault : FrameFault) → IsShort limit 1
+    (λ (b : List ℕ). let front : Front Read FrameFault = wrong fault 1 in front)
 wrong_short limit fault b e = cc
 
 -- of two readings the one that a test takes
-choice_short : (limit : ℕ) (test : Bool) (f g : List ℕ → Front Read FrameFault) → IsShort limit 1 f → IsShort limit 1 g → IsShort limit 1 (λ b. if test then f b else g b)
+choice_short : (limit : ℕ) (test : Bool) (f g : List ℕ → Front Read FrameFault) → IsShort limit 1 f
+    → IsShort limit 1 g → IsShort limit 1 (λ b. if test then f b else g b)
 choice_short limit true f g p q = p
 choice_short limit false f g p q = q
 
@@ -87,17 +97,20 @@ typed_short limit kind =
     choice_short limit (kind == VIA) _ _ (text_short limit frames.Via) (
     choice_short limit (kind == KNOWN_ENCODING) _ _ (byte_short limit frames.KnownEncoding) (
     choice_short limit (kind == UNSIZED_ENVELOPE) _ _ (lone_short limit frames.UnsizedEnvelope) (
-    choice_short limit (kind == SIZED_ENVELOPE) _ _ (size_short limit 1 (omega arith) frames.SizedEnvelope) (
+    choice_short limit (kind == SIZED_ENVELOPE) _ _
+    (size_short limit 1 (omega arith) frames.SizedEnvelope) (
     choice_short limit (kind == END) _ _ (lone_short limit frames.End) (
     choice_short limit (kind == FAULT) _ _ (text_short limit frames.Fault) (
     choice_short limit (kind == PREAMBLE_ACK) _ _ (lone_short limit frames.PreambleAck) (
-    choice_short limit (kind == PREAMBLE_END) _ _ (lone_short limit frames.PreambleEnd) (wrong_short limit (faults.Unexpected kind)))))))))))
+    choice_short limit (kind == PREAMBLE_END) _ _ (lone_short limit frames.PreambleEnd)
+    (wrong_short limit (faults.Unexpected kind)))))))))))
 
 -- whether or not it may come
 behind_type : (limit types kind : ℕ) → IsShort limit 1 (λ b. record_at limit types (kind ∷ b))
 behind_type limit types kind =
     choice_short limit (nat_lt GREATEST kind) _ _ (wrong_short limit faults.UnknownRecord) (
-    choice_short limit (allows types kind) _ _ (typed_short limit kind) (wrong_short limit (faults.Unexpected kind)))
+    choice_short limit (allows types kind) _ _ (typed_short limit kind)
+    (wrong_short limit (faults.Unexpected kind)))
 
 -- a record that has begun has at most five bytes more than the longest text
 pub begun_short : (limit : ℕ) (expect : Expect) → IsShort limit 0 (frame_at limit expect)
@@ -106,12 +119,21 @@ begun_short limit (Types types) (kind ∷ b) e = omega (arith, behind_type limit
 begun_short limit Chunk b e = size_short limit 0 (omega arith) frames.Chunk b e
 
 -- so what decides one has at most six more
-pub decided_short : (limit : ℕ) (expect : Expect) (b : List ℕ) → extent (frame_at limit expect b) ≤ longest limit + 6
+pub decided_short : (limit : ℕ) (expect : Expect) (b : List ℕ) → extent (frame_at limit expect b)
+    ≤ longest limit + 6
 decided_short limit expect b =
     let peels = frame_peels limit expect in
     elim (leaves_or_decides (frame_at limit expect) peels [] b peels.nothing) [
       | inl l ↦ omega (arith, ap extent l.at_end)
       | inr (n, d) ↦
-          let short = begun_short limit expect (take (n - 1) b) (d.before (n - 1) (omega (arith, d.some))) in
-          omega (arith, d.extent_is, d.some, short, length-take-le (n - 1) b (omega (arith, d.within)))
+          let short = begun_short limit expect (take (n - 1) b)
+          (d.before (n - 1) (omega (arith, d.some))) in
+          omega (
+            arith,
+            d.extent_is,
+            d.some,
+            short,
+            length-take-le (n - 1) b
+                (omega (arith, d.within)),
+          )
     ]

@@ -1,9 +1,16 @@
--- What is read behind a type byte, case by case: one case for each type that has a frame, and one for the others.
-use Rattle.std.proofs.Common.{◌≡◌, ℕ, ◌≤◌, true, false, List, ◌∷◌, refl, sym, ap, ◌∙◌, inl, inr, arith}
+-- What is read behind a type byte, case by case: one case for each type that has a frame, and one
+-- for the others.
+use Rattle.std.proofs.Common.{◌≡◌, ℕ, ◌≤◌, true, false, List, ◌∷◌, refl, sym, ap, ◌∙◌, inl, inr}
+use Rattle.std.proofs.Common.{arith}
 use Rattle.std.specs.Prelude.{◌==◌, ◌||◌, Some, is_none}
 use Rattle.std.proofs.lemmas.Bool.{cond_both, eqb-true, eqb-false, cases_Bool, or_parts}
 use Rattle.unit_streams.specs.Front.{Front, wrong}
-use Rattle.nmf_records.specs.declared.record_types.TheConstants.{VERSION, MODE, VIA, KNOWN_ENCODING, EXTENSIBLE_ENCODING, UNSIZED_ENVELOPE, SIZED_ENVELOPE, END, FAULT, UPGRADE_REQUEST, UPGRADE_RESPONSE, PREAMBLE_ACK, PREAMBLE_END, GREATEST}
+use Rattle.nmf_records.specs.declared.record_types.TheConstants.{VERSION, MODE, VIA, KNOWN_ENCODING}
+use Rattle.nmf_records.specs.declared.record_types.TheConstants.{EXTENSIBLE_ENCODING}
+use Rattle.nmf_records.specs.declared.record_types.TheConstants.{UNSIZED_ENVELOPE, SIZED_ENVELOPE}
+use Rattle.nmf_records.specs.declared.record_types.TheConstants.{END, FAULT, UPGRADE_REQUEST}
+use Rattle.nmf_records.specs.declared.record_types.TheConstants.{UPGRADE_RESPONSE, PREAMBLE_ACK}
+use Rattle.nmf_records.specs.declared.record_types.TheConstants.{PREAMBLE_END, GREATEST}
 use Rattle.nmf_records.specs.declared.frame.Frame.{Frame}
 use Rattle.nmf_records.specs.declared.frame.Frame.TheVariants as frames
 use Rattle.nmf_records.specs.declared.frame.Expect.{Expect}
@@ -11,32 +18,38 @@ use Rattle.nmf_records.specs.declared.frame.Expect.TheVariants.{Types, Chunk}
 use Rattle.nmf_records.specs.declared.frame.FrameFault.{FrameFault}
 use Rattle.nmf_records.specs.declared.frame.FrameFault.TheVariants as faults
 use Rattle.nmf_records.specs.Records.{Read, type_of}
-use Rattle.nmf_records.specs.Reading.{size_at, text_at, version_at, byte_at, lone, typed_at, allows, allows_type, MayCome, frame_at}
+use Rattle.nmf_records.specs.Reading.{size_at, text_at, version_at, byte_at, lone, typed_at, allows}
+use Rattle.nmf_records.specs.Reading.{allows_type, MayCome, frame_at}
 use Rattle.nmf_records.specs.Laws.{has_no_frame}
 use Rattle.nmf_records.proofs.Typed.{allowed_reads}
 
 -- P holds of what each type byte leads to
-pub record ByType (limit kind : ℕ) (bytes : List ℕ) (P : Front Read FrameFault → Type 0) : Type 0 where
-  pub version : kind ≡ VERSION → P (version_at bytes)
-  pub mode : kind ≡ MODE → P (byte_at frames.Mode bytes)
-  pub via : kind ≡ VIA → P (text_at limit frames.Via bytes)
-  pub encoding : kind ≡ KNOWN_ENCODING → P (byte_at frames.KnownEncoding bytes)
-  pub unsized_envelope : kind ≡ UNSIZED_ENVELOPE → P (lone frames.UnsizedEnvelope)
-  pub sized_envelope : kind ≡ SIZED_ENVELOPE → P (size_at 1 frames.SizedEnvelope bytes)
-  pub end : kind ≡ END → P (lone frames.End)
-  pub fault : kind ≡ FAULT → P (text_at limit frames.Fault bytes)
-  pub preamble_ack : kind ≡ PREAMBLE_ACK → P (lone frames.PreambleAck)
-  pub preamble_end : kind ≡ PREAMBLE_END → P (lone frames.PreambleEnd)
-  pub other : has_no_frame kind ≡ true → P (wrong (faults.Unexpected kind) 1)
+pub record ByType (limit kind : ℕ) (bytes : List ℕ) (P : Front Read FrameFault → Type 0) : Type 0
+  where
+    pub version : kind ≡ VERSION → P (version_at bytes)
+    pub mode : kind ≡ MODE → P (byte_at frames.Mode bytes)
+    pub via : kind ≡ VIA → P (text_at limit frames.Via bytes)
+    pub encoding : kind ≡ KNOWN_ENCODING → P (byte_at frames.KnownEncoding bytes)
+    pub unsized_envelope : kind ≡ UNSIZED_ENVELOPE → P (lone frames.UnsizedEnvelope)
+    pub sized_envelope : kind ≡ SIZED_ENVELOPE → P (size_at 1 frames.SizedEnvelope bytes)
+    pub end : kind ≡ END → P (lone frames.End)
+    pub fault : kind ≡ FAULT → P (text_at limit frames.Fault bytes)
+    pub preamble_ack : kind ≡ PREAMBLE_ACK → P (lone frames.PreambleAck)
+    pub preamble_end : kind ≡ PREAMBLE_END → P (lone frames.PreambleEnd)
+    pub other : has_no_frame kind ≡ true → P (wrong (faults.Unexpected kind) 1)
 
 -- a known type that none of these is has no frame
-no_other : (kind : ℕ) → kind ≤ GREATEST → (kind == VERSION) ≡ false → (kind == MODE) ≡ false → (kind == VIA) ≡ false → (kind == KNOWN_ENCODING) ≡ false → (kind == UNSIZED_ENVELOPE) ≡ false → (kind == SIZED_ENVELOPE) ≡ false
-    → (kind == END) ≡ false → (kind == FAULT) ≡ false → (kind == PREAMBLE_ACK) ≡ false → (kind == PREAMBLE_END) ≡ false → has_no_frame kind ≡ true
+no_other : (kind : ℕ) → kind ≤ GREATEST → (kind == VERSION) ≡ false → (kind == MODE) ≡ false
+    → (kind == VIA) ≡ false → (kind == KNOWN_ENCODING) ≡ false → (kind == UNSIZED_ENVELOPE) ≡ false
+    → (kind == SIZED_ENVELOPE) ≡ false
+    → (kind == END) ≡ false → (kind == FAULT) ≡ false → (kind == PREAMBLE_ACK) ≡ false
+    → (kind == PREAMBLE_END) ≡ false → has_no_frame kind ≡ true
 no_other kind le e0 e1 e2 e3 e5 e6 e7 e8 e11 e12 =
     elim (cases_Bool (has_no_frame kind)) [
       | inl e ↦ e
       | inr e ↦
-          let parts = or_parts (kind == EXTENSIBLE_ENCODING) ((kind == UPGRADE_REQUEST) || (kind == UPGRADE_RESPONSE)) e in
+          let parts = or_parts (kind == EXTENSIBLE_ENCODING)
+          ((kind == UPGRADE_REQUEST) || (kind == UPGRADE_RESPONSE)) e in
           let parts2 = or_parts (kind == UPGRADE_REQUEST) (kind == UPGRADE_RESPONSE) parts.1 in
           absurd (omega (
             arith,
@@ -57,28 +70,36 @@ no_other kind le e0 e1 e2 e3 e5 e6 e7 e8 e11 e12 =
     ]
 
 -- so it holds of what is read behind a known one
-pub by_type : (limit kind : ℕ) (bytes : List ℕ) (P : Front Read FrameFault → Type 0) → kind ≤ GREATEST → ByType limit kind bytes P → P (typed_at limit kind bytes)
+pub by_type : (limit kind : ℕ) (bytes : List ℕ) (P : Front Read FrameFault → Type 0) → kind
+    ≤ GREATEST → ByType limit kind bytes P → P (typed_at limit kind bytes)
 by_type limit kind bytes P le c =
     cond_both (kind == VERSION) _ _ P (λ t. c.version (eqb-true kind VERSION t))
     (λ f0. cond_both (kind == MODE) _ _ P (λ t. c.mode (eqb-true kind MODE t))
     (λ f1. cond_both (kind == VIA) _ _ P (λ t. c.via (eqb-true kind VIA t))
-    (λ f2. cond_both (kind == KNOWN_ENCODING) _ _ P (λ t. c.encoding (eqb-true kind KNOWN_ENCODING t))
-    (λ f3. cond_both (kind == UNSIZED_ENVELOPE) _ _ P (λ t. c.unsized_envelope (eqb-true kind UNSIZED_ENVELOPE t))
-    (λ f5. cond_both (kind == SIZED_ENVELOPE) _ _ P (λ t. c.sized_envelope (eqb-true kind SIZED_ENVELOPE t))
+    (λ f2. cond_both (kind == KNOWN_ENCODING) _ _ P
+    (λ t. c.encoding (eqb-true kind KNOWN_ENCODING t))
+    (λ f3. cond_both (kind == UNSIZED_ENVELOPE) _ _ P
+    (λ t. c.unsized_envelope (eqb-true kind UNSIZED_ENVELOPE t))
+    (λ f5. cond_both (kind == SIZED_ENVELOPE) _ _ P
+    (λ t. c.sized_envelope (eqb-true kind SIZED_ENVELOPE t))
     (λ f6. cond_both (kind == END) _ _ P (λ t. c.end (eqb-true kind END t))
     (λ f7. cond_both (kind == FAULT) _ _ P (λ t. c.fault (eqb-true kind FAULT t))
-    (λ f8. cond_both (kind == PREAMBLE_ACK) _ _ P (λ t. c.preamble_ack (eqb-true kind PREAMBLE_ACK t))
-    (λ f11. cond_both (kind == PREAMBLE_END) _ _ P (λ t. c.preamble_end (eqb-true kind PREAMBLE_END t))
+    (λ f8. cond_both (kind == PREAMBLE_ACK) _ _ P
+    (λ t. c.preamble_ack (eqb-true kind PREAMBLE_ACK t))
+    (λ f11. cond_both (kind == PREAMBLE_END) _ _ P
+    (λ t. c.preamble_end (eqb-true kind PREAMBLE_END t))
     (λ f12. c.other (no_other kind le f0 f1 f2 f3 f5 f6 f7 f8 f11 f12)))))))))))
 
 -- a record with a type comes where its type may
-pub due_by_type : (expect : Expect) (frame : Frame) (kind : ℕ) → type_of frame ≡ Some kind → MayCome expect frame
+pub due_by_type : (expect : Expect) (frame : Frame) (kind : ℕ) → type_of frame ≡ Some kind
+    → MayCome expect frame
     → (types : ℕ) × (expect ≡ Types types) × (allows types kind ≡ true)
 due_by_type (Types types) frame kind e may = (types, refl, ap (allows_type types) (sym e) ∙ may)
 due_by_type Chunk frame kind e may = let none : is_none (type_of frame) ≡ false = rw e refl in cc
 
 -- and is read by it
-pub read_by_type : (limit : ℕ) (expect : Expect) (frame : Frame) (kind : ℕ) (bytes : List ℕ) → kind ≤ GREATEST → type_of frame ≡ Some kind → MayCome expect frame
+pub read_by_type : (limit : ℕ) (expect : Expect) (frame : Frame) (kind : ℕ) (bytes : List ℕ) → kind
+    ≤ GREATEST → type_of frame ≡ Some kind → MayCome expect frame
     → frame_at limit expect (kind ∷ bytes) ≡ typed_at limit kind bytes
 read_by_type limit expect frame kind bytes le e may =
     let due = due_by_type expect frame kind e may in

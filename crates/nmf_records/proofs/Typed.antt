@@ -1,9 +1,11 @@
 -- A record whose type byte may come is read by its type.
-use Rattle.std.proofs.Common.{◌≡◌, ℕ, suc, ◌≤◌, Bool, true, false, nat_eq, nat_lt, nat_le, List, [], ◌∷◌, ◌++◌, length, refl, sym, ap, ◌∙◌, arith}
+use Rattle.std.proofs.Common.{◌≡◌, ℕ, suc, ◌≤◌, Bool, true, false, nat_eq, nat_lt, nat_le, List, []}
+use Rattle.std.proofs.Common.{◌∷◌, ◌++◌, length, refl, sym, ap, ◌∙◌, arith}
 use Rattle.std.proofs.lemmas.Bool.Decides.{nat_tests}
 use Rattle.unit_streams.specs.Front.{begun, whole, wrong}
 use Rattle.multibyte_ints.specs.Integer.{int_at, int_ending_at, value_of}
-use Rattle.nmf_records.specs.declared.record_types.TheConstants.{VERSION, MODE, KNOWN_ENCODING, GREATEST}
+use Rattle.nmf_records.specs.declared.record_types.TheConstants.{VERSION, MODE, KNOWN_ENCODING}
+use Rattle.nmf_records.specs.declared.record_types.TheConstants.{GREATEST}
 use Rattle.nmf_records.specs.declared.frame.Expect.{Expect}
 use Rattle.nmf_records.specs.declared.frame.Expect.TheVariants.{Types, Chunk}
 use Rattle.nmf_records.specs.declared.frame.Frame.TheVariants as frames
@@ -19,22 +21,26 @@ pub type_known : (kind : ℕ) → nat_lt GREATEST kind ≡ false → kind ≤ GR
 type_known kind e = grind (arith, nat_tests)
 
 -- a known type that may come is read by its type
-pub allowed_reads : (limit types kind : ℕ) (c : List ℕ) → kind ≤ GREATEST → allows types kind ≡ true → record_at limit types (kind ∷ c) ≡ typed_at limit kind c
-allowed_reads limit types kind c le may = let known : nat_lt GREATEST kind ≡ false = known_type kind le in rw (known, may) refl
+pub allowed_reads : (limit types kind : ℕ) (c : List ℕ) → kind ≤ GREATEST → allows types kind ≡ true
+    → record_at limit types (kind ∷ c) ≡ typed_at limit kind c
+allowed_reads limit types kind c le may = let known : nat_lt GREATEST kind ≡ false = known_type kind
+    le in rw (known, may) refl
 
 -- a byte that comes ends an integer of one byte
 not_all : (n : ℕ) → nat_eq 0 (suc n) ≡ false
 not_all n = grind (arith, nat_tests)
 
 -- an integer of one byte
-small_int : (kind : ℕ) (q : List ℕ) → kind ≤ GREATEST → int_at (kind ∷ q) ≡ whole (value_of (kind ∷ [])) 1
+small_int : (kind : ℕ) (q : List ℕ) → kind ≤ GREATEST → int_at (kind ∷ q)
+    ≡ whole (value_of (kind ∷ [])) 1
 unfolding int_at int_ending_at
 small_int kind q le =
     let small : nat_le 128 kind ≡ false = grind (arith, nat_tests) in
     rw (small, not_all (length q)) refl
 
 -- a record that has begun may come
-pub begun_may_come : (limit : ℕ) (expect : Expect) (kind : ℕ) (q : List ℕ) → kind ≤ GREATEST → frame_at limit expect (kind ∷ q) ≡ begun
+pub begun_may_come : (limit : ℕ) (expect : Expect) (kind : ℕ) (q : List ℕ) → kind ≤ GREATEST
+    → frame_at limit expect (kind ∷ q) ≡ begun
     → (types : ℕ) × (expect ≡ Types types) × (allows types kind ≡ true)
 begun_may_come limit Chunk kind q le h = cc (small_int kind q le)
 begun_may_come limit (Types types) kind q le h = (types, refl, may (allows types kind) refl) where
@@ -43,7 +49,8 @@ begun_may_come limit (Types types) kind q le h = (types, refl, may (allows types
 
   at_false : allows types kind ≡ false → ⊥
   at_false e =
-      let w : record_at limit types (kind ∷ q) ≡ wrong (faults.Unexpected kind) 1 = rw (known, e) refl in
+      let w : record_at limit types (kind ∷ q) ≡ wrong (faults.Unexpected kind) 1 = rw (known, e)
+      refl in
       cc
 
   may : (b : Bool) → allows types kind ≡ b → allows types kind ≡ true
@@ -51,7 +58,8 @@ begun_may_come limit (Types types) kind q le h = (types, refl, may (allows types
   may false e = absurd (at_false e)
 
 -- what goes on from such a record is read by its type
-pub begun_reads : (limit : ℕ) (expect : Expect) (kind : ℕ) (q c : List ℕ) → kind ≤ GREATEST → frame_at limit expect (kind ∷ q) ≡ begun
+pub begun_reads : (limit : ℕ) (expect : Expect) (kind : ℕ) (q c : List ℕ) → kind ≤ GREATEST
+    → frame_at limit expect (kind ∷ q) ≡ begun
     → frame_at limit expect (kind ∷ c) ≡ typed_at limit kind c
 begun_reads limit expect kind q c le h =
     let f = begun_may_come limit expect kind q le h in
@@ -60,16 +68,20 @@ begun_reads limit expect kind q c le h =
 -- what one more byte makes of the records of fixed fields
 module _ (limit : ℕ) (expect : Expect) (byte : ℕ) where
   -- the major version
-  pub behind_version : (p : List ℕ) → p ≡ VERSION ∷ [] → frame_at limit expect p ≡ begun → frame_at limit expect (p ++ byte ∷ []) ≡ begun
+  pub behind_version : (p : List ℕ) → p ≡ VERSION ∷ [] → frame_at limit expect p ≡ begun
+      → frame_at limit expect (p ++ byte ∷ []) ≡ begun
   behind_version p e h =
-      let h' : frame_at limit expect (VERSION ∷ []) ≡ begun = ap (frame_at limit expect) (sym e) ∙ h in
+      let h' : frame_at limit expect (VERSION ∷ []) ≡ begun = ap (frame_at limit expect) (sym e) ∙ h
+      in
       rw e (begun_reads limit expect VERSION [] (byte ∷ []) (omega arith) h')
 
   -- the minor version
-  pub behind_major : (major : ℕ) (p : List ℕ) → p ≡ VERSION ∷ major ∷ [] → frame_at limit expect p ≡ begun
+  pub behind_major : (major : ℕ) (p : List ℕ) → p ≡ VERSION ∷ major ∷ [] → frame_at limit expect p
+      ≡ begun
       → frame_at limit expect (p ++ byte ∷ []) ≡ whole (bare (frames.Version major byte)) 3
   behind_major major p e h =
-      let h' : frame_at limit expect (VERSION ∷ major ∷ []) ≡ begun = ap (frame_at limit expect) (sym e) ∙ h in
+      let h' : frame_at limit expect (VERSION ∷ major ∷ []) ≡ begun = ap (frame_at limit expect)
+      (sym e) ∙ h in
       rw e (begun_reads limit expect VERSION (major ∷ []) (major ∷ byte ∷ []) (omega arith) h')
 
   -- the mode's byte
@@ -83,5 +95,6 @@ module _ (limit : ℕ) (expect : Expect) (byte : ℕ) where
   pub behind_encoding : (p : List ℕ) → p ≡ KNOWN_ENCODING ∷ [] → frame_at limit expect p ≡ begun
       → frame_at limit expect (p ++ byte ∷ []) ≡ whole (bare (frames.KnownEncoding byte)) 2
   behind_encoding p e h =
-      let h' : frame_at limit expect (KNOWN_ENCODING ∷ []) ≡ begun = ap (frame_at limit expect) (sym e) ∙ h in
+      let h' : frame_at limit expect (KNOWN_ENCODING ∷ []) ≡ begun = ap (frame_at limit expect)
+      (sym e) ∙ h in
       rw e (begun_reads limit expect KNOWN_ENCODING [] (byte ∷ []) (omega arith) h')

@@ -6,7 +6,10 @@ use Rattle.std.specs.Str.{is_utf8, chars}
 use Rattle.unit_streams.specs.Front.{Front, begun, whole, wrong}
 use Rattle.multibyte_ints.specs.Integer.{int_at, int_ending_at, value_of}
 use Rattle.multibyte_ints.specs.Text.{string_at, text_behind, text_at, text_ending_at}
-use Rattle.nmf_records.specs.declared.frame.Frame.TheVariants.{Version, Mode, Via, KnownEncoding, UnsizedEnvelope, Chunk, SizedEnvelope, End, Fault, PreambleAck, PreambleEnd}
+use Rattle.nmf_records.specs.declared.frame.Frame.TheVariants.{Version, Mode, Via, KnownEncoding}
+use Rattle.nmf_records.specs.declared.frame.Frame.TheVariants.{UnsizedEnvelope, Chunk}
+use Rattle.nmf_records.specs.declared.frame.Frame.TheVariants.{SizedEnvelope, End, Fault}
+use Rattle.nmf_records.specs.declared.frame.Frame.TheVariants.{PreambleAck, PreambleEnd}
 use Rattle.nmf_records.specs.declared.frame.Expect.{Expect}
 use Rattle.nmf_records.specs.declared.frame.Expect.TheVariants as expects
 use Rattle.nmf_records.specs.declared.frame.FrameFault.{FrameFault}
@@ -40,7 +43,8 @@ a_preamble : AllRead (
     (2048, due 3, 0x03 ∷ 0x08 ∷ [], whole (bare (KnownEncoding 8)) 2) ∷
     (2048, due 12, 0x0C ∷ [], whole (bare PreambleEnd) 1) ∷
     [])
-unfolding int_at int_ending_at value_of string_at text_behind text_at text_ending_at is_utf8 chars encode
+unfolding int_at int_ending_at value_of string_at text_behind text_at text_ending_at is_utf8 chars
+    encode
 a_preamble = refl
 
 -- the other records; a text of two bytes that are one character, one of as many bytes as the limit
@@ -49,7 +53,8 @@ other_records : AllRead (
     (2048, due 5, 0x05 ∷ 0x03 ∷ [], whole (bare UnsizedEnvelope) 1) ∷
     (2048, due 6, 0x06 ∷ 0x81 ∷ 0x80 ∷ 0x04 ∷ [], whole (bare (SizedEnvelope 65537)) 4) ∷
     (2048, due 7, 0x07 ∷ [], whole (bare End) 1) ∷
-    (2048, due 8, 0x08 ∷ 0x02 ∷ codes "no", whole (record { frame = Fault; text = codes "no" }) 4) ∷ (
+    (2048, due 8, 0x08 ∷ 0x02 ∷ codes "no", whole (record { frame = Fault; text = codes "no" }) 4)
+    ∷ (
       9,
       texts,
       0x02 ∷ 0x02 ∷ 0xC3 ∷ 0xA9 ∷ [],
@@ -57,7 +62,8 @@ other_records : AllRead (
     ) ∷
     (3, texts, 0x02 ∷ 0x03 ∷ codes "h/e", whole (record { frame = Via; text = codes "h/e" }) 5) ∷
     [])
-unfolding int_at int_ending_at value_of string_at text_behind text_at text_ending_at is_utf8 chars encode
+unfolding int_at int_ending_at value_of string_at text_behind text_at text_ending_at is_utf8 chars
+    encode
 other_records = refl
 
 -- a chunk's size, of which 0 ends the envelope
@@ -65,7 +71,8 @@ chunks : AllRead (
     (2048, expects.Chunk, 0x03 ∷ 0xAA ∷ [], whole (bare (Chunk 3)) 1) ∷
     (2048, expects.Chunk, 0x00 ∷ 0x07 ∷ [], whole (bare (Chunk 0)) 1) ∷
     [])
-unfolding int_at int_ending_at value_of string_at text_behind text_at text_ending_at is_utf8 chars encode
+unfolding int_at int_ending_at value_of string_at text_behind text_at text_ending_at is_utf8 chars
+    encode
 chunks = refl
 
 -- what has begun, such as a text that is cut inside a character
@@ -76,7 +83,8 @@ only_begun : AllRead (
     (9, texts, 0x02 ∷ 0x02 ∷ 0xC3 ∷ [], begun) ∷
     (9, texts, 0x02 ∷ 0x03 ∷ 0xC3 ∷ 0x28 ∷ [], begun) ∷
     [])
-unfolding int_at int_ending_at value_of string_at text_behind text_at text_ending_at is_utf8 chars encode
+unfolding int_at int_ending_at value_of string_at text_behind text_at text_ending_at is_utf8 chars
+    encode
 only_begun = refl
 
 -- types that no record has or that may not come, such as an Upgrade Request whose bit is set
@@ -86,7 +94,8 @@ bad_types : AllRead (
     (2048, due 9, 0x09 ∷ [], wrong (faults.Unexpected 9) 1) ∷
     (2048, due 0, 0x01 ∷ 0x02 ∷ [], wrong (faults.Unexpected 1) 1) ∷
     [])
-unfolding int_at int_ending_at value_of string_at text_behind text_at text_ending_at is_utf8 chars encode
+unfolding int_at int_ending_at value_of string_at text_behind text_at text_ending_at is_utf8 chars
+    encode
 bad_types = refl
 
 -- bad integers, a text longer than the limit, and one that isn't UTF-8, at its last byte
@@ -97,5 +106,6 @@ bad_contents : AllRead (
     (3, texts, 0x02 ∷ 0x04 ∷ [], wrong faults.TextTooLong 2) ∷
     (9, texts, 0x02 ∷ 0x03 ∷ 0xC3 ∷ 0x28 ∷ 0x41 ∷ [], wrong faults.TextNotUtf8 5) ∷
     [])
-unfolding int_at int_ending_at value_of string_at text_behind text_at text_ending_at is_utf8 chars encode
+unfolding int_at int_ending_at value_of string_at text_behind text_at text_ending_at is_utf8 chars
+    encode
 bad_contents = refl

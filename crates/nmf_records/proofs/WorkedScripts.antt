@@ -3,7 +3,10 @@ use Rattle.std.proofs.Common.{◌≡◌, ◌<◌, false, true, List, [], ◌∷�
 use Rattle.std.proofs.lemmas.List.Elements.{All-nil, All-cons}
 use Rattle.nbfx_values.specs.declared.session.Mode.TheVariants.{Singleton, Duplex, Simplex}
 use Rattle.nmf_records.specs.declared.frame.Frame.{Frame}
-use Rattle.nmf_records.specs.declared.frame.Frame.TheVariants.{Version, Mode, Via, KnownEncoding, UnsizedEnvelope, Chunk, SizedEnvelope, End, Fault, PreambleAck, PreambleEnd}
+use Rattle.nmf_records.specs.declared.frame.Frame.TheVariants.{Version, Mode, Via, KnownEncoding}
+use Rattle.nmf_records.specs.declared.frame.Frame.TheVariants.{UnsizedEnvelope, Chunk}
+use Rattle.nmf_records.specs.declared.frame.Frame.TheVariants.{SizedEnvelope, End, Fault}
+use Rattle.nmf_records.specs.declared.frame.Frame.TheVariants.{PreambleAck, PreambleEnd}
 use Rattle.nmf_records.specs.declared.frame.Expect.TheVariants as expects
 use Rattle.nmf_records.specs.declared.script.Direction.TheVariants.{FromInitiator, FromReceiver}
 use Rattle.nmf_records.specs.declared.script.Due.TheVariants as dues
@@ -46,40 +49,58 @@ no_fault_for_a_size = refl
 no_sized_envelope : comes (may_come FromInitiator dues.Envelope) (SizedEnvelope 3) ≡ false
 no_sized_envelope = refl
 
-no_second_envelope : comes (may_come FromInitiator (due_behind FromInitiator Singleton dues.Envelope (UnsizedEnvelope ∷ Chunk 0 ∷ []))) UnsizedEnvelope ≡ false
+no_second_envelope : comes
+    (may_come FromInitiator (due_behind FromInitiator Singleton dues.Envelope
+    (UnsizedEnvelope ∷ Chunk 0 ∷ []))) UnsizedEnvelope ≡ false
 no_second_envelope = refl
 
 -- where records lead
-behind_a_duplex_preamble : due_behind FromInitiator Duplex dues.Version duplex_preamble ≡ dues.Messages
+behind_a_duplex_preamble : due_behind FromInitiator Duplex dues.Version duplex_preamble
+    ≡ dues.Messages
 behind_a_duplex_preamble = refl
 
-behind_a_singleton_preamble : due_behind FromInitiator Singleton dues.Version singleton_preamble ≡ dues.Envelope
+behind_a_singleton_preamble : due_behind FromInitiator Singleton dues.Version singleton_preamble
+    ≡ dues.Envelope
 behind_a_singleton_preamble = refl
 
-behind_a_chunk : due_behind FromReceiver Singleton dues.Ack (PreambleAck ∷ UnsizedEnvelope ∷ Chunk 3 ∷ []) ≡ dues.Chunk
+behind_a_chunk : due_behind FromReceiver Singleton dues.Ack (PreambleAck ∷ UnsizedEnvelope ∷ Chunk 3
+    ∷ []) ≡ dues.Chunk
 behind_a_chunk = refl
 
-behind_the_last_chunk : due_behind FromReceiver Singleton dues.Ack (PreambleAck ∷ UnsizedEnvelope ∷ Chunk 3 ∷ Chunk 0 ∷ []) ≡ dues.End
+behind_the_last_chunk : due_behind FromReceiver Singleton dues.Ack
+    (PreambleAck ∷ UnsizedEnvelope ∷ Chunk 3 ∷ Chunk 0 ∷ []) ≡ dues.End
 behind_the_last_chunk = refl
 
-behind_a_fault : due_behind FromReceiver Duplex dues.Ack (PreambleAck ∷ SizedEnvelope 3 ∷ Fault ∷ []) ≡ dues.Over
+behind_a_fault : due_behind FromReceiver Duplex dues.Ack (PreambleAck ∷ SizedEnvelope 3 ∷ Fault
+    ∷ []) ≡ dues.Over
 behind_a_fault = refl
 
 -- where a stream may end
-ack_alone_ends : may_end FromReceiver Simplex (due_behind FromReceiver Simplex dues.Ack (PreambleAck ∷ [])) ≡ true
+ack_alone_ends : may_end FromReceiver Simplex
+    (due_behind FromReceiver Simplex dues.Ack (PreambleAck ∷ [])) ≡ true
 ack_alone_ends = refl
 
-no_end_in_duplex : may_end FromReceiver Duplex (due_behind FromReceiver Duplex dues.Ack (PreambleAck ∷ [])) ≡ false
+no_end_in_duplex : may_end FromReceiver Duplex
+    (due_behind FromReceiver Duplex dues.Ack (PreambleAck ∷ [])) ≡ false
 no_end_in_duplex = refl
 
 no_end_in_an_envelope : may_end FromInitiator Singleton dues.Chunk ≡ false
 no_end_in_an_envelope = refl
 
 -- an initiator's streams
-no_message : IsScript FromInitiator Duplex (Version 1 0 ∷ Mode 2 ∷ Via ∷ KnownEncoding 8 ∷ PreambleEnd ∷ End ∷ [])
-no_message = record { major = 1; minor = 0; encoding = 8; envelopes = []; sent = ([], refl); joined = refl }
+no_message : IsScript FromInitiator Duplex (Version 1 0 ∷ Mode 2 ∷ Via ∷ KnownEncoding 8
+    ∷ PreambleEnd ∷ End ∷ [])
+no_message = record {
+  major = 1;
+  minor = 0;
+  encoding = 8;
+  envelopes = [];
+  sent = ([], refl);
+  joined = refl;
+}
 
-two_one_way : IsScript FromInitiator Simplex (Version 1 0 ∷ Mode 3 ∷ Via ∷ KnownEncoding 8 ∷ PreambleEnd ∷ SizedEnvelope 3 ∷ SizedEnvelope 0 ∷ End ∷ [])
+two_one_way : IsScript FromInitiator Simplex (Version 1 0 ∷ Mode 3 ∷ Via ∷ KnownEncoding 8
+    ∷ PreambleEnd ∷ SizedEnvelope 3 ∷ SizedEnvelope 0 ∷ End ∷ [])
 two_one_way = record {
   major = 1;
   minor = 0;
@@ -89,13 +110,18 @@ two_one_way = record {
   joined = refl;
 }
 
-one_envelope : IsScript FromInitiator Singleton (Version 1 0 ∷ Mode 1 ∷ Via ∷ KnownEncoding 7 ∷ PreambleEnd ∷ UnsizedEnvelope ∷ Chunk 3 ∷ Chunk 0 ∷ End ∷ [])
+one_envelope : IsScript FromInitiator Singleton (Version 1 0 ∷ Mode 1 ∷ Via ∷ KnownEncoding 7
+    ∷ PreambleEnd ∷ UnsizedEnvelope ∷ Chunk 3 ∷ Chunk 0 ∷ End ∷ [])
 one_envelope = record {
   major = 1;
   minor = 0;
   encoding = 7;
   envelopes = UnsizedEnvelope ∷ Chunk 3 ∷ Chunk 0 ∷ [];
-  sent = (3 ∷ [], All-cons (λ size. 0 < size) 3 [] (omega arith) (All-nil (λ size. 0 < size)), refl);
+  sent = (
+    3 ∷ [],
+    All-cons (λ size. 0 < size) 3 [] (omega arith) (All-nil (λ size. 0 < size)),
+    refl,
+  );
   joined = refl;
 }
 
@@ -125,6 +151,10 @@ fault_for_an_envelope = inr (inr (record {
   in_place_of = SizedEnvelope 5;
   after = End ∷ [];
   record_of = refl;
-  answer = record { envelopes = SizedEnvelope 3 ∷ SizedEnvelope 5 ∷ []; sent = (3 ∷ 5 ∷ [], refl); joined = refl };
+  answer = record {
+    envelopes = SizedEnvelope 3 ∷ SizedEnvelope 5 ∷ [];
+    sent = (3 ∷ 5 ∷ [], refl);
+    joined = refl;
+  };
   joined = refl;
 }))

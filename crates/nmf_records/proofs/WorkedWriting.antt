@@ -5,7 +5,10 @@ use Rattle.multibyte_ints.specs.Integer.{shortest, shortest_within}
 use Rattle.multibyte_ints.specs.Text.{string_bytes_of}
 use Rattle.nbfx_values.specs.declared.refusals.Reason.{Reason}
 use Rattle.nbfx_values.specs.declared.refusals.Reason.TheVariants as reasons
-use Rattle.nmf_records.specs.declared.frame.Frame.TheVariants.{Version, Mode, Via, KnownEncoding, UnsizedEnvelope, Chunk, SizedEnvelope, End, Fault, PreambleAck, PreambleEnd}
+use Rattle.nmf_records.specs.declared.frame.Frame.TheVariants.{Version, Mode, Via, KnownEncoding}
+use Rattle.nmf_records.specs.declared.frame.Frame.TheVariants.{UnsizedEnvelope, Chunk}
+use Rattle.nmf_records.specs.declared.frame.Frame.TheVariants.{SizedEnvelope, End, Fault}
+use Rattle.nmf_records.specs.declared.frame.Frame.TheVariants.{PreambleAck, PreambleEnd}
 use Rattle.nmf_records.specs.Records.{Read}
 use Rattle.nmf_records.specs.Reading.{bare, with_text}
 use Rattle.nmf_records.specs.Writing.{fault_text_of, frame_bytes}
@@ -45,14 +48,35 @@ Told = Reason × Option (List ℕ)
 abbrev AllTold : List Told → Type 0
 AllTold rows = map (λ (row : Told). fault_text_of row.0) rows ≡ map (λ (row : Told). row.1) rows
 
-fault_texts : AllTold (
-    (reasons.BadVersion, Some (codes "http://schemas.microsoft.com/ws/2006/05/framing/faults/UnsupportedVersion")) ∷
-    (reasons.BadMode, Some (codes "http://schemas.microsoft.com/ws/2006/05/framing/faults/UnsupportedMode")) ∷
-    (reasons.TextTooLong, Some (codes "http://schemas.microsoft.com/ws/2006/05/framing/faults/ViaTooLong")) ∷
-    (reasons.EndpointNotFound, Some (codes "http://schemas.microsoft.com/ws/2006/05/framing/faults/EndpointNotFound")) ∷
-    (reasons.BadEncoding, Some (codes "http://schemas.microsoft.com/ws/2006/05/framing/faults/ContentTypeInvalid")) ∷
-    (reasons.UpgradeRefused, Some (codes "http://schemas.microsoft.com/ws/2006/05/framing/faults/UpgradeInvalid")) ∷
-    (reasons.MessageTooLarge, Some (codes "http://schemas.microsoft.com/ws/2006/05/framing/faults/MaxMessageSizeExceededFault")) ∷
+fault_texts : AllTold ((
+  reasons.BadVersion,
+  Some
+      (codes "http://schemas.microsoft.com/ws/2006/05/framing/faults/UnsupportedVersion"),
+) ∷ (
+  reasons.BadMode,
+  Some
+      (codes "http://schemas.microsoft.com/ws/2006/05/framing/faults/UnsupportedMode"),
+) ∷ (
+  reasons.TextTooLong,
+  Some
+      (codes "http://schemas.microsoft.com/ws/2006/05/framing/faults/ViaTooLong"),
+) ∷ (
+  reasons.EndpointNotFound,
+  Some
+      (codes "http://schemas.microsoft.com/ws/2006/05/framing/faults/EndpointNotFound"),
+) ∷ (
+  reasons.BadEncoding,
+  Some
+      (codes "http://schemas.microsoft.com/ws/2006/05/framing/faults/ContentTypeInvalid"),
+) ∷ (
+  reasons.UpgradeRefused,
+  Some
+      (codes "http://schemas.microsoft.com/ws/2006/05/framing/faults/UpgradeInvalid"),
+) ∷ (
+  reasons.MessageTooLarge,
+  Some
+      (codes "http://schemas.microsoft.com/ws/2006/05/framing/faults/MaxMessageSizeExceededFault"),
+) ∷
     [])
 fault_texts = refl
 

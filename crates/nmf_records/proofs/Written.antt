@@ -1,5 +1,6 @@
 -- What is written is the record, and is read back as it.
-use Rattle.std.proofs.Common.{◌≡◌, ℕ, ◌+◌, ◌^◌, ◌<◌, List, ◌∷◌, ◌++◌, length, take, refl, ap, ◌∙◌, arith, append_assoc}
+use Rattle.std.proofs.Common.{◌≡◌, ℕ, ◌+◌, ◌^◌, ◌<◌, List, ◌∷◌, ◌++◌, length, take, refl, ap, ◌∙◌}
+use Rattle.std.proofs.Common.{arith, append_assoc}
 use Rattle.std.proofs.lemmas.List.{take_at}
 use Rattle.multibyte_ints.specs.Integer.{shortest}
 use Rattle.multibyte_ints.specs.Text.{string_bytes_of}
@@ -8,20 +9,31 @@ use Rattle.multibyte_ints.proofs.TextLaws.{string_bytes_are}
 use Rattle.nmf_records.specs.declared.frame.Frame.{Frame}
 use Rattle.nmf_records.specs.declared.frame.Frame.TheVariants as frames
 use Rattle.nmf_records.specs.Records.{IsRecordOf}
-use Rattle.nmf_records.specs.Writing.{HasItsText, WrittenAreRead, WrittenAreRecords, frame_bytes, frame_bytes_of, size_told, text_frame_bytes}
+use Rattle.nmf_records.specs.Writing.{HasItsText, WrittenAreRead, WrittenAreRecords, frame_bytes}
+use Rattle.nmf_records.specs.Writing.{frame_bytes_of, size_told, text_frame_bytes}
 use Rattle.nmf_records.proofs.Frames.{frames_front}
 use Rattle.nmf_records.proofs.Records.{record_read}
 
-written_of : (frame : Frame) (text : List ℕ) → size_told frame < 2 ^ 31 → HasItsText frame text → IsRecordOf frame text (frame_bytes_of frame text)
+written_of : (frame : Frame) (text : List ℕ) → size_told frame < 2 ^ 31 → HasItsText frame text
+    → IsRecordOf frame text (frame_bytes_of frame text)
 written_of (frames.Version major minor) text size own = (own, refl)
 written_of (frames.Mode mode) text size own = (own, refl)
-written_of frames.Via text size own = (string_bytes_of text, string_bytes_are text own.0 own.1, refl)
+written_of frames.Via text size own = (
+  string_bytes_of text,
+  string_bytes_are text own.0 own.1,
+  refl,
+)
 written_of (frames.KnownEncoding encoding) text size own = (own, refl)
 written_of frames.UnsizedEnvelope text size own = (own, refl)
 written_of (frames.Chunk n) text size own = (own, (shortest_spells n size).0)
-written_of (frames.SizedEnvelope n) text size own = (own, shortest n, (shortest_spells n size).0, refl)
+written_of (frames.SizedEnvelope n) text size own =
+    (own, shortest n, (shortest_spells n size).0, refl)
 written_of frames.End text size own = (own, refl)
-written_of frames.Fault text size own = (string_bytes_of text, string_bytes_are text own.0 own.1, refl)
+written_of frames.Fault text size own = (
+  string_bytes_of text,
+  string_bytes_are text own.0 own.1,
+  refl,
+)
 written_of frames.PreambleAck text size own = (own, refl)
 written_of frames.PreambleEnd text size own = (own, refl)
 
@@ -34,9 +46,12 @@ written_are_read limit expect read rest can may low =
     (record_read limit expect read (frame_bytes read) (written_are_records read can) may low)
 
 -- a type byte and a length were appended, and then the text
-pub text_appended : (out front rest text first second : List ℕ) (kind used : ℕ) → used ≡ 1 + length (shortest (length text)) → front ≡ kind ∷ shortest (length text) ++ rest
-    → first ≡ out ++ take used front → second ≡ first ++ text → second ≡ out ++ text_frame_bytes kind text
+pub text_appended : (out front rest text first second : List ℕ) (kind used : ℕ) → used ≡ 1
+    + length (shortest (length text)) → front ≡ kind ∷ shortest (length text) ++ rest
+    → first ≡ out ++ take used front → second ≡ first ++ text → second ≡ out ++ text_frame_bytes
+    kind text
 unfolding string_bytes_of
 text_appended out front rest text first second kind used len is e f =
-    let own : take used front ≡ kind ∷ shortest (length text) = ap (take used) is ∙ take_at (kind ∷ shortest (length text)) rest used (omega (arith, len)) in
+    let own : take used front ≡ kind ∷ shortest (length text) = ap (take used) is ∙ take_at
+    (kind ∷ shortest (length text)) rest used (omega (arith, len)) in
     rw (f, e, own, append_assoc) refl

@@ -19,7 +19,8 @@ use Rattle.nmf_records.specs.declared.stage.Progress.TheVariants as progress
 use Rattle.nmf_records.specs.declared.reader.FrameReader.{FrameReader}
 use Rattle.nmf_records.specs.Reading.{with_text, fault_of, frame_at}
 use Rattle.nmf_records.specs.Steps.{sized, texted}
-use Rattle.nmf_records.specs.Reader.{StandsFor, HoldsText, pending_of, failure_of, HasShape, size_bytes}
+use Rattle.nmf_records.specs.Reader.{StandsFor, HoldsText, pending_of, failure_of, HasShape}
+use Rattle.nmf_records.specs.Reader.{size_bytes}
 
 -- at this stage a reader takes one byte
 abbrev pub ReadsBytes : Stage → Type 0

@@ -1,9 +1,13 @@
 -- What holds of records by their definitions alone, whatever bytes they are read from.
-use Rattle.std.specs.Prelude.{◌≡◌, ℕ, ◌+◌, ◌<◌, ◌≤◌, ◌↔◌, ◌⊎◌, List, [], ◌∷◌, ◌++◌, length, take, drop, Bool, true, false, ◌==◌, ◌||◌, IsUtf8}
+use Rattle.std.specs.Prelude.{◌≡◌, ℕ, ◌+◌, ◌<◌, ◌≤◌, ◌↔◌, ◌⊎◌, List, [], ◌∷◌, ◌++◌, length, take}
+use Rattle.std.specs.Prelude.{drop, Bool, true, false, ◌==◌, ◌||◌, IsUtf8}
 use Rattle.unit_streams.specs.Front.{begun, whole, wrong}
 use Rattle.multibyte_ints.specs.Integer.{Spells}
 use Rattle.multibyte_ints.specs.Laws.{FifthIsAbove}
-use Rattle.nmf_records.specs.declared.record_types.TheConstants.{VIA, EXTENSIBLE_ENCODING, SIZED_ENVELOPE, FAULT, UPGRADE_REQUEST, UPGRADE_RESPONSE, GREATEST}
+use Rattle.nmf_records.specs.declared.record_types.TheConstants.{VIA, EXTENSIBLE_ENCODING}
+use Rattle.nmf_records.specs.declared.record_types.TheConstants.{SIZED_ENVELOPE, FAULT}
+use Rattle.nmf_records.specs.declared.record_types.TheConstants.{UPGRADE_REQUEST, UPGRADE_RESPONSE}
+use Rattle.nmf_records.specs.declared.record_types.TheConstants.{GREATEST}
 use Rattle.nmf_records.specs.declared.frame.Expect.{Expect}
 use Rattle.nmf_records.specs.declared.frame.Expect.TheVariants.{Types, Chunk}
 use Rattle.nmf_records.specs.declared.frame.FrameFault.{FrameFault}

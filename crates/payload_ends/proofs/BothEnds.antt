@@ -1,6 +1,7 @@
 -- What a writer has written is read at the other end.
 use Rattle.std.proofs.Common.{◌≡◌, ℕ, List, [], ◌++◌, None, Some, refl, sym, ap, ◌∙◌, subst, arith}
-use Rattle.unit_streams.specs.Judging.{Answer, answer, completes, goes_on, history, history_from, offence, offends}
+use Rattle.unit_streams.specs.Judging.{Answer, answer, completes, goes_on, history, history_from}
+use Rattle.unit_streams.specs.Judging.{offence, offends}
 use Rattle.unit_streams.specs.Going.{history_by}
 use Rattle.unit_streams.specs.Laws.{HistoryIsAnswers}
 use Rattle.unit_streams.proofs.Standing.{standing_nothing}

@@ -8,7 +8,8 @@ use Rattle.stream_reader.specs.declared.reader.StreamStep.{StreamStep}
 use Rattle.stream_reader.specs.declared.reader.StreamStep.TheVariants as steps
 use Rattle.receiver_machine.specs.declared.owed.Owed.{Owed}
 use Rattle.receiver_machine.specs.declared.receiver.Receiver.{Receiver}
-use Rattle.receiver_machine.specs.Owed.{after_answer, after_step, bytes_of, owed_after, owed_behind, owed_for}
+use Rattle.receiver_machine.specs.Owed.{after_answer, after_step, bytes_of, owed_after, owed_behind}
+use Rattle.receiver_machine.specs.Owed.{owed_for}
 use Rattle.stream_reader.proofs.ReaderFacts.{failure_as, not_failed}
 use Rattle.receiver_machine.specs.Standing.{StandsFor, failure_of, owed_unless}
 

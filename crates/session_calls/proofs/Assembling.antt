@@ -12,7 +12,8 @@ use Rattle.session_report.specs.Saying.{event_for}
 use Rattle.client.specs.declared.caller.Ack.{Ack}
 use Rattle.client.specs.declared.caller.Ack.TheVariants.{Awaited}
 use Rattle.client.specs.declared.outcome.CallOutcome.{CallOutcome}
-use Rattle.client.specs.Called.{Calls, HasCalled, IsAckOf, Judges, ReportsOf, WritesCall, ack_along, answers_to, closing_of, dumped, ending_of, reached_along}
+use Rattle.client.specs.Called.{Calls, HasCalled, IsAckOf, Judges, ReportsOf, WritesCall, ack_along}
+use Rattle.client.specs.Called.{answers_to, closing_of, dumped, ending_of, reached_along}
 use Rattle.client.specs.Sent.{Sending}
 use Rattle.client.proofs.Amounts.{sends_written}
 use Rattle.session_calls.specs.Peers.{CallsPeer, WritesReport, line_after}

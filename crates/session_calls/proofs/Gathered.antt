@@ -1,4 +1,5 @@
--- What is known of sinks that gather is known of those beneath, where nothing was gathered at first.
+-- What is known of sinks that gather is known of those beneath, where nothing was gathered at
+-- first.
 use Rattle.std.proofs.Common.{◌≡◌, ℕ, List, [], ◌++◌, Option, sym, ap, ◌∙◌}
 use Rattle.std.proofs.lemmas.List.{append-nil}
 use Rattle.stream_loop.specs.Edges.{Input, Output, output_at}
@@ -53,9 +54,11 @@ module _ (x : Sending) (via line : List ℕ) (i i' : Input) (called : CallOutcom
       → k_sink ≡ k_first → k_gathered ≡ [] → k_result ≡ k_last
       → o_sink ≡ o_first → o_gathered ≡ [] → o_result ≡ o_last
       → CallsPeer x via line i i'
-      (with_held x via line i i' called k_written k_held k_faults k_sink (k_held k_sink ++ k_gathered))
+      (with_held x via line i i' called k_written k_held k_faults k_sink
+      (k_held k_sink ++ k_gathered))
       (with_held x via line i i' called k_written k_held k_faults k_last k_kept)
-      (with_held x via line i i' called o_written o_held o_faults o_sink (o_held o_sink ++ o_gathered))
+      (with_held x via line i i' called o_written o_held o_faults o_sink
+      (o_held o_sink ++ o_gathered))
       (with_held x via line i i' called o_written o_held o_faults o_last o_kept) called
       → CallsPeer x via line i i' (output_at k_written k_held k_faults k_first)
       (output_at k_written k_held k_faults k_result) (output_at o_written o_held o_faults o_first)

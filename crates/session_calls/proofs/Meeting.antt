@@ -7,7 +7,8 @@ use Rattle.unit_streams.specs.Grammar.{Grammar}
 use Rattle.stream_loop.specs.Edges.{Input, Output}
 use Rattle.stream_loop.proofs.Writing.{told_some}
 use Rattle.stream_follower.specs.declared.following.Ending.{Ending}
-use Rattle.stream_follower.specs.declared.following.Ending.TheVariants.{Judged, ReadFault, Memory as Starved}
+use Rattle.stream_follower.specs.declared.following.Ending.TheVariants.{Judged, ReadFault}
+use Rattle.stream_follower.specs.declared.following.Ending.TheVariants.{Memory as Starved}
 use Rattle.stream_follower.specs.Followed.{Follows}
 use Rattle.stream_follower.proofs.Counts.{heard_some}
 use Rattle.stream_reader.specs.Stream.{stream}
@@ -78,7 +79,8 @@ pub placed_as : {R K : Type 0} (input_of : R → Input) (output_of : K → Outpu
     o o' called
     → CallsPlace input_of output_of (sending limits statics mode kind docs') via (sent_line a' b') n
     n' o o' called
-placed_as input_of output_of limits statics mode kind via n n' o o' called docs docs' a a' b b' d e f
+placed_as input_of output_of limits statics mode kind via n n' o o' called docs docs' a a' b b' d e
+    f
     h =
     subst (λ (l : List (List Item)). CallsPlace input_of output_of
     (sending limits statics mode kind l) via (sent_line a' b') n n' o o' called) d

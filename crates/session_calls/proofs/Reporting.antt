@@ -1,5 +1,6 @@
 -- What is written of a call's report, and of the line behind it.
-use Rattle.std.proofs.Common.{◌≡◌, ℕ, ◌+◌, List, [], ◌++◌, length, take, Bool, Option, Some, Result, Ok, Err, OnOk, map, refl, sym, ap, ◌∙◌, subst, append_assoc}
+use Rattle.std.proofs.Common.{◌≡◌, ℕ, ◌+◌, List, [], ◌++◌, length, take, Bool, Option, Some, Result}
+use Rattle.std.proofs.Common.{Ok, Err, OnOk, map, refl, sym, ap, ◌∙◌, subst, append_assoc}
 use Rattle.std.specs.Prelude.{⊤}
 use Rattle.std.proofs.lemmas.List.{append-nil}
 use Rattle.std.proofs.Math.Seq.{take-append-add, take-nil}
@@ -15,10 +16,12 @@ use Rattle.stream_reader.specs.Stream.{StreamEvent}
 use Rattle.stream_follower.specs.declared.writing.Outbound.{Outbound}
 use Rattle.stream_follower.specs.declared.writing.Outbound.TheVariants as outbounds
 use Rattle.stream_follower.specs.Writing.{PutsTo, Wrote, outbound_by}
-use Rattle.stream_follower.proofs.Amounts.{AllWritten, Grew, all_written, cut_written, grew_more, wrote_grew}
+use Rattle.stream_follower.proofs.Amounts.{AllWritten, Grew, all_written, cut_written, grew_more}
+use Rattle.stream_follower.proofs.Amounts.{wrote_grew}
 use Rattle.session_report.specs.Saying.{event_for, said_by}
 use Rattle.client.specs.declared.outcome.ClientIn.{ClientIn}
-use Rattle.client.specs.declared.outcome.ClientIn.TheVariants.{Ended, Offended, PeerFault, ReadFault, Memory}
+use Rattle.client.specs.declared.outcome.ClientIn.TheVariants.{Ended, Offended, PeerFault}
+use Rattle.client.specs.declared.outcome.ClientIn.TheVariants.{ReadFault, Memory}
 use Rattle.client.specs.Called.{ReportsOf, closing_of, ending_of, reached_along}
 use Rattle.session_calls.specs.Peers.{WritesDump, WritesReport, line_after, report_of}
 use Rattle.session_calls.specs.Sending.{Finishes}

@@ -1,7 +1,9 @@
 -- The letters of what was sent are some of one kind, and then some of another.
-use Rattle.std.proofs.Common.{◌≡◌, ℕ, zero, suc, ◌+◌, ◌-◌, ◌≤◌, inl, inr, List, ◌++◌, length, take, min, replicate, refl, sym, ap, ◌∙◌, arith}
+use Rattle.std.proofs.Common.{◌≡◌, ℕ, zero, suc, ◌+◌, ◌-◌, ◌≤◌, inl, inr, List, ◌++◌, length, take}
+use Rattle.std.proofs.Common.{min, replicate, refl, sym, ap, ◌∙◌, arith}
 use Rattle.std.proofs.lemmas.Bool.{cases_lt}
-use Rattle.std.proofs.lemmas.List.{append-nil, length-replicate, take-append-le, take-replicate, take_all}
+use Rattle.std.proofs.lemmas.List.{append-nil, length-replicate, take-append-le, take-replicate}
+use Rattle.std.proofs.lemmas.List.{take_all}
 use Rattle.std.proofs.Math.Seq.{take-append-add}
 use Rattle.session_calls.specs.Tags.{letters, tags, tags_word}
 
@@ -59,7 +61,8 @@ some_letters (suc first) second some = refl
 pub letters_word : (first second sent a b : ℕ) → a ≡ min sent first → b ≡ min (sent - a) second
     → (a + b ≡ 0 → ⊥) → tags_word (tags first second sent) ≡ first_of a ++ second_of b
 letters_word first second sent a b a_is b_is some =
-    let both : b ≡ min (sent - min sent first) second = b_is ∙ ap (λ n. min (sent - n) second) a_is in
+    let both : b ≡ min (sent - min sent first) second = b_is ∙ ap (λ n. min (sent - n) second) a_is
+    in
     ap tags_word (first_tags first second sent
     ∙ ap (λ n. first_of n ++ second_of (min (sent - min sent first) second)) (sym a_is)
     ∙ ap (λ n. first_of a ++ second_of n) (sym both))

@@ -18,7 +18,8 @@ use Rattle.client.specs.declared.outcome.CallOutcome.{CallOutcome}
 use Rattle.client.specs.declared.outcome.ClientIn.{ClientIn}
 use Rattle.client.specs.declared.outcome.ClientIn.TheVariants.{ReadFault, Memory}
 use Rattle.client.specs.declared.outcome.ClientOut.TheVariants as out
-use Rattle.client.specs.Called.{IsAckOf, Judges, WritesCall, ack_along, answers_to, closing_of, dumped, ending_of, reached_along}
+use Rattle.client.specs.Called.{IsAckOf, Judges, WritesCall, ack_along, answers_to, closing_of}
+use Rattle.client.specs.Called.{dumped, ending_of, reached_along}
 use Rattle.client.specs.Sent.{Sending}
 
 -- the line of what was sent, which comes behind the report where there was memory to read on

@@ -8,7 +8,8 @@ use Rattle.stream_loop.specs.Edges.{Input, Output}
 use Rattle.client.specs.declared.outcome.CallOutcome.{CallOutcome}
 use Rattle.client.specs.Sent.{Sending}
 use Rattle.session_calls.specs.declared.called.Called.{Called}
-use Rattle.session_calls.specs.declared.called.Called.TheVariants.{WrongCount, Starved, Unconnected, Closed}
+use Rattle.session_calls.specs.declared.called.Called.TheVariants.{WrongCount, Starved, Unconnected}
+use Rattle.session_calls.specs.declared.called.Called.TheVariants.{Closed}
 use Rattle.session_calls.specs.Peers.{CallsPeer}
 
 -- what is seen of a wire at one moment: the connections to come and what was taken from and written

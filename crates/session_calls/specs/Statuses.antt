@@ -9,11 +9,13 @@ use Rattle.document_lines.specs.declared.InputFault.{InputFault}
 use Rattle.document_lines.specs.declared.InputFault.TheVariants as inputs
 use Rattle.client.specs.declared.outcome.CallOutcome.{CallOutcome}
 use Rattle.client.specs.declared.outcome.ClientIn.{ClientIn}
-use Rattle.client.specs.declared.outcome.ClientIn.TheVariants.{Offended, PeerFault, ReadFault, Memory}
+use Rattle.client.specs.declared.outcome.ClientIn.TheVariants.{Offended, PeerFault, ReadFault}
+use Rattle.client.specs.declared.outcome.ClientIn.TheVariants.{Memory}
 use Rattle.client.specs.declared.outcome.ClientOut.{ClientOut}
 use Rattle.client.specs.declared.outcome.ClientOut.TheVariants as out
 use Rattle.session_calls.specs.declared.called.Called.{Called}
-use Rattle.session_calls.specs.declared.called.Called.TheVariants.{WrongCount, Starved, Unconnected, Closed}
+use Rattle.session_calls.specs.declared.called.Called.TheVariants.{WrongCount, Starved, Unconnected}
+use Rattle.session_calls.specs.declared.called.Called.TheVariants.{Closed}
 
 abbrev pub is_starved_in : ClientIn → Bool
 is_starved_in Memory = true

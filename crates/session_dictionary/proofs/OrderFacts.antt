@@ -1,5 +1,7 @@
 -- How the order of positions goes on: by one more text, by runs that are joined, and by a cut.
-use Rattle.std.proofs.Common.{◌≡◌, ℕ, ◌+◌, ◌≤◌, ◌<◌, Bool, true, List, [], ◌∷◌, ◌++◌, length, take, drop, get_or, nat_lt, sym, ◌∙◌, subst, arith, inl, inr, length-append, length-drop}
+use Rattle.std.proofs.Common.{◌≡◌, ℕ, ◌+◌, ◌≤◌, ◌<◌, Bool, true, List, [], ◌∷◌, ◌++◌, length, take}
+use Rattle.std.proofs.Common.{drop, get_or, nat_lt, sym, ◌∙◌, subst, arith, inl, inr, length-append}
+use Rattle.std.proofs.Common.{length-drop}
 use Rattle.std.specs.Prelude.{◌↔◌}
 use Rattle.std.specs.Cmp.{IsStrictWeakOrder, IsTotalOrder}
 use Rattle.std.specs.List.{All, filter}
@@ -7,12 +9,20 @@ use Rattle.std.specs.List.Sorted.{IsPermutation, IsSorted}
 use Rattle.std.specs.Ordering.{is_lt}
 use Rattle.std.proofs.lemmas.Bool.{cases_Bool, cases_lt, lt-ltb, ltb-true, ltb-false}
 use Rattle.std.proofs.lemmas.Cmp.{nat_cmp_total, nat_list_cmp_total, on_total, then_total}
-use Rattle.std.proofs.lemmas.List.{get_or-drop, get_or-take, get_or_append_left, get_or_default, length-take, length-take-le, take-append-drop, take-append-le, take-take, take_at}
-use Rattle.std.proofs.lemmas.List.Elements.{All-append, All-filter, All-push, All-take, All-weaker, filter_passes}
-use Rattle.std.proofs.lemmas.List.Sorted.{All-permutation, IsPermutation-append_right, ranks_by, sorted_far}
-use Rattle.session_dictionary.specs.Order.{ArePositions, EachPair, InOrder, InRuns, IsOneRun, IsOrder, by_text, text_of}
-use Rattle.session_dictionary.proofs.CountFacts.{positions_below, positions_cut, positions_length, positions_moved, positions_push, rest_above}
-use Rattle.session_dictionary.proofs.PairFacts.{all_front, all_last, all_passing, pair_at, pairs-append, pairs-filter, pairs-push, pairs-take, pairs_from, pairs_turn, take-filter}
+use Rattle.std.proofs.lemmas.List.{get_or-drop, get_or-take, get_or_append_left, get_or_default}
+use Rattle.std.proofs.lemmas.List.{length-take, length-take-le, take-append-drop, take-append-le}
+use Rattle.std.proofs.lemmas.List.{take-take, take_at}
+use Rattle.std.proofs.lemmas.List.Elements.{All-append, All-filter, All-push, All-take, All-weaker}
+use Rattle.std.proofs.lemmas.List.Elements.{filter_passes}
+use Rattle.std.proofs.lemmas.List.Sorted.{All-permutation, IsPermutation-append_right, ranks_by}
+use Rattle.std.proofs.lemmas.List.Sorted.{sorted_far}
+use Rattle.session_dictionary.specs.Order.{ArePositions, EachPair, InOrder, InRuns, IsOneRun}
+use Rattle.session_dictionary.specs.Order.{IsOrder, by_text, text_of}
+use Rattle.session_dictionary.proofs.CountFacts.{positions_below, positions_cut, positions_length}
+use Rattle.session_dictionary.proofs.CountFacts.{positions_moved, positions_push, rest_above}
+use Rattle.session_dictionary.proofs.PairFacts.{all_front, all_last, all_passing, pair_at}
+use Rattle.session_dictionary.proofs.PairFacts.{pairs-append, pairs-filter, pairs-push, pairs-take}
+use Rattle.session_dictionary.proofs.PairFacts.{pairs_from, pairs_turn, take-filter}
 
 -- positions have a total order
 pub by_text_total : (strings : List (List ℕ)) → IsTotalOrder (by_text strings)

@@ -1,5 +1,7 @@
 -- Runs, and the first position in each that has a text.
-use Rattle.std.proofs.Common.{◌≡◌, ◌≢◌, ℕ, zero, suc, ◌+◌, ◌-◌, ◌≤◌, ◌<◌, ◌⊎◌, Bool, true, false, List, ◌∷◌, length, take, drop, get_or, refl, sym, ap, ◌∙◌, subst, arith, inl, inr}
+use Rattle.std.proofs.Common.{◌≡◌, ◌≢◌, ℕ, zero, suc, ◌+◌, ◌-◌, ◌≤◌, ◌<◌, ◌⊎◌, Bool, true, false}
+use Rattle.std.proofs.Common.{List, ◌∷◌, length, take, drop, get_or, refl, sym, ap, ◌∙◌, subst}
+use Rattle.std.proofs.Common.{arith, inl, inr}
 use Rattle.std.specs.Prelude.{◌↔◌, slice_range}
 use Rattle.std.specs.Cmp.{IsStrictWeakOrder}
 use Rattle.std.specs.Cmp.Lexicographic.{bytes_decides, slice_cmp}
@@ -14,8 +16,10 @@ use Rattle.std.proofs.lemmas.List.{drop-take, get_or_default, take_all}
 use Rattle.std.proofs.lemmas.List.Elements.{All-contains, All-drop, All-take, Contains-get_or}
 use Rattle.std.proofs.lemmas.List.Sorted.{ranks_by}
 use Rattle.std.proofs.lemmas.Map.Text.{is_eq-slice_cmp}
-use Rattle.session_dictionary.specs.Order.{ArePositions, EachPair, InOrder, InRuns, IsFirst, IsFirstIn, IsOrder, text_of}
-use Rattle.session_dictionary.proofs.CountFacts.{positions_below, positions_length, positions_none, rest_above, stands_after}
+use Rattle.session_dictionary.specs.Order.{ArePositions, EachPair, InOrder, InRuns, IsFirst}
+use Rattle.session_dictionary.specs.Order.{IsFirstIn, IsOrder, text_of}
+use Rattle.session_dictionary.proofs.CountFacts.{positions_below, positions_length, positions_none}
+use Rattle.session_dictionary.proofs.CountFacts.{rest_above, stands_after}
 use Rattle.session_dictionary.proofs.OrderFacts.{Begins, begins-take, cut_le}
 use Rattle.session_dictionary.proofs.PairFacts.{pair_at, pairs-drop, pairs-take, pairs_turn}
 

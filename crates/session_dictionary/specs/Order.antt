@@ -1,5 +1,6 @@
 -- The order of texts: their positions, in runs.
-use Rattle.std.specs.Prelude.{◌≡◌, ◌≢◌, ◌<◌, ◌≤◌, ◌↔◌, ◌+◌, ℕ, suc, zero, Bool, false, Option, ⊤, if◌then◌else◌, List, [], ◌∷◌, length, take, slice_index_or, count_by}
+use Rattle.std.specs.Prelude.{◌≡◌, ◌≢◌, ◌<◌, ◌≤◌, ◌↔◌, ◌+◌, ℕ, suc, zero, Bool, false, Option, ⊤}
+use Rattle.std.specs.Prelude.{if◌then◌else◌, List, [], ◌∷◌, length, take, slice_index_or, count_by}
 use Rattle.std.specs.Cmp.Lexicographic.{slice_cmp}
 use Rattle.std.specs.List.{All, Contains}
 use Rattle.std.specs.Ordering.{is_lt, nat_cmp, ordering_then}

@@ -1,5 +1,6 @@
 -- What is written of documents that fit is read as these documents.
-use Rattle.std.proofs.Common.{◌≡◌, ℕ, ◌+◌, ◌<◌, ◌≤◌, ◌^◌, List, [], ◌∷◌, ◌++◌, length, map, Ok, Option, refl, sym, ap, ◌∙◌, subst, arith, append_assoc}
+use Rattle.std.proofs.Common.{◌≡◌, ℕ, ◌+◌, ◌<◌, ◌≤◌, ◌^◌, List, [], ◌∷◌, ◌++◌, length, map, Ok}
+use Rattle.std.proofs.Common.{Option, refl, sym, ap, ◌∙◌, subst, arith, append_assoc}
 use Rattle.std.proofs.lemmas.List.{append-nil}
 use Rattle.multibyte_ints.specs.Integer.{shortest}
 use Rattle.multibyte_ints.proofs.ShortestLaws.{shortest_spells}
@@ -23,11 +24,14 @@ use Rattle.nbfx_encoder.specs.Reading.{AdmitsAsMuch, IsRead}
 use Rattle.nbfx_encoder.specs.Spelling.{Fits, Unfit, encoded}
 use Rattle.nbfx_encoder.proofs.LawFacts.{Parted, parted, writes_what_fits}
 use Rattle.nbfx_encoder.proofs.Payloads.{chosen_is_payload}
-use Rattle.stream_reader.specs.Sessions.{Carried, CarriesAll, HasParts, IsEnvelopeIn, IsPreamble, IsSession, MayCarry, conversation, AreChunks, joined}
+use Rattle.stream_reader.specs.Sessions.{Carried, CarriesAll, HasParts, IsEnvelopeIn, IsPreamble}
+use Rattle.stream_reader.specs.Sessions.{IsSession, MayCarry, conversation, AreChunks, joined}
 use Rattle.stream_reader.specs.Stream.{Settings, Side, initiators, payloads}
 use Rattle.stream_reader.proofs.FromSession.{decoded}
 use Rattle.nmf_records.specs.declared.script.Direction.TheVariants.{FromInitiator}
-use Rattle.session_ends.specs.Sent.{AreDocuments, AreSent, CarryDocuments, MayBeSent, SentAreCarried, SentAreSessions, first_table, session_bytes, strings_after}
+use Rattle.session_ends.specs.Sent.{AreDocuments, AreSent, CarryDocuments, MayBeSent}
+use Rattle.session_ends.specs.Sent.{SentAreCarried, SentAreSessions, first_table, session_bytes}
+use Rattle.session_ends.specs.Sent.{strings_after}
 
 -- the envelope of a payload is one
 envelope_is : (mode : Mode) (bytes : List ℕ) → 0 < length bytes → length bytes < 2 ^ 31

@@ -1,9 +1,12 @@
 -- The parts of an initiator's session in duplex mode, by what a reader of it answers to each.
-use Rattle.std.proofs.Common.{◌≡◌, ℕ, ◌+◌, ◌<◌, ◌≤◌, ◌⊎◌, inl, inr, List, [], ◌∷◌, ◌++◌, length, Bool, true, false, Option, Some, None, refl, sym, ap, ◌∙◌, subst, arith, append_assoc}
+use Rattle.std.proofs.Common.{◌≡◌, ℕ, ◌+◌, ◌<◌, ◌≤◌, ◌⊎◌, inl, inr, List, [], ◌∷◌, ◌++◌, length}
+use Rattle.std.proofs.Common.{Bool, true, false, Option, Some, None, refl, sym, ap, ◌∙◌, subst}
+use Rattle.std.proofs.Common.{arith, append_assoc}
 use Rattle.std.specs.Prelude.{if◌then◌else◌, nat_le, ◌&&◌, not}
 use Rattle.unit_streams.specs.Grammar.{standing}
 use Rattle.unit_streams.specs.Going.{history_by}
-use Rattle.unit_streams.specs.Judging.{History, answer, completes, offends, history, history_from, led_by, only, offence as offence_by}
+use Rattle.unit_streams.specs.Judging.{History, answer, completes, offends, history, history_from}
+use Rattle.unit_streams.specs.Judging.{led_by, only, offence as offence_by}
 use Rattle.unit_streams.specs.Laws.{raised, unless_decided}
 use Rattle.unit_streams.proofs.Along.{Passes, passes_history, passes_none, passes_then}
 use Rattle.unit_streams.proofs.Cuts.{cuts_change_nothing}
@@ -23,13 +26,20 @@ use Rattle.nmf_records.specs.declared.script.Direction.TheVariants.{FromInitiato
 use Rattle.nmf_records.specs.Reading.{MayCome, bare}
 use Rattle.nmf_records.specs.Script.{may_come}
 use Rattle.nbfx_decoder.specs.Laws.{IsWholePayload}
-use Rattle.stream_reader.specs.Sessions.{Carried, CarriesAll, IsBare, IsPreamble, IsSized, message_events}
-use Rattle.stream_reader.specs.Stream.{Settings, Situation, Stage, StreamEvent, after, beginning, completed, direction_of, ended, frame, initiators, is_over_in, offence_at, open_from, opened, payload_byte, payloads, record_due, refused, stream, too_long}
+use Rattle.stream_reader.specs.Sessions.{Carried, CarriesAll, IsBare, IsPreamble, IsSized}
+use Rattle.stream_reader.specs.Sessions.{message_events}
+use Rattle.stream_reader.specs.Stream.{Settings, Situation, Stage, StreamEvent, after, beginning}
+use Rattle.stream_reader.specs.Stream.{completed, direction_of, ended, frame, initiators}
+use Rattle.stream_reader.specs.Stream.{is_over_in, offence_at, open_from, opened, payload_byte}
+use Rattle.stream_reader.specs.Stream.{payloads, record_due, refused, stream, too_long}
 use Rattle.stream_reader.proofs.DueRecords.{record_unit}
-use Rattle.stream_reader.proofs.Envelopes.{IsClean, before_last, last_completes, last_leads, last_reads, last_unrefused, sized_front}
-use Rattle.stream_reader.proofs.FromSession.{at, clean_of, decoded, left_by, preamble_front, preamble_passes, sized_envelopes}
+use Rattle.stream_reader.proofs.Envelopes.{IsClean, before_last, last_completes, last_leads}
+use Rattle.stream_reader.proofs.Envelopes.{last_reads, last_unrefused, sized_front}
+use Rattle.stream_reader.proofs.FromSession.{at, clean_of, decoded, left_by, preamble_front}
+use Rattle.stream_reader.proofs.FromSession.{preamble_passes, sized_envelopes}
 use Rattle.stream_reader.proofs.Grammar.{readable, short_enough}
-use Rattle.session_ends.proofs.Answering.{EndsIn, IsAnswered, IsByLength, between_all, is_answered, passes_stand}
+use Rattle.session_ends.proofs.Answering.{EndsIn, IsAnswered, IsByLength, between_all, is_answered}
+use Rattle.session_ends.proofs.Answering.{passes_stand}
 
 -- the last of some bytes
 last_of : (bytes : List ℕ) → 0 < length bytes

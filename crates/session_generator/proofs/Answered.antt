@@ -1,5 +1,6 @@
 -- What was sent is read whole, or shows that the stream is too long.
-use Rattle.std.proofs.Common.{◌≡◌, ℕ, inl, inr, List, [], ◌++◌, length, take, false, Result, Ok, Err, Some, sym, ap, ◌∙◌, subst, arith}
+use Rattle.std.proofs.Common.{◌≡◌, ℕ, inl, inr, List, [], ◌++◌, length, take, false, Result, Ok}
+use Rattle.std.proofs.Common.{Err, Some, sym, ap, ◌∙◌, subst, arith}
 use Rattle.std.specs.Prelude.{⊤}
 use Rattle.std.proofs.lemmas.List.{take_all}
 use Rattle.unit_streams.specs.Judging.{Answer, answer, completes, goes_on, is_over_at, offends}

@@ -1,5 +1,6 @@
 -- A session is carried on document by document, to its end.
-use Rattle.std.proofs.Common.{◌≡◌, ℕ, ◌<◌, ◌≤◌, ◌^◌, List, [], ◌∷◌, ◌++◌, length, false, Ok, Err, refl, sym, ap, ◌∙◌, subst, append_assoc}
+use Rattle.std.proofs.Common.{◌≡◌, ℕ, ◌<◌, ◌≤◌, ◌^◌, List, [], ◌∷◌, ◌++◌, length, false, Ok, Err}
+use Rattle.std.proofs.Common.{refl, sym, ap, ◌∙◌, subst, append_assoc}
 use Rattle.std.proofs.lemmas.List.{append-nil}
 use Rattle.unit_streams.specs.Grammar.{standing}
 use Rattle.unit_streams.specs.Judging.{is_over_at}
@@ -13,7 +14,8 @@ use Rattle.string_tables.specs.StaticStrings.{Entry, IsStaticMap}
 use Rattle.string_tables.specs.StringTable.{StringTable}
 use Rattle.nbfx_encoder.specs.Envelopes.{envelope}
 use Rattle.nbfx_encoder.specs.Placing.{Placed}
-use Rattle.nbfx_encoder.specs.Sending.{KeepsSettings, Sends, behind_message, kind_in, limits_in, mode_in, names_in, state_in}
+use Rattle.nbfx_encoder.specs.Sending.{KeepsSettings, Sends, behind_message, kind_in, limits_in}
+use Rattle.nbfx_encoder.specs.Sending.{mode_in, names_in, state_in}
 use Rattle.nbfx_encoder.specs.Spelling.{encoded}
 use Rattle.nbfx_encoder.specs.declared.sender.SendState.TheVariants.{Closed}
 use Rattle.nbfx_encoder.proofs.LawFacts.{writes_what_fits}
@@ -36,7 +38,9 @@ use Rattle.session_generator.specs.UnderWay.{CanSend, IsUnderWay, Stops}
 use Rattle.session_generator.proofs.DocumentFacts.{is_document}
 use Rattle.session_generator.proofs.Fitting.{document_fits}
 use Rattle.session_generator.proofs.Answered.{HasReadSo}
-use Rattle.session_generator.proofs.Whole.{documents_join, going, last_taken, messages_whole, more_fit, next_taken, one_more, session_is, strings_whole, whole_is}
+use Rattle.session_generator.proofs.Whole.{documents_join, going, last_taken, messages_whole}
+use Rattle.session_generator.proofs.Whole.{more_fit, next_taken, one_more, session_is}
+use Rattle.session_generator.proofs.Whole.{strings_whole, whole_is}
 
 module _ (statics : List Entry) (l : Limits) (good : IsGood l) (is_map : IsStaticMap statics) where
   abbrev x : Settings

@@ -1,5 +1,7 @@
 -- Each document of a seed fits, whatever strings the session has, under all good quotas.
-use Rattle.std.proofs.Common.{◌≡◌, ℕ, zero, suc, ◌+◌, ◌*◌, ◌/◌, ◌%◌, ◌≤◌, List, [], ◌∷◌, ◌++◌, length, drop, Bool, true, false, Option, Some, None, Ok, refl, sym, ap, ◌∙◌, arith, append_assoc, length-append}
+use Rattle.std.proofs.Common.{◌≡◌, ℕ, zero, suc, ◌+◌, ◌*◌, ◌/◌, ◌%◌, ◌≤◌, List, [], ◌∷◌, ◌++◌}
+use Rattle.std.proofs.Common.{length, drop, Bool, true, false, Option, Some, None, Ok, refl, sym}
+use Rattle.std.proofs.Common.{ap, ◌∙◌, arith, append_assoc, length-append}
 use Rattle.std.specs.Prelude.{codes, pos, ℤ, if◌then◌else◌, flat_map, nat_lt, unsigned_abs}
 use Rattle.std.specs.Ordering.{int_eq}
 use Rattle.std.specs.Int.{to_le_bytes, w8, w16, w32, w64}
@@ -23,9 +25,11 @@ use Rattle.nbfx_records.specs.declared.nodes.Node.TheVariants.{Attribute, Elemen
 use Rattle.nbfx_records.specs.declared.nodes.RawScalar.{RawScalar}
 use Rattle.nbfx_records.specs.declared.nodes.RawScalar.TheVariants.{Known}
 use Rattle.nbfx_records.specs.declared.nodes.RawValue.TheVariants.{One}
-use Rattle.nbfx_records.specs.Chosen.{TextRecord, chosen_bytes, chosen_number, chosen_scalar, least_form, name_bytes, signed, sized, table_bytes}
+use Rattle.nbfx_records.specs.Chosen.{TextRecord, chosen_bytes, chosen_number, chosen_scalar}
+use Rattle.nbfx_records.specs.Chosen.{least_form, name_bytes, signed, sized, table_bytes}
 use Rattle.nbfx_records.specs.Shapes.{width_in}
-use Rattle.nbfx_encoder.specs.Placing.{Placed, Writing, has_room, place, place_found, spell_text, text_found}
+use Rattle.nbfx_encoder.specs.Placing.{Placed, Writing, has_room, place, place_found, spell_text}
+use Rattle.nbfx_encoder.specs.Placing.{text_found}
 use Rattle.nbfx_encoder.specs.Spelling.{Fits, opening_bytes, spell, strings_behind, writing}
 use Rattle.session_generator.specs.Documents.{document, letters, root_name}
 use Rattle.session_generator.proofs.DocumentFacts.{content_low, letters_length, root_length}

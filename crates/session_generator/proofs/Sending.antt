@@ -1,5 +1,6 @@
 -- What the steps of a session answer, by what its ends do.
-use Rattle.std.proofs.Common.{◌≡◌, ℕ, ◌≤◌, List, [], ◌∷◌, ◌++◌, length, false, Result, Ok, Err, refl, sym, ap, ◌∙◌, subst}
+use Rattle.std.proofs.Common.{◌≡◌, ℕ, ◌≤◌, List, [], ◌∷◌, ◌++◌, length, false, Result, Ok, Err}
+use Rattle.std.proofs.Common.{refl, sym, ap, ◌∙◌, subst}
 use Rattle.std.specs.Prelude.{⊤, OnOk, IfErr}
 use Rattle.std.proofs.lemmas.List.{append-nil}
 use Rattle.unit_streams.specs.Grammar.{standing}
@@ -10,7 +11,8 @@ use Rattle.nbfx_values.specs.declared.session.Kind.TheVariants.{Session as WithS
 use Rattle.nbfx_values.specs.declared.session.Mode.TheVariants.{Duplex}
 use Rattle.string_tables.specs.StaticStrings.{Entry, IsStaticMap}
 use Rattle.nbfx_encoder.specs.Placing.{Placed}
-use Rattle.nbfx_encoder.specs.Sending.{KeepsSettings, RefusesMessage, Sends, behind_message, kind_in, limits_in, mode_in, names_in, side_in, state_in}
+use Rattle.nbfx_encoder.specs.Sending.{KeepsSettings, RefusesMessage, Sends, behind_message}
+use Rattle.nbfx_encoder.specs.Sending.{kind_in, limits_in, mode_in, names_in, side_in, state_in}
 use Rattle.nbfx_encoder.specs.Spelling.{Unfit, encoded}
 use Rattle.nbfx_encoder.specs.declared.faults.EncodeFault.TheVariants as refusals
 use Rattle.nbfx_encoder.specs.declared.sender.SendFault.{SendFault}
@@ -32,7 +34,8 @@ use Rattle.session_generator.specs.Faults.{IsWantOfMemory}
 use Rattle.session_generator.specs.Generated.{opening}
 use Rattle.session_generator.specs.UnderWay.{CanSend, IsReadSo, IsUnderWay, Stops, WhereUnderWay}
 use Rattle.session_generator.proofs.Answered.{HasReadSo, first_going, has_read}
-use Rattle.session_generator.proofs.Carrying.{end_is_taken, end_stopped, ended, front, is_taken, sent_on, short, still_going, stopped}
+use Rattle.session_generator.proofs.Carrying.{end_is_taken, end_stopped, ended, front, is_taken}
+use Rattle.session_generator.proofs.Carrying.{sent_on, short, still_going, stopped}
 use Rattle.session_generator.proofs.Whole.{opening_taken}
 
 -- a document that fits is refused for want of memory alone
@@ -117,9 +120,11 @@ module _ (s : Session) (d : List Item) (can : CanSend s d) (cleared out bytes : 
 module _ (s : Session) (end : ℕ) (is_end : end ≡ 7) (new : Receiver) (few : IsShort s.receiver)
   where
     module _ (l : Limits) (statics : List Entry) (done : List (List Item)) (good : IsGood l)
-        (is_map : IsStaticMap statics) (u : IsUnderWay l statics done s) (result : Result ⊤ GenFault)
+        (is_map : IsStaticMap statics) (u : IsUnderWay l statics done s)
+        (result : Result ⊤ GenFault)
         (says : ReadSays s.receiver (end ∷ []) new result) where
-      end_read : HasReadSo (any_initiators statics l) (front statics l good is_map done s u) (7 ∷ [])
+      end_read : HasReadSo (any_initiators statics l) (front statics l good is_map done s u)
+          (7 ∷ [])
           new result
       end_read =
           has_read (any_initiators statics l) (front statics l good is_map done s u) (7 ∷ []) new
@@ -141,7 +146,8 @@ module _ (s : Session) (end : ℕ) (is_end : end ≡ 7) (new : Receiver) (few : 
         let stands = end_read l statics done good is_map u (Ok tt) says in
         ended statics l good is_map done s u (short statics l good is_map done s u few) ends closed
         names (ap settings_of same ∙ settings)
-        (subst (λ r. StandsFor r (front statics l good is_map done s u ++ 7 ∷ [])) (sym same) stands)
+        (subst (λ r. StandsFor r (front statics l good is_map done s u ++ 7 ∷ [])) (sym same)
+        stands)
         (messages _ stands
         ∙ ap (λ r.
         (standing (stream (settings_of r)) (front statics l good is_map done s u ++ 7

@@ -1,5 +1,6 @@
 -- The session of a seed's documents, as far as it has come, and the whole of it.
-use Rattle.std.proofs.Common.{◌≡◌, ℕ, zero, suc, ◌+◌, ◌≤◌, List, [], ◌∷◌, ◌++◌, length, map, false, Ok, None, refl, sym, ap, ◌∙◌, subst, arith, append_assoc}
+use Rattle.std.proofs.Common.{◌≡◌, ℕ, zero, suc, ◌+◌, ◌≤◌, List, [], ◌∷◌, ◌++◌, length, map, false}
+use Rattle.std.proofs.Common.{Ok, None, refl, sym, ap, ◌∙◌, subst, arith, append_assoc}
 use Rattle.std.specs.Prelude.{IsUtf8, codes}
 use Rattle.std.specs.Char.{encode_utf8}
 use Rattle.std.proofs.lemmas.List.{append-nil, length-map}
@@ -21,13 +22,16 @@ use Rattle.nbfx_encoder.specs.Reading.{AdmitsAsMuch}
 use Rattle.nbfx_encoder.specs.Spelling.{encoded}
 use Rattle.nbfx_encoder.proofs.LawFacts.{sends_one_more, writes_what_fits}
 use Rattle.stream_reader.specs.Sessions.{Carried, IsPreamble, conversation, IsSession}
-use Rattle.stream_reader.specs.Stream.{Settings, Situation, any_initiators, is_over_in, payloads, stream, strings_in}
+use Rattle.stream_reader.specs.Stream.{Settings, Situation, any_initiators, is_over_in, payloads}
+use Rattle.stream_reader.specs.Stream.{stream, strings_in}
 use Rattle.stream_reader.proofs.FromSession.{left_by}
 use Rattle.stream_reader.proofs.Grammar.{readable}
 use Rattle.initiator_machine.proofs.Openings.{openings_are_preambles}
-use Rattle.session_ends.specs.Sent.{AreDocuments, CarryDocuments, first_table, session_bytes, strings_after}
+use Rattle.session_ends.specs.Sent.{AreDocuments, CarryDocuments, first_table, session_bytes}
+use Rattle.session_ends.specs.Sent.{strings_after}
 use Rattle.session_ends.proofs.Sent.{all_carried, one_carried, sent_are_sessions}
-use Rattle.session_ends.proofs.Steps.{IsTakenWhole, end_taken, envelope_taken, front_stands, messages_at, over_at, preamble_taken, session_stands}
+use Rattle.session_ends.proofs.Steps.{IsTakenWhole, end_taken, envelope_taken, front_stands}
+use Rattle.session_ends.proofs.Steps.{messages_at, over_at, preamble_taken, session_stands}
 use Rattle.session_generator.specs.Documents.{document, documents_from, drawn, stepped}
 use Rattle.session_generator.specs.Generated.{opening, via}
 use Rattle.session_generator.proofs.Fitting.{document_fits}

@@ -1,5 +1,6 @@
 -- What is known of a session that was answered, by what is seen of the input and of the output.
-use Rattle.std.proofs.Common.{◌≡◌, ℕ, List, [], ◌++◌, Bool, Option, Some, None, map, refl, sym, ap, ◌∙◌, subst}
+use Rattle.std.proofs.Common.{◌≡◌, ℕ, List, [], ◌++◌, Bool, Option, Some, None, map, refl, sym, ap}
+use Rattle.std.proofs.Common.{◌∙◌, subst}
 use Rattle.std.proofs.lemmas.List.{append-nil}
 use Rattle.io_edges.specs.Flow.{Told, GrowsByPrefix}
 use Rattle.unit_streams.specs.Judging.{events_in, events_of}

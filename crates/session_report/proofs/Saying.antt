@@ -1,5 +1,6 @@
 -- What is written of events as they are said is what a report says of them.
-use Rattle.std.proofs.Common.{◌≡◌, ℕ, ◌<◌, List, ◌++◌, length, take, Bool, Option, Some, Result, Ok, Err, refl, sym, ap, ◌∙◌, subst, arith}
+use Rattle.std.proofs.Common.{◌≡◌, ℕ, ◌<◌, List, ◌++◌, length, take, Bool, Option, Some, Result, Ok}
+use Rattle.std.proofs.Common.{Err, refl, sym, ap, ◌∙◌, subst, arith}
 use Rattle.std.specs.Prelude.{◌^◌}
 use Rattle.io_edges.specs.Puts.{PutsAll}
 use Rattle.io_edges.specs.declared.SinkFault.{SinkFault}
@@ -20,7 +21,8 @@ use Rattle.stream_loop.proofs.Alike.{alike}
 use Rattle.stream_reader.specs.Saying.{said as said_by_reader, step_for}
 use Rattle.stream_reader.specs.declared.reader.ReadRefusal.{ReadRefusal}
 use Rattle.stream_reader.specs.Standing.{StandsFor, settings_of}
-use Rattle.stream_reader.specs.Stream.{Settings, StreamEvent, opened, accepted, message, ended, peer_fault, stream}
+use Rattle.stream_reader.specs.Stream.{Settings, StreamEvent, opened, accepted, message, ended}
+use Rattle.stream_reader.specs.Stream.{peer_fault, stream}
 use Rattle.stream_reader.specs.declared.reader.StreamReader.{StreamReader}
 use Rattle.stream_reader.specs.declared.reader.StreamStep.{StreamStep}
 use Rattle.stream_reader.specs.declared.reader.StreamStep.TheVariants as steps
@@ -31,7 +33,8 @@ use Rattle.session_report.specs.declared.reading.Event.{Event}
 use Rattle.session_report.specs.declared.reading.Event.TheVariants as events
 use Rattle.session_report.specs.declared.reading.Received.{Received}
 use Rattle.session_report.specs.declared.reporter.Outcome.{Outcome}
-use Rattle.session_report.specs.Saying.{SaysStep, event_for, said_by, said_line, said_document, said_lines, said_outcome}
+use Rattle.session_report.specs.Saying.{SaysStep, event_for, said_by, said_line, said_document}
+use Rattle.session_report.specs.Saying.{said_lines, said_outcome}
 use Rattle.session_report.specs.Report.{document_lines, event_line, lines_of, next_outcome, told_of}
 
 same_line : (e : StreamEvent) → said_line (event_for e) ≡ event_line e

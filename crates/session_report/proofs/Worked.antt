@@ -11,7 +11,8 @@ use Rattle.nbfx_values.specs.declared.session.Kind.TheVariants.{Session}
 use Rattle.nbfx_values.specs.declared.session.Mode.{Mode}
 use Rattle.nbfx_values.specs.declared.session.Mode.TheVariants.{Duplex, Simplex}
 use Rattle.stream_reader.specs.Stream.{Settings, receivers}
-use Rattle.stream_reader.proofs.OnLiterals.{streams_on_literals, usual, of_session, preamble, plain_preamble}
+use Rattle.stream_reader.proofs.OnLiterals.{streams_on_literals, usual, of_session, preamble}
+use Rattle.stream_reader.proofs.OnLiterals.{plain_preamble}
 use Rattle.command_words.specs.declared.task.Detail.TheVariants.{Summary, Whole}
 use Rattle.session_report.specs.Report.{offence_line, report}
 

@@ -16,7 +16,8 @@ use Rattle.nbfx_values.specs.declared.session.Mode.{Mode}
 use Rattle.string_tables.specs.SessionStrings.{used_cost}
 use Rattle.unit_streams.specs.Tellers.{Teller, report as report_by}
 use Rattle.stream_loop.specs.Reported.{last_state}
-use Rattle.stream_reader.specs.Stream.{Settings, Envelope, StreamEvent, opened, accepted, message, ended, peer_fault, stream}
+use Rattle.stream_reader.specs.Stream.{Settings, Envelope, StreamEvent, opened, accepted, message}
+use Rattle.stream_reader.specs.Stream.{ended, peer_fault, stream}
 use Rattle.command_words.specs.Values.{mode_name}
 use Rattle.command_words.specs.declared.task.Detail.{Detail}
 use Rattle.command_words.specs.declared.task.Detail.TheVariants.{Summary, Whole}

@@ -9,7 +9,8 @@ use Rattle.nbfx_values.specs.declared.refusals.Offence.{Offence}
 use Rattle.string_tables.specs.SessionStrings.{used_cost}
 use Rattle.stream_reader.specs.Saying.{step_for}
 use Rattle.stream_reader.specs.Standing.{StandsFor, settings_of}
-use Rattle.stream_reader.specs.Stream.{StreamEvent, opened, accepted, message, ended, peer_fault, stream}
+use Rattle.stream_reader.specs.Stream.{StreamEvent, opened, accepted, message, ended, peer_fault}
+use Rattle.stream_reader.specs.Stream.{stream}
 use Rattle.stream_reader.specs.declared.reader.StreamReader.{StreamReader}
 use Rattle.stream_reader.specs.declared.reader.StreamStep.{StreamStep}
 use Rattle.stream_reader.specs.declared.reader.StreamStep.TheVariants.{More}
@@ -20,7 +21,8 @@ use Rattle.session_report.specs.declared.reading.Event.TheVariants as events
 use Rattle.session_report.specs.declared.reading.Received.{Received}
 use Rattle.session_report.specs.declared.reporter.Outcome.{Outcome}
 use Rattle.session_report.specs.declared.reporter.Outcome.TheVariants.{Open, Ended, Faulted}
-use Rattle.session_report.specs.Report.{accepted_line, ended_line, fault_line, last_line, line, measure_words, open_line, string_words}
+use Rattle.session_report.specs.Report.{accepted_line, ended_line, fault_line, last_line, line}
+use Rattle.session_report.specs.Report.{measure_words, open_line, string_words}
 
 -- the value that an event is said with
 abbrev pub event_for : StreamEvent → Event

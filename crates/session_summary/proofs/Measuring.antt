@@ -1,5 +1,6 @@
 -- The line of a session, by what both ends measure, and what is written of it.
-use Rattle.std.proofs.Common.{◌≡◌, ℕ, List, [], ◌++◌, length, Bool, Option, Result, Ok, Err, OnOk, refl, sym, ap, ◌∙◌, subst}
+use Rattle.std.proofs.Common.{◌≡◌, ℕ, List, [], ◌++◌, length, Bool, Option, Result, Ok, Err, OnOk}
+use Rattle.std.proofs.Common.{refl, sym, ap, ◌∙◌, subst}
 use Rattle.std.specs.Prelude.{⊤}
 use Rattle.std.proofs.lemmas.List.{append-nil}
 use Rattle.io_edges.specs.Flow.{GrowsByPrefix, Told}
@@ -44,7 +45,8 @@ wrote written held faults may_want first now line (Ok done) puts emptied =
     (all_written written held faults may_want first now line puts emptied)
 wrote written held faults may_want first now line (Err fault) puts emptied = puts.refused
 
--- what is known of a sink that gathers is known of the one beneath, where nothing was gathered first
+-- what is known of a sink that gathers is known of the one beneath, where nothing was gathered
+-- first
 pub beneath : {K : Type 0} (written : K → Option (List ℕ)) (held : K → List ℕ)
     (Known : Option (List ℕ) → List ℕ → Option (List ℕ) → Type 0) (sink first last result : K)
     (gathered : List ℕ) → sink ≡ first → gathered ≡ [] → result ≡ last

@@ -15,7 +15,8 @@ use Rattle.session_report.specs.Report.{line, string_words}
 use Rattle.session_generator.specs.Ends.{IsTooLong}
 use Rattle.session_generator.specs.Generated.{session_of}
 use Rattle.session_summary.specs.declared.summary.Summary.{Summary}
-use Rattle.session_summary.specs.declared.summary.Summary.TheVariants.{Written, TooLong, WriteFault, Memory}
+use Rattle.session_summary.specs.declared.summary.Summary.TheVariants.{Written, TooLong, WriteFault}
+use Rattle.session_summary.specs.declared.summary.Summary.TheVariants.{Memory}
 
 -- how many documents and bytes a session has, and how many strings it leaves, of which cost
 abbrev pub summary_line : (documents bytes strings used : ℕ) → List ℕ

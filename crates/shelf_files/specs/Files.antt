@@ -1,4 +1,5 @@
--- What a file on a shelf gives, where the shelf tells its files. Reading is what the bytes of such a
+-- What a file on a shelf gives, where the shelf tells its files. Reading is what the bytes of such
+-- a
 -- file give.
 use Rattle.std.specs.Prelude.{◌≡◌, ⊤, ℕ, List, Option, Some, None, IfSome}
 use Rattle.std.specs.FinMap as finite

@@ -1,5 +1,6 @@
 -- Sorted declarations are of prefixes that differ.
-use Rattle.std.proofs.Common.{◌≡◌, ◌∙◌, ◌∷◌, ◌++◌, [], ℕ, List, Bool, true, false, ◌&&◌, ◌||◌, not, ap, inl, inr, refl, sym}
+use Rattle.std.proofs.Common.{◌≡◌, ◌∙◌, ◌∷◌, ◌++◌, [], ℕ, List, Bool, true, false, ◌&&◌, ◌||◌, not}
+use Rattle.std.proofs.Common.{ap, inl, inr, refl, sym}
 use Rattle.std.specs.Cmp.Lexicographic.{slice_cmp}
 use Rattle.std.specs.List.{filter, list_all}
 use Rattle.std.specs.Option.{is_some}

@@ -1,5 +1,6 @@
 -- Declarations of a document are texts, in whatever order they are kept.
-use Rattle.std.proofs.Common.{◌≡◌, ◌∙◌, ℕ, List, [], ◌∷◌, ◌+◌, Bool, true, drop, map, refl, inl, inr}
+use Rattle.std.proofs.Common.{◌≡◌, ◌∙◌, ℕ, List, [], ◌∷◌, ◌+◌, Bool, true, drop, map, refl, inl}
+use Rattle.std.proofs.Common.{inr}
 use Rattle.std.specs.Cmp.Lexicographic.{slice_cmp}
 use Rattle.std.specs.Ordering.{nat_cmp}
 use Rattle.std.specs.declared.cmp.Ordering.{Ordering}
@@ -12,7 +13,8 @@ use Rattle.nbfx_values.specs.declared.content.ArrayItem.{ArrayItem}
 use Rattle.nbfx_values.specs.declared.content.Item.{Item}
 use Rattle.nbfx_values.specs.declared.content.Item.TheVariants.{Xmlns, Attr}
 use Rattle.nbfx_values.specs.Items.{are_texts, is_valid_array, is_valid_attribute, is_valid_item}
-use Rattle.soap_envelope.specs.Body.{array_with, attribute_of, in_scope, is_missing, is_usual, missing, needed, placed, put, put_all}
+use Rattle.soap_envelope.specs.Body.{array_with, attribute_of, in_scope, is_missing, is_usual}
+use Rattle.soap_envelope.specs.Body.{missing, needed, placed, put, put_all}
 use Rattle.soap_envelope.specs.Scopes.{Declaration, declared, declared_on, within}
 use Rattle.soap_envelope.proofs.Lists.{list_all-drop}
 

@@ -3,7 +3,8 @@ use Rattle.std.proofs.Common.{ℕ, List, [], ◌∷◌, ◌++◌, codes, pos}
 use Rattle.nbfx_values.specs.declared.content.ArrayKind.TheVariants.{Int32}
 use Rattle.nbfx_values.specs.declared.content.AttrItem.{AttrItem}
 use Rattle.nbfx_values.specs.declared.content.Item.{Item}
-use Rattle.nbfx_values.specs.declared.content.Item.TheVariants.{Start, Xmlns, Attr, Text, Array, Close}
+use Rattle.nbfx_values.specs.declared.content.Item.TheVariants.{Start, Xmlns, Attr, Text, Array}
+use Rattle.nbfx_values.specs.declared.content.Item.TheVariants.{Close}
 use Rattle.nbfx_values.specs.declared.scalars.Scalar.TheVariants.{Number, Text as TextOf, UniqueId}
 use Rattle.nbfx_values.specs.declared.scalars.Value.TheVariants.{One}
 use Rattle.soap_envelope.specs.Names.{addressing, soap}
@@ -12,7 +13,8 @@ abbrev pub words : List ℕ → Item
 words bytes = Text (One (TextOf bytes))
 
 abbrev pub identifier : List ℕ
-identifier = 0x33 ∷ 0x22 ∷ 0x11 ∷ 0x00 ∷ 0x55 ∷ 0x44 ∷ 0x77 ∷ 0x66 ∷ 0x88 ∷ 0x99 ∷ 0xAA ∷ 0xBB ∷ 0xCC ∷ 0xDD ∷ 0xEE ∷ 0xFF ∷ []
+identifier = 0x33 ∷ 0x22 ∷ 0x11 ∷ 0x00 ∷ 0x55 ∷ 0x44 ∷ 0x77 ∷ 0x66 ∷ 0x88 ∷ 0x99 ∷ 0xAA ∷ 0xBB
+    ∷ 0xCC ∷ 0xDD ∷ 0xEE ∷ 0xFF ∷ []
 
 -- an element of SOAP's, of addressing's and of no namespace, with what stands behind its beginning
 abbrev pub s : List ℕ → List Item → List Item

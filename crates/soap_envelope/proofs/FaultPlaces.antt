@@ -11,11 +11,13 @@ use Rattle.nbfx_values.specs.Positions.{position_from}
 use Rattle.nbfx_values.proofs.Positions.{stepped}
 use Rattle.soap_envelope.specs.Qualified.{Name}
 use Rattle.soap_envelope.specs.declared.report.Code.{Code}
-use Rattle.soap_envelope.specs.declared.report.Code.TheVariants.{VersionMismatch, MustUnderstand, Sender, Receiver}
+use Rattle.soap_envelope.specs.declared.report.Code.TheVariants.{VersionMismatch, MustUnderstand}
+use Rattle.soap_envelope.specs.declared.report.Code.TheVariants.{Sender, Receiver}
 use Rattle.soap_envelope.specs.declared.report.FaultReport.{FaultReport}
 use Rattle.soap_envelope.specs.declared.report.Sub.{Sub}
 use Rattle.soap_envelope.specs.declared.report.Sub.TheVariants as sub
-use Rattle.soap_envelope.specs.Faults.{code_items, fault_body, is_nameable, not_understood_block, reason_items}
+use Rattle.soap_envelope.specs.Faults.{code_items, fault_body, is_nameable, not_understood_block}
+use Rattle.soap_envelope.specs.Faults.{reason_items}
 use Rattle.soap_envelope.specs.Making.{words}
 use Rattle.soap_envelope.proofs.OnLiterals.{envelopes_on_literals}
 use Rattle.soap_envelope.proofs.Places.{leads-on}
@@ -31,16 +33,20 @@ name-leads name h =
     ∙ stepped (Within 2 true) qname (Close ∷ []) q.1
 
 pub names-lead : (names : List Name) → list_all is_nameable names ≡ true
-    → position_from (Some (Within 1 false)) (flat_map not_understood_block names) ≡ Some (Within 1 false)
+    → position_from (Some (Within 1 false)) (flat_map not_understood_block names)
+    ≡ Some (Within 1 false)
 names-lead [] h = refl
 names-lead (name ∷ more) h =
     let q = and_parts (is_nameable name) (list_all is_nameable more) h in
     leads-on (Some (Within 1 false)) (Some (Within 1 false)) (Some (Within 1 false))
-    (not_understood_block name) (flat_map not_understood_block more) (name-leads name q.0) (names-lead more q.1)
+    (not_understood_block name) (flat_map not_understood_block more) (name-leads name q.0)
+    (names-lead more q.1)
 
 -- the code, with its subcodes
 code-leads : (code : Code) (s : Sub) (reason : List ℕ) (names : List Name)
-    → position_from (Some (Within 1 true)) (code_items (record { code = code; sub = s; reason = reason; names = names })) ≡ Some (Within 1 false)
+    → position_from (Some (Within 1 true))
+    (code_items (record { code = code; sub = s; reason = reason; names = names }))
+    ≡ Some (Within 1 false)
 unfolding envelopes_on_literals
 code-leads VersionMismatch sub.None reason names = refl
 code-leads VersionMismatch sub.HeaderRequired reason names = refl

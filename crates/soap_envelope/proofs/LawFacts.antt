@@ -1,5 +1,7 @@
 -- What replies and faults are seen as.
-use Rattle.std.proofs.Common.{◌≡◌, ◌+◌, ℕ, true, List, [], ◌∷◌, ◌++◌, ap, append_assoc, arith, length, refl, sym, ◌∙◌, Some, None, Ok, Err, Option, Result, codes, drop, option_map}
+use Rattle.std.proofs.Common.{◌≡◌, ◌+◌, ℕ, true, List, [], ◌∷◌, ◌++◌, ap, append_assoc, arith}
+use Rattle.std.proofs.Common.{length, refl, sym, ◌∙◌, Some, None, Ok, Err, Option, Result, codes}
+use Rattle.std.proofs.Common.{drop, option_map}
 use Rattle.std.specs.Prelude.{flat_map, slice_get}
 use Rattle.std.specs.List.{list_all}
 use Rattle.std.proofs.lemmas.Bool.{and_parts}
@@ -12,10 +14,12 @@ use Rattle.soap_envelope.specs.declared.report.Sub.{Sub}
 use Rattle.soap_envelope.specs.declared.report.Sub.TheVariants as sub
 use Rattle.soap_envelope.specs.BadNames.{bad_name, first_bad_name}
 use Rattle.soap_envelope.specs.Children.{children_from, is_start}
-use Rattle.soap_envelope.specs.Faults.{code_text, fault_action, fault_body, reason_items, sub_texts, subcode_items, value_items}
+use Rattle.soap_envelope.specs.Faults.{code_text, fault_action, fault_body, reason_items, sub_texts}
+use Rattle.soap_envelope.specs.Faults.{subcode_items, value_items}
 use Rattle.soap_envelope.specs.Laws.{BodiesStand, FaultsAreViewed, RelatesAreKept, RepliesAreViewed}
 use Rattle.soap_envelope.specs.Made.{StandsInReplies, reply_scope}
-use Rattle.soap_envelope.specs.Making.{IsContent, action_block, ending, is_valid_text, middle, opening, response_action, soap_start, addressing_start}
+use Rattle.soap_envelope.specs.Making.{IsContent, action_block, ending, is_valid_text, middle}
+use Rattle.soap_envelope.specs.Making.{opening, response_action, soap_start, addressing_start}
 use Rattle.soap_envelope.specs.declared.parts.Parts.{Parts}
 use Rattle.soap_envelope.specs.declared.refusals.SoapFault.{SoapFault}
 use Rattle.soap_envelope.specs.declared.refusals.SoapFault.TheVariants.{BadNames}

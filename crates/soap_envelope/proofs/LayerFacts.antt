@@ -1,5 +1,7 @@
 -- Where the first declaration of a prefix stands.
-use Rattle.std.proofs.Common.{◌≡◌, ◌∙◌, ◌≤◌, ◌<◌, ◌+◌, ℕ, Bool, true, false, List, [], ◌∷◌, ◌++◌, Option, None, Some, Bor, BTreeMap, ap, arith, get_or, if◌then◌else◌, inl, inr, length, map, refl, sym, take, zero, suc}
+use Rattle.std.proofs.Common.{◌≡◌, ◌∙◌, ◌≤◌, ◌<◌, ◌+◌, ℕ, Bool, true, false, List, [], ◌∷◌, ◌++◌}
+use Rattle.std.proofs.Common.{Option, None, Some, Bor, BTreeMap, ap, arith, get_or, if◌then◌else◌}
+use Rattle.std.proofs.Common.{inl, inr, length, map, refl, sym, take, zero, suc}
 use Rattle.std.specs.Map.{update}
 use Rattle.std.specs.Option.{is_some, option_or}
 use Rattle.std.specs.Prelude.{nat_lt}

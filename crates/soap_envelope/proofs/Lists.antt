@@ -1,5 +1,6 @@
 -- Lists from a place on.
-use Rattle.std.proofs.Common.{◌≡◌, ◌∙◌, ◌<◌, ◌+◌, ℕ, List, [], ◌∷◌, ◌++◌, add-one, ap, drop, get_or, length, map, refl, reverse, suc, sym, take, zero, arith, Bool, true}
+use Rattle.std.proofs.Common.{◌≡◌, ◌∙◌, ◌<◌, ◌+◌, ℕ, List, [], ◌∷◌, ◌++◌, add-one, ap, drop, get_or}
+use Rattle.std.proofs.Common.{length, map, refl, reverse, suc, sym, take, zero, arith, Bool, true}
 use Rattle.std.specs.List.{list_all}
 use Rattle.std.proofs.lemmas.Bool.{and_parts}
 use Rattle.std.proofs.Math.Seq.{drop-cons, drop-nil}
@@ -11,7 +12,8 @@ pub drop-at : {X : Type 0} (xs : List X) (i : ℕ) (x : X) → i < length xs →
 drop-at xs i x h e = drop-cons xs i x h ∙ ap (λ y. y ∷ drop (suc i) xs) (sym e) ∙ rw add-one refl
 
 -- up to a place and that, mapped, from the end
-pub reverse-map-more : {X Y : Type 0} (f : X → Y) (xs : List X) (i : ℕ) (x : X) → i < length xs → x ≡ get_or xs i x
+pub reverse-map-more : {X Y : Type 0} (f : X → Y) (xs : List X) (i : ℕ) (x : X) → i < length xs → x
+    ≡ get_or xs i x
     → reverse (map f (take (i + 1) xs)) ≡ f x ∷ reverse (map f (take i xs))
 reverse-map-more f xs i x h e =
     rw (take_more xs i x h, ← e, map-append, reverse-append) refl
@@ -28,7 +30,8 @@ drop-head {X} xs n y ys h = rw add-one (headed xs n h)
     headed (x ∷ xs) (suc n) h = let r = headed xs n h in (omega arith, ap (λ l. x ∷ l) r.1, r.2)
 
 -- what a test says of all holds behind a place
-pub list_all-drop : {X : Type 0} (p : X → Bool) (n : ℕ) (xs : List X) → list_all p xs ≡ true → list_all p (drop n xs) ≡ true
+pub list_all-drop : {X : Type 0} (p : X → Bool) (n : ℕ) (xs : List X) → list_all p xs ≡ true
+    → list_all p (drop n xs) ≡ true
 list_all-drop p n [] h = rw (drop-nil n) refl
 list_all-drop p zero (x ∷ xs) h = h
 list_all-drop p (suc n) (x ∷ xs) h = list_all-drop p n xs (and_parts (p x) (list_all p xs) h).1

@@ -1,5 +1,6 @@
 -- The children of a reply's root and of its Header, by their places.
-use Rattle.std.proofs.Common.{◌≡◌, ◌+◌, ℕ, true, false, List, [], ◌∷◌, ◌++◌, ap, append_assoc, arith, drop, length, refl, sym, suc, ◌∙◌, Some, codes, Ok}
+use Rattle.std.proofs.Common.{◌≡◌, ◌+◌, ℕ, true, false, List, [], ◌∷◌, ◌++◌, ap, append_assoc}
+use Rattle.std.proofs.Common.{arith, drop, length, refl, sym, suc, ◌∙◌, Some, codes, Ok}
 use Rattle.std.specs.Prelude.{flat_map, slice_get, not}
 use Rattle.std.specs.List.{filter, list_all}
 use Rattle.std.proofs.lemmas.Bool.{and_parts}
@@ -11,7 +12,8 @@ use Rattle.soap_envelope.specs.Qualified.{Name}
 use Rattle.soap_envelope.specs.Characters.{is_passed}
 use Rattle.soap_envelope.specs.Children.{children_from}
 use Rattle.soap_envelope.specs.Faults.{not_understood_block}
-use Rattle.soap_envelope.specs.Making.{IsContent, action_block, ending, envelope_items, is_valid_text, middle, opening, relates_block, soap_start}
+use Rattle.soap_envelope.specs.Making.{IsContent, action_block, ending, envelope_items}
+use Rattle.soap_envelope.specs.Making.{is_valid_text, middle, opening, relates_block, soap_start}
 use Rattle.soap_envelope.specs.Made.{reply_root}
 use Rattle.soap_envelope.specs.Parts.{is_element, kept_children, parts_among, parts_of, root_scope}
 use Rattle.soap_envelope.specs.Names.{soap}

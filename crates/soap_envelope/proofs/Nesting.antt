@@ -1,10 +1,12 @@
 -- Lists of items that close what they open, and nothing else.
-use Rattle.std.proofs.Common.{◌≡◌, ◌+◌, ℕ, Bool, true, false, List, [], ◌∷◌, ◌++◌, ap, arith, length, refl, suc, sym, zero, ◌∙◌, Option, Some, None}
+use Rattle.std.proofs.Common.{◌≡◌, ◌+◌, ℕ, Bool, true, false, List, [], ◌∷◌, ◌++◌, ap, arith}
+use Rattle.std.proofs.Common.{length, refl, suc, sym, zero, ◌∙◌, Option, Some, None}
 use Rattle.std.proofs.Math.Dec.{eqb-suc-zero}
 use Rattle.nbfx_values.specs.Items.{is_valid_item}
 use Rattle.nbfx_values.specs.Positions.{position_from}
 use Rattle.nbfx_values.specs.declared.content.Item.{Item}
-use Rattle.nbfx_values.specs.declared.content.Item.TheVariants.{Start, Xmlns, Attr, Text, Comment, Array, Close}
+use Rattle.nbfx_values.specs.declared.content.Item.TheVariants.{Start, Xmlns, Attr, Text, Comment}
+use Rattle.nbfx_values.specs.declared.content.Item.TheVariants.{Array, Close}
 use Rattle.nbfx_values.specs.declared.position.Position.TheVariants.{Within, After}
 use Rattle.nbfx_values.proofs.Positions.{passed, position_from-none}
 use Rattle.soap_envelope.specs.Body.{self_standing, standing_items}

@@ -1,10 +1,12 @@
 -- Where the items of replies and faults lead in a document.
-use Rattle.std.proofs.Common.{◌≡◌, ◌∙◌, ℕ, zero, suc, Bool, true, false, List, [], ◌∷◌, ◌++◌, append_assoc, Option, None, Some, refl, sym, ap}
+use Rattle.std.proofs.Common.{◌≡◌, ◌∙◌, ℕ, zero, suc, Bool, true, false, List, [], ◌∷◌, ◌++◌}
+use Rattle.std.proofs.Common.{append_assoc, Option, None, Some, refl, sym, ap}
 use Rattle.std.specs.Str.{is_utf8}
 use Rattle.std.specs.List.{list_all}
 use Rattle.std.proofs.lemmas.Bool.{and_parts}
 use Rattle.nbfx_values.specs.declared.content.Item.{Item}
-use Rattle.nbfx_values.specs.declared.content.Item.TheVariants.{Start, Xmlns, Attr, Text, Comment, Array, Close}
+use Rattle.nbfx_values.specs.declared.content.Item.TheVariants.{Start, Xmlns, Attr, Text, Comment}
+use Rattle.nbfx_values.specs.declared.content.Item.TheVariants.{Array, Close}
 use Rattle.nbfx_values.specs.declared.position.Position.{Position}
 use Rattle.nbfx_values.specs.declared.position.Position.TheVariants.{Before, Within, After}
 use Rattle.nbfx_values.specs.Documents.{IsDocument}
@@ -13,7 +15,8 @@ use Rattle.nbfx_values.specs.Positions.{position_from}
 use Rattle.nbfx_values.specs.Scalars.{is_valid_value}
 use Rattle.nbfx_values.proofs.Positions.{passed, position_from-append, position_from-none, stepped}
 use Rattle.nbfx_values.proofs.Walks.{position_of-document}
-use Rattle.soap_envelope.specs.Making.{action_block, ending, envelope_items, is_valid_text, middle, opening, relates_block, words}
+use Rattle.soap_envelope.specs.Making.{action_block, ending, envelope_items, is_valid_text, middle}
+use Rattle.soap_envelope.specs.Making.{opening, relates_block, words}
 use Rattle.soap_envelope.proofs.OnLiterals.{envelopes_on_literals}
 
 -- one element more around
@@ -23,9 +26,11 @@ deeper Before = Before
 deeper After = After
 
 -- what leads on within an element leads on one element deeper
-pub deeper-leads : (xs : List Item) (n m : ℕ) (a b : Bool) → position_from (Some (Within n a)) xs ≡ Some (Within m b)
+pub deeper-leads : (xs : List Item) (n m : ℕ) (a b : Bool) → position_from (Some (Within n a)) xs
+    ≡ Some (Within m b)
     → position_from (Some (Within (suc n) a)) xs ≡ Some (Within (suc m) b)
-deeper-leads [] n m a b h = ap (λ o. o) (let e : Within n a ≡ Within m b = cc in ap (λ p. Some (deeper p)) e)
+deeper-leads [] n m a b h = ap (λ o. o)
+    (let e : Within n a ≡ Within m b = cc in ap (λ p. Some (deeper p)) e)
 deeper-leads (Start p l ∷ xs) n m a b h =
     let q = passed (is_valid_item (Start p l)) (Some (Within (suc n) true)) xs (Within m b) h in
     stepped (Within (suc n) a) (Start p l) xs q.0 ∙ deeper-leads xs (suc n) m true b q.1
@@ -33,12 +38,14 @@ deeper-leads (Xmlns p u ∷ xs) n m true b h =
     let q = passed (is_valid_item (Xmlns p u)) (Some (Within n true)) xs (Within m b) h in
     stepped (Within (suc n) true) (Xmlns p u) xs q.0 ∙ deeper-leads xs n m true b q.1
 deeper-leads (Xmlns p u ∷ xs) n m false b h =
-    absurd (let e : None ≡ Some (Within m b) = sym (position_from-none xs) ∙ (passed (is_valid_item (Xmlns p u)) None xs (Within m b) h).1 in cc)
+    absurd (let e : None ≡ Some (Within m b) = sym (position_from-none xs) ∙
+    (passed (is_valid_item (Xmlns p u)) None xs (Within m b) h).1 in cc)
 deeper-leads (Attr p l v ∷ xs) n m true b h =
     let q = passed (is_valid_item (Attr p l v)) (Some (Within n true)) xs (Within m b) h in
     stepped (Within (suc n) true) (Attr p l v) xs q.0 ∙ deeper-leads xs n m true b q.1
 deeper-leads (Attr p l v ∷ xs) n m false b h =
-    absurd (let e : None ≡ Some (Within m b) = sym (position_from-none xs) ∙ (passed (is_valid_item (Attr p l v)) None xs (Within m b) h).1 in cc)
+    absurd (let e : None ≡ Some (Within m b) = sym (position_from-none xs) ∙
+    (passed (is_valid_item (Attr p l v)) None xs (Within m b) h).1 in cc)
 deeper-leads (Text v ∷ xs) n m a b h =
     let q = passed (is_valid_item (Text v)) (Some (Within n false)) xs (Within m b) h in
     stepped (Within (suc n) a) (Text v) xs q.0 ∙ deeper-leads xs n m false b q.1
@@ -51,19 +58,24 @@ deeper-leads (Array v ∷ xs) n m a b h =
 deeper-leads (Close ∷ xs) (suc n) m a b h = deeper-leads xs n m false b h
 deeper-leads (Close ∷ xs) zero m a b h = absurd (let e = behind-root xs m b h in e)
   where
-    behind-root : (xs : List Item) (m : ℕ) (b : Bool) → position_from (Some After) xs ≡ Some (Within m b) → ⊥
+    behind-root : (xs : List Item) (m : ℕ) (b : Bool) → position_from (Some After) xs
+        ≡ Some (Within m b) → ⊥
     behind-root [] m b h = cc
-    behind-root (x ∷ xs) m b h = let q = passed (is_valid_item x) None xs (Within m b) h in let e : None ≡ Some (Within m b) = sym (position_from-none xs) ∙ q.1 in cc
+    behind-root (x ∷ xs) m b h = let q = passed (is_valid_item x) None xs (Within m b) h in let e :
+        None ≡ Some (Within m b) = sym (position_from-none xs) ∙ q.1 in cc
 
 -- content leads on also right behind the beginning of its element
-pub content-leads : (xs : List Item) (n : ℕ) → position_from (Some (Within n false)) xs ≡ Some (Within n false)
+pub content-leads : (xs : List Item) (n : ℕ) → position_from (Some (Within n false)) xs
+    ≡ Some (Within n false)
     → (b : Bool) × (position_from (Some (Within n true)) xs ≡ Some (Within n b))
 content-leads [] n h = (true, refl)
 content-leads (Start p l ∷ xs) n h = (false, h)
 content-leads (Xmlns p u ∷ xs) n h =
-    absurd (let e : None ≡ Some (Within n false) = sym (position_from-none xs) ∙ (passed (is_valid_item (Xmlns p u)) None xs (Within n false) h).1 in cc)
+    absurd (let e : None ≡ Some (Within n false) = sym (position_from-none xs) ∙
+    (passed (is_valid_item (Xmlns p u)) None xs (Within n false) h).1 in cc)
 content-leads (Attr p l v ∷ xs) n h =
-    absurd (let e : None ≡ Some (Within n false) = sym (position_from-none xs) ∙ (passed (is_valid_item (Attr p l v)) None xs (Within n false) h).1 in cc)
+    absurd (let e : None ≡ Some (Within n false) = sym (position_from-none xs) ∙
+    (passed (is_valid_item (Attr p l v)) None xs (Within n false) h).1 in cc)
 content-leads (Text v ∷ xs) n h = (false, h)
 content-leads (Comment v ∷ xs) n h = (false, h)
 content-leads (Array v ∷ xs) n h = (false, h)
@@ -81,7 +93,8 @@ texts-lead (Text v ∷ xs) n a h =
 texts-lead (x ∷ xs) n a h = absurd cc
 
 -- one list behind another
-pub leads-on : (o p q : Option Position) (xs ys : List Item) → position_from o xs ≡ p → position_from p ys ≡ q
+pub leads-on : (o p q : Option Position) (xs ys : List Item) → position_from o xs ≡ p
+    → position_from p ys ≡ q
     → position_from o (xs ++ ys) ≡ q
 leads-on o p q xs ys h k = position_from-append o xs ys ∙ ap (λ r. position_from r ys) h ∙ k
 
@@ -96,9 +109,11 @@ unfolding envelopes_on_literals
 relates-lead [] h = refl
 relates-lead (text ∷ more) h =
     let p = texts-lead (text ∷ more) 2 true h in
-    leads-on (Some (Within 2 true)) (Some (Within 2 p.0)) (Some (Within 1 false)) (text ∷ more) (Close ∷ []) p.1 refl
+    leads-on (Some (Within 2 true)) (Some (Within 2 p.0)) (Some (Within 1 false)) (text ∷ more)
+    (Close ∷ []) p.1 refl
 
--- an envelope is a document, where its action is UTF-8, its texts are valid, and its blocks and its content lead
+-- an envelope is a document, where its action is UTF-8, its texts are valid, and its blocks and its
+-- content lead
 -- nowhere else
 pub envelope-document : (action : List ℕ) (relates blocks body : List Item) → is_utf8 action ≡ true
     → list_all is_valid_text relates ≡ true
@@ -108,14 +123,21 @@ pub envelope-document : (action : List ℕ) (relates blocks body : List Item) �
 unfolding envelopes_on_literals
 envelope-document action relates blocks body utf8 texts leads content =
     let inside = content-leads body 1 (deeper-leads body 0 0 false false content) in
-    let closed = leads-on (Some (Within 1 true)) (Some (Within 1 inside.0)) (Some After) body ending inside.1 refl in
-    let from_blocks = leads-on (Some (Within 1 false)) (Some (Within 1 false)) (Some After) blocks (middle ++ (body ++ ending)) leads closed in
-    let from_relates = leads-on (Some (Within 1 false)) (Some (Within 1 false)) (Some After) (relates_block relates) (blocks ++ (middle ++ (body ++ ending))) (relates-lead relates texts) from_blocks in
-    let from_action = leads-on (Some (Within 1 true)) (Some (Within 1 false)) (Some After) (action_block action) (relates_block relates ++ (blocks ++ (middle ++ (body ++ ending)))) (action-leads action utf8) from_relates in
+    let closed = leads-on (Some (Within 1 true)) (Some (Within 1 inside.0)) (Some After) body ending
+    inside.1 refl in
+    let from_blocks = leads-on (Some (Within 1 false)) (Some (Within 1 false)) (Some After) blocks
+    (middle ++ (body ++ ending)) leads closed in
+    let from_relates = leads-on (Some (Within 1 false)) (Some (Within 1 false)) (Some After)
+    (relates_block relates) (blocks ++ (middle ++ (body ++ ending))) (relates-lead relates texts)
+    from_blocks in
+    let from_action = leads-on (Some (Within 1 true)) (Some (Within 1 false)) (Some After)
+    (action_block action) (relates_block relates ++ (blocks ++ (middle ++ (body ++ ending))))
+    (action-leads action utf8) from_relates in
     position_of-document (envelope_items action relates blocks body) from_action
 
 -- the items of an envelope in the order in which they are put
 pub grouped : (old : List Item) (action : List ℕ) (relates blocks body : List Item)
-    → ((((((old ++ opening) ++ action_block action) ++ relates_block relates) ++ blocks) ++ middle) ++ body) ++ ending
+    → ((((((old ++ opening) ++ action_block action) ++ relates_block relates) ++ blocks) ++ middle)
+    ++ body) ++ ending
     ≡ old ++ envelope_items action relates blocks body
 grouped old action relates blocks body = simp append_assoc

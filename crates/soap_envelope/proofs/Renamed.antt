@@ -1,8 +1,11 @@
 -- What other prefixes for the same namespaces leave as it is.
-use Rattle.std.proofs.Common.{◌≡◌, ◌+◌, ℕ, Bool, true, false, List, [], ◌∷◌, ◌++◌, ap, drop, length, map, refl, sym, ◌∙◌, Option, Some, None, Result, Ok, Err, codes, if◌then◌else◌}
+use Rattle.std.proofs.Common.{◌≡◌, ◌+◌, ℕ, Bool, true, false, List, [], ◌∷◌, ◌++◌, ap, drop, length}
+use Rattle.std.proofs.Common.{map, refl, sym, ◌∙◌, Option, Some, None, Result, Ok, Err, codes}
+use Rattle.std.proofs.Common.{if◌then◌else◌}
 use Rattle.std.specs.Prelude.{◌==◌, flat_map, slice_get, not, ◌&&◌}
 use Rattle.std.specs.List.{filter, list_all}
-use Rattle.std.specs.Option.{is_some, option_and_then, option_map, option_or, option_to_list, unwrap_or}
+use Rattle.std.specs.Option.{is_some, option_and_then, option_map, option_or, option_to_list}
+use Rattle.std.specs.Option.{unwrap_or}
 use Rattle.std.specs.Str.{bytes_eq}
 use Rattle.std.proofs.Math.Dec.{eqb-suc-zero}
 use Rattle.std.proofs.Math.Path.{fun_ext}
@@ -11,25 +14,40 @@ use Rattle.std.proofs.lemmas.Option.{slice_get-map}
 use Rattle.std.proofs.lemmas.Slice.Eq.{bytes_eq-Decides}
 use Rattle.nbfx_values.specs.declared.content.ArrayItem.{ArrayItem}
 use Rattle.nbfx_values.specs.declared.content.AttrItem.{AttrItem}
-use Rattle.nbfx_values.specs.declared.content.AttrItem.TheVariants.{Xmlns as DeclaresOn, Attr as AttrOn}
+use Rattle.nbfx_values.specs.declared.content.AttrItem.TheVariants.{Xmlns as DeclaresOn}
+use Rattle.nbfx_values.specs.declared.content.AttrItem.TheVariants.{Attr as AttrOn}
 use Rattle.nbfx_values.specs.declared.content.Item.{Item}
-use Rattle.nbfx_values.specs.declared.content.Item.TheVariants.{Start, Xmlns, Attr, Text, Comment, Array, Close}
+use Rattle.nbfx_values.specs.declared.content.Item.TheVariants.{Start, Xmlns, Attr, Text, Comment}
+use Rattle.nbfx_values.specs.declared.content.Item.TheVariants.{Array, Close}
 use Rattle.soap_envelope.specs.declared.blocks.Block.{Block}
 use Rattle.soap_envelope.specs.declared.parts.Parts.{Parts}
 use Rattle.soap_envelope.specs.declared.refusals.SoapFault.{SoapFault}
-use Rattle.soap_envelope.specs.BadNames.{are_good, bad_attribute, bad_in_head, bad_name, first_bad_name, is_good_array}
-use Rattle.soap_envelope.specs.Blocks.{block_of, blocks_among, found, is_soap_attribute, soap_attribute, soap_attribute_of}
-use Rattle.soap_envelope.specs.Characters.{characters_of, has_plain_content, is_passed, is_plain, text_of}
+use Rattle.soap_envelope.specs.BadNames.{are_good, bad_attribute, bad_in_head, bad_name}
+use Rattle.soap_envelope.specs.BadNames.{first_bad_name, is_good_array}
+use Rattle.soap_envelope.specs.Blocks.{block_of, blocks_among, found, is_soap_attribute}
+use Rattle.soap_envelope.specs.Blocks.{soap_attribute, soap_attribute_of}
+use Rattle.soap_envelope.specs.Characters.{characters_of, has_plain_content, is_passed, is_plain}
+use Rattle.soap_envelope.specs.Characters.{text_of}
 use Rattle.soap_envelope.specs.Children.{children_from, children_of, close_from, close_of, is_start}
-use Rattle.soap_envelope.specs.Headers.{addresses, addresses_among, bad_child, bad_header, bad_in_block, counted_at, is_bad_content, only, repeated}
+use Rattle.soap_envelope.specs.Headers.{addresses, addresses_among, bad_child, bad_header}
+use Rattle.soap_envelope.specs.Headers.{bad_in_block, counted_at, is_bad_content, only, repeated}
 use Rattle.soap_envelope.specs.Laws.{PrefixesAreFree}
-use Rattle.soap_envelope.specs.declared.refusals.SoapFault.TheVariants.{BadHeader, BadNames, RepeatedHeader}
+use Rattle.soap_envelope.specs.declared.refusals.SoapFault.TheVariants.{BadHeader, BadNames}
+use Rattle.soap_envelope.specs.declared.refusals.SoapFault.TheVariants.{RepeatedHeader}
 use Rattle.soap_envelope.specs.Names.{addressing, qualified_name, soap, xml_namespace}
-use Rattle.soap_envelope.specs.Parts.{element_name, is_element, is_some_name, kept_children, name_by, parts_among, parts_behind, parts_of, root_scope, wrong_name, wrong_root}
-use Rattle.soap_envelope.specs.Renaming.{IsRenaming, headed, headed_by, renamed, renamed_array, renamed_item, renamed_part}
-use Rattle.soap_envelope.proofs.RenamedItems.{characters-by, children-same, close-same, passed-by, plain-by, start-by, text-by}
-use Rattle.soap_envelope.specs.Scopes.{Declaration, Scope, around, attribute_uri, declaration, declared, declared_on, element_uri, is_bound, undeclared_uri, uri_in, uri_of, within}
-use Rattle.soap_envelope.specs.View.{View, blocks_of, fault_among, header_children, header_fault, header_scope, reply_address_at, text_item, texts_at, texts_in, texts_of, unless, view, viewed, viewed_by}
+use Rattle.soap_envelope.specs.Parts.{element_name, is_element, is_some_name, kept_children}
+use Rattle.soap_envelope.specs.Parts.{name_by, parts_among, parts_behind, parts_of, root_scope}
+use Rattle.soap_envelope.specs.Parts.{wrong_name, wrong_root}
+use Rattle.soap_envelope.specs.Renaming.{IsRenaming, headed, headed_by, renamed, renamed_array}
+use Rattle.soap_envelope.specs.Renaming.{renamed_item, renamed_part}
+use Rattle.soap_envelope.proofs.RenamedItems.{characters-by, children-same, close-same, passed-by}
+use Rattle.soap_envelope.proofs.RenamedItems.{plain-by, start-by, text-by}
+use Rattle.soap_envelope.specs.Scopes.{Declaration, Scope, around, attribute_uri, declaration}
+use Rattle.soap_envelope.specs.Scopes.{declared, declared_on, element_uri, is_bound, undeclared_uri}
+use Rattle.soap_envelope.specs.Scopes.{uri_in, uri_of, within}
+use Rattle.soap_envelope.specs.View.{View, blocks_of, fault_among, header_children, header_fault}
+use Rattle.soap_envelope.specs.View.{header_scope, reply_address_at, text_item, texts_at, texts_in}
+use Rattle.soap_envelope.specs.View.{texts_of, unless, view, viewed, viewed_by}
 
 module _ (f : List ℕ → List ℕ) (r : IsRenaming f) where
   abbrev layer : List Declaration → List Declaration

@@ -1,12 +1,15 @@
 -- What other prefixes leave of items by themselves.
-use Rattle.std.proofs.Common.{◌≡◌, ◌+◌, ℕ, List, [], ◌∷◌, ap, refl, Option, Some, None, if◌then◌else◌}
+use Rattle.std.proofs.Common.{◌≡◌, ◌+◌, ℕ, List, [], ◌∷◌, ap, refl, Option, Some, None}
+use Rattle.std.proofs.Common.{if◌then◌else◌}
 use Rattle.std.specs.Prelude.{◌==◌, ◌&&◌}
 use Rattle.std.specs.Option.{option_map}
 use Rattle.std.proofs.Math.Path.{fun_ext}
 use Rattle.nbfx_values.specs.declared.content.Item.{Item}
-use Rattle.nbfx_values.specs.declared.content.Item.TheVariants.{Start, Xmlns, Attr, Text, Comment, Array, Close}
+use Rattle.nbfx_values.specs.declared.content.Item.TheVariants.{Start, Xmlns, Attr, Text, Comment}
+use Rattle.nbfx_values.specs.declared.content.Item.TheVariants.{Array, Close}
 use Rattle.soap_envelope.specs.Characters.{characters_of, is_passed, is_plain}
-use Rattle.soap_envelope.specs.Children.{children_from, close_from, ends_at, is_child, is_start, open_behind}
+use Rattle.soap_envelope.specs.Children.{children_from, close_from, ends_at, is_child, is_start}
+use Rattle.soap_envelope.specs.Children.{open_behind}
 use Rattle.soap_envelope.specs.Renaming.{renamed, renamed_item}
 use Rattle.soap_envelope.specs.View.{text_item}
 

@@ -1,5 +1,7 @@
 -- The content of a view's Body has good names in any reply.
-use Rattle.std.proofs.Common.{◌≡◌, ◌∙◌, ◌∷◌, ◌++◌, ◌⊎◌, [], ℕ, zero, suc, List, Bool, true, false, Option, None, Some, ◌&&◌, ◌||◌, not, add-one, ap, append_assoc, arith, codes, inl, inr, map, refl, sym}
+use Rattle.std.proofs.Common.{◌≡◌, ◌∙◌, ◌∷◌, ◌++◌, ◌⊎◌, [], ℕ, zero, suc, List, Bool, true, false}
+use Rattle.std.proofs.Common.{Option, None, Some, ◌&&◌, ◌||◌, not, add-one, ap, append_assoc, arith}
+use Rattle.std.proofs.Common.{codes, inl, inr, map, refl, sym}
 use Rattle.std.specs.Option.{is_some, option_or}
 use Rattle.std.specs.Prelude.{◌==◌, is_none}
 use Rattle.std.specs.Str.{bytes_eq}
@@ -8,15 +10,21 @@ use Rattle.std.proofs.lemmas.List.{append-nil}
 use Rattle.std.proofs.lemmas.Slice.Eq.{bytes_eq-Decides}
 use Rattle.nbfx_values.specs.declared.content.ArrayItem.{ArrayItem}
 use Rattle.nbfx_values.specs.declared.content.AttrItem.{AttrItem}
-use Rattle.nbfx_values.specs.declared.content.AttrItem.TheVariants.{Xmlns as DeclaresOn, Attr as AttrOn}
+use Rattle.nbfx_values.specs.declared.content.AttrItem.TheVariants.{Xmlns as DeclaresOn}
+use Rattle.nbfx_values.specs.declared.content.AttrItem.TheVariants.{Attr as AttrOn}
 use Rattle.nbfx_values.specs.declared.content.Item.{Item}
-use Rattle.nbfx_values.specs.declared.content.Item.TheVariants.{Start, Xmlns, Attr, Text, Comment, Array, Close}
+use Rattle.nbfx_values.specs.declared.content.Item.TheVariants.{Start, Xmlns, Attr, Text, Comment}
+use Rattle.nbfx_values.specs.declared.content.Item.TheVariants.{Array, Close}
 use Rattle.soap_envelope.specs.BadNames.{are_good, is_good_array}
-use Rattle.soap_envelope.specs.Body.{array_with, attribute_of, in_scope, is_missing, is_usual, missing, needed, self_standing, standing_items, unusual, xmlns_of}
+use Rattle.soap_envelope.specs.Body.{array_with, attribute_of, in_scope, is_missing, is_usual}
+use Rattle.soap_envelope.specs.Body.{missing, needed, self_standing, standing_items, unusual}
+use Rattle.soap_envelope.specs.Body.{xmlns_of}
 use Rattle.soap_envelope.specs.Made.{reply_scope}
 use Rattle.soap_envelope.specs.Names.{addressing, soap}
-use Rattle.soap_envelope.specs.Scopes.{Declaration, Scope, around, declaration, declared, declared_on, is_bound, undeclared_uri, uri_in, uri_of}
-use Rattle.soap_envelope.proofs.Apart.{apart-filter, apart-parts, are_apart, has, has-append, has-cons, has-in_scope, in_scope-apart}
+use Rattle.soap_envelope.specs.Scopes.{Declaration, Scope, around, declaration, declared}
+use Rattle.soap_envelope.specs.Scopes.{declared_on, is_bound, undeclared_uri, uri_in, uri_of}
+use Rattle.soap_envelope.proofs.Apart.{apart-filter, apart-parts, are_apart, has, has-append}
+use Rattle.soap_envelope.proofs.Apart.{has-cons, has-in_scope, in_scope-apart}
 use Rattle.soap_envelope.proofs.GoodNames.{good_attributes, good_head, good_names, refuted}
 use Rattle.soap_envelope.proofs.OnLiterals.{envelopes_on_literals}
 
@@ -386,7 +394,8 @@ scope-reach (layer ∷ outer) p h = elim
       | inl here ↦ inl (has-in_scope layer outer p ∙ or-first (has layer p) (has (in_scope outer) p)
           here)
       | inr further ↦ elim (scope-reach outer p further) [
-        | inl there ↦ inl (has-in_scope layer outer p ∙ or-second (has layer p) (has (in_scope outer) p)
+        | inl there ↦ inl (has-in_scope layer outer p ∙ or-second (has layer p)
+            (has (in_scope outer) p)
             there)
         | inr undeclared ↦ inr undeclared
       ]

@@ -1,5 +1,6 @@
 -- Where the content of an element begins among the items of its document.
-use Rattle.std.proofs.Common.{◌≡◌, ◌∙◌, ◌≤◌, ◌+◌, ◌-◌, ℕ, zero, suc, List, [], ◌∷◌, ap, arith, drop, length, refl, sym}
+use Rattle.std.proofs.Common.{◌≡◌, ◌∙◌, ◌≤◌, ◌+◌, ◌-◌, ℕ, zero, suc, List, [], ◌∷◌, ap, arith, drop}
+use Rattle.std.proofs.Common.{length, refl, sym}
 use Rattle.std.proofs.Math.Seq.{drop-nil}
 use Rattle.std.proofs.lemmas.List.{length-drop}
 use Rattle.nbfx_values.specs.declared.content.Item.{Item}

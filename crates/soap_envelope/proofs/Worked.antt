@@ -1,17 +1,22 @@
 -- Worked cases: the view of literal documents.
-use Rattle.std.proofs.Common.{◌≡◌, ℕ, List, [], ◌∷◌, ◌++◌, codes, refl, pos, map, Some, None, Result, Ok, Err, Bool, true, false}
+use Rattle.std.proofs.Common.{◌≡◌, ℕ, List, [], ◌∷◌, ◌++◌, codes, refl, pos, map, Some, None}
+use Rattle.std.proofs.Common.{Result, Ok, Err, Bool, true, false}
 use Rattle.nbfx_values.specs.declared.content.AttrItem.TheVariants.{Xmlns as DeclaresOn}
 use Rattle.nbfx_values.specs.declared.content.Item.{Item}
-use Rattle.nbfx_values.specs.declared.content.Item.TheVariants.{Start, Xmlns, Attr, Text, Comment, Close}
-use Rattle.nbfx_values.specs.declared.scalars.Scalar.TheVariants.{Number, Truth, Float, UniqueId, QName}
+use Rattle.nbfx_values.specs.declared.content.Item.TheVariants.{Start, Xmlns, Attr, Text, Comment}
+use Rattle.nbfx_values.specs.declared.content.Item.TheVariants.{Close}
+use Rattle.nbfx_values.specs.declared.scalars.Scalar.TheVariants.{Number, Truth, Float, UniqueId}
+use Rattle.nbfx_values.specs.declared.scalars.Scalar.TheVariants.{QName}
 use Rattle.nbfx_values.specs.declared.scalars.Value.TheVariants.{One}
 use Rattle.soap_envelope.specs.declared.blocks.Block.{Block}
 use Rattle.soap_envelope.specs.declared.refusals.SoapFault.{SoapFault}
 use Rattle.soap_envelope.specs.Fitting.{fits}
-use Rattle.soap_envelope.specs.Names.{addressing, qualified_name, role_next, role_ultimate_receiver, soap, xml_namespace}
+use Rattle.soap_envelope.specs.Names.{addressing, qualified_name, role_next, role_ultimate_receiver}
+use Rattle.soap_envelope.specs.Names.{soap, xml_namespace}
 use Rattle.soap_envelope.specs.Qualified.{Name}
 use Rattle.soap_envelope.specs.View.{View, view}
-use Rattle.soap_envelope.proofs.Documents.{a, action, array, attribute, echo, enveloped, identifier, must, role, s, with_blocks, with_body, words, x}
+use Rattle.soap_envelope.proofs.Documents.{a, action, array, attribute, echo, enveloped, identifier}
+use Rattle.soap_envelope.proofs.Documents.{must, role, s, with_blocks, with_body, words, x}
 use Rattle.soap_envelope.proofs.OnLiterals.{envelopes_on_literals}
 
 -- an envelope as WCF sends them
@@ -109,7 +114,8 @@ flags_of_blocks : AllTold flags flagged
 unfolding envelopes_on_literals
 flags_of_blocks = refl
 
--- the names of blocks: by a prefix that the block, Header or the root declares, by one that the block
+-- the names of blocks: by a prefix that the block, Header or the root declares, by one that the
+-- block
 -- binds to no namespace, by none, and by `xml`, which an element may declare as it likes
 abbrev names : View → List Name
 names v = map (λ (b : Block). b.name) v.blocks

@@ -1,12 +1,14 @@
 -- The content of Body said again by places: what each child declares by the prefixes that are
 -- declared around it, the least first. Compared on literal documents.
-use Rattle.std.proofs.Common.{◌≡◌, ◌+◌, ℕ, zero, suc, List, [], ◌∷◌, ◌++◌, Bool, true, false, not, codes, cond, drop, length, map, refl, Option, Some, None}
+use Rattle.std.proofs.Common.{◌≡◌, ◌+◌, ℕ, zero, suc, List, [], ◌∷◌, ◌++◌, Bool, true, false, not}
+use Rattle.std.proofs.Common.{codes, cond, drop, length, map, refl, Option, Some, None}
 use Rattle.std.specs.Prelude.{◌==◌, ◌&&◌, ◌||◌, nat_lt, slice_get}
 use Rattle.std.specs.List.{filter, flat_map}
 use Rattle.std.specs.Option.{option_to_list, unwrap_or}
 use Rattle.std.specs.Str.{bytes_eq}
 use Rattle.nbfx_values.specs.declared.content.AttrItem.{AttrItem}
-use Rattle.nbfx_values.specs.declared.content.AttrItem.TheVariants.{Xmlns as DeclaresOn, Attr as AttrOn}
+use Rattle.nbfx_values.specs.declared.content.AttrItem.TheVariants.{Xmlns as DeclaresOn}
+use Rattle.nbfx_values.specs.declared.content.AttrItem.TheVariants.{Attr as AttrOn}
 use Rattle.nbfx_values.specs.declared.content.Item.{Item}
 use Rattle.nbfx_values.specs.declared.content.Item.TheVariants.{Start, Xmlns, Array}
 use Rattle.soap_envelope.specs.Names.{addressing, soap}
@@ -116,7 +118,8 @@ tabled : AllAgree (map (λ r. r.0) contents)
 unfolding envelopes_on_literals
 tabled = refl
 
--- prefixes that begin alike, that the root and Body or Body and a child declare, and that a child of
+-- prefixes that begin alike, that the root and Body or Body and a child declare, and that a child
+-- of
 -- a child declares; the usual ones rebound
 others : AllAgree (
     echo

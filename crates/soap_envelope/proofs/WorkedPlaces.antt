@@ -1,8 +1,12 @@
--- The first bad name said again by places, from the items before a place and those at the head behind it, and
+-- The first bad name said again by places, from the items before a place and those at the head
+-- behind it, and
 -- compared on literal documents.
-use Rattle.std.proofs.Common.{◌≡◌, ◌+◌, ℕ, zero, suc, List, [], ◌∷◌, ◌++◌, Bool, true, false, not, codes, refl, map, drop, take, length, slice_get, Option, Some, None, cond}
+use Rattle.std.proofs.Common.{◌≡◌, ◌+◌, ℕ, zero, suc, List, [], ◌∷◌, ◌++◌, Bool, true, false, not}
+use Rattle.std.proofs.Common.{codes, refl, map, drop, take, length, slice_get, Option, Some, None}
+use Rattle.std.proofs.Common.{cond}
 use Rattle.std.specs.Option.{is_some}
-use Rattle.nbfx_values.specs.declared.content.AttrItem.TheVariants.{Xmlns as DeclaresOn, Attr as AttrOn}
+use Rattle.nbfx_values.specs.declared.content.AttrItem.TheVariants.{Xmlns as DeclaresOn}
+use Rattle.nbfx_values.specs.declared.content.AttrItem.TheVariants.{Attr as AttrOn}
 use Rattle.nbfx_values.specs.declared.content.Item.{Item}
 use Rattle.nbfx_values.specs.declared.content.Item.TheVariants.{Start, Xmlns, Attr, Array, Close}
 use Rattle.nbfx_values.specs.declared.scalars.Scalar.TheVariants.{Truth}
@@ -40,7 +44,8 @@ innermost (layer ∷ outer) = layer
 abbrev is_bad : List Item → ℕ → Option Item → Bool
 is_bad items at (Some (Start prefix local)) = not (is_bound (scope_at items at) prefix)
 is_bad items at (Some (Attr prefix local value)) = not (is_bound (scope_at items at) prefix)
-is_bad items at (Some (Xmlns prefix uri)) = is_some (uri_in (innermost (behind [] (take at items))) prefix)
+is_bad items at (Some (Xmlns prefix uri)) = is_some
+    (uri_in (innermost (behind [] (take at items))) prefix)
 is_bad items at (Some (Array a)) = not (is_good_array (behind [] (take at items)) a)
 is_bad items at _ = false
 
@@ -60,17 +65,21 @@ documents : AllAgree (
     echo
     ∷ with_body (Start (codes "q") (codes "x") ∷ Close ∷ [])
     ∷ with_body (x (attribute (codes "q") (codes "k") [] ∷ []))
-    ∷ with_body (x (Xmlns (codes "q") (codes "urn:q") ∷ []) ++ Start (codes "q") (codes "x") ∷ Close ∷ [])
+    ∷ with_body (x (Xmlns (codes "q") (codes "urn:q") ∷ []) ++ Start (codes "q") (codes "x") ∷ Close
+    ∷ [])
     ∷ with_body (x (Xmlns (codes "q") [] ∷ Xmlns (codes "q") [] ∷ []))
     ∷ with_body (x (Xmlns [] (codes "urn:q") ∷ Xmlns [] (codes "urn:r") ∷ []))
-    ∷ with_body (Start (codes "q") (codes "x") ∷ Xmlns (codes "r") [] ∷ Xmlns (codes "r") [] ∷ Close ∷ [])
-    ∷ with_body (x (attribute (codes "q") (codes "k") [] ∷ Xmlns (codes "r") [] ∷ Xmlns (codes "r") [] ∷ []))
+    ∷ with_body (Start (codes "q") (codes "x") ∷ Xmlns (codes "r") [] ∷ Xmlns (codes "r") [] ∷ Close
+    ∷ [])
+    ∷ with_body
+    (x (attribute (codes "q") (codes "k") [] ∷ Xmlns (codes "r") [] ∷ Xmlns (codes "r") [] ∷ []))
     ∷ with_body (x (attribute (codes "q") (codes "k") [] ∷ Xmlns (codes "q") [] ∷ []))
     ∷ with_body (x (attribute (codes "xml") (codes "lang") [] ∷ []))
     ∷ with_body (array (codes "q") [] ∷ [])
     ∷ with_body (array [] (AttrOn (codes "q") (codes "k") (One (Truth true)) ∷ []) ∷ [])
     ∷ with_body (array [] (DeclaresOn (codes "q") [] ∷ DeclaresOn (codes "q") [] ∷ []) ∷ [])
-    ∷ with_body (array [] (DeclaresOn (codes "q") [] ∷ []) ∷ Start (codes "q") (codes "x") ∷ Close ∷ [])
+    ∷ with_body (array [] (DeclaresOn (codes "q") [] ∷ []) ∷ Start (codes "q") (codes "x") ∷ Close
+    ∷ [])
     ∷ (Start (codes "s") (codes "Envelope") ∷ Close ∷ [])
     ∷ [])
 unfolding envelopes_on_literals

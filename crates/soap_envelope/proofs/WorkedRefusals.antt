@@ -1,15 +1,21 @@
 -- Worked cases: documents without a view, and why they have none.
 use Rattle.std.proofs.Common.{◌≡◌, ℕ, List, [], ◌∷◌, ◌++◌, codes, refl, map, true, Result, Err}
-use Rattle.nbfx_values.specs.declared.content.AttrItem.TheVariants.{Xmlns as DeclaresOn, Attr as AttrOn}
+use Rattle.nbfx_values.specs.declared.content.AttrItem.TheVariants.{Xmlns as DeclaresOn}
+use Rattle.nbfx_values.specs.declared.content.AttrItem.TheVariants.{Attr as AttrOn}
 use Rattle.nbfx_values.specs.declared.content.Item.{Item}
-use Rattle.nbfx_values.specs.declared.content.Item.TheVariants.{Start, Xmlns, Attr, Text, Comment, Close}
+use Rattle.nbfx_values.specs.declared.content.Item.TheVariants.{Start, Xmlns, Attr, Text, Comment}
+use Rattle.nbfx_values.specs.declared.content.Item.TheVariants.{Close}
 use Rattle.nbfx_values.specs.declared.scalars.Scalar.TheVariants.{Truth, Float, QName}
 use Rattle.nbfx_values.specs.declared.scalars.Value.TheVariants.{One}
 use Rattle.soap_envelope.specs.declared.refusals.SoapFault.{SoapFault}
-use Rattle.soap_envelope.specs.declared.refusals.SoapFault.TheVariants.{BadNames, NotAnEnvelope, VersionMismatch, Misplaced, NoBody, RepeatedHeader, BadHeader}
+use Rattle.soap_envelope.specs.declared.refusals.SoapFault.TheVariants.{BadNames, NotAnEnvelope}
+use Rattle.soap_envelope.specs.declared.refusals.SoapFault.TheVariants.{VersionMismatch, Misplaced}
+use Rattle.soap_envelope.specs.declared.refusals.SoapFault.TheVariants.{NoBody, RepeatedHeader}
+use Rattle.soap_envelope.specs.declared.refusals.SoapFault.TheVariants.{BadHeader}
 use Rattle.soap_envelope.specs.Names.{addressing, soap}
 use Rattle.soap_envelope.specs.View.{View, view}
-use Rattle.soap_envelope.proofs.Documents.{a, action, array, attribute, enveloped, must, role, s, with_blocks, with_body, words, x}
+use Rattle.soap_envelope.proofs.Documents.{a, action, array, attribute, enveloped, must, role, s}
+use Rattle.soap_envelope.proofs.Documents.{with_blocks, with_body, words, x}
 use Rattle.soap_envelope.proofs.OnLiterals.{envelopes_on_literals}
 
 abbrev pub Row : Type 0
@@ -40,7 +46,8 @@ names : AllRefused (
     )
     ∷ (
       with_body
-          (x (attribute (codes "q") (codes "k") [] ∷ Xmlns (codes "r") [] ∷ Xmlns (codes "r") [] ∷ [])),
+          (x (attribute (codes "q") (codes "k") [] ∷ Xmlns (codes "r") [] ∷ Xmlns (codes "r") []
+          ∷ [])),
       BadNames 5,
     )
     ∷ (with_body (array (codes "q") [] ∷ []), BadNames 4)
@@ -149,12 +156,14 @@ bad_headers =
     )
     ∷ (
       with_blocks
-          (a (codes "Sec") (Attr (codes "s") (codes "role") (One (Float 0)) ∷ must (codes "TRUE") ∷ [])),
+          (a (codes "Sec") (Attr (codes "s") (codes "role") (One (Float 0)) ∷ must (codes "TRUE")
+          ∷ [])),
       BadHeader 5,
     )
     ∷ (
       with_blocks
-          (a (codes "Sec") (must (codes "TRUE") ∷ Attr (codes "s") (codes "role") (One (Float 0)) ∷ [])),
+          (a (codes "Sec") (must (codes "TRUE") ∷ Attr (codes "s") (codes "role") (One (Float 0))
+          ∷ [])),
       BadHeader 5,
     )
     ∷ (with_blocks (a (codes "Action") (must (codes "TRUE") ∷ x [])), BadHeader 4)

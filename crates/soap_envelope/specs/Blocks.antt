@@ -1,5 +1,6 @@
 -- The header blocks: their names, and what their SOAP attributes say.
-use Rattle.std.specs.Prelude.{ℕ, ◌+◌, List, [], ◌∷◌, Option, None, Some, Bool, true, false, ◌&&◌, ◌||◌, if◌then◌else◌, codes, drop, map, slice_get, unwrap_or}
+use Rattle.std.specs.Prelude.{ℕ, ◌+◌, List, [], ◌∷◌, Option, None, Some, Bool, true, false, ◌&&◌}
+use Rattle.std.specs.Prelude.{◌||◌, if◌then◌else◌, codes, drop, map, slice_get, unwrap_or}
 use Rattle.std.specs.List.{filter}
 use Rattle.std.specs.Str.{bytes_eq}
 use Rattle.nbfx_values.specs.declared.content.Item.{Item}

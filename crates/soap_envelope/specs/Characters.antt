@@ -1,5 +1,6 @@
 -- The characters of texts and elements.
-use Rattle.std.specs.Prelude.{ℕ, List, [], Option, None, Some, Bool, true, false, ◌||◌, ◌==◌, is_some, slice_get}
+use Rattle.std.specs.Prelude.{ℕ, List, [], Option, None, Some, Bool, true, false, ◌||◌, ◌==◌}
+use Rattle.std.specs.Prelude.{is_some, slice_get}
 use Rattle.std.specs.List.{flat_map, list_all}
 use Rattle.nbfx_values.specs.declared.content.Item.{Item}
 use Rattle.nbfx_values.specs.declared.content.Item.TheVariants.{Text, Comment}
@@ -29,7 +30,8 @@ is_plain _ = false
 
 -- whether all children of the element at a place are
 abbrev pub has_plain_content : List Item → ℕ → Bool
-has_plain_content items at = list_all (λ child. is_plain (slice_get items child)) (children_of items at)
+has_plain_content items at = list_all (λ child. is_plain (slice_get items child))
+    (children_of items at)
 
 abbrev pub or_none : Option (List ℕ) → List ℕ
 or_none None = []

@@ -8,7 +8,8 @@ use Rattle.nbfx_values.specs.declared.scalars.Scalar.TheVariants.{Text as TextOf
 use Rattle.nbfx_values.specs.declared.scalars.Value.TheVariants.{One}
 use Rattle.soap_envelope.specs.Qualified.{Name}
 use Rattle.soap_envelope.specs.declared.report.Code.{Code}
-use Rattle.soap_envelope.specs.declared.report.Code.TheVariants.{VersionMismatch, MustUnderstand, Sender, Receiver}
+use Rattle.soap_envelope.specs.declared.report.Code.TheVariants.{VersionMismatch, MustUnderstand}
+use Rattle.soap_envelope.specs.declared.report.Code.TheVariants.{Sender, Receiver}
 use Rattle.soap_envelope.specs.declared.report.FaultReport.{FaultReport}
 use Rattle.soap_envelope.specs.declared.report.Sub.{Sub}
 use Rattle.soap_envelope.specs.declared.report.Sub.TheVariants as sub
@@ -56,7 +57,8 @@ reason_items reason =
 abbrev pub code_items : FaultReport → List Item
 code_items report =
     soap_start (codes "Code")
-    ∷ (value_items (code_text report.code) ++ (subcode_items (sub_texts report.sub) ++ (Close ∷ [])))
+    ∷ (value_items (code_text report.code)
+    ++ (subcode_items (sub_texts report.sub) ++ (Close ∷ [])))
 
 -- the content of a fault's Body
 abbrev pub fault_body : FaultReport → List Item

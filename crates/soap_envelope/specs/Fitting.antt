@@ -1,5 +1,6 @@
 -- Which items and which names fit a quota on content.
-use Rattle.std.specs.Prelude.{ℕ, ◌+◌, ◌-◌, List, Option, None, Some, Bool, if◌then◌else◌, length, nat_le, sum_by}
+use Rattle.std.specs.Prelude.{ℕ, ◌+◌, ◌-◌, List, Option, None, Some, Bool, if◌then◌else◌, length}
+use Rattle.std.specs.Prelude.{nat_le, sum_by}
 use Rattle.nbfx_values.specs.declared.content.Item.{Item}
 use Rattle.nbfx_values.specs.Measures.{content_of}
 use Rattle.soap_envelope.specs.Qualified.{Name}

@@ -1,6 +1,9 @@
--- The blocks of addressing that count, the first that is repeated, and the first item of Header that
+-- The blocks of addressing that count, the first that is repeated, and the first item of Header
+-- that
 -- isn't as the standards have it.
-use Rattle.std.specs.Prelude.{ℕ, List, [], ◌∷◌, ◌++◌, Option, None, Some, Bool, true, false, not, ◌&&◌, ◌||◌, if◌then◌else◌, codes, find, is_some, min, option_map, slice_get}
+use Rattle.std.specs.Prelude.{ℕ, List, [], ◌∷◌, ◌++◌, Option, None, Some, Bool, true, false, not}
+use Rattle.std.specs.Prelude.{◌&&◌, ◌||◌, if◌then◌else◌, codes, find, is_some, min, option_map}
+use Rattle.std.specs.Prelude.{slice_get}
 use Rattle.std.specs.List.{filter, list_any}
 use Rattle.std.specs.Option.{option_or}
 use Rattle.std.specs.Str.{bytes_eq}
@@ -107,7 +110,8 @@ bad_in_block items outer b =
 -- the same of a child of Header
 abbrev pub bad_child : List Item → Scope → ℕ → Option ℕ
 bad_child items outer at =
-    if is_start (slice_get items at) then bad_in_block items outer (block_of items outer at) else Some at
+    if is_start (slice_get items at) then bad_in_block items outer (block_of items outer at)
+    else Some at
 
 -- the same of children of Header
 abbrev pub bad_header : List Item → Scope → List ℕ → Option ℕ

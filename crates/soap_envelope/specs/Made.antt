@@ -1,5 +1,6 @@
 -- What is seen of the replies and faults that are made.
-use Rattle.std.specs.Prelude.{◌≡◌, ℕ, ◌+◌, List, [], ◌∷◌, ◌++◌, codes, length, None, Some, true, false}
+use Rattle.std.specs.Prelude.{◌≡◌, ℕ, ◌+◌, List, [], ◌∷◌, ◌++◌, codes, length, None, Some, true}
+use Rattle.std.specs.Prelude.{false}
 use Rattle.nbfx_values.specs.declared.content.Item.{Item}
 use Rattle.soap_envelope.specs.declared.blocks.Block.{Block}
 use Rattle.soap_envelope.specs.Qualified.{Name}

@@ -19,7 +19,8 @@ is_valid_text _ = false
 abbrev pub AreTexts : List Item → Type 0
 AreTexts items = IsTrue (list_all is_valid_text items)
 
--- the items may stand inside an element behind its attributes: as many elements are open behind them
+-- the items may stand inside an element behind its attributes: as many elements are open behind
+-- them
 -- as before them, and never fewer
 abbrev pub IsContent : List Item → Type 0
 IsContent items = position_from (Some (Within 0 false)) items ≡ Some (Within 0 false)
@@ -37,7 +38,8 @@ addressing_start local = Start (codes "a") local
 -- the Action that must be understood
 abbrev pub action_block : List ℕ → List Item
 action_block action =
-    addressing_start (codes "Action") ∷ Attr (codes "s") (codes "mustUnderstand") (One (Number (pos 1)))
+    addressing_start (codes "Action") ∷ Attr (codes "s") (codes "mustUnderstand")
+    (One (Number (pos 1)))
     ∷ words action ∷ Close ∷ []
 
 -- the RelatesTo with these texts, where there are some
@@ -61,7 +63,8 @@ ending = Close ∷ Close ∷ []
 -- Body
 abbrev pub envelope_items : List ℕ → (relates blocks body : List Item) → List Item
 envelope_items action relates blocks body =
-    opening ++ (action_block action ++ (relates_block relates ++ (blocks ++ (middle ++ (body ++ ending)))))
+    opening ++
+    (action_block action ++ (relates_block relates ++ (blocks ++ (middle ++ (body ++ ending)))))
 
 -- the action of the reply to a request
 abbrev pub response_action : List ℕ → List ℕ

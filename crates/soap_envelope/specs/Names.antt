@@ -1,4 +1,5 @@
--- The names to which SOAP 1.2, WS-Addressing 1.0 and XML Namespaces 1.0 give a meaning. The namespace
+-- The names to which SOAP 1.2, WS-Addressing 1.0 and XML Namespaces 1.0 give a meaning. The
+-- namespace
 -- of addressing stands here alone.
 use Rattle.std.specs.Prelude.{ℕ, List, Bool, ◌&&◌, codes}
 use Rattle.std.specs.Str.{bytes_eq}

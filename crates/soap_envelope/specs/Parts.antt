@@ -1,5 +1,6 @@
 -- The root of an envelope, and which of the root's children are its Header and its Body.
-use Rattle.std.specs.Prelude.{ℕ, List, [], ◌∷◌, Option, None, Some, Result, Ok, Err, Bool, false, not, if◌then◌else◌, codes, slice_get}
+use Rattle.std.specs.Prelude.{ℕ, List, [], ◌∷◌, Option, None, Some, Result, Ok, Err, Bool, false}
+use Rattle.std.specs.Prelude.{not, if◌then◌else◌, codes, slice_get}
 use Rattle.std.specs.List.{filter}
 use Rattle.std.specs.Str.{bytes_eq}
 use Rattle.nbfx_values.specs.declared.content.Item.{Item}
@@ -7,7 +8,9 @@ use Rattle.nbfx_values.specs.declared.content.Item.TheVariants.{Start}
 use Rattle.soap_envelope.specs.Qualified.{Name}
 use Rattle.soap_envelope.specs.declared.parts.Parts.{Parts}
 use Rattle.soap_envelope.specs.declared.refusals.SoapFault.{SoapFault}
-use Rattle.soap_envelope.specs.declared.refusals.SoapFault.TheVariants.{NotAnEnvelope, VersionMismatch, Misplaced, NoBody}
+use Rattle.soap_envelope.specs.declared.refusals.SoapFault.TheVariants.{NotAnEnvelope}
+use Rattle.soap_envelope.specs.declared.refusals.SoapFault.TheVariants.{VersionMismatch, Misplaced}
+use Rattle.soap_envelope.specs.declared.refusals.SoapFault.TheVariants.{NoBody}
 use Rattle.soap_envelope.specs.Characters.{is_passed}
 use Rattle.soap_envelope.specs.Children.{children_of}
 use Rattle.soap_envelope.specs.Names.{is_named, qualified_name, soap}
@@ -55,7 +58,8 @@ parts_behind items root header (at ∷ []) =
     then Ok (record { header = header; body = at })
     else Err (Misplaced at)
 parts_behind items root header (at ∷ next ∷ more) =
-    if is_element items root soap (codes "Body") at then Err (Misplaced next) else Err (Misplaced at)
+    if is_element items root soap (codes "Body") at then Err (Misplaced next) else Err
+    (Misplaced at)
 
 -- the parts, of which these are the children of the root
 abbrev pub parts_among : List Item → Scope → List ℕ → Result Parts SoapFault

@@ -1,5 +1,6 @@
 -- The view of a document as an envelope of SOAP 1.2 with WS-Addressing 1.0.
-use Rattle.std.specs.Prelude.{ℕ, List, [], Option, None, Some, Result, Ok, Err, codes, option_and_then, option_map, slice_get}
+use Rattle.std.specs.Prelude.{ℕ, List, [], Option, None, Some, Result, Ok, Err, codes}
+use Rattle.std.specs.Prelude.{option_and_then, option_map, slice_get}
 use Rattle.std.specs.List.{flat_map}
 use Rattle.std.specs.Option.{option_or, option_to_list}
 use Rattle.nbfx_values.specs.declared.content.Item.{Item}
@@ -7,7 +8,8 @@ use Rattle.nbfx_values.specs.declared.content.Item.TheVariants.{Text}
 use Rattle.soap_envelope.specs.declared.blocks.Block.{Block}
 use Rattle.soap_envelope.specs.declared.parts.Parts.{Parts}
 use Rattle.soap_envelope.specs.declared.refusals.SoapFault.{SoapFault}
-use Rattle.soap_envelope.specs.declared.refusals.SoapFault.TheVariants.{BadNames, RepeatedHeader, BadHeader}
+use Rattle.soap_envelope.specs.declared.refusals.SoapFault.TheVariants.{BadNames, RepeatedHeader}
+use Rattle.soap_envelope.specs.declared.refusals.SoapFault.TheVariants.{BadHeader}
 use Rattle.soap_envelope.specs.BadNames.{bad_name}
 use Rattle.soap_envelope.specs.Blocks.{blocks_among}
 use Rattle.soap_envelope.specs.Body.{body_items}
@@ -40,7 +42,8 @@ header_children items None = []
 header_children items (Some at) = kept_children items at
 
 abbrev pub blocks_of : List Item → Option ℕ → List Block
-blocks_of items header = blocks_among items (header_scope items header) (header_children items header)
+blocks_of items header = blocks_among items (header_scope items header)
+    (header_children items header)
 
 -- the texts among the children of the element at a place
 abbrev pub text_item : Option Item → Option Item

@@ -1,5 +1,7 @@
 -- What the rows that were read so far say of the file.
-use Rattle.std.proofs.Common.{◌≡◌, ℕ, ◌+◌, Bool, true, false, List, [], ◌∷◌, ◌++◌, Option, Some, None, Result, Ok, Err, String, BTreeMap, HashMap, refl, sym, ap, ◌∙◌, append_assoc, inl, inr, drop}
+use Rattle.std.proofs.Common.{◌≡◌, ℕ, ◌+◌, Bool, true, false, List, [], ◌∷◌, ◌++◌, Option, Some}
+use Rattle.std.proofs.Common.{None, Result, Ok, Err, String, BTreeMap, HashMap, refl, sym, ap, ◌∙◌}
+use Rattle.std.proofs.Common.{append_assoc, inl, inr, drop}
 use Rattle.std.specs.Prelude.{is_some}
 use Rattle.std.specs.Result.{result_ok}
 use Rattle.std.proofs.lemmas.Bool.{cases_Bool}
@@ -10,7 +12,8 @@ use Rattle.csv_rows.specs.Rows.{Advanced}
 use Rattle.string_tables.specs.StaticStrings.{Entry, in_order, static_text, with_entry}
 use Rattle.static_dictionary.specs.Faults.{AddsEntryOf, Tells}
 use Rattle.static_dictionary.specs.Inside.{AreMapsOfTable, entries_in}
-use Rattle.static_dictionary.specs.Rows.{Fault, Row, entries_of, entry_of, fault_from, fault_of, fault_or, is_header, rows_of, table_of}
+use Rattle.static_dictionary.specs.Rows.{Fault, Row, entries_of, entry_of, fault_from, fault_of}
+use Rattle.static_dictionary.specs.Rows.{fault_or, is_header, rows_of, table_of}
 use Rattle.static_dictionary.specs.declared.fault.TableFault.{TableFault}
 use Rattle.static_dictionary.specs.declared.fault.TableFault.TheVariants.{Bad, Memory}
 use Rattle.static_dictionary.specs.declared.fault.TableKind.{TableKind}

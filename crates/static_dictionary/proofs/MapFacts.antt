@@ -1,5 +1,7 @@
 -- Facts about a table's two maps.
-use Rattle.std.proofs.Common.{◌≡◌, ℕ, zero, suc, ◌*◌, ◌/◌, ◌%◌, ◌++◌, ◌⊎◌, length, arith, true, false, cond, List, [], ◌∷◌, Option, Some, None, String, Ordering, refl, sym, ap, ◌∙◌, subst, map, option_map, string_bytes, inl, inr}
+use Rattle.std.proofs.Common.{◌≡◌, ℕ, zero, suc, ◌*◌, ◌/◌, ◌%◌, ◌++◌, ◌⊎◌, length, arith, true}
+use Rattle.std.proofs.Common.{false, cond, List, [], ◌∷◌, Option, Some, None, String, Ordering}
+use Rattle.std.proofs.Common.{refl, sym, ap, ◌∙◌, subst, map, option_map, string_bytes, inl, inr}
 use Rattle.std.specs.Prelude.{◌==◌, Result, Ok, Err, IfOk, IfErr, OnOk, is_some}
 use Rattle.std.specs.BTreeMap.{BTreeMap, insert_entry, is_at}
 use Rattle.std.specs.List.{slice_get}
@@ -10,7 +12,8 @@ use Rattle.std.specs.Ordering.{match_ordering, nat_cmp}
 use Rattle.std.specs.Str.{bytes_eq}
 use Rattle.std.specs.declared.cmp.Ordering.TheVariants.{Less, Equal, Greater}
 use Rattle.std.proofs.lemmas.Bool.{cases_Bool}
-use Rattle.string_tables.specs.StaticStrings.{Entry, IsStaticId, IsStaticMap, least_static_id, least_with, static_text, with_entry}
+use Rattle.string_tables.specs.StaticStrings.{Entry, IsStaticId, IsStaticMap, least_static_id}
+use Rattle.string_tables.specs.StaticStrings.{least_with, static_text, with_entry}
 use Rattle.static_dictionary.specs.Faults.{Tells}
 use Rattle.static_dictionary.specs.declared.fault.TableFault.{TableFault}
 use Rattle.static_dictionary.specs.declared.fault.TableFault.TheVariants.{Memory}

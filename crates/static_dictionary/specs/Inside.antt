@@ -1,5 +1,6 @@
 -- A table's two maps, as the entries that a contract sees.
-use Rattle.std.specs.Prelude.{◌≡◌, ℕ, ◌*◌, List, Option, Some, map, length, slice_get, string_bytes, String}
+use Rattle.std.specs.Prelude.{◌≡◌, ℕ, ◌*◌, List, Option, Some, map, length, slice_get, string_bytes}
+use Rattle.std.specs.Prelude.{String}
 use Rattle.std.specs.BTreeMap.{BTreeMap}
 use Rattle.std.specs.HashMap.{HashMap, get_by_text}
 use Rattle.string_tables.specs.StaticStrings.{Entry, IsStaticMap, least_static_id, static_text}

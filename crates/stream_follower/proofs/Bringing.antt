@@ -1,9 +1,12 @@
 -- What a piece of a stream brings to the events so far: an event, the end, a refusal, or nothing
 -- yet.
-use Rattle.std.proofs.Common.{◌≡◌, ℕ, ◌<◌, ◌≤◌, List, [], ◌∷◌, ◌++◌, length, take, Bool, true, false, Option, Some, None, Result, Ok, Err, refl, sym, ap, ◌∙◌, subst, append_assoc}
+use Rattle.std.proofs.Common.{◌≡◌, ℕ, ◌<◌, ◌≤◌, List, [], ◌∷◌, ◌++◌, length, take, Bool, true}
+use Rattle.std.proofs.Common.{false, Option, Some, None, Result, Ok, Err, refl, sym, ap, ◌∙◌, subst}
+use Rattle.std.proofs.Common.{append_assoc}
 use Rattle.std.proofs.lemmas.List.{append-nil, take_rest, take-append-drop}
 use Rattle.unit_streams.specs.Grammar.{Grammar}
-use Rattle.unit_streams.specs.Judging.{History, answer, ending_at, events, events_of, history, history_from, offence}
+use Rattle.unit_streams.specs.Judging.{History, answer, ending_at, events, events_of, history}
+use Rattle.unit_streams.specs.Judging.{history_from, offence}
 use Rattle.unit_streams.specs.Going.{IsPending, IsOpenAt}
 use Rattle.unit_streams.specs.Tellers.{Teller, Closes, state_at, state_behind}
 use Rattle.unit_streams.proofs.Pending.{open_history, pending_history}

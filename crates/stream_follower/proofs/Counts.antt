@@ -22,7 +22,8 @@ heard_some g Heard i i' endings.ReadFault h = (events_of g h.bytes, h.heard)
 heard_some g Heard i i' endings.Memory h = (h.events, h.heard)
 
 -- counts of calls that failed so where others failed
-pub counts_as : (f f' : ℕ) (A B : Type 0) → (A → B) → (B → A) → CountsFaults f f' A → CountsFaults f f'
+pub counts_as : (f f' : ℕ) (A B : Type 0) → (A → B) → (B → A) → CountsFaults f f' A
+    → CountsFaults f f'
     B
 counts_as f f' A B to back h = record {
   rose = λ b. h.rose (back b);

@@ -1,9 +1,11 @@
 -- The state that a stream leaves after its events, where it is ended by its end, by an event or by
 -- a refusal.
-use Rattle.std.proofs.Common.{◌≡◌, ℕ, List, [], ◌∷◌, ◌++◌, length, take, drop, Bool, true, Option, Some, None, sym, ap, ◌∙◌}
+use Rattle.std.proofs.Common.{◌≡◌, ℕ, List, [], ◌∷◌, ◌++◌, length, take, drop, Bool, true, Option}
+use Rattle.std.proofs.Common.{Some, None, sym, ap, ◌∙◌}
 use Rattle.std.proofs.lemmas.List.{append-nil}
 use Rattle.unit_streams.specs.Grammar.{Grammar}
-use Rattle.unit_streams.specs.Judging.{History, only, led_by, history, events, events_of, ending_at, Answer, completes, offends, answer}
+use Rattle.unit_streams.specs.Judging.{History, only, led_by, history, events, events_of, ending_at}
+use Rattle.unit_streams.specs.Judging.{Answer, completes, offends, answer}
 use Rattle.unit_streams.specs.Going.{IsPending, IsOpenAt, history_by}
 use Rattle.unit_streams.specs.Laws.{raised, unless_decided}
 use Rattle.unit_streams.specs.Tellers.{Teller, Closes, state_behind, state_at}

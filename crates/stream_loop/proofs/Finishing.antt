@@ -1,6 +1,8 @@
 -- How the reporting of a stream ended, by what was put for the bytes that were read, and what was
 -- then written.
-use Rattle.std.proofs.Common.{IsErrOf, Bool, ◌≡◌, ℕ, ◌-◌, ◌+◌, ◌⊎◌, inl, inr, List, [], ◌++◌, length, take, Option, Some, None, Result, Ok, Err, IfOk, IfErr, OnOk, OnErr, ◌↔◌, refl, sym, ap, ◌∙◌, subst, arith, append_assoc}
+use Rattle.std.proofs.Common.{IsErrOf, Bool, ◌≡◌, ℕ, ◌-◌, ◌+◌, ◌⊎◌, inl, inr, List, [], ◌++◌}
+use Rattle.std.proofs.Common.{length, take, Option, Some, None, Result, Ok, Err, IfOk, IfErr, OnOk}
+use Rattle.std.proofs.Common.{OnErr, ◌↔◌, refl, sym, ap, ◌∙◌, subst, arith, append_assoc}
 use Rattle.std.specs.Prelude.{⊤}
 use Rattle.std.proofs.Math.Seq.{take-append-add}
 use Rattle.std.proofs.lemmas.Bool.{cases_lt}
@@ -15,11 +17,13 @@ use Rattle.unit_streams.specs.Grammar.{Grammar}
 use Rattle.unit_streams.specs.Tellers.{Teller, AreDue, report, told_so_far}
 use Rattle.unit_streams.proofs.Telling.{told_nothing}
 use Rattle.stream_loop.specs.Edges.{Input, Output}
-use Rattle.stream_loop.specs.Reported.{AsksOnce, Breaks, Decides, EndsAs, Grows, IsJudged, Judges, Reaches, Reports, Writes}
+use Rattle.stream_loop.specs.Reported.{AsksOnce, Breaks, Decides, EndsAs, Grows, IsJudged, Judges}
+use Rattle.stream_loop.specs.Reported.{Reaches, Reports, Writes}
 use Rattle.stream_loop.specs.Reading.{HasReported, IsAllRead, ReportsAs, done, ended_by}
 use Rattle.stream_loop.specs.declared.reporting.Ending.{Ending}
 use Rattle.stream_loop.specs.declared.reporting.Ending.TheVariants as endings
-use Rattle.stream_loop.proofs.Writing.{told_some, known_told, told_as, grown_within, put_either, counted_with, puts_grow}
+use Rattle.stream_loop.proofs.Writing.{told_some, known_told, told_as, grown_within, put_either}
+use Rattle.stream_loop.proofs.Writing.{counted_with, puts_grow}
 use Rattle.stream_loop.proofs.LoopSteps.{lines_due}
 
 -- what was put and then written, of what was reported so, and how that ends

@@ -1,7 +1,10 @@
 -- What is known between two pieces of a stream that is reported.
-use Rattle.std.proofs.Common.{◌≡◌, ℕ, ◌-◌, ◌≤◌, ◌<◌, ◌⊎◌, inl, inr, List, [], ◌++◌, length, take, drop, Bool, Option, Some, None, Result, ◌↔◌, refl, sym, ap, ◌∙◌, subst, arith, append_assoc, length-append}
+use Rattle.std.proofs.Common.{◌≡◌, ℕ, ◌-◌, ◌≤◌, ◌<◌, ◌⊎◌, inl, inr, List, [], ◌++◌, length, take}
+use Rattle.std.proofs.Common.{drop, Bool, Option, Some, None, Result, ◌↔◌, refl, sym, ap, ◌∙◌}
+use Rattle.std.proofs.Common.{subst, arith, append_assoc, length-append}
 use Rattle.std.proofs.Math.Seq.{take-nil}
-use Rattle.std.proofs.lemmas.List.{append-nil, length-take-le, take-append-le, take-append-drop, take_all}
+use Rattle.std.proofs.lemmas.List.{append-nil, length-take-le, take-append-le, take-append-drop}
+use Rattle.std.proofs.lemmas.List.{take_all}
 use Rattle.io_edges.specs.Flow.{Told, Moves, GrowsByPrefix, Passes}
 use Rattle.io_edges.specs.declared.SinkFault.{SinkFault}
 use Rattle.unit_streams.specs.Grammar.{Grammar}
@@ -39,7 +42,8 @@ LeftSince left left' all = (bytes : List ℕ) → left ≡ Some bytes → (rest 
 abbrev pub TakenSince : (taken taken' : Option (List ℕ)) (p : List ℕ) → Type 0
 TakenSince taken taken' p = (t : List ℕ) → taken ≡ Some t → taken' ≡ Some (t ++ p)
 
-module _ (left before after : Option (List ℕ)) (p : List ℕ) (split : LeftSince left before (λ rest. p ++ rest)) where
+module _ (left before after : Option (List ℕ)) (p : List ℕ)
+    (split : LeftSince left before (λ rest. p ++ rest)) where
   -- what is left after a piece more
   left_moves : (room y : List ℕ) (n : ℕ) → Told before after (λ l l'. Moves l l' room n)
       → take n room ≡ y → LeftSince left after (λ rest. p ++ y ++ rest)

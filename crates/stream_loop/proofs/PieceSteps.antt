@@ -1,17 +1,21 @@
 -- What a piece of a stream that is read and reported brings: an event, the end, a refusal, or
 -- nothing yet; and what the end of the input does.
-use Rattle.std.proofs.Common.{◌≡◌, ℕ, List, ◌++◌, length, take, Bool, true, false, Option, Some, None, Result, Ok, Err, IfOk, refl, sym, ap, ◌∙◌, subst, arith, append_assoc}
+use Rattle.std.proofs.Common.{◌≡◌, ℕ, List, ◌++◌, length, take, Bool, true, false, Option, Some}
+use Rattle.std.proofs.Common.{None, Result, Ok, Err, IfOk, refl, sym, ap, ◌∙◌, subst, arith}
+use Rattle.std.proofs.Common.{append_assoc}
 use Rattle.std.specs.Prelude.{⊤}
 use Rattle.std.specs.Result.{result_err}
 use Rattle.std.proofs.lemmas.List.{take_rest, take-append-drop, take_all}
 use Rattle.io_edges.specs.Puts.{PutsAll}
 use Rattle.io_edges.specs.declared.SinkFault.{SinkFault}
 use Rattle.unit_streams.specs.Grammar.{Grammar}
-use Rattle.unit_streams.specs.Judging.{Answer, goes_on, completes, offends, answer, ending_at, is_over_at}
+use Rattle.unit_streams.specs.Judging.{Answer, goes_on, completes, offends, answer, ending_at}
+use Rattle.unit_streams.specs.Judging.{is_over_at}
 use Rattle.unit_streams.specs.Going.{IsPending, IsOpenAt}
 use Rattle.unit_streams.specs.Tellers.{Teller, Closes, report, told_so_far, state_at}
 use Rattle.unit_streams.proofs.Pending.{pending_open, open_going_on}
-use Rattle.unit_streams.proofs.Pieces.{TellsEvent, rest_of, event_told, none_told, refusal_told, joined, last_due}
+use Rattle.unit_streams.proofs.Pieces.{TellsEvent, rest_of, event_told, none_told, refusal_told}
+use Rattle.unit_streams.proofs.Pieces.{joined, last_due}
 use Rattle.unit_streams.proofs.Telling.{ends_add}
 use Rattle.stream_loop.specs.Answers.{said, Says, said_at_end}
 use Rattle.stream_loop.specs.Reported.{IsJudged, last_state}

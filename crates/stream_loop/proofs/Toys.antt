@@ -1,11 +1,16 @@
 -- The streams of the tests.
-use Rattle.std.proofs.Common.{◌≡◌, ℕ, ◌+◌, ◌<◌, ◌≤◌, ◌⊎◌, inl, inr, zero, suc, List, [], ◌∷◌, ◌++◌, length, take, length-append, Bool, true, false, Option, Some, None, refl, sym, ap, ◌∙◌, subst, arith}
+use Rattle.std.proofs.Common.{◌≡◌, ℕ, ◌+◌, ◌<◌, ◌≤◌, ◌⊎◌, inl, inr, zero, suc, List, [], ◌∷◌, ◌++◌}
+use Rattle.std.proofs.Common.{length, take, length-append, Bool, true, false, Option, Some, None}
+use Rattle.std.proofs.Common.{refl, sym, ap, ◌∙◌, subst, arith}
 use Rattle.std.specs.Prelude.{◌==◌, nat_le, if◌then◌else◌, slice_get}
 use Rattle.std.specs.Option.{option_or}
 use Rattle.std.proofs.lemmas.Bool.{le-leb, lt-leb, leb-false}
 use Rattle.unit_streams.specs.Front.{Front, begun, whole, wrong, wrong_of}
-use Rattle.unit_streams.specs.Grammar.{Grammar, Standing, next_unit, standing, resumed, with_more, behind_unit, IsReadable}
-use Rattle.unit_streams.specs.Judging.{given_at, event_at, refusal_at, is_over_at, ending_at, answer, answer_from, goes_on, completes, offends, unless_completed}
+use Rattle.unit_streams.specs.Grammar.{Grammar, Standing, next_unit, standing, resumed, with_more}
+use Rattle.unit_streams.specs.Grammar.{behind_unit, IsReadable}
+use Rattle.unit_streams.specs.Judging.{given_at, event_at, refusal_at, is_over_at, ending_at}
+use Rattle.unit_streams.specs.Judging.{answer, answer_from, goes_on, completes, offends}
+use Rattle.unit_streams.specs.Judging.{unless_completed}
 use Rattle.unit_streams.specs.Tellers.{Closes}
 use Rattle.unit_streams.proofs.Fronts.{IsDecided, reads_by, wrong_open}
 use Rattle.unit_streams.proofs.Peeling.{extent}

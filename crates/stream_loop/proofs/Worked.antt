@@ -1,7 +1,8 @@
 -- The streams of the tests and their reports, by computation alone.
 use Rattle.std.proofs.Common.{◌≡◌, ℕ, List, [], ◌∷◌, map, Bool, Option, Some, None, refl}
 use Rattle.unit_streams.specs.Grammar.{Grammar, standing, peel, peeled}
-use Rattle.unit_streams.specs.Judging.{events, offence, history, history_from, event_at, refusal_at, ending_at}
+use Rattle.unit_streams.specs.Judging.{events, offence, history, history_from, event_at, refusal_at}
+use Rattle.unit_streams.specs.Judging.{ending_at}
 use Rattle.unit_streams.specs.Tellers.{Teller, report, told_along, state_behind}
 use Rattle.stream_loop.specs.Reported.{last_state}
 use Rattle.stream_loop.specs.Toy.{bytes_to_0, bytes_and_count}

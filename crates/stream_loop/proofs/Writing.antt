@@ -1,5 +1,7 @@
 -- What is told before and afterwards, what counts say, and what is written after what was.
-use Rattle.std.proofs.Common.{IsErrOf, ◌≡◌, ℕ, inl, inr, List, [], ◌++◌, length, take, Bool, true, Option, Some, None, Result, Ok, Err, OnOk, OnErr, refl, sym, ap, ◌∙◌, subst, arith}
+use Rattle.std.proofs.Common.{IsErrOf, ◌≡◌, ℕ, inl, inr, List, [], ◌++◌, length, take, Bool, true}
+use Rattle.std.proofs.Common.{Option, Some, None, Result, Ok, Err, OnOk, OnErr, refl, sym, ap, ◌∙◌}
+use Rattle.std.proofs.Common.{subst, arith}
 use Rattle.std.proofs.lemmas.Bool.{cases_lt}
 use Rattle.std.proofs.lemmas.List.{append-nil, take_all, take-append-le}
 use Rattle.std.specs.Prelude.{⊤}

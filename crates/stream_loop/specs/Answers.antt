@@ -1,6 +1,7 @@
 -- How a reading end says what the grammar of its stream answers, what a reporter writes that sees
 -- events as they are said, and what the loop asks of a grammar.
-use Rattle.std.specs.Prelude.{◌≡◌, ◌≤◌, ⊤, ℕ, List, [], length, Bool, Option, Some, None, Result, Ok, Err}
+use Rattle.std.specs.Prelude.{◌≡◌, ◌≤◌, ⊤, ℕ, List, [], length, Bool, Option, Some, None, Result}
+use Rattle.std.specs.Prelude.{Ok, Err}
 use Rattle.unit_streams.specs.Grammar.{Grammar}
 use Rattle.unit_streams.specs.Judging.{Answer, goes_on, completes, offends, refusal_at}
 use Rattle.unit_streams.specs.Going.{IsPending}

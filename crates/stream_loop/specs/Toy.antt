@@ -1,6 +1,7 @@
 -- For the tests: streams of which each byte is an event, up to the byte 0, and what is written of
 -- them.
-use Rattle.std.specs.Prelude.{◌≡◌, ℕ, ◌+◌, length, ◌==◌, nat_le, if◌then◌else◌, min, List, [], ◌∷◌, Bool, false, Option, Some, None}
+use Rattle.std.specs.Prelude.{◌≡◌, ℕ, ◌+◌, length, ◌==◌, nat_le, if◌then◌else◌, min, List, [], ◌∷◌}
+use Rattle.std.specs.Prelude.{Bool, false, Option, Some, None}
 use Rattle.unit_streams.specs.Front.{Front, begun, whole, wrong}
 use Rattle.unit_streams.specs.Grammar.{Grammar, standing}
 use Rattle.unit_streams.specs.Tellers.{Teller}

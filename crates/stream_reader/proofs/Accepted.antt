@@ -1,6 +1,9 @@
--- A stream whose units lead to where the input may end begins with a session: unit by unit, from the
+-- A stream whose units lead to where the input may end begins with a session: unit by unit, from
+-- the
 -- last to the first.
-use Rattle.std.proofs.Common.{◌≡◌, ℕ, ◌+◌, ◌-◌, ◌<◌, ◌≤◌, ◌⊎◌, inl, inr, List, [], ◌∷◌, ◌++◌, length, take, Bool, true, false, Some, None, refl, sym, ap, ◌∙◌, subst, arith, append_assoc, length-append}
+use Rattle.std.proofs.Common.{◌≡◌, ℕ, ◌+◌, ◌-◌, ◌<◌, ◌≤◌, ◌⊎◌, inl, inr, List, [], ◌∷◌, ◌++◌}
+use Rattle.std.proofs.Common.{length, take, Bool, true, false, Some, None, refl, sym, ap, ◌∙◌}
+use Rattle.std.proofs.Common.{subst, arith, append_assoc, length-append}
 use Rattle.std.specs.Prelude.{◌==◌, if◌then◌else◌}
 use Rattle.std.proofs.lemmas.Bool.{cases_lt, eqb-true, eqb-false}
 use Rattle.std.proofs.lemmas.List.{append-nil, nil_from_length}
@@ -21,15 +24,26 @@ use Rattle.nmf_records.specs.declared.script.Due.TheVariants as dues
 use Rattle.nmf_records.specs.Records.{IsRecordOf}
 use Rattle.nmf_records.specs.Reading.{MayCome}
 use Rattle.nmf_records.specs.Script.{may_come, behind_preamble}
-use Rattle.stream_reader.specs.Stream.{OpenPayload, Form, sized, chunked, last_chunk, Settings, direction_of, serves, mode_of, kind_of, Situation, Stage, record_due, chunk_due, payload_open, StreamUnit, due_behind, is_chunked, reason_in, offence_in, on_payload, payload_by, after, after_bare, after_record, behind_payload, payload_begun, payload_in, refusal_in, refused_payload, unit_in, with_byte, with_chunk}
-use Rattle.stream_reader.specs.Sessions.{IsBare, AreChunks, joined, IsSized, IsUnsized, IsEnvelopeIn, Carried, CarriesAll, IsFault}
+use Rattle.stream_reader.specs.Stream.{OpenPayload, Form, sized, chunked, last_chunk, Settings}
+use Rattle.stream_reader.specs.Stream.{direction_of, serves, mode_of, kind_of, Situation, Stage}
+use Rattle.stream_reader.specs.Stream.{record_due, chunk_due, payload_open, StreamUnit, due_behind}
+use Rattle.stream_reader.specs.Stream.{is_chunked, reason_in, offence_in, on_payload, payload_by}
+use Rattle.stream_reader.specs.Stream.{after, after_bare, after_record, behind_payload}
+use Rattle.stream_reader.specs.Stream.{payload_begun, payload_in, refusal_in, refused_payload}
+use Rattle.stream_reader.specs.Stream.{unit_in, with_byte, with_chunk}
+use Rattle.stream_reader.specs.Sessions.{IsBare, AreChunks, joined, IsSized, IsUnsized}
+use Rattle.stream_reader.specs.Sessions.{IsEnvelopeIn, Carried, CarriesAll, IsFault}
 use Rattle.stream_reader.proofs.Coming.{unit_of_record, unit_of_chunk, unit_of_payload}
-use Rattle.stream_reader.proofs.DueRecords.{version_due, mode_due, via_due, encoding_due, envelope_due, chunk_due as size_due}
+use Rattle.stream_reader.proofs.DueRecords.{version_due, mode_due, via_due, encoding_due}
+use Rattle.stream_reader.proofs.DueRecords.{envelope_due, chunk_due as size_due}
 use Rattle.stream_reader.proofs.Envelopes.{fronts}
 use Rattle.stream_reader.proofs.Outcomes.{goes_on, wants_chunk, is_whole, is_refused, outcome}
-use Rattle.stream_reader.proofs.RightRecords.{right_encoding, right_mode, right_size, right_version, right_via}
+use Rattle.stream_reader.proofs.RightRecords.{right_encoding, right_mode, right_size, right_version}
+use Rattle.stream_reader.proofs.RightRecords.{right_via}
 use Rattle.stream_reader.proofs.Situations.{begun_behind}
-use Rattle.stream_reader.proofs.ToSession.{Closing, ends, faults, Closes, may_carry, Rest, Chunked, OpenRest, IsFromDue, IsFrom, none_mapped, rest_behind, whole_payload}
+use Rattle.stream_reader.proofs.ToSession.{Closing, ends, faults, Closes, may_carry, Rest, Chunked}
+use Rattle.stream_reader.proofs.ToSession.{OpenRest, IsFromDue, IsFrom, none_mapped, rest_behind}
+use Rattle.stream_reader.proofs.ToSession.{whole_payload}
 
 -- which stages come in a direction and a mode
 abbrev pub InParts : Mode → Type 0
@@ -147,7 +161,8 @@ module _ (x : Settings) where
 
   record_proper : (z : Situation) (from : ℕ) (due : Due) (read : Frame) (text : List ℕ)
       → ProperDue (direction_of x.side) z.mode due
-      → MayCome (may_come (direction_of x.side) due) read → IsProper (after_record x z from read text)
+      → MayCome (may_come (direction_of x.side) due) read
+      → IsProper (after_record x z from read text)
   record_proper z from due (frames.Version major minor) text h may =
       subst (ProperDue (direction_of x.side) z.mode)
       (version_due (direction_of x.side) due major minor may) h
@@ -234,7 +249,8 @@ module _ (x : Settings) (good : IsGood x.limits) (Stop : Type 0) where
     bytes_are = ap (λ r. t ++ r) none ∙ append-nil t;
   }
 
-  module _ (z : Situation) (from : ℕ) (cheap : used_cost z.strings ≤ x.limits.dictionary) (due : Due) (proper : ProperDue (direction_of x.side) z.mode due) (t c : List ℕ) where
+  module _ (z : Situation) (from : ℕ) (cheap : used_cost z.strings ≤ x.limits.dictionary)
+      (due : Due) (proper : ProperDue (direction_of x.side) z.mode due) (t c : List ℕ) where
     abbrev FromDue : Due → Type 0
     FromDue d = IsFromDue x Stop z d (t ++ c)
 
@@ -244,10 +260,12 @@ module _ (x : Settings) (good : IsGood x.limits) (Stop : Type 0) where
         → OpenRest x Stop (payload_in x z) z.mode z.kind sized size [] c
         → Rest x Stop z.mode z.kind z.strings dues.Messages (t ++ c)
     sized_first size is low parts r =
-        let d = whole_payload x good z r.part cheap (let n = r.size in omega (arith, n, low)) r.clean
+        let d = whole_payload x good z r.part cheap (let n = r.size in omega (arith, n, low))
+        r.clean
         r.next.0 in
         let next : Rest x Stop z.mode z.kind (z.strings ++ d.own) dues.Messages r.more =
-        subst (λ (s : List (List ℕ)). Rest x Stop z.mode z.kind s dues.Messages r.more) d.strings_are
+        subst (λ (s : List (List ℕ)). Rest x Stop z.mode z.kind s dues.Messages r.more)
+        d.strings_are
         r.next.1 in
         let is' : IsBare (frames.SizedEnvelope (length r.part)) t =
         subst (λ (n : ℕ). IsBare (frames.SizedEnvelope n) t) (sym r.size) is in
@@ -294,7 +312,8 @@ module _ (x : Settings) (good : IsGood x.limits) (Stop : Type 0) where
           all = (
             t ++ k.parts,
             [],
-            subst (λ (m : Mode). IsEnvelopeIn m (joined k.chunks) (t ++ k.parts)) (sym single) envelope,
+            subst (λ (m : Mode). IsEnvelopeIn m (joined k.chunks) (t ++ k.parts)) (sym single)
+                envelope,
             d.is_whole,
             sym (append-nil (t ++ k.parts)),
             refl,
@@ -337,7 +356,8 @@ module _ (x : Settings) (good : IsGood x.limits) (Stop : Type 0) where
           refl,
           is.1 ∙ ap (λ n. 0 ∷ n ∷ minor ∷ []) w.0 ∙ ap (λ n. 0 ∷ 1 ∷ n ∷ []) w.1,
         ) in
-        subst FromDue (sym (version_due (direction_of x.side) due major minor may)) (t, c, b, refl, h)
+        subst FromDue (sym (version_due (direction_of x.side) due major minor may))
+        (t, c, b, refl, h)
     record_first (frames.Mode byte) text may is low none fine h =
         let b : IsBare (frames.Mode (mode_number (mode_of byte))) t =
         (refl, is.1 ∙ ap (λ n. 1 ∷ n ∷ []) (right_mode byte _ refl none)) in
@@ -385,7 +405,8 @@ module _ (x : Settings) (good : IsGood x.limits) (Stop : Type 0) where
         elim (unsized_due (direction_of x.side) due may) [
           | inl envelope ↦ subst FromDue (sym envelope) (as_envelope
               (unsized_first (λ one. rw envelope refl)
-              (subst (ProperDue (direction_of x.side) z.mode) envelope proper).1 (refl, is.1) r) envelope)
+              (subst (ProperDue (direction_of x.side) z.mode) envelope proper).1 (refl, is.1) r)
+              envelope)
           | inr reply ↦ subst FromDue (sym reply) (as_reply
               (unsized_first (λ one. rw reply (omega arith))
               (subst (ProperDue (direction_of x.side) z.mode) reply proper).1 (refl, is.1) r) reply)
@@ -416,7 +437,8 @@ module _ (x : Settings) (good : IsGood x.limits) (Stop : Type 0) where
     -- the size of a chunk
     pub chunk_first : (size : ℕ) (o : OpenPayload) (q : List ℕ) → IsBare (frames.Chunk size) t
         → o.size + size ≤ x.limits.payload → length q ≡ o.size → (b : Bool) → (size == 0) ≡ b
-        → OpenRest x Stop (payload_in x z) z.mode z.kind (if b then last_chunk else chunked) size q c
+        → OpenRest x Stop (payload_in x z) z.mode z.kind (if b then last_chunk else chunked) size q
+        c
         → Chunked x Stop (payload_in x z) z.mode q (t ++ c)
     unfolding AreChunks joined
     chunk_first size o q is low all true e r =
@@ -425,7 +447,8 @@ module _ (x : Settings) (good : IsGood x.limits) (Stop : Type 0) where
         let same : q ++ r.part ≡ q ++ [] = ap (λ b. q ++ b) none in
         let no_more : r.next.1.envelopes ≡ [] =
         subst (λ (carried : List Carried).
-        CarriesAll x z.mode z.kind (standing (payload_in x z) (q ++ r.part)).situation.strings carried
+        CarriesAll x z.mode z.kind (standing (payload_in x z) (q ++ r.part)).situation.strings
+        carried
         r.next.1.envelopes) r.next.1.may r.next.1.all in
         record {
           chunks = [];
@@ -437,7 +460,8 @@ module _ (x : Settings) (good : IsGood x.limits) (Stop : Type 0) where
           clean = λ i more le. absurd (let n = length-append q [] in omega (arith, n, more, le));
           fine = ap (ending_at (payload_in x z)) (sym same) ∙ r.next.0;
           closes = r.next.1.closes;
-          bytes_are = ap (λ b. t ++ b) (r.bytes_are ∙ ap (λ p. p ++ r.more) none ∙ r.next.1.bytes_are
+          bytes_are = ap (λ b. t ++ b)
+              (r.bytes_are ∙ ap (λ p. p ++ r.more) none ∙ r.next.1.bytes_are
               ∙ ap (λ p. p ++ r.next.1.last) no_more);
         }
     chunk_first size o q is low all false e r =
@@ -481,7 +505,8 @@ module _ (x : Settings) (good : IsGood x.limits) (Stop : Type 0) where
                   let longer = length-append q r.part in
                   let place : i ≡ length q + (i - length q) = omega (arith, more) in
                   let few : i - length q ≤ length r.part = omega (arith, within, longer, more) in
-                  ap (λ n. refusal_at (payload_in x z) (take n (q ++ (r.part ++ joined r.next.chunks))))
+                  ap (λ n. refusal_at (payload_in x z)
+                  (take n (q ++ (r.part ++ joined r.next.chunks))))
                   place
                   ∙ ap (refusal_at (payload_in x z))
                   (sym (fronts q r.part (joined r.next.chunks) (i - length q) few))

@@ -1,5 +1,6 @@
 -- A reader goes on behind a whole record, or the size of a chunk.
-use Rattle.std.proofs.Common.{◌≡◌, ℕ, ◌+◌, ◌<◌, ◌≤◌, ◌^◌, List, [], Bool, true, false, Option, Some, None, Result, Ok, Err, refl, sym, ap, ◌∙◌, subst, arith}
+use Rattle.std.proofs.Common.{◌≡◌, ℕ, ◌+◌, ◌<◌, ◌≤◌, ◌^◌, List, [], Bool, true, false, Option, Some}
+use Rattle.std.proofs.Common.{None, Result, Ok, Err, refl, sym, ap, ◌∙◌, subst, arith}
 use Rattle.std.specs.Prelude.{◌==◌, if◌then◌else◌}
 use Rattle.std.specs.Option.{option_map, option_or}
 use Rattle.nbfx_values.specs.QuotasOf.{limits_of}
@@ -14,7 +15,8 @@ use Rattle.nmf_records.specs.Reading.{MayCome}
 use Rattle.nmf_records.specs.Script.{leads, may_come}
 use Rattle.nbfx_decoder.specs.Payload.{payload}
 use Rattle.nbfx_decoder.specs.declared.decoder.Decoder.{Decoder}
-use Rattle.nbfx_decoder.specs.Standing.{settings_of as decoder_settings, StandsFor as DecoderStandsFor}
+use Rattle.nbfx_decoder.specs.Standing.{settings_of as decoder_settings}
+use Rattle.nbfx_decoder.specs.Standing.{StandsFor as DecoderStandsFor}
 use Rattle.stream_reader.specs.declared.awaited.Awaited.{Awaited}
 use Rattle.stream_reader.specs.declared.awaited.Awaited.TheVariants as awaits
 use Rattle.stream_reader.specs.declared.awaited.Closing.{Closing}
@@ -26,9 +28,20 @@ use Rattle.stream_reader.specs.declared.reader.StreamReader.{StreamReader}
 use Rattle.stream_reader.specs.declared.reader.StreamStep.{StreamStep}
 use Rattle.stream_reader.specs.declared.reader.StreamStep.TheVariants as steps
 use Rattle.stream_reader.specs.Sides.{side_of}
-use Rattle.stream_reader.specs.Stream.{Form, sized, chunked, last_chunk, OpenPayload, Settings, Side, Situation, Stage, record_due, chunk_due, payload_open, direction_of, due_in, is_over_in, after_bare, after_record, behind_payload, completed_bare, completed_payload, completed_record, kind_of, offence_at, on_payload, payload_begun, payload_by, payloads, reason_in, refused_payload, refused_record, strings_at, strings_in, with_chunk}
-use Rattle.stream_reader.specs.Standing.{Awaits, HasPart, IsIn, IsOpenSo, ReadsPayload, Recalls, ShowsTable, form_of}
-use Rattle.stream_reader.specs.Stepping.{BehindAnswers, DecodesAfter, HasDecoded, IsDue, IsMoved, MakesPayload, awaited_after, bare_step, begun_by, begun_with, closing_after, due_of, joined_with, mode_after, step_of, with_size}
+use Rattle.stream_reader.specs.Stream.{Form, sized, chunked, last_chunk, OpenPayload, Settings}
+use Rattle.stream_reader.specs.Stream.{Side, Situation, Stage, record_due, chunk_due, payload_open}
+use Rattle.stream_reader.specs.Stream.{direction_of, due_in, is_over_in, after_bare, after_record}
+use Rattle.stream_reader.specs.Stream.{behind_payload, completed_bare, completed_payload}
+use Rattle.stream_reader.specs.Stream.{completed_record, kind_of, offence_at, on_payload}
+use Rattle.stream_reader.specs.Stream.{payload_begun, payload_by, payloads, reason_in}
+use Rattle.stream_reader.specs.Stream.{refused_payload, refused_record, strings_at, strings_in}
+use Rattle.stream_reader.specs.Stream.{with_chunk}
+use Rattle.stream_reader.specs.Standing.{Awaits, HasPart, IsIn, IsOpenSo, ReadsPayload, Recalls}
+use Rattle.stream_reader.specs.Standing.{ShowsTable, form_of}
+use Rattle.stream_reader.specs.Stepping.{BehindAnswers, DecodesAfter, HasDecoded, IsDue, IsMoved}
+use Rattle.stream_reader.specs.Stepping.{MakesPayload, awaited_after, bare_step, begun_by}
+use Rattle.stream_reader.specs.Stepping.{begun_with, closing_after, due_of, joined_with, mode_after}
+use Rattle.stream_reader.specs.Stepping.{step_of, with_size}
 use Rattle.stream_reader.proofs.Ending.{begun_on, bare_goes_on}
 use Rattle.stream_reader.proofs.Outcomes.{more_behind}
 use Rattle.stream_reader.proofs.Situations.{begun_behind}

@@ -1,5 +1,7 @@
 -- What bounds a reader in every state (specs/Bounds) stays true.
-use Rattle.std.proofs.Common.{◌≡◌, ℕ, ◌+◌, ◌≤◌, ◌⊎◌, inl, inr, List, [], ◌++◌, length, Some, None, Result, Ok, Err, IfErr, OnOk, take, refl, sym, ap, ◌∙◌, subst, arith, length-append}
+use Rattle.std.proofs.Common.{◌≡◌, ℕ, ◌+◌, ◌≤◌, ◌⊎◌, inl, inr, List, [], ◌++◌, length, Some, None}
+use Rattle.std.proofs.Common.{Result, Ok, Err, IfErr, OnOk, take, refl, sym, ap, ◌∙◌, subst, arith}
+use Rattle.std.proofs.Common.{length-append}
 use Rattle.std.proofs.Math.Bridge.{le_prop}
 use Rattle.std.proofs.Math.Logic.{∥∥₁_elim}
 use Rattle.nbfx_values.specs.Limits.{Limits}
@@ -8,7 +10,8 @@ use Rattle.nbfx_values.specs.QuotasOf.{limits_of}
 use Rattle.nbfx_decoder.specs.Payload.{Settings}
 use Rattle.nbfx_decoder.specs.declared.decoder.Decoder.{Decoder}
 use Rattle.nbfx_decoder.specs.declared.faults.DecodeFault.{DecodeFault}
-use Rattle.nbfx_decoder.specs.Standing.{settings_of, failure_of, taken_of, situation_of, StandsFor, FailedBehind, FailedWithin, WhereItStands, WhereItFailed}
+use Rattle.nbfx_decoder.specs.Standing.{settings_of, failure_of, taken_of, situation_of, StandsFor}
+use Rattle.nbfx_decoder.specs.Standing.{FailedBehind, FailedWithin, WhereItStands, WhereItFailed}
 use Rattle.nbfx_decoder.proofs.Feeding.{may_feed}
 use Rattle.stream_reader.specs.declared.awaited.Awaited.{Awaited}
 use Rattle.stream_reader.specs.declared.awaited.Awaited.TheVariants as awaits

@@ -1,6 +1,8 @@
 -- A short chunk in a stream: where it leads, what it completes and why it is refused is said by its
 -- content, by the payload's own grammar.
-use Rattle.std.proofs.Common.{◌≡◌, ℕ, ◌+◌, ◌-◌, ◌*◌, ◌%◌, ◌<◌, ◌≤◌, List, [], ◌∷◌, ◌++◌, length, take, Some, None, false, true, refl, sym, ap, ◌∙◌, subst, arith, append_assoc, length-append}
+use Rattle.std.proofs.Common.{◌≡◌, ℕ, ◌+◌, ◌-◌, ◌*◌, ◌%◌, ◌<◌, ◌≤◌, List, [], ◌∷◌, ◌++◌, length}
+use Rattle.std.proofs.Common.{take, Some, None, false, true, refl, sym, ap, ◌∙◌, subst, arith}
+use Rattle.std.proofs.Common.{append_assoc, length-append}
 use Rattle.std.specs.Prelude.{◌==◌, nat_le, nat_lt, if◌then◌else◌}
 use Rattle.std.specs.Option.{option_map}
 use Rattle.std.proofs.Math.Seq.{take-append_seam}
@@ -21,10 +23,20 @@ use Rattle.nmf_records.specs.declared.script.Due.TheVariants as dues
 use Rattle.nmf_records.specs.Reading.{as_size, bare}
 use Rattle.unit_streams.specs.Parts.{seen}
 use Rattle.stream_reader.specs.Runs.{IsShort}
-use Rattle.stream_reader.specs.Stream.{OpenPayload, Settings, Situation, StreamEvent, chunk_due, payload_open, chunked, last_chunk, frame, behind_payload, completed_payload, is_chunked, offence_at, offence_in, payload_by, payload_in, reason_of, refused_payload, refused_record, refusal_in, stream, strings_in, unit_in, with_chunk}
+use Rattle.stream_reader.specs.Stream.{OpenPayload, Settings, Situation, StreamEvent, chunk_due}
+use Rattle.stream_reader.specs.Stream.{payload_open, chunked, last_chunk, frame, behind_payload}
+use Rattle.stream_reader.specs.Stream.{completed_payload, is_chunked, offence_at, offence_in}
+use Rattle.stream_reader.specs.Stream.{payload_by, payload_in, reason_of, refused_payload}
+use Rattle.stream_reader.specs.Stream.{refused_record, refusal_in, stream, strings_in, unit_in}
+use Rattle.stream_reader.specs.Stream.{with_chunk}
 use Rattle.stream_reader.proofs.Grammar.{readable, short_enough}
-use Rattle.stream_reader.proofs.Outcomes.{more_behind, more_completed, outcome, goes_on, wants_chunk, is_whole, is_refused, strings_behind, text_behind}
-use Rattle.stream_reader.proofs.PayloadBytes.{IsWithin, behind_is, between_situation, bytes_event, bytes_going, bytes_refused, bytes_stand, bytes_units, bytes_unrefused, made_stands, payload_behind, payload_quiet, refusal_before, refusal_between}
+use Rattle.stream_reader.proofs.Outcomes.{more_behind, more_completed, outcome, goes_on}
+use Rattle.stream_reader.proofs.Outcomes.{wants_chunk, is_whole, is_refused, strings_behind}
+use Rattle.stream_reader.proofs.Outcomes.{text_behind}
+use Rattle.stream_reader.proofs.PayloadBytes.{IsWithin, behind_is, between_situation, bytes_event}
+use Rattle.stream_reader.proofs.PayloadBytes.{bytes_going, bytes_refused, bytes_stand, bytes_units}
+use Rattle.stream_reader.proofs.PayloadBytes.{bytes_unrefused, made_stands, payload_behind}
+use Rattle.stream_reader.proofs.PayloadBytes.{payload_quiet, refusal_before, refusal_between}
 
 -- a size of one byte
 size_is : (n : ℕ) → n < 128 → int_at (n ∷ []) ≡ whole n 1

@@ -1,5 +1,7 @@
 -- A stream has no offence exactly where a session closes it.
-use Rattle.std.proofs.Common.{◌≡◌, ℕ, ◌+◌, ◌-◌, ◌<◌, ◌≤◌, inl, inr, List, [], ◌∷◌, ◌++◌, length, take, drop, Bool, true, false, Option, Some, None, refl, sym, ap, ◌∙◌, subst, arith, append_assoc, length-append}
+use Rattle.std.proofs.Common.{◌≡◌, ℕ, ◌+◌, ◌-◌, ◌<◌, ◌≤◌, inl, inr, List, [], ◌∷◌, ◌++◌, length}
+use Rattle.std.proofs.Common.{take, drop, Bool, true, false, Option, Some, None, refl, sym, ap, ◌∙◌}
+use Rattle.std.proofs.Common.{subst, arith, append_assoc, length-append}
 use Rattle.std.specs.Prelude.{◌==◌, if◌then◌else◌}
 use Rattle.std.specs.Option.{option_map}
 use Rattle.std.proofs.lemmas.List.{nil_from_length, take-append-drop}
@@ -21,15 +23,28 @@ use Rattle.nmf_records.specs.declared.script.Due.TheVariants as dues
 use Rattle.nmf_records.specs.Records.{IsRecordOf}
 use Rattle.nmf_records.specs.Reading.{MayCome}
 use Rattle.nmf_records.specs.Script.{behind_preamble, may_come}
-use Rattle.stream_reader.specs.Stream.{OpenPayload, Settings, Side, initiators, receivers, direction_of, Situation, Stage, beginning, record_due, chunk_due, payload_open, StreamUnit, reason_in, offence_at, offence_in, on_open, on_payload, payload_by, after, after_bare, after_record, behind_payload, refusal_in, refused, refused_payload, refused_record, unit_in, with_byte, with_chunk, is_over_in, open_from, may_end_in, cut_off, stream}
-use Rattle.stream_reader.specs.Sessions.{Carried, CarriesAll, MayCarry, Parts, conversation, answer, lone_ack, broken_off, turned_down, IsPreamble, HasParts, IsWithin, MayFollow, IsClosed, ClosedOrRefused}
+use Rattle.stream_reader.specs.Stream.{OpenPayload, Settings, Side, initiators, receivers}
+use Rattle.stream_reader.specs.Stream.{direction_of, Situation, Stage, beginning, record_due}
+use Rattle.stream_reader.specs.Stream.{chunk_due, payload_open, StreamUnit, reason_in, offence_at}
+use Rattle.stream_reader.specs.Stream.{offence_in, on_open, on_payload, payload_by, after}
+use Rattle.stream_reader.specs.Stream.{after_bare, after_record, behind_payload, refusal_in}
+use Rattle.stream_reader.specs.Stream.{refused, refused_payload, refused_record, unit_in, with_byte}
+use Rattle.stream_reader.specs.Stream.{with_chunk, is_over_in, open_from, may_end_in, cut_off}
+use Rattle.stream_reader.specs.Stream.{stream}
+use Rattle.stream_reader.specs.Sessions.{Carried, CarriesAll, MayCarry, Parts, conversation, answer}
+use Rattle.stream_reader.specs.Sessions.{lone_ack, broken_off, turned_down, IsPreamble, HasParts}
+use Rattle.stream_reader.specs.Sessions.{IsWithin, MayFollow, IsClosed, ClosedOrRefused}
 use Rattle.stream_reader.proofs.Grammar.{readable, within_quota}
 use Rattle.stream_reader.proofs.Coming.{unit_of_record, unit_of_chunk, unit_of_payload}
 use Rattle.stream_reader.proofs.LoneAck.{due_may_end, may_end_of}
-use Rattle.stream_reader.proofs.Situations.{IsOpenAt, IsSound, byte_behind, chunk_behind, sound_unit}
+use Rattle.stream_reader.proofs.Situations.{IsOpenAt, IsSound, byte_behind, chunk_behind}
+use Rattle.stream_reader.proofs.Situations.{sound_unit}
 use Rattle.stream_reader.proofs.SessionEnds.{closed_offence}
-use Rattle.stream_reader.proofs.ToSession.{Closing, ends, faults, stops, Closes, may_carry, IsFromDue, IsFrom, none_mapped, none_both, rest_behind, byte_first}
-use Rattle.stream_reader.proofs.Accepted.{IsProper, ProperAt, chunk_first, record_first, resumes, unit_proper}
+use Rattle.stream_reader.proofs.ToSession.{Closing, ends, faults, stops, Closes, may_carry}
+use Rattle.stream_reader.proofs.ToSession.{IsFromDue, IsFrom, none_mapped, none_both, rest_behind}
+use Rattle.stream_reader.proofs.ToSession.{byte_first}
+use Rattle.stream_reader.proofs.Accepted.{IsProper, ProperAt, chunk_first, record_first, resumes}
+use Rattle.stream_reader.proofs.Accepted.{unit_proper}
 use Rattle.stream_reader.proofs.RightRecords.{right_size}
 
 module _ (x : Settings) (good : IsGood x.limits) (Stop : Type 0) where

@@ -5,7 +5,12 @@ use Rattle.unit_streams.specs.Tellers.{Closes}
 use Rattle.nbfx_values.specs.declared.refusals.Offence.{Offence}
 use Rattle.nmf_records.specs.declared.frame.Frame.{Frame}
 use Rattle.nmf_records.specs.declared.frame.Frame.TheVariants as frames
-use Rattle.stream_reader.specs.Stream.{Settings, Situation, Stage, OpenPayload, record_due, chunk_due, payload_open, StreamUnit, frame, payload_byte, Envelope, StreamEvent, message, ends, envelope_in, with_byte, on_open, on_payload, offence_at, payload_by, reason_in, refused_payload, completed_payload, completed_bare, completed, refused, stream}
+use Rattle.stream_reader.specs.Stream.{Settings, Situation, Stage, OpenPayload, record_due}
+use Rattle.stream_reader.specs.Stream.{chunk_due, payload_open, StreamUnit, frame, payload_byte}
+use Rattle.stream_reader.specs.Stream.{Envelope, StreamEvent, message, ends, envelope_in, with_byte}
+use Rattle.stream_reader.specs.Stream.{on_open, on_payload, offence_at, payload_by, reason_in}
+use Rattle.stream_reader.specs.Stream.{refused_payload, completed_payload, completed_bare}
+use Rattle.stream_reader.specs.Stream.{completed, refused, stream}
 use Rattle.stream_reader.proofs.Ending.{tells}
 use Rattle.stream_reader.proofs.Grammar.{readable, quiet_over}
 
@@ -42,7 +47,8 @@ module _ (x : Settings) (z : Situation) where
       (on_open stage (λ p. refused_payload x z (with_byte x z p byte)) None)
   byte_unrefused (record_due due) byte = tt
   byte_unrefused (chunk_due p) byte = tt
-  byte_unrefused (payload_open p) byte = envelope_unrefused (envelope_in x z (with_byte x z p byte)) _
+  byte_unrefused (payload_open p) byte = envelope_unrefused (envelope_in x z (with_byte x z p byte))
+      _
 
   unit_unrefused : (from to : ℕ) (u : StreamUnit)
       → Unrefused (completed x z from to u) (refused x z from u)

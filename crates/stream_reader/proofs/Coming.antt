@@ -10,7 +10,9 @@ use Rattle.nmf_records.specs.Reading.{MayCome, frame_at}
 use Rattle.nmf_records.specs.Script.{may_come}
 use Rattle.nmf_records.proofs.Frames.{frames_front}
 use Rattle.nmf_records.proofs.Records.{read_record}
-use Rattle.stream_reader.specs.Stream.{OpenPayload, Settings, direction_of, record_due, chunk_due, payload_open, StreamUnit, frame, payload_byte, reason_of, offence_at, record_at, payload_at, unit_in}
+use Rattle.stream_reader.specs.Stream.{OpenPayload, Settings, direction_of, record_due, chunk_due}
+use Rattle.stream_reader.specs.Stream.{payload_open, StreamUnit, frame, payload_byte, reason_of}
+use Rattle.stream_reader.specs.Stream.{offence_at, record_at, payload_at, unit_in}
 
 -- the record that a unit is
 pub record Comes (x : Settings) (due : Due) (bytes : List ℕ) (read : Read) (n : ℕ) : Type 0 where

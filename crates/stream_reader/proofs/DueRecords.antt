@@ -13,7 +13,8 @@ use Rattle.nmf_records.specs.Records.{Read, IsRecord}
 use Rattle.nmf_records.specs.Reading.{MayCome, frame_at}
 use Rattle.nmf_records.specs.Script.{may_come}
 use Rattle.nmf_records.proofs.Records.{record_read}
-use Rattle.stream_reader.specs.Stream.{Settings, direction_of, record_due, frame, reason_of, offence_at, record_at, unit_in, is_over_in}
+use Rattle.stream_reader.specs.Stream.{Settings, direction_of, record_due, frame, reason_of}
+use Rattle.stream_reader.specs.Stream.{offence_at, record_at, unit_in, is_over_in}
 
 -- which record is due where one of these types may come
 pub version_due : (direction : Direction) (due : Due) (major minor : ℕ)

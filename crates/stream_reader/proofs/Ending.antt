@@ -1,5 +1,6 @@
 -- A stream ends with the End record or a Fault, and with nothing else.
-use Rattle.std.proofs.Common.{◌≡◌, ℕ, ◌+◌, List, Bool, true, false, Option, Some, None, refl, sym, ap, ◌∙◌}
+use Rattle.std.proofs.Common.{◌≡◌, ℕ, ◌+◌, List, Bool, true, false, Option, Some, None, refl, sym}
+use Rattle.std.proofs.Common.{ap, ◌∙◌}
 use Rattle.std.specs.Prelude.{◌==◌, if◌then◌else◌}
 use Rattle.unit_streams.specs.Grammar.{TellsItsEnd}
 use Rattle.nbfx_values.specs.declared.session.Mode.{Mode}
@@ -10,8 +11,16 @@ use Rattle.nmf_records.specs.declared.script.Direction.{Direction}
 use Rattle.nmf_records.specs.declared.script.Direction.TheVariants.{FromInitiator, FromReceiver}
 use Rattle.nmf_records.specs.declared.script.Due.TheVariants as dues
 use Rattle.nmf_records.specs.Script.{behind_preamble, first}
-use Rattle.stream_reader.specs.Stream.{OpenPayload, Form, sized, chunked, last_chunk, Settings, Side, initiators, receivers, direction_of, Situation, Stage, record_due, chunk_due, payload_open, StreamUnit, frame, payload_byte, StreamEvent, opened, accepted, message, ended, peer_fault, ends, due_in, due_behind, led, on_open, on_payload, payload_by, behind_payload, with_byte, completed_payload, completed_bare, after_bare, after, completed, is_over_in, stream}
-use Rattle.stream_reader.proofs.Outcomes.{goes_on, wants_chunk, is_whole, is_refused, envelope_of, outcome}
+use Rattle.stream_reader.specs.Stream.{OpenPayload, Form, sized, chunked, last_chunk, Settings}
+use Rattle.stream_reader.specs.Stream.{Side, initiators, receivers, direction_of, Situation, Stage}
+use Rattle.stream_reader.specs.Stream.{record_due, chunk_due, payload_open, StreamUnit, frame}
+use Rattle.stream_reader.specs.Stream.{payload_byte, StreamEvent, opened, accepted, message, ended}
+use Rattle.stream_reader.specs.Stream.{peer_fault, ends, due_in, due_behind, led, on_open}
+use Rattle.stream_reader.specs.Stream.{on_payload, payload_by, behind_payload, with_byte}
+use Rattle.stream_reader.specs.Stream.{completed_payload, completed_bare, after_bare, after}
+use Rattle.stream_reader.specs.Stream.{completed, is_over_in, stream}
+use Rattle.stream_reader.proofs.Outcomes.{goes_on, wants_chunk, is_whole, is_refused, envelope_of}
+use Rattle.stream_reader.proofs.Outcomes.{outcome}
 
 -- a situation is over as its stage is
 abbrev Over : Situation → Bool → Type 0
@@ -55,7 +64,8 @@ module _ (x : Settings) (z : Situation) where
         | goes_on more b c ↦ let bad = sym c ∙ e in cc
         | wants_chunk none h b c ↦ let bad = sym c ∙ e in cc
         | is_whole all none b c ↦
-            let same : message (envelope_of z p) ≡ v = let two = sym c ∙ e in cc in ap ends (sym same)
+            let same : message (envelope_of z p) ≡ v = let two = sym c ∙ e in cc in ap ends
+            (sym same)
         | is_refused all r is b c ↦ let bad = sym c ∙ e in cc
       ]
 

@@ -1,5 +1,7 @@
 -- An envelope of one part, and one of chunks, is whole units, which bring its document.
-use Rattle.std.proofs.Common.{◌≡◌, ℕ, suc, ◌+◌, ◌-◌, ◌<◌, ◌≤◌, List, [], ◌∷◌, ◌++◌, length, take, Bool, true, false, Option, Some, None, refl, sym, ap, ◌∙◌, subst, arith, append_assoc, length-append}
+use Rattle.std.proofs.Common.{◌≡◌, ℕ, suc, ◌+◌, ◌-◌, ◌<◌, ◌≤◌, List, [], ◌∷◌, ◌++◌, length, take}
+use Rattle.std.proofs.Common.{Bool, true, false, Option, Some, None, refl, sym, ap, ◌∙◌, subst}
+use Rattle.std.proofs.Common.{arith, append_assoc, length-append}
 use Rattle.std.specs.Prelude.{◌==◌, if◌then◌else◌}
 use Rattle.std.specs.Option.{option_map, option_or, option_to_list}
 use Rattle.std.proofs.lemmas.Bool.{le-ltb, ne_eqb}
@@ -16,12 +18,22 @@ use Rattle.nmf_records.specs.declared.script.Due.TheVariants as dues
 use Rattle.nmf_records.specs.Records.{Read}
 use Rattle.nmf_records.specs.Reading.{bare, MayCome}
 use Rattle.nmf_records.specs.Script.{may_come}
-use Rattle.stream_reader.specs.Stream.{OpenPayload, PayloadStanding, Form, sized, chunked, last_chunk, Settings, Situation, Stage, StreamEvent, record_due, chunk_due, payload_open, direction_of, is_over_in, frame, payload_byte, message, is_chunked, after, after_bare, behind_payload, completed, completed_bare, completed_payload, offence_at, offence_in, on_payload, payload_begun, payload_by, payload_in, reason_in, refusal_in, refused, refused_payload, refused_record, stream, too_large, unit_in, with_chunk}
+use Rattle.stream_reader.specs.Stream.{OpenPayload, PayloadStanding, Form, sized, chunked}
+use Rattle.stream_reader.specs.Stream.{last_chunk, Settings, Situation, Stage, StreamEvent}
+use Rattle.stream_reader.specs.Stream.{record_due, chunk_due, payload_open, direction_of}
+use Rattle.stream_reader.specs.Stream.{is_over_in, frame, payload_byte, message, is_chunked, after}
+use Rattle.stream_reader.specs.Stream.{after_bare, behind_payload, completed, completed_bare}
+use Rattle.stream_reader.specs.Stream.{completed_payload, offence_at, offence_in, on_payload}
+use Rattle.stream_reader.specs.Stream.{payload_begun, payload_by, payload_in, reason_in, refusal_in}
+use Rattle.stream_reader.specs.Stream.{refused, refused_payload, refused_record, stream, too_large}
+use Rattle.stream_reader.specs.Stream.{unit_in, with_chunk}
 use Rattle.stream_reader.specs.Sessions.{IsBare, AreChunks, joined}
 use Rattle.stream_reader.proofs.Grammar.{readable}
 use Rattle.stream_reader.proofs.DueRecords.{chunk_comes, envelope_comes, record_unit}
-use Rattle.stream_reader.proofs.Outcomes.{HasAll, behind_whole, chunk_behind, envelope_of, more_behind, more_completed, whole_behind}
-use Rattle.stream_reader.proofs.PayloadBytes.{behind_is, payload_behind, refusal_all, refusal_before, refusal_between, with_byte_is}
+use Rattle.stream_reader.proofs.Outcomes.{HasAll, behind_whole, chunk_behind, envelope_of}
+use Rattle.stream_reader.proofs.Outcomes.{more_behind, more_completed, whole_behind}
+use Rattle.stream_reader.proofs.PayloadBytes.{behind_is, payload_behind, refusal_all}
+use Rattle.stream_reader.proofs.PayloadBytes.{refusal_before, refusal_between, with_byte_is}
 use Rattle.stream_reader.proofs.Situations.{IsBehind, begun_behind}
 
 -- bytes of a payload, of which none is refused, and their end

@@ -1,5 +1,6 @@
 -- The records of a script, with the payloads of documents, are a session.
-use Rattle.std.proofs.Common.{◌≡◌, ℕ, zero, suc, ◌<◌, ◌≤◌, List, [], ◌∷◌, ◌++◌, map, length, Option, refl, sym, ap, ◌∙◌, subst, inl, inr, append_assoc, arith}
+use Rattle.std.proofs.Common.{◌≡◌, ℕ, zero, suc, ◌<◌, ◌≤◌, List, [], ◌∷◌, ◌++◌, map, length, Option}
+use Rattle.std.proofs.Common.{refl, sym, ap, ◌∙◌, subst, inl, inr, append_assoc, arith}
 use Rattle.std.specs.Prelude.{All}
 use Rattle.std.proofs.lemmas.List.{append-nil}
 use Rattle.std.proofs.lemmas.List.Elements.{All-head, All-tail}
@@ -15,10 +16,16 @@ use Rattle.nmf_records.specs.declared.frame.Frame.TheVariants as frames
 use Rattle.nmf_records.specs.declared.script.Direction.{Direction}
 use Rattle.nmf_records.specs.declared.script.Direction.TheVariants.{FromInitiator, FromReceiver}
 use Rattle.nmf_records.specs.Records.{IsRecordOf}
-use Rattle.nmf_records.specs.Script.{AreEnvelopes, AreSized, IsInitiatorsScript, IsScript, IsUnsized as IsUnsizedScript}
-use Rattle.stream_reader.specs.Stream.{Settings, Side, initiators, receivers, direction_of, kind_of, payloads, serves}
-use Rattle.stream_reader.specs.Sessions.{AreChunks, Carried, CarriesAll, CarriesThen, HasParts, IsAckThen, IsBare, IsEnvelopeIn, IsFault, IsSized, IsWithin, MayCarry, Parts, answer, broken_off, conversation, joined, lone_ack, turned_down}
-use Rattle.stream_reader.specs.Scripts.{BeginsWith, Context, HasScript, IsModeOf, IsShort, first_context}
+use Rattle.nmf_records.specs.Script.{AreEnvelopes, AreSized, IsInitiatorsScript, IsScript}
+use Rattle.nmf_records.specs.Script.{IsUnsized as IsUnsizedScript}
+use Rattle.stream_reader.specs.Stream.{Settings, Side, initiators, receivers, direction_of, kind_of}
+use Rattle.stream_reader.specs.Stream.{payloads, serves}
+use Rattle.stream_reader.specs.Sessions.{AreChunks, Carried, CarriesAll, CarriesThen, HasParts}
+use Rattle.stream_reader.specs.Sessions.{IsAckThen, IsBare, IsEnvelopeIn, IsFault, IsSized}
+use Rattle.stream_reader.specs.Sessions.{IsWithin, MayCarry, Parts, answer, broken_off}
+use Rattle.stream_reader.specs.Sessions.{conversation, joined, lone_ack, turned_down}
+use Rattle.stream_reader.specs.Scripts.{BeginsWith, Context, HasScript, IsModeOf, IsShort}
+use Rattle.stream_reader.specs.Scripts.{first_context}
 use Rattle.stream_reader.proofs.RightRecords.{right_encoding, right_version, right_via}
 use Rattle.stream_reader.proofs.ScriptParts.{cut_envelopes}
 

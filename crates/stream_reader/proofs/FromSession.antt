@@ -1,5 +1,6 @@
 -- A session is whole units, which bring its events.
-use Rattle.std.proofs.Common.{◌≡◌, ℕ, ◌+◌, ◌≤◌, List, [], ◌∷◌, ◌++◌, length, Bool, true, false, Option, Some, None, refl, sym, ap, ◌∙◌, subst, arith}
+use Rattle.std.proofs.Common.{◌≡◌, ℕ, ◌+◌, ◌≤◌, List, [], ◌∷◌, ◌++◌, length, Bool, true, false}
+use Rattle.std.proofs.Common.{Option, Some, None, refl, sym, ap, ◌∙◌, subst, arith}
 use Rattle.std.specs.Prelude.{if◌then◌else◌}
 use Rattle.std.specs.Option.{option_map, option_or}
 use Rattle.std.proofs.lemmas.List.{append-nil}
@@ -26,8 +27,13 @@ use Rattle.nmf_records.specs.Reading.{bare, comes, with_text, MayCome}
 use Rattle.nmf_records.specs.Script.{behind_preamble, may_come}
 use Rattle.nbfx_decoder.specs.Laws.{IsDecoded, IsWholePayload}
 use Rattle.nbfx_decoder.proofs.PayloadLaws.{payloads_are_accepted}
-use Rattle.stream_reader.specs.Stream.{Settings, initiators, direction_of, serves, Situation, Stage, record_due, beginning, frame, opened, message, ended, peer_fault, after, completed, offence_at, payload_in, payloads, refused, is_over_in, stream}
-use Rattle.stream_reader.specs.Sessions.{IsBare, IsPreamble, IsSized, IsUnsized, IsEnvelopeIn, joined, Carried, CarriesAll, MayCarry, IsFault, envelope_of, message_events}
+use Rattle.stream_reader.specs.Stream.{Settings, initiators, direction_of, serves, Situation, Stage}
+use Rattle.stream_reader.specs.Stream.{record_due, beginning, frame, opened, message, ended}
+use Rattle.stream_reader.specs.Stream.{peer_fault, after, completed, offence_at, payload_in}
+use Rattle.stream_reader.specs.Stream.{payloads, refused, is_over_in, stream}
+use Rattle.stream_reader.specs.Sessions.{IsBare, IsPreamble, IsSized, IsUnsized, IsEnvelopeIn}
+use Rattle.stream_reader.specs.Sessions.{joined, Carried, CarriesAll, MayCarry, IsFault}
+use Rattle.stream_reader.specs.Sessions.{envelope_of, message_events}
 use Rattle.stream_reader.proofs.Grammar.{readable}
 use Rattle.stream_reader.proofs.DueRecords.{record_unit}
 use Rattle.stream_reader.proofs.Envelopes.{IsClean, sized_passes, unsized_passes}

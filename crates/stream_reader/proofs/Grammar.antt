@@ -16,7 +16,10 @@ use Rattle.nmf_records.specs.declared.script.Due.TheVariants as dues
 use Rattle.nmf_records.specs.Reading.{frame_at}
 use Rattle.nmf_records.specs.Script.{may_come}
 use Rattle.nmf_records.proofs.Frames.{frame_peels, frames_front}
-use Rattle.stream_reader.specs.Stream.{Settings, Stage, direction_of, record_due, chunk_due, payload_open, StreamUnit, frame, payload_byte, reason_of, offence_at, record_at, payload_at, unit_in, is_over_in, open_from, too_long, cut_off, stream}
+use Rattle.stream_reader.specs.Stream.{Settings, Stage, direction_of, record_due, chunk_due}
+use Rattle.stream_reader.specs.Stream.{payload_open, StreamUnit, frame, payload_byte, reason_of}
+use Rattle.stream_reader.specs.Stream.{offence_at, record_at, payload_at, unit_in, is_over_in}
+use Rattle.stream_reader.specs.Stream.{open_from, too_long, cut_off, stream}
 
 -- where nothing is read
 reads_nothing : ReadsFront {A = StreamUnit} {R = Offence} (λ bytes. begun)

@@ -38,7 +38,8 @@ pub mod SessionEnds
 pub mod ToSession
 pub mod Accepted
 pub mod Closed
--- a reader (specs/Bounds, Standing, Stepping): its bounds, what it stands for, payloads (what it does
+-- a reader (specs/Bounds, Standing, Stepping): its bounds, what it stands for, payloads (what it
+-- does
 -- behind bytes of one, bytes of one), records (what it does behind one, texts, bytes of one),
 -- pieces
 pub mod Bounded

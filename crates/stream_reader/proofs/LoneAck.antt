@@ -1,6 +1,8 @@
--- Where the input may end in a stream that isn't over: behind the Ack alone of a receiver in simplex
+-- Where the input may end in a stream that isn't over: behind the Ack alone of a receiver in
+-- simplex
 -- mode.
-use Rattle.std.proofs.Common.{◌≡◌, ℕ, List, [], ◌∷◌, ◌++◌, length, Bool, true, false, Option, Some, None, refl, sym, ap, ◌∙◌, subst, arith}
+use Rattle.std.proofs.Common.{◌≡◌, ℕ, List, [], ◌∷◌, ◌++◌, length, Bool, true, false, Option, Some}
+use Rattle.std.proofs.Common.{None, refl, sym, ap, ◌∙◌, subst, arith}
 use Rattle.std.specs.Prelude.{◌==◌, ◌&&◌, if◌then◌else◌}
 use Rattle.std.proofs.lemmas.Bool.{eqb-true}
 use Rattle.std.proofs.lemmas.List.{nil_from_length, take_all}
@@ -25,12 +27,19 @@ use Rattle.nmf_records.specs.declared.script.Due.TheVariants as dues
 use Rattle.nmf_records.specs.Records.{IsRecordOf}
 use Rattle.nmf_records.specs.Reading.{bare, comes, MayCome}
 use Rattle.nmf_records.specs.Script.{behind_preamble, first, may_come, may_end}
-use Rattle.stream_reader.specs.Stream.{OpenPayload, Form, sized, chunked, last_chunk, Settings, Side, initiators, receivers, direction_of, Situation, Stage, record_due, chunk_due, payload_open, StreamUnit, frame, StreamEvent, unit_in, due_in, due_behind, led, on_open, on_payload, payload_by, behind_payload, with_byte, after_bare, after, beginning, is_over_in, may_end_in, cut_off, offence_at, open_from, stream}
+use Rattle.stream_reader.specs.Stream.{OpenPayload, Form, sized, chunked, last_chunk, Settings}
+use Rattle.stream_reader.specs.Stream.{Side, initiators, receivers, direction_of, Situation, Stage}
+use Rattle.stream_reader.specs.Stream.{record_due, chunk_due, payload_open, StreamUnit, frame}
+use Rattle.stream_reader.specs.Stream.{StreamEvent, unit_in, due_in, due_behind, led, on_open}
+use Rattle.stream_reader.specs.Stream.{on_payload, payload_by, behind_payload, with_byte}
+use Rattle.stream_reader.specs.Stream.{after_bare, after, beginning, is_over_in, may_end_in}
+use Rattle.stream_reader.specs.Stream.{cut_off, offence_at, open_from, stream}
 use Rattle.stream_reader.specs.Reasons.{IsLoneAck}
 use Rattle.stream_reader.proofs.Coming.{unit_of_record, unit_of_chunk, unit_of_payload}
 use Rattle.stream_reader.proofs.DueRecords.{version_due, mode_due, record_unit}
 use Rattle.stream_reader.proofs.Grammar.{readable}
-use Rattle.stream_reader.proofs.Outcomes.{goes_on, wants_chunk, is_whole, is_refused, outcome, mode_behind}
+use Rattle.stream_reader.proofs.Outcomes.{goes_on, wants_chunk, is_whole, is_refused, outcome}
+use Rattle.stream_reader.proofs.Outcomes.{mode_behind}
 use Rattle.stream_reader.proofs.Prefixes.{units_keep}
 
 -- no Version or Mode record is due
@@ -177,7 +186,8 @@ module _ (x : Settings) (kind : Kind) (side : x.side ≡ receivers Simplex kind)
       → (standing (stream x) before).situation.stage ≡ stage
       → unit_in x stage (standing (stream x) before).from bytes ≡ whole u (length bytes)
       → IsOneWay stage before
-      → IsOneWay (after x (standing (stream x) before).situation (standing (stream x) before).from u).stage
+      → IsOneWay (after x (standing (stream x) before).situation (standing (stream x) before).from
+      u).stage
       (before ++ bytes)
   unfolding after
   one_way_unit before bytes u (record_due due) at e h =
@@ -204,7 +214,8 @@ module _ (x : Settings) (kind : Kind) (side : x.side ≡ receivers Simplex kind)
           → (stream x).unit_at (standing (stream x) before).situation
           (standing (stream x) before).from bytes ≡ whole u (length bytes)
           → (standing (stream x) (before ++ bytes)).situation.stage
-          ≡ (after x (standing (stream x) before).situation (standing (stream x) before).from u).stage
+          ≡ (after x (standing (stream x) before).situation (standing (stream x) before).from
+          u).stage
       stage_behind before bytes u first reads =
           ap (λ (s : Standing Situation StreamEvent Offence). s.situation.stage)
           (unit_standing (stream x) (readable x) before bytes u first reads)
@@ -218,7 +229,8 @@ module _ (x : Settings) (kind : Kind) (side : x.side ≡ receivers Simplex kind)
   ack_reads =
       ap (λ (s : Standing Situation StreamEvent Offence). unit_in x s.situation.stage s.from
       (PREAMBLE_ACK ∷ [])) (standing_nothing (stream x) (readable x))
-      ∙ ap (λ (s : Side). unit_in x (record_due (first (direction_of s))) 0 (PREAMBLE_ACK ∷ [])) side
+      ∙ ap (λ (s : Side). unit_in x (record_due (first (direction_of s))) 0 (PREAMBLE_ACK ∷ []))
+      side
       ∙ record_unit x dues.Ack (PREAMBLE_ACK ∷ []) 0 (bare frames.PreambleAck) refl (refl, refl)
       (ap (λ (s : Side). comes (may_come (direction_of s) dues.Ack) frames.PreambleAck) side)
       (omega arith)
@@ -228,7 +240,8 @@ module _ (x : Settings) (kind : Kind) (side : x.side ≡ receivers Simplex kind)
   unfolding after cut_off
   behind_ack =
       rw (unit_standing (stream x) (readable x) [] (PREAMBLE_ACK ∷ [])
-      (frame (bare frames.PreambleAck)) (ap (λ (s : Standing Situation StreamEvent Offence). s.begun)
+      (frame (bare frames.PreambleAck))
+      (ap (λ (s : Standing Situation StreamEvent Offence). s.begun)
       (standing_nothing (stream x) (readable x))) ack_reads)
       (rw (standing_nothing (stream x) (readable x), side) refl)
 
@@ -238,7 +251,8 @@ unfolding ending_at
 ack_may_end x p (kind, side, is) = rw is (behind_ack x kind side)
 
 -- and else only behind the end
-pub may_end_of : (direction : Direction) (mode : Mode) (due : Due) → may_end direction mode due ≡ true
+pub may_end_of : (direction : Direction) (mode : Mode) (due : Due) → may_end direction mode due
+    ≡ true
     → is_over_in (record_due due) ≡ false
     → (direction ≡ FromReceiver) × (mode ≡ Simplex) × (due ≡ dues.End)
 may_end_of FromReceiver Simplex dues.End may on = (refl, refl, refl)
@@ -271,8 +285,12 @@ module _ (x : Settings) (p : List ℕ) where
       let simplex : x.side ≡ receivers Simplex kind =
       is ∙ ap (λ (m : Mode). receivers m kind) (sym (receivers_mode x m kind is p) ∙ mode) in
       let there : (standing (stream x) p).situation.stage ≡ record_due dues.End =
-      at ∙ ap record_due ends in
-      (kind, simplex, subst (λ (stage : Stage). IsOneWay stage p) there (one_way x kind simplex p units))
+      at ∙ ap record_due ends in (
+        kind,
+        simplex,
+        subst (λ (stage : Stage). IsOneWay stage p) there
+            (one_way x kind simplex p units),
+      )
 
   by_stage : (stage : Stage) → (standing (stream x) p).situation.stage ≡ stage
       → may_end_in x (standing (stream x) p).situation.mode stage (standing (stream x) p).from

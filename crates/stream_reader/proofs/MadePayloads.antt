@@ -1,5 +1,6 @@
 -- What may come where a record or a size is due, and the payload that it makes or resumes.
-use Rattle.std.proofs.Common.{◌≡◌, ℕ, ◌+◌, ◌<◌, ◌≤◌, List, [], Bool, true, false, Option, Some, None, refl, sym, ap, ◌∙◌, arith}
+use Rattle.std.proofs.Common.{◌≡◌, ℕ, ◌+◌, ◌<◌, ◌≤◌, List, [], Bool, true, false, Option, Some}
+use Rattle.std.proofs.Common.{None, refl, sym, ap, ◌∙◌, arith}
 use Rattle.std.specs.Prelude.{nat_lt, if◌then◌else◌}
 use Rattle.std.proofs.lemmas.Bool.{ltb-true, ltb-false}
 use Rattle.unit_streams.specs.Grammar.{at_start}
@@ -22,7 +23,8 @@ use Rattle.stream_reader.specs.declared.awaited.Awaited.{Awaited}
 use Rattle.stream_reader.specs.declared.awaited.Awaited.TheVariants as awaits
 use Rattle.stream_reader.specs.declared.awaited.Form.TheVariants as forms
 use Rattle.stream_reader.specs.declared.awaited.PayloadLeft.{PayloadLeft}
-use Rattle.stream_reader.specs.Stream.{OpenPayload, Settings, Stage, record_due, chunk_due, payload_open, payloads, reason_in, too_large}
+use Rattle.stream_reader.specs.Stream.{OpenPayload, Settings, Stage, record_due, chunk_due}
+use Rattle.stream_reader.specs.Stream.{payload_open, payloads, reason_in, too_large}
 use Rattle.stream_reader.specs.Standing.{Awaits, form_of}
 use Rattle.stream_reader.specs.Stepping.{MakesPayload, begun_by, begun_with, due_of, with_size}
 use Rattle.stream_reader.specs.Bounds.{IsBounded}
@@ -93,7 +95,8 @@ any_stage x (awaits.Payload p) =
     (payload_open (any_open x p), record { from = refl; size = refl; left = refl; form = refl })
 
 -- its payload is within the quota, and so what bounds a reader stays
-pub bounded_made : (d : Decoder) (quotas : Quotas) (x : Settings) (a : Awaited) (from : ℕ) (f : Frame)
+pub bounded_made : (d : Decoder) (quotas : Quotas) (x : Settings) (a : Awaited) (from : ℕ)
+    (f : Frame)
     (q : PayloadLeft) → x.limits ≡ limits_of quotas
     → ((stage : Stage) (text : List ℕ) → Awaits a stage → (f ≡ frames.Via → ⊥)
     → reason_in x stage f text ≡ None)
@@ -136,7 +139,8 @@ bounded_made d quotas x a from f q limits good makes b = by_awaited a good makes
   by_awaited : (a : Awaited)
       → ((stage : Stage) (text : List ℕ) → Awaits a stage → (f ≡ frames.Via → ⊥)
       → reason_in x stage f text ≡ None)
-      → MakesPayload a from f (Some q) → IsBounded d quotas a → IsBounded d quotas (awaits.Payload q)
+      → MakesPayload a from f (Some q) → IsBounded d quotas a → IsBounded d quotas
+      (awaits.Payload q)
   by_awaited (awaits.Record due) good makes b = by_head f due makes good b
   by_awaited (awaits.Chunk p) good makes b = by_size p f makes good b
   by_awaited (awaits.Payload p) good makes b = cc

@@ -2,16 +2,19 @@
 -- preamble.
 use Rattle.std.proofs.Common.{ℕ, List, [], ◌∷◌, ◌++◌}
 use Rattle.std.specs.Prelude.{⊤, codes}
-use Rattle.unit_streams.specs.Judging.{events, events_in, events_of, is_over_at, answer_from, answer}
+use Rattle.unit_streams.specs.Judging.{events, events_in, events_of, is_over_at, answer_from}
+use Rattle.unit_streams.specs.Judging.{answer}
 use Rattle.multibyte_ints.specs.Text.{string_at, text_behind, text_at, text_ending_at}
 use Rattle.unit_streams.specs.Grammar.{resumed}
 use Rattle.nbfx_values.specs.Limits.{limits, usual_limits}
 use Rattle.nbfx_decoder.proofs.OnLiterals.{payloads_on_literals, envelope_strings}
-use Rattle.stream_reader.specs.Stream.{Settings, any_initiators, unit_in, after, completed, refused, too_long, cut_off}
+use Rattle.stream_reader.specs.Stream.{Settings, any_initiators, unit_in, after, completed, refused}
+use Rattle.stream_reader.specs.Stream.{too_long, cut_off}
 
 -- what a proof unfolds to compute streams
 unfoldable pub streams_on_literals : ⊤
-unfolding payloads_on_literals string_at text_behind text_at text_ending_at resumed events events_in events_of is_over_at answer_from answer unit_in after completed refused too_long cut_off
+unfolding payloads_on_literals string_at text_behind text_at text_ending_at resumed events events_in
+    events_of is_over_at answer_from answer unit_in after completed refused too_long cut_off
 streams_on_literals = tt
 
 -- under the usual quotas
@@ -20,7 +23,8 @@ usual = any_initiators envelope_strings usual_limits
 
 -- with these quotas
 abbrev pub set_to : (payload via session : ℕ) → Settings
-set_to payload via session = any_initiators envelope_strings (limits payload 32 2048 262144 via session)
+set_to payload via session = any_initiators envelope_strings
+    (limits payload 32 2048 262144 via session)
 
 -- with this session quota
 abbrev pub of_session : ℕ → Settings

@@ -1,10 +1,14 @@
--- Where bytes of a payload lead: there are more to come of its chunk, or another chunk is, or they are
+-- Where bytes of a payload lead: there are more to come of its chunk, or another chunk is, or they
+-- are
 -- all and a document, or refused.
-use Rattle.std.proofs.Common.{◌≡◌, ℕ, ◌+◌, ◌<◌, Bool, true, false, Option, Some, None, refl, sym, ap, ◌∙◌, arith}
+use Rattle.std.proofs.Common.{◌≡◌, ℕ, ◌+◌, ◌<◌, Bool, true, false, Option, Some, None, refl, sym}
+use Rattle.std.proofs.Common.{ap, ◌∙◌, arith}
 use Rattle.std.specs.Prelude.{◌==◌}
 use Rattle.std.proofs.lemmas.Bool.{eqb-true, eqb-false}
 use Rattle.nbfx_decoder.specs.Payload.{Refusal}
-use Rattle.stream_reader.specs.Stream.{Envelope, OpenPayload, Settings, Situation, record_due, chunk_due, payload_open, due_behind, is_chunked, message, refusal_in, behind_payload, completed_payload, strings_in}
+use Rattle.stream_reader.specs.Stream.{Envelope, OpenPayload, Settings, Situation, record_due}
+use Rattle.stream_reader.specs.Stream.{chunk_due, payload_open, due_behind, is_chunked, message}
+use Rattle.stream_reader.specs.Stream.{refusal_in, behind_payload, completed_payload, strings_in}
 
 -- the envelope that such a payload is, where it has all its bytes
 abbrev pub envelope_of : Situation → OpenPayload → Envelope
@@ -50,7 +54,8 @@ module _ (x : Settings) (z : Situation) (p : OpenPayload) where
         goes_on (let n = eqb-false p.left 0 e in omega arith) (rw e refl) (rw (f, e) refl)
     go false e c h (Some r) f =
         goes_on (let n = eqb-false p.left 0 e in omega arith) (rw e refl) (rw f refl)
-    go true e true h None f = wants_chunk (eqb-true p.left 0 e) h (rw (e, h) refl) (rw (f, e, h) refl)
+    go true e true h None f = wants_chunk (eqb-true p.left 0 e) h (rw (e, h) refl)
+        (rw (f, e, h) refl)
     go true e true h (Some r) f = wants_chunk (eqb-true p.left 0 e) h (rw (e, h) refl) (rw f refl)
     go true e false h None f =
         is_whole (record { none_left = eqb-true p.left 0 e; last = h }) f

@@ -1,7 +1,9 @@
 -- Bytes of a payload in a stream of either side: where they lead, what they complete and why they
 -- are
 -- refused is said by the payload's own grammar.
-use Rattle.std.proofs.Common.{◌≡◌, ℕ, ◌+◌, ◌-◌, ◌<◌, ◌≤◌, inl, inr, List, [], ◌∷◌, ◌++◌, length, take, zero, suc, Bool, Option, Some, None, false, true, refl, sym, ap, ◌∙◌, subst, arith, append_assoc, length-append}
+use Rattle.std.proofs.Common.{◌≡◌, ℕ, ◌+◌, ◌-◌, ◌<◌, ◌≤◌, inl, inr, List, [], ◌∷◌, ◌++◌, length}
+use Rattle.std.proofs.Common.{take, zero, suc, Bool, Option, Some, None, false, true, refl, sym, ap}
+use Rattle.std.proofs.Common.{◌∙◌, subst, arith, append_assoc, length-append}
 use Rattle.std.specs.Prelude.{◌==◌, ◌&&◌, not, if◌then◌else◌}
 use Rattle.std.specs.Option.{option_map, option_or}
 use Rattle.std.proofs.Math.Nat.{eq-or-lt_of_le}
@@ -19,10 +21,17 @@ use Rattle.nbfx_values.specs.declared.refusals.Offence.{Offence}
 use Rattle.nmf_records.specs.Records.{Read}
 use Rattle.nbfx_decoder.specs.Payload.{Refusal}
 use Rattle.nbfx_decoder.proofs.Readable.{readable as payload_readable}
-use Rattle.stream_reader.specs.Stream.{OpenPayload, PayloadStanding, Settings, Situation, Stage, StreamEvent, message, chunk_due, payload_open, frame, payload_byte, is_chunked, after, behind_payload, completed, completed_bare, completed_payload, after_bare, on_open, on_payload, offence_in, payload_by, payload_in, payloads, refusal_in, refused, refused_payload, refused_record, stream, too_long, unit_in, with_byte}
+use Rattle.stream_reader.specs.Stream.{OpenPayload, PayloadStanding, Settings, Situation, Stage}
+use Rattle.stream_reader.specs.Stream.{StreamEvent, message, chunk_due, payload_open, frame}
+use Rattle.stream_reader.specs.Stream.{payload_byte, is_chunked, after, behind_payload, completed}
+use Rattle.stream_reader.specs.Stream.{completed_bare, completed_payload, after_bare, on_open}
+use Rattle.stream_reader.specs.Stream.{on_payload, offence_in, payload_by, payload_in, payloads}
+use Rattle.stream_reader.specs.Stream.{refusal_in, refused, refused_payload, refused_record, stream}
+use Rattle.stream_reader.specs.Stream.{too_long, unit_in, with_byte}
 use Rattle.stream_reader.proofs.Grammar.{readable, short_enough}
 use Rattle.stream_reader.proofs.Situations.{IsBehind, nothing_begun}
-use Rattle.stream_reader.proofs.Outcomes.{HasAll, behind_whole, chunk_behind, envelope_of, more_behind, more_completed, refused_behind, whole_behind}
+use Rattle.stream_reader.proofs.Outcomes.{HasAll, behind_whole, chunk_behind, envelope_of}
+use Rattle.stream_reader.proofs.Outcomes.{more_behind, more_completed, refused_behind, whole_behind}
 
 -- a payload of this offset, size and form behind these of its bytes
 abbrev pub payload_behind : Settings → Situation → OpenPayload → List ℕ → OpenPayload
@@ -167,7 +176,8 @@ module _ (x : Settings) (before bytes : List ℕ) (read : Read) (o : OpenPayload
     unfolding after completed refused
     made_stands =
         let s : Situation = (standing (stream x) before).situation in
-        let place : (standing (stream x) before).from ≡ length before = units_place x before units in
+        let place : (standing (stream x) before).from ≡ length before = units_place x before units
+        in
         let all : length before + length bytes ≡ length (before ++ bytes) =
         sym (length-append before bytes) in
         unit_standing (stream x) (readable x) before bytes (frame read) units reads

@@ -1,10 +1,13 @@
 -- A reader takes bytes of a payload.
-use Rattle.std.proofs.Common.{◌≡◌, ℕ, zero, suc, ◌+◌, ◌-◌, ◌<◌, ◌≤◌, ◌^◌, inl, inr, List, [], ◌++◌, length, take, Bool, true, false, Option, Some, None, Ok, Err, refl, sym, ap, ◌∙◌, subst, arith, length-append}
+use Rattle.std.proofs.Common.{◌≡◌, ℕ, zero, suc, ◌+◌, ◌-◌, ◌<◌, ◌≤◌, ◌^◌, inl, inr, List, [], ◌++◌}
+use Rattle.std.proofs.Common.{length, take, Bool, true, false, Option, Some, None, Ok, Err, refl}
+use Rattle.std.proofs.Common.{sym, ap, ◌∙◌, subst, arith, length-append}
 use Rattle.std.specs.Option.{option_map, option_or}
 use Rattle.std.proofs.lemmas.List.{append-nil, length-take-le, take-take}
 use Rattle.std.proofs.Math.Nat.{eq-or-lt_of_le}
 use Rattle.unit_streams.specs.Grammar.{standing}
-use Rattle.unit_streams.specs.Judging.{refusal_at, ending_at, event_at, is_over_at, goes_on, offends}
+use Rattle.unit_streams.specs.Judging.{refusal_at, ending_at, event_at, is_over_at, goes_on}
+use Rattle.unit_streams.specs.Judging.{offends}
 use Rattle.unit_streams.specs.Going.{IsQuiet, IsQuietBefore}
 use Rattle.unit_streams.proofs.Answers.{answers_are_first}
 use Rattle.nmf_records.specs.declared.frame.Expect.{Expect}
@@ -14,7 +17,10 @@ use Rattle.nmf_records.specs.declared.script.Direction.{Direction}
 use Rattle.nbfx_decoder.specs.Payload.{Refusal, refusal, payload, Settings as PayloadSettings}
 use Rattle.nbfx_decoder.specs.declared.faults.DecodeFault.{DecodeFault}
 use Rattle.nbfx_decoder.specs.declared.faults.DecodeFault.TheVariants as faults
-use Rattle.nbfx_decoder.specs.Standing.{settings_of as decoder_settings, situation_of, StandsFor as DecoderStandsFor, FailedBehind as DecoderFailedBehind, FailedWithin, FeedAnswers}
+use Rattle.nbfx_decoder.specs.Standing.{settings_of as decoder_settings, situation_of}
+use Rattle.nbfx_decoder.specs.Standing.{StandsFor as DecoderStandsFor}
+use Rattle.nbfx_decoder.specs.Standing.{FailedBehind as DecoderFailedBehind, FailedWithin}
+use Rattle.nbfx_decoder.specs.Standing.{FeedAnswers}
 use Rattle.stream_reader.specs.declared.awaited.Awaited.{Awaited}
 use Rattle.stream_reader.specs.declared.awaited.Awaited.TheVariants as awaits
 use Rattle.stream_reader.specs.declared.awaited.PayloadLeft.{PayloadLeft}
@@ -22,13 +28,27 @@ use Rattle.stream_reader.specs.declared.reader.ReadRefusal.{ReadRefusal}
 use Rattle.stream_reader.specs.declared.reader.ReadRefusal.TheVariants.{Offence as Refused, Memory}
 use Rattle.stream_reader.specs.declared.reader.StreamReader.{StreamReader}
 use Rattle.stream_reader.specs.declared.reader.StreamStep.{StreamStep}
-use Rattle.stream_reader.specs.Stream.{OpenPayload, Settings, Situation, Stage, StreamEvent, opened, accepted, message, ended, peer_fault, record_due, chunk_due, payload_open, direction_of, is_chunked, is_over_in, behind_payload, completed_payload, offence_in, payload_in, payloads, refusal_in, refused_payload, stream, strings_at, strings_in, PayloadStanding}
-use Rattle.stream_reader.specs.Standing.{Awaits, DecideNothing, Failed, HasBegun, HasPart, HasPayloads, IsIn, Reached, ReadsPayload, ShowsTable, ShowsStrings, ShowsText, failure_of, form_of, messages_of, taken_of}
-use Rattle.stream_reader.specs.Stepping.{BehindAnswers, HasDecoded, UnitAnswers, more_shown, step_of, refusal_told}
+use Rattle.stream_reader.specs.Stream.{OpenPayload, Settings, Situation, Stage, StreamEvent, opened}
+use Rattle.stream_reader.specs.Stream.{accepted, message, ended, peer_fault, record_due, chunk_due}
+use Rattle.stream_reader.specs.Stream.{payload_open, direction_of, is_chunked, is_over_in}
+use Rattle.stream_reader.specs.Stream.{behind_payload, completed_payload, offence_in, payload_in}
+use Rattle.stream_reader.specs.Stream.{payloads, refusal_in, refused_payload, stream, strings_at}
+use Rattle.stream_reader.specs.Stream.{strings_in, PayloadStanding}
+use Rattle.stream_reader.specs.Standing.{Awaits, DecideNothing, Failed, HasBegun, HasPart}
+use Rattle.stream_reader.specs.Standing.{HasPayloads, IsIn, Reached, ReadsPayload, ShowsTable}
+use Rattle.stream_reader.specs.Standing.{ShowsStrings, ShowsText, failure_of, form_of, messages_of}
+use Rattle.stream_reader.specs.Standing.{taken_of}
+use Rattle.stream_reader.specs.Stepping.{BehindAnswers, HasDecoded, UnitAnswers, more_shown}
+use Rattle.stream_reader.specs.Stepping.{step_of, refusal_told}
 use Rattle.stream_reader.proofs.Ending.{payload_goes_on}
-use Rattle.stream_reader.proofs.FailedFeeds.{StaysWith, failed_with, same_grammar, some_refused, unrefused_so}
-use Rattle.stream_reader.proofs.Outcomes.{more_behind, refused_eventless, refused_messages, strings_behind, text_behind}
-use Rattle.stream_reader.proofs.PayloadBytes.{IsWithin, bytes_event, bytes_going, bytes_refused, bytes_stand, more_refusal, between_refusal, last_refusal, payload_behind, payload_quiet, payload_quiet_before, stands_so, within_open}
+use Rattle.stream_reader.proofs.FailedFeeds.{StaysWith, failed_with, same_grammar, some_refused}
+use Rattle.stream_reader.proofs.FailedFeeds.{unrefused_so}
+use Rattle.stream_reader.proofs.Outcomes.{more_behind, refused_eventless, refused_messages}
+use Rattle.stream_reader.proofs.Outcomes.{strings_behind, text_behind}
+use Rattle.stream_reader.proofs.PayloadBytes.{IsWithin, bytes_event, bytes_going, bytes_refused}
+use Rattle.stream_reader.proofs.PayloadBytes.{bytes_stand, more_refusal, between_refusal}
+use Rattle.stream_reader.proofs.PayloadBytes.{last_refusal, payload_behind, payload_quiet}
+use Rattle.stream_reader.proofs.PayloadBytes.{payload_quiet_before, stands_so, within_open}
 
 -- a reader of records that has begun none
 pub none_begun : (direction : Direction) (a : Awaited) (frames : FrameReader)
@@ -368,7 +388,8 @@ module _ (r : StreamReader) (x : Settings) (p : List ℕ) (h : Reached r x p) (l
             (refused_payload x (standing (stream x) p).situation behind_fed) new (Ok step)
             → new.frames ≡ r.frames → new.taken ≡ r.taken + n → new.unit_from ≡ r.taken + n
             → new.failure ≡ r.failure → UnitAnswers x p c new (Ok (n, step))
-        feed_took step = took_by n some (omega arith) (all_unrefused goes) (refusal_in x z (there n))
+        feed_took step = took_by n some (omega arith) (all_unrefused goes)
+            (refusal_in x z (there n))
             refl new step
 
         pub feed_behind : (told : ReadRefusal) → BehindAnswers x

@@ -1,5 +1,7 @@
 -- Which bytes of a payload refuse a stream: from the bytes to the refusal.
-use Rattle.std.proofs.Common.{◌≡◌, ℕ, zero, suc, ◌+◌, ◌-◌, ◌<◌, ◌≤◌, inl, inr, List, [], ◌∷◌, ◌++◌, length, Bool, true, false, Option, Some, None, refl, sym, ap, ◌∙◌, subst, arith, append_assoc, length-append, ◌↔◌}
+use Rattle.std.proofs.Common.{◌≡◌, ℕ, zero, suc, ◌+◌, ◌-◌, ◌<◌, ◌≤◌, inl, inr, List, [], ◌∷◌, ◌++◌}
+use Rattle.std.proofs.Common.{length, Bool, true, false, Option, Some, None, refl, sym, ap, ◌∙◌}
+use Rattle.std.proofs.Common.{subst, arith, append_assoc, length-append, ◌↔◌}
 use Rattle.std.specs.Prelude.{◌==◌, ◌&&◌, not, if◌then◌else◌}
 use Rattle.std.specs.Option.{option_map, option_or}
 use Rattle.std.proofs.lemmas.Bool.{le-ltb, ne_eqb, eqb-true, eqb-false}
@@ -20,14 +22,25 @@ use Rattle.nmf_records.specs.Reading.{bare, MayCome}
 use Rattle.nmf_records.specs.Script.{may_come}
 use Rattle.nbfx_decoder.specs.Payload.{Refusal, refusal}
 use Rattle.nbfx_decoder.proofs.PayloadAnswers.{nothing_is_refused}
-use Rattle.nbfx_decoder.proofs.PayloadReasons.{cut_where_unended, nothing_unrefused, refused_where_shown, unrefused_nothing}
-use Rattle.stream_reader.specs.Stream.{OpenPayload, PayloadStanding, Form, sized, chunked, last_chunk, Settings, Situation, Stage, StreamEvent, record_due, chunk_due, payload_open, direction_of, frame, is_chunked, is_whole, is_over_in, offence_at, offence_in, on_payload, payload_begun, payload_by, payload_in, payloads, reason_in, refusal_in, refused_payload, refused_record, behind_payload, stream, too_large, too_long, unit_in, with_chunk}
+use Rattle.nbfx_decoder.proofs.PayloadReasons.{cut_where_unended, nothing_unrefused}
+use Rattle.nbfx_decoder.proofs.PayloadReasons.{refused_where_shown, unrefused_nothing}
+use Rattle.stream_reader.specs.Stream.{OpenPayload, PayloadStanding, Form, sized, chunked}
+use Rattle.stream_reader.specs.Stream.{last_chunk, Settings, Situation, Stage, StreamEvent}
+use Rattle.stream_reader.specs.Stream.{record_due, chunk_due, payload_open, direction_of, frame}
+use Rattle.stream_reader.specs.Stream.{is_chunked, is_whole, is_over_in, offence_at, offence_in}
+use Rattle.stream_reader.specs.Stream.{on_payload, payload_begun, payload_by, payload_in, payloads}
+use Rattle.stream_reader.specs.Stream.{reason_in, refusal_in, refused_payload, refused_record}
+use Rattle.stream_reader.specs.Stream.{behind_payload, stream, too_large, too_long, unit_in}
+use Rattle.stream_reader.specs.Stream.{with_chunk}
 use Rattle.stream_reader.specs.Sessions.{IsBare, joined}
-use Rattle.stream_reader.specs.Reasons.{AreWhole, IsPart, IsSizedPart, IsChunked, IsResumed, IsInChunk, ShowsOf, ShowsInPayload}
+use Rattle.stream_reader.specs.Reasons.{AreWhole, IsPart, IsSizedPart, IsChunked, IsResumed}
+use Rattle.stream_reader.specs.Reasons.{IsInChunk, ShowsOf, ShowsInPayload}
 use Rattle.stream_reader.proofs.DueRecords.{envelope_comes, record_unit}
 use Rattle.stream_reader.proofs.Envelopes.{so_far, between, chunk_reads}
 use Rattle.stream_reader.proofs.Outcomes.{chunk_behind, more_behind}
-use Rattle.stream_reader.proofs.PayloadBytes.{IsWithin, behind_is, bytes_refused, bytes_stand, made_stands, payload_behind, refusal_all, refusal_before, refusal_between}
+use Rattle.stream_reader.proofs.PayloadBytes.{IsWithin, behind_is, bytes_refused, bytes_stand}
+use Rattle.stream_reader.proofs.PayloadBytes.{made_stands, payload_behind, refusal_all}
+use Rattle.stream_reader.proofs.PayloadBytes.{refusal_before, refusal_between}
 use Rattle.stream_reader.proofs.Situations.{begun_behind}
 
 -- why bytes of a payload are refused, by what they show
@@ -43,7 +56,8 @@ module _ (x : Settings) (z : Situation) (o : OpenPayload) (bytes : List ℕ) (r 
       → (refusal_in x z (payload_behind x z o bytes) ≡ Some r)
       ↔ ShowsOf (payloads x z.kind) z.strings false bytes r.at r.reason
   shown_part same = (
-    (λ e. inl ((refused_where_shown (payloads x z.kind) z.strings bytes r.at r.reason).0 (sym same ∙ e))),
+    (λ e. inl ((refused_where_shown (payloads x z.kind) z.strings bytes r.at r.reason).0
+        (sym same ∙ e))),
     back,
   ) where
     back : ShowsOf (payloads x z.kind) z.strings false bytes r.at r.reason
@@ -93,7 +107,8 @@ module _ (x : Settings) (z : Situation) (o : OpenPayload) (bytes : List ℕ) (r 
         → (all : Bool) → is_whole (payload_behind x z o bytes) ≡ all
         → (refusal_in x z (payload_behind x z o bytes) ≡ Some r)
         ↔ ShowsOf (payloads x z.kind) z.strings all bytes r.at r.reason
-    go true h b is true w = let bad : is_whole (payload_behind x z o bytes) ≡ false = rw h (off b is) in cc
+    go true h b is true w = let bad : is_whole (payload_behind x z o bytes)
+        ≡ false = rw h (off b is) in cc
       where
         off : (b : Bool) → ((o.size - length bytes) == 0) ≡ b
             → (((o.size - length bytes) == 0) && not true) ≡ false
@@ -111,11 +126,17 @@ module _ (x : Settings) (z : Situation) (o : OpenPayload) (bytes : List ℕ) (r 
         (let ne = eqb-false (o.size - length bytes) 0 is in omega (arith, ne, le)))
 
 -- bytes behind a record that makes or resumes a payload
-module _ (x : Settings) (before head : List ℕ) (read : Read) (o : OpenPayload) (q : List ℕ) (units : AreUnits (stream x) before) (reads : unit_in x (standing (stream x) before).situation.stage (standing (stream x) before).from head ≡ whole (frame read) (length head)) (made : payload_by x (standing (stream x) before).situation (length before) read.frame ≡ Some o) (is : o ≡ payload_behind x (standing (stream x) before).situation o q) where
+module _ (x : Settings) (before head : List ℕ) (read : Read) (o : OpenPayload) (q : List ℕ)
+    (units : AreUnits (stream x) before)
+    (reads : unit_in x (standing (stream x) before).situation.stage
+    (standing (stream x) before).from head ≡ whole (frame read) (length head))
+    (made : payload_by x (standing (stream x) before).situation (length before) read.frame ≡ Some o)
+    (is : o ≡ payload_behind x (standing (stream x) before).situation o q) where
   abbrev z : Situation
   z = (standing (stream x) before).situation
 
-  pub made_within : length q < o.size → IsWithin x (before ++ head) (standing (stream x) before).situation o q
+  pub made_within : length q < o.size → IsWithin x (before ++ head)
+      (standing (stream x) before).situation o q
   made_within lt =
       let s = made_stands x before head read o units reads made in
       let some : 0 < o.left = let n = ap (λ (p : OpenPayload). p.left) is in omega (arith, n, lt) in
@@ -144,7 +165,8 @@ module _ (x : Settings) (before head : List ℕ) (read : Read) (o : OpenPayload)
       refusal_from (stream x) (before ++ head) _ (made_stands x before head read o units reads made)
       ∙ ap (λ v. option_or v (option_or
       (wrong_of ((stream x).unit_at (behind_payload x z o) (length (before ++ head)) []))
-      (too_long x (behind_payload x z o).stage (length (before ++ head)) (length (before ++ head)))))
+      (too_long x (behind_payload x z o).stage (length (before ++ head))
+      (length (before ++ head)))))
       told
 
 -- behind whole chunks, before the size of another
@@ -153,11 +175,13 @@ pub record IsBetweenChunks (x : Settings) (z : Situation) (start : ℕ) (p q : L
   pub situation : (standing (stream x) p).situation ≡ between x z start q
 
 -- a chunk's size there resumes the payload
-module _ (x : Settings) (z : Situation) (start : ℕ) (p q head : List ℕ) (n : ℕ) (at : IsBetweenChunks x z start p q) (is_head : IsBare (frames.Chunk n) head) where
+module _ (x : Settings) (z : Situation) (start : ℕ) (p q head : List ℕ) (n : ℕ)
+    (at : IsBetweenChunks x z start p q) (is_head : IsBare (frames.Chunk n) head) where
   abbrev o : OpenPayload
   o = with_chunk (so_far x z start q) n
 
-  pub size_reads : unit_in x (standing (stream x) p).situation.stage (standing (stream x) p).from head
+  pub size_reads : unit_in x (standing (stream x) p).situation.stage (standing (stream x) p).from
+      head
       ≡ whole (frame (bare (frames.Chunk n))) (length head)
   size_reads =
       ap (λ (w : Situation). unit_in x w.stage (standing (stream x) p).from head) at.situation
@@ -192,7 +216,8 @@ chunk_between x z start p q head c at some is =
     let s : Situation = between x z start q in
     let o : OpenPayload = with_chunk (so_far x z start q) (length c) in
     let not_last : (length c == 0) ≡ false = ne_eqb (length c) 0 (λ e. omega arith) in
-    let form_is : o.form ≡ chunked = ap (λ (b : Bool). if b then last_chunk else chunked) not_last in
+    let form_is : o.form ≡ chunked = ap (λ (b : Bool). if b then last_chunk else chunked) not_last
+    in
     let more : is_chunked o.form ≡ true = ap is_chunked form_is in
     let longer = length-append q c in
     let stands = bytes_stand x c (p ++ head) s o q
@@ -225,7 +250,8 @@ chunks_between x z start (c ∷ chunks) front p q at (head, rest, some, is, fron
     (sym front_is)
     (subst (λ (b : List ℕ). IsBetweenChunks x z start b (q ++ (c ++ joined chunks)))
     (append_assoc p (head ++ c) rest)
-    (subst (IsBetweenChunks x z start ((p ++ (head ++ c)) ++ rest)) (append_assoc q c (joined chunks)) r))
+    (subst (IsBetweenChunks x z start ((p ++ (head ++ c)) ++ rest))
+    (append_assoc q c (joined chunks)) r))
 
 -- behind the head of an envelope of chunks, and behind such an envelope so far
 head_between : (x : Settings) (before head : List ℕ) (due : Due) → AreUnits (stream x) before
@@ -259,7 +285,8 @@ head_between x before head due units at may is =
 
 pub so_between : (x : Settings) (before front payload : List ℕ) → AreUnits (stream x) before
     → IsChunked x (standing (stream x) before).situation front payload
-    → IsBetweenChunks x (standing (stream x) before).situation (length before) (before ++ front) payload
+    → IsBetweenChunks x (standing (stream x) before).situation (length before) (before ++ front)
+    payload
 so_between x before front payload units h =
     let z : Situation = (standing (stream x) before).situation in
     let r = chunks_between x z (length before) h.chunks h.front (before ++ h.head) []
@@ -267,13 +294,16 @@ so_between x before front payload units h =
     let all : (before ++ h.head) ++ h.front ≡ before ++ front =
     append_assoc before h.head h.front ∙ ap (λ b. before ++ b) (sym h.joined_bytes) in
     subst (λ (b : List ℕ). IsBetweenChunks x z (length before) b payload) all
-    (subst (IsBetweenChunks x z (length before) ((before ++ h.head) ++ h.front)) (sym h.payload_is) r)
+    (subst (IsBetweenChunks x z (length before) ((before ++ h.head) ++ h.front)) (sym h.payload_is)
+    r)
 
 -- which chunk ends the payload
-pub last_is : (x : Settings) (s : Situation) (start : ℕ) (q : List ℕ) (n : ℕ) (b : Bool) → (n == 0) ≡ b
+pub last_is : (x : Settings) (s : Situation) (start : ℕ) (q : List ℕ) (n : ℕ) (b : Bool) → (n == 0)
+    ≡ b
     → is_whole (payload_behind x s (with_chunk (so_far x s start q) n) q) ≡ b
 last_is x s start q n true e =
-    let none : length q + n - length q ≡ 0 = let zero_is = eqb-true n 0 e in omega (arith, zero_is) in
+    let none : length q + n - length q ≡ 0 = let zero_is = eqb-true n 0 e in omega (arith, zero_is)
+    in
     rw (e, none) refl
 last_is x s start q n false e = rw e (off (length q + n - length q == 0)) where
   off : (b : Bool) → (b && not true) ≡ false
@@ -286,7 +316,8 @@ module _ (x : Settings) (before : List ℕ) (units : AreUnits (stream x) before)
   origin = (standing (stream x) before).situation
 
   abbrev Refuses : List ℕ → Type 0
-  Refuses p = refusal_at (stream x) p ≡ Some (offence_in (standing (stream x) before).situation.messages r)
+  Refuses p = refusal_at (stream x) p
+      ≡ Some (offence_in (standing (stream x) before).situation.messages r)
 
   abbrev Shown : List ℕ → Bool → Type 0
   Shown payload all =
@@ -335,7 +366,8 @@ module _ (x : Settings) (before : List ℕ) (units : AreUnits (stream x) before)
       (unended (o.size - length (h.before ++ h.part) == 0) not_last)).1
       (subst (λ (b : List ℕ). Shown b false) h.payload_is shows) in
       let refused = bytes_refused x (p ++ h.head) s o h.before
-      (size_within x origin (length before) p h.before h.head h.size at h.is_head some) h.part h.some
+      (size_within x origin (length before) p h.before h.head h.size at h.is_head some) h.part
+      h.some
       (let few = h.within in omega (arith, few)) r e in
       ap (refusal_at (stream x)) (ap (λ b. before ++ b) h.joined_bytes
       ∙ sym (append_assoc before (h.front ++ h.head) h.part)
@@ -375,11 +407,13 @@ module _ (x : Settings) (before : List ℕ) (units : AreUnits (stream x) before)
         let none : h.size - length payload ≡ 0 = omega (arith, same) in ap (λ n. n == 0) none
     whole_is false e =
         let ne = eqb-false (length payload) h.size e in
-        ne_eqb (h.size - length payload) 0 (λ none. ne (let le = h.within in omega (arith, none, le)))
+        ne_eqb (h.size - length payload) 0
+        (λ none. ne (let le = h.within in omega (arith, none, le)))
 
     shown : refusal_in x (standing (stream x) before).situation
         (payload_behind x (standing (stream x) before).situation
-        (payload_begun x (standing (stream x) before).situation (length before) h.size sized) payload)
+        (payload_begun x (standing (stream x) before).situation (length before) h.size sized)
+        payload)
         ≡ Some r
     shown =
         (shown_by x (standing (stream x) before).situation here payload r all h.within
@@ -412,7 +446,8 @@ module _ (x : Settings) (before : List ℕ) (units : AreUnits (stream x) before)
         (le-ltb x.limits.payload h.size (omega (arith, none))) in
         ap (refusal_at (stream x)) (ap (λ b. before ++ b) (h.joined ∙ ap (λ b. h.head ++ b) empty
         ∙ append-nil h.head))
-        ∙ made_refused x before h.head (bare (frames.SizedEnvelope h.size)) here [] units reads refl is r
+        ∙ made_refused x before h.head (bare (frames.SizedEnvelope h.size)) here [] units reads refl
+        is r
         fine (ap (λ b. refusal_in x z' (payload_behind x z' here b)) (sym empty) ∙ shown)
     go (y ∷ c) one =
         let z' : Situation = (standing (stream x) before).situation in
@@ -421,7 +456,8 @@ module _ (x : Settings) (before : List ℕ) (units : AreUnits (stream x) before)
         ap (refusal_at (stream x)) (ap (λ b. before ++ b) (h.joined ∙ ap (λ b. h.head ++ b) one)
         ∙ sym (append_assoc before h.head (y ∷ c)))
         ∙ bytes_refused x (before ++ h.head) z' here []
-        (made_within x before h.head (bare (frames.SizedEnvelope h.size)) here [] units reads refl is some)
+        (made_within x before h.head (bare (frames.SizedEnvelope h.size)) here [] units reads refl
+        is some)
         (y ∷ c) (omega arith) (let n = ap length one in let le = h.within in omega (arith, n, le)) r
         (ap (λ b. refusal_in x z' (payload_behind x z' here b)) (sym one) ∙ shown)
 

@@ -1,5 +1,7 @@
 -- Which bytes of a payload refuse a stream: from the refusal to the bytes.
-use Rattle.std.proofs.Common.{◌≡◌, ℕ, ◌+◌, ◌-◌, ◌<◌, ◌≤◌, ◌⊎◌, inl, inr, List, [], ◌∷◌, ◌++◌, length, Bool, true, false, Option, Some, None, refl, sym, ap, ◌∙◌, subst, arith, append_assoc, length-append, ◌↔◌}
+use Rattle.std.proofs.Common.{◌≡◌, ℕ, ◌+◌, ◌-◌, ◌<◌, ◌≤◌, ◌⊎◌, inl, inr, List, [], ◌∷◌, ◌++◌}
+use Rattle.std.proofs.Common.{length, Bool, true, false, Option, Some, None, refl, sym, ap, ◌∙◌}
+use Rattle.std.proofs.Common.{subst, arith, append_assoc, length-append, ◌↔◌}
 use Rattle.std.specs.Prelude.{nat_le, ◌==◌, ◌&&◌, not, if◌then◌else◌}
 use Rattle.std.specs.Option.{option_map, option_or}
 use Rattle.std.proofs.lemmas.Bool.{ne_eqb, eqb-true, eqb-false}
@@ -25,7 +27,14 @@ use Rattle.nmf_records.specs.Script.{may_come}
 use Rattle.nbfx_decoder.specs.Payload.{Refusal, refusal}
 use Rattle.nbfx_decoder.proofs.PayloadAnswers.{nothing_is_refused}
 use Rattle.nbfx_decoder.proofs.PayloadReasons.{nothing_unrefused}
-use Rattle.stream_reader.specs.Stream.{OpenPayload, sized, chunked, last_chunk, Settings, Situation, Stage, record_due, chunk_due, payload_open, StreamUnit, frame, direction_of, is_chunked, is_whole, is_over_in, offence_at, offence_in, on_open, on_payload, open_from, payload_at, payload_begun, payload_by, payloads, reason_in, reason_of, record_at, refusal_in, refused, refused_payload, refused_record, stream, too_long, unit_in, with_byte, with_chunk}
+use Rattle.stream_reader.specs.Stream.{OpenPayload, sized, chunked, last_chunk, Settings, Situation}
+use Rattle.stream_reader.specs.Stream.{Stage, record_due, chunk_due, payload_open, StreamUnit}
+use Rattle.stream_reader.specs.Stream.{frame, direction_of, is_chunked, is_whole, is_over_in}
+use Rattle.stream_reader.specs.Stream.{offence_at, offence_in, on_open, on_payload, open_from}
+use Rattle.stream_reader.specs.Stream.{payload_at, payload_begun, payload_by, payloads, reason_in}
+use Rattle.stream_reader.specs.Stream.{reason_of, record_at, refusal_in, refused, refused_payload}
+use Rattle.stream_reader.specs.Stream.{refused_record, stream, too_long, unit_in, with_byte}
+use Rattle.stream_reader.specs.Stream.{with_chunk}
 use Rattle.stream_reader.specs.Sessions.{IsBare}
 use Rattle.stream_reader.specs.Reasons.{IsPart, HasPayload, ShowsInPayload}
 use Rattle.stream_reader.proofs.RightRecords.{right_size}
@@ -33,9 +42,11 @@ use Rattle.stream_reader.proofs.Coming.{unit_of_record, unit_of_chunk, unit_of_p
 use Rattle.stream_reader.proofs.DueRecords.{envelope_due, refusing}
 use Rattle.stream_reader.proofs.Envelopes.{so_far, between}
 use Rattle.stream_reader.proofs.Grammar.{readable}
-use Rattle.stream_reader.proofs.PayloadBytes.{behind_is, payload_behind, refusal_between, with_byte_is}
+use Rattle.stream_reader.proofs.PayloadBytes.{behind_is, payload_behind, refusal_between}
+use Rattle.stream_reader.proofs.PayloadBytes.{with_byte_is}
 use Rattle.stream_reader.proofs.PayloadReasons.{for_in_payload, last_is, shown_by}
-use Rattle.stream_reader.proofs.PayloadTrace.{IsOnePart, IsOneOfChunks, OpenTrace, ChunkTrace, TracedAt, traced}
+use Rattle.stream_reader.proofs.PayloadTrace.{IsOnePart, IsOneOfChunks, OpenTrace, ChunkTrace}
+use Rattle.stream_reader.proofs.PayloadTrace.{TracedAt, traced}
 use Rattle.stream_reader.proofs.Reasons.{apart, some_mapped}
 use Rattle.stream_reader.proofs.Situations.{begun_behind}
 
@@ -52,7 +63,8 @@ same_refusal m n r s e =
     ∙ ap (λ reason. refusal s.at reason) (ap (λ (o : Offence). o.reason) e)
 
 -- a record that is refused in a payload
-record IsRefusedIn (x : Settings) (z : Situation) (from number : ℕ) (r : Refusal) (read : Frame) (text : List ℕ) : Type 0 where
+record IsRefusedIn (x : Settings) (z : Situation) (from number : ℕ) (r : Refusal) (read : Frame)
+    (text : List ℕ) : Type 0 where
   payload : OpenPayload
   made : payload_by x z from read ≡ Some payload
   fine : reason_in x z.stage read text ≡ None
@@ -84,7 +96,8 @@ in_record x z from number r read text e =
           number_is = sym (same_number number z.messages r m.0 m.2);
         }
 
-module _ (x : Settings) (p before bytes : List ℕ) (joined : p ≡ before ++ bytes) (units : AreUnits (stream x) before) (number : ℕ) (r : Refusal) where
+module _ (x : Settings) (p before bytes : List ℕ) (joined : p ≡ before ++ bytes)
+    (units : AreUnits (stream x) before) (number : ℕ) (r : Refusal) where
   abbrev z : Situation
   z = (standing (stream x) before).situation
 
@@ -92,7 +105,8 @@ module _ (x : Settings) (p before bytes : List ℕ) (joined : p ≡ before ++ by
   Shows = ShowsInPayload x p number r.at r.reason
 
   -- the head of an envelope of one part, of which none has come
-  by_sized : (from size : ℕ) → (standing (stream x) before).situation.stage ≡ record_due dues.Messages
+  by_sized : (from size : ℕ) → (standing (stream x) before).situation.stage
+      ≡ record_due dues.Messages
       → IsBare (frames.SizedEnvelope size) bytes
       → refusal_in x (standing (stream x) before).situation
       (payload_begun x (standing (stream x) before).situation from size sized) ≡ Some r
@@ -175,7 +189,8 @@ module _ (x : Settings) (p before bytes : List ℕ) (joined : p ≡ before ++ by
       ∙ ap (λ (v : Situation). refusal_in x v h.payload) (sym t.situation) ∙ h.refused in
       let low : length t.payload + size ≤ x.limits.payload =
       right_size x (length t.payload + size)
-      (ap (λ (v : Situation). reason_in x v.stage (frames.Chunk size) text) (sym t.situation) ∙ h.fine) in (
+      (ap (λ (v : Situation). reason_in x v.stage (frames.Chunk size) text) (sym t.situation) ∙
+      h.fine) in (
         w,
         t.payload,
         (size == 0),
@@ -206,7 +221,8 @@ module _ (x : Settings) (p before bytes : List ℕ) (joined : p ≡ before ++ by
   by_byte : (o : OpenPayload) (y : ℕ) (t : OpenTrace x before o) → bytes ≡ y ∷ []
       → (standing (stream x) t.before).situation.messages ≡ number
       → refusal_in x (standing (stream x) t.before).situation
-      (payload_behind x (standing (stream x) t.before).situation t.base (t.payload ++ bytes)) ≡ Some r
+      (payload_behind x (standing (stream x) t.before).situation t.base (t.payload ++ bytes))
+      ≡ Some r
       → ShowsInPayload x p number r.at r.reason
   by_byte o y t one number_is e = by_shape t.shape where
     w : Situation
@@ -221,7 +237,8 @@ module _ (x : Settings) (p before bytes : List ℕ) (joined : p ≡ before ++ by
         omega (arith, n, m, few)
 
     has : (all : Bool)
-        → IsPart x (standing (stream x) t.before).situation (t.bytes ++ bytes) (t.payload ++ bytes) all
+        → IsPart x (standing (stream x) t.before).situation (t.bytes ++ bytes) (t.payload ++ bytes)
+        all
         → HasPayload x p (standing (stream x) t.before).situation (t.payload ++ bytes) all
     has all part = record {
       before = t.before;
@@ -233,7 +250,8 @@ module _ (x : Settings) (p before bytes : List ℕ) (joined : p ≡ before ++ by
     }
 
     by_shape : IsOnePart x (standing (stream x) t.before).situation (length t.before) t.base t.bytes
-        t.payload ⊎ IsOneOfChunks x (standing (stream x) t.before).situation (length t.before) t.base
+        t.payload ⊎ IsOneOfChunks x (standing (stream x) t.before).situation (length t.before)
+        t.base
         t.bytes t.payload
         → ShowsInPayload x p number r.at r.reason
     by_shape (inl h) =
@@ -264,7 +282,8 @@ module _ (x : Settings) (p before bytes : List ℕ) (joined : p ≡ before ++ by
             (t.payload ++ bytes)) ≡ b
         whole_is true e size_is form_is =
             let same = eqb-true (length (t.payload ++ bytes)) h.size e in
-            let none : t.base.size - length (t.payload ++ bytes) ≡ 0 = omega (arith, same, size_is) in
+            let none : t.base.size - length (t.payload ++ bytes) ≡ 0 = omega (arith, same, size_is)
+            in
             rw (none, form_is) refl
         whole_is false e size_is form_is =
             let ne = eqb-false (length (t.payload ++ bytes)) h.size e in
@@ -295,9 +314,11 @@ module _ (x : Settings) (p before bytes : List ℕ) (joined : p ≡ before ++ by
               chunked = h.chunks;
               is_head = h.is_head;
               some = (let n = length-append h.part bytes in let m = some in omega (arith, n, m));
-              within = (let n = ap length longer in let m = length-append h.before (h.part ++ bytes) in
+              within = (let n = ap length longer in let m = length-append h.before (h.part ++ bytes)
+                  in
                   let fits = le in omega (arith, n, m, fits, size_is));
-              joined_bytes = ap (λ c. c ++ bytes) h.bytes_are ∙ append_assoc (h.front ++ h.head) h.part bytes;
+              joined_bytes = ap (λ c. c ++ bytes) h.bytes_are ∙ append_assoc (h.front ++ h.head)
+                  h.part bytes;
               payload_is = longer;
             },
           ))),
@@ -345,7 +366,8 @@ module _ (x : Settings) (p before bytes : List ℕ) (joined : p ≡ before ++ by
       ap (λ b. refused_payload x w (payload_behind x w t.base (t.payload ++ b))) one
       ∙ ap (refused_payload x w) (sym (with_byte_is x w t.base t.payload c.0))
       ∙ ap (λ (q : OpenPayload). refused_payload x w (with_byte x w q c.0)) (sym t.is)
-      ∙ ap (λ (s : Situation). on_open s.stage (λ q. refused_payload x s (with_byte x s q c.0)) None)
+      ∙ ap (λ (s : Situation). on_open s.stage (λ q. refused_payload x s (with_byte x s q c.0))
+      None)
       (sym t.situation)
       ∙ ap (refused x z from) (sym c.3) ∙ some in
       let m = some_mapped (offence_in w.messages)
@@ -366,7 +388,8 @@ record_apart : (x : Settings) (due : Due) (from : ℕ) (bytes : List ℕ) (numbe
     (n : ℕ) → record_at x due from bytes ≡ wrong (offence_in number r) n → ⊥
 record_apart x dues.Over from bytes number r n e = cc
 record_apart x due from bytes number r n e =
-    seen_apart due from number r (frame_at x.limits.via (may_come (direction_of x.side) due) bytes) n e
+    seen_apart due from number r (frame_at x.limits.via (may_come (direction_of x.side) due) bytes)
+    n e
 
 bytes_apart : (x : Settings) (stage : Stage) (from : ℕ) (bytes : List ℕ) (number : ℕ) (r : Refusal)
     (n : ℕ) → unit_in x stage from bytes ≡ wrong (offence_in number r) n → ⊥
@@ -388,7 +411,8 @@ length_apart x stage from n number r e =
     go : (b : Bool) → (if b then Some (offence_at (open_from stage from) reasons.SessionTooLong)
         else None) ≡ Some (offence_in number r) → ⊥
     go true e =
-        let same : offence_at (open_from stage from) reasons.SessionTooLong ≡ offence_in number r = cc in
+        let same : offence_at (open_from stage from) reasons.SessionTooLong ≡ offence_in number r =
+        cc in
         apart (open_from stage from) reasons.SessionTooLong number r same
     go false e = cc
 
@@ -399,7 +423,8 @@ module _ (x : Settings) (p : List ℕ) where
   in_payload_for number at reason e =
       elim ((refusals_are_three (stream x) (readable x) p
       (offence_in number (refusal at reason))).0 e) [
-        | inl h ↦ of_unit x p h.before h.bytes h.joined h.units number (refusal at reason) _ h.unit refl
+        | inl h ↦ of_unit x p h.before h.bytes h.joined h.units number (refusal at reason) _ h.unit
+            refl
             h.reads (traced x h.before h.units) h.refused
         | inr (inl h) ↦ absurd (bytes_apart x (standing (stream x) h.before).situation.stage
             (standing (stream x) h.before).from h.bytes number (refusal at reason) h.size h.reads)

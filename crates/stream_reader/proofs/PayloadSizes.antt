@@ -1,5 +1,6 @@
 -- The payload of a document is within the quota, where nothing of the stream before is refused.
-use Rattle.std.proofs.Common.{◌≡◌, ℕ, ◌+◌, ◌<◌, ◌≤◌, List, [], ◌++◌, length, false, Option, Some, None, refl, sym, ap, ◌∙◌, subst, arith, length-append}
+use Rattle.std.proofs.Common.{◌≡◌, ℕ, ◌+◌, ◌<◌, ◌≤◌, List, [], ◌++◌, length, false, Option, Some}
+use Rattle.std.proofs.Common.{None, refl, sym, ap, ◌∙◌, subst, arith, length-append}
 use Rattle.std.specs.Option.{option_map}
 use Rattle.std.proofs.lemmas.List.{take-append-le, take_all}
 use Rattle.unit_streams.specs.Front.{whole}
@@ -13,7 +14,13 @@ use Rattle.unit_streams.proofs.Standing.{standing_nothing}
 use Rattle.nbfx_values.specs.declared.refusals.Offence.{Offence}
 use Rattle.nmf_records.specs.declared.frame.Frame.{Frame}
 use Rattle.nmf_records.specs.declared.frame.Frame.TheVariants as frames
-use Rattle.stream_reader.specs.Stream.{Envelope, OpenPayload, sized, chunked, Settings, Situation, Stage, record_due, chunk_due, payload_open, StreamEvent, message, StreamUnit, frame, payload_byte, is_chunked, on_open, on_payload, offence_at, reason_in, payload_begun, payload_by, after, after_bare, behind_payload, completed, completed_bare, completed_payload, refused, refused_payload, stream, unit_in, with_byte, with_chunk}
+use Rattle.stream_reader.specs.Stream.{Envelope, OpenPayload, sized, chunked, Settings, Situation}
+use Rattle.stream_reader.specs.Stream.{Stage, record_due, chunk_due, payload_open, StreamEvent}
+use Rattle.stream_reader.specs.Stream.{message, StreamUnit, frame, payload_byte, is_chunked}
+use Rattle.stream_reader.specs.Stream.{on_open, on_payload, offence_at, reason_in, payload_begun}
+use Rattle.stream_reader.specs.Stream.{payload_by, after, after_bare, behind_payload, completed}
+use Rattle.stream_reader.specs.Stream.{completed_bare, completed_payload, refused, refused_payload}
+use Rattle.stream_reader.specs.Stream.{stream, unit_in, with_byte, with_chunk}
 use Rattle.stream_reader.specs.Laws.{IsUnrefusedBefore, open_payload}
 use Rattle.stream_reader.proofs.Grammar.{readable}
 use Rattle.stream_reader.proofs.Outcomes.{goes_on, wants_chunk, is_whole, is_refused, outcome}

@@ -1,5 +1,6 @@
 -- A reader goes on behind bytes of a payload.
-use Rattle.std.proofs.Common.{◌≡◌, ℕ, ◌+◌, ◌<◌, ◌≤◌, List, [], length, true, false, Option, Some, None, Result, Ok, Err, refl, sym, ap, ◌∙◌, subst, arith, inr}
+use Rattle.std.proofs.Common.{◌≡◌, ℕ, ◌+◌, ◌<◌, ◌≤◌, List, [], length, true, false, Option, Some}
+use Rattle.std.proofs.Common.{None, Result, Ok, Err, refl, sym, ap, ◌∙◌, subst, arith, inr}
 use Rattle.std.specs.Option.{option_map, option_or}
 use Rattle.unit_streams.specs.Judging.{refusal_at, ending_at}
 use Rattle.unit_streams.proofs.Pending.{pending_unrefused}
@@ -12,7 +13,9 @@ use Rattle.nbfx_decoder.specs.Payload.{Refusal, refusal, payload, Settings as Pa
 use Rattle.nbfx_decoder.specs.declared.decoder.Decoder.{Decoder}
 use Rattle.nbfx_decoder.specs.declared.faults.DecodeFault.{DecodeFault}
 use Rattle.nbfx_decoder.specs.declared.faults.DecodeFault.TheVariants as faults
-use Rattle.nbfx_decoder.specs.Standing.{settings_of as decoder_settings, situation_of, table_at, StandsFor as DecoderStandsFor, FailedBehind as DecoderFailedBehind, FinishAnswers}
+use Rattle.nbfx_decoder.specs.Standing.{settings_of as decoder_settings, situation_of, table_at}
+use Rattle.nbfx_decoder.specs.Standing.{StandsFor as DecoderStandsFor}
+use Rattle.nbfx_decoder.specs.Standing.{FailedBehind as DecoderFailedBehind, FinishAnswers}
 use Rattle.nbfx_decoder.proofs.StandsFacts.{stands_as}
 use Rattle.nbfx_decoder.proofs.Readable.{readable as payload_readable}
 use Rattle.stream_reader.specs.declared.awaited.Awaited.{Awaited}
@@ -22,12 +25,19 @@ use Rattle.stream_reader.specs.declared.reader.ReadRefusal.{ReadRefusal}
 use Rattle.stream_reader.specs.declared.reader.StreamReader.{StreamReader}
 use Rattle.stream_reader.specs.declared.reader.StreamStep.{StreamStep}
 use Rattle.stream_reader.specs.declared.reader.StreamStep.TheVariants as steps
-use Rattle.stream_reader.specs.Stream.{OpenPayload, PayloadStanding, Settings, Situation, Stage, StreamEvent, message, record_due, chunk_due, payload_open, due_behind, is_chunked, is_over_in, behind_payload, completed_payload, offence_in, payload_in, payloads, refusal_in, refused_payload}
+use Rattle.stream_reader.specs.Stream.{OpenPayload, PayloadStanding, Settings, Situation, Stage}
+use Rattle.stream_reader.specs.Stream.{StreamEvent, message, record_due, chunk_due, payload_open}
+use Rattle.stream_reader.specs.Stream.{due_behind, is_chunked, is_over_in, behind_payload}
+use Rattle.stream_reader.specs.Stream.{completed_payload, offence_in, payload_in, payloads}
+use Rattle.stream_reader.specs.Stream.{refusal_in, refused_payload}
 use Rattle.stream_reader.specs.Standing.{Awaits, HasPart, Recalls}
-use Rattle.stream_reader.specs.Stepping.{BehindAnswers, HasDecoded, due_after, is_chunked_form, refusal_told}
+use Rattle.stream_reader.specs.Stepping.{BehindAnswers, HasDecoded, due_after, is_chunked_form}
+use Rattle.stream_reader.specs.Stepping.{refusal_told}
 use Rattle.stream_reader.proofs.Ending.{form_on}
-use Rattle.stream_reader.proofs.Outcomes.{HasAll, behind_whole, chunk_behind, envelope_of, more_behind, more_completed, refused_behind, whole_behind}
-use Rattle.stream_reader.proofs.PayloadBytes.{behind_is, payload_behind, refusal_all, refusal_before, refusal_between}
+use Rattle.stream_reader.proofs.Outcomes.{HasAll, behind_whole, chunk_behind, envelope_of}
+use Rattle.stream_reader.proofs.Outcomes.{more_behind, more_completed, refused_behind, whole_behind}
+use Rattle.stream_reader.proofs.PayloadBytes.{behind_is, payload_behind, refusal_all}
+use Rattle.stream_reader.proofs.PayloadBytes.{refusal_before, refusal_between}
 use Rattle.stream_reader.proofs.ReaderFacts.{cost_within}
 
 -- a message that says so much

@@ -1,5 +1,7 @@
 -- Where a payload is open its bytes are those of an envelope so far.
-use Rattle.std.proofs.Common.{◌≡◌, ℕ, ◌+◌, ◌-◌, ◌<◌, ◌⊎◌, inl, inr, List, [], ◌∷◌, ◌++◌, length, Bool, true, false, None, refl, sym, ap, ◌∙◌, subst, arith, append_assoc, length-append}
+use Rattle.std.proofs.Common.{◌≡◌, ℕ, ◌+◌, ◌-◌, ◌<◌, ◌⊎◌, inl, inr, List, [], ◌∷◌, ◌++◌, length}
+use Rattle.std.proofs.Common.{Bool, true, false, None, refl, sym, ap, ◌∙◌, subst, arith}
+use Rattle.std.proofs.Common.{append_assoc, length-append}
 use Rattle.std.specs.Prelude.{◌==◌, if◌then◌else◌}
 use Rattle.std.proofs.lemmas.Bool.{ne_eqb}
 use Rattle.std.proofs.lemmas.List.{append-nil, nil_from_length, take_all}
@@ -16,7 +18,12 @@ use Rattle.nmf_records.specs.declared.script.Due.TheVariants as dues
 use Rattle.nmf_records.specs.Records.{IsRecordOf}
 use Rattle.nmf_records.specs.Reading.{MayCome}
 use Rattle.nmf_records.specs.Script.{may_come}
-use Rattle.stream_reader.specs.Stream.{OpenPayload, PayloadStanding, Form, sized, chunked, last_chunk, Settings, Situation, Stage, StreamEvent, StreamUnit, record_due, chunk_due, payload_open, direction_of, is_chunked, on_open, after, after_record, behind_payload, payload_begun, payload_by, stream, unit_in, with_byte, with_chunk}
+use Rattle.stream_reader.specs.Stream.{OpenPayload, PayloadStanding, Form, sized, chunked}
+use Rattle.stream_reader.specs.Stream.{last_chunk, Settings, Situation, Stage, StreamEvent}
+use Rattle.stream_reader.specs.Stream.{StreamUnit, record_due, chunk_due, payload_open}
+use Rattle.stream_reader.specs.Stream.{direction_of, is_chunked, on_open, after, after_record}
+use Rattle.stream_reader.specs.Stream.{behind_payload, payload_begun, payload_by, stream, unit_in}
+use Rattle.stream_reader.specs.Stream.{with_byte, with_chunk}
 use Rattle.stream_reader.specs.Sessions.{IsBare, joined}
 use Rattle.stream_reader.specs.Reasons.{AreWhole, IsChunked}
 use Rattle.stream_reader.proofs.Coming.{unit_of_record, unit_of_chunk, unit_of_payload}
@@ -29,7 +36,8 @@ use Rattle.stream_reader.proofs.Situations.{begun_behind}
 use Rattle.stream_reader.proofs.Prefixes.{units_keep}
 
 -- how an envelope has brought bytes of its payload: in one part
-pub record IsOnePart (x : Settings) (z : Situation) (start : ℕ) (base : OpenPayload) (bytes payload : List ℕ) : Type 0 where
+pub record IsOnePart (x : Settings) (z : Situation) (start : ℕ) (base : OpenPayload)
+    (bytes payload : List ℕ) : Type 0 where
   pub size : ℕ
   pub head : List ℕ
   pub is_due : z.stage ≡ record_due dues.Messages
@@ -38,7 +46,8 @@ pub record IsOnePart (x : Settings) (z : Situation) (start : ℕ) (base : OpenPa
   pub base_is : base ≡ payload_begun x z start size sized
 
 -- or in chunks, up to bytes of one
-pub record IsOneOfChunks (x : Settings) (z : Situation) (start : ℕ) (base : OpenPayload) (bytes payload : List ℕ) : Type 0 where
+pub record IsOneOfChunks (x : Settings) (z : Situation) (start : ℕ) (base : OpenPayload)
+    (bytes payload : List ℕ) : Type 0 where
   pub front : List ℕ
   pub head : List ℕ
   pub size : ℕ
@@ -187,7 +196,8 @@ module _ (x : Settings) (p bytes : List ℕ) (units : AreUnits (stream x) p) whe
       → Leads (behind_payload x (between x (standing (stream x) t.before).situation
       (length t.before) t.payload) (with_chunk (so_far x (standing (stream x) t.before).situation
       (length t.before) t.payload) n))
-      → TracedAt x (p ++ bytes) (behind_payload x (between x (standing (stream x) t.before).situation
+      → TracedAt x (p ++ bytes)
+      (behind_payload x (between x (standing (stream x) t.before).situation
       (length t.before) t.payload) (with_chunk (so_far x (standing (stream x) t.before).situation
       (length t.before) t.payload) n)).stage
   chunk_traced n t is leads =
@@ -223,7 +233,8 @@ module _ (x : Settings) (p bytes : List ℕ) (units : AreUnits (stream x) p) whe
             })
         | wants_chunk none h b c ↦
             let last : (n == 0) ≡ true = ap (λ n. n == 0) none in
-            let bad = sym (ap (λ (b : Bool). is_chunked (if b then last_chunk else chunked)) last) ∙ h in
+            let bad = sym (ap (λ (b : Bool). is_chunked (if b then last_chunk else chunked)) last) ∙
+            h in
             cc
         | is_whole all none b c ↦
             subst (TracedAt x (p ++ bytes)) (sym (ap (λ (s : Situation). s.stage) b)) tt
@@ -233,7 +244,8 @@ module _ (x : Settings) (p bytes : List ℕ) (units : AreUnits (stream x) p) whe
 
   -- behind a byte
   chunk_done : (o : OpenPayload) (y : ℕ) (t : OpenTrace x p o) → bytes ≡ y ∷ []
-      → IsOneOfChunks x (standing (stream x) t.before).situation (length t.before) t.base t.bytes t.payload
+      → IsOneOfChunks x (standing (stream x) t.before).situation (length t.before) t.base t.bytes
+      t.payload
       → t.base.size ≡ length (t.payload ++ bytes)
       → Leads (record (standing (stream x) t.before).situation {
         stage = chunk_due (payload_behind x (standing (stream x) t.before).situation t.base
@@ -357,8 +369,10 @@ module _ (x : Settings) (p bytes : List ℕ) (units : AreUnits (stream x) p) whe
             subst (TracedAt x (p ++ bytes)) (sym (ap (λ (s : Situation). s.stage) b)) tt
       ]
     where
-      by_shape : IsOnePart x (standing (stream x) t.before).situation (length t.before) t.base t.bytes
-          t.payload ⊎ IsOneOfChunks x (standing (stream x) t.before).situation (length t.before) t.base
+      by_shape : IsOnePart x (standing (stream x) t.before).situation (length t.before) t.base
+          t.bytes
+          t.payload ⊎ IsOneOfChunks x (standing (stream x) t.before).situation (length t.before)
+          t.base
           t.bytes t.payload
           → is_chunked t.base.form ≡ true → t.base.size ≡ length (t.payload ++ bytes)
           → Leads (record (standing (stream x) t.before).situation {
@@ -375,7 +389,8 @@ module _ (x : Settings) (p bytes : List ℕ) (units : AreUnits (stream x) p) whe
       → (standing (stream x) p).situation.stage ≡ record_due due
       → MayCome (may_come (direction_of x.side) due) read → IsRecordOf read text bytes
       → Leads (after_record x (standing (stream x) p).situation (length p) read text)
-      → TracedAt x (p ++ bytes) (after_record x (standing (stream x) p).situation (length p) read text).stage
+      → TracedAt x (p ++ bytes) (after_record x (standing (stream x) p).situation (length p) read
+      text).stage
   record_traced due (frames.SizedEnvelope size) text at may is leads =
       sized_traced size (at ∙ ap record_due (envelope_due (direction_of x.side) due size may))
       (refl, is.1, is.2, is.3) leads
@@ -395,9 +410,11 @@ module _ (x : Settings) (p bytes : List ℕ) (units : AreUnits (stream x) p) whe
       → (standing (stream x) p).situation.stage ≡ chunk_due o → ChunkTrace x p
       → MayCome (may_come (direction_of x.side) dues.Chunk) read → IsRecordOf read text bytes
       → Leads (after_record x (standing (stream x) p).situation (length p) read text)
-      → TracedAt x (p ++ bytes) (after_record x (standing (stream x) p).situation (length p) read text).stage
+      → TracedAt x (p ++ bytes) (after_record x (standing (stream x) p).situation (length p) read
+      text).stage
   size_traced o (frames.Chunk size) text at t may is leads =
-      let same = ap (λ (w : Situation). after_record x w (length p) (frames.Chunk size) text) t.situation in
+      let same = ap (λ (w : Situation). after_record x w (length p) (frames.Chunk size) text)
+      t.situation in
       subst (λ (w : Situation). TracedAt x (p ++ bytes) w.stage) (sym same)
       (chunk_traced size t (refl, is.1) (leads ∙ same))
   size_traced o read text at t may is leads = cc
@@ -448,11 +465,13 @@ traced x p units =
     (λ before bytes u first reads h.
     let leads = leads_so before bytes u first reads in
     subst (λ (w : Situation). TracedAt x (before ++ bytes) w.stage) (sym leads)
-    (traced_unit x before bytes first u (standing (stream x) before).situation.stage refl reads h leads))
+    (traced_unit x before bytes first u (standing (stream x) before).situation.stage refl reads h
+    leads))
     first_traced p units
   where
     leads_so : (before bytes : List ℕ) (u : StreamUnit) → AreUnits (stream x) before
-        → (stream x).unit_at (standing (stream x) before).situation (standing (stream x) before).from
+        → (stream x).unit_at (standing (stream x) before).situation
+        (standing (stream x) before).from
         bytes ≡ whole u (length bytes)
         → (standing (stream x) (before ++ bytes)).situation
         ≡ after x (standing (stream x) before).situation (length before) u

@@ -1,5 +1,6 @@
 -- What follows from what a reader stands for.
-use Rattle.std.proofs.Common.{◌≡◌, ℕ, ◌≤◌, ◌⊎◌, inl, inr, List, [], length, Bool, true, Option, Some, None, Ok, refl, sym, ap, ◌∙◌, subst, arith}
+use Rattle.std.proofs.Common.{◌≡◌, ℕ, ◌≤◌, ◌⊎◌, inl, inr, List, [], length, Bool, true, Option}
+use Rattle.std.proofs.Common.{Some, None, Ok, refl, sym, ap, ◌∙◌, subst, arith}
 use Rattle.std.specs.Prelude.{if◌then◌else◌}
 use Rattle.unit_streams.specs.Grammar.{standing, at_start}
 use Rattle.unit_streams.specs.Judging.{event_at, is_over_at, ending_at}
@@ -16,7 +17,11 @@ use Rattle.string_tables.specs.SessionStrings.{used_cost}
 use Rattle.nbfx_decoder.specs.Payload.{Settings as PayloadSettings, payload}
 use Rattle.nbfx_decoder.specs.declared.decoder.Decoder.{Decoder}
 use Rattle.nbfx_decoder.specs.declared.faults.DecodeFault.{DecodeFault}
-use Rattle.nbfx_decoder.specs.Standing.{settings_of as decoder_settings, situation_of, begun_of, StandsFor as DecoderStandsFor, FailedBehind as DecoderFailedBehind, WhereItStands as WhereDecoderStands, WhereItFailed as WhereDecoderFailed}
+use Rattle.nbfx_decoder.specs.Standing.{settings_of as decoder_settings, situation_of, begun_of}
+use Rattle.nbfx_decoder.specs.Standing.{StandsFor as DecoderStandsFor}
+use Rattle.nbfx_decoder.specs.Standing.{FailedBehind as DecoderFailedBehind}
+use Rattle.nbfx_decoder.specs.Standing.{WhereItStands as WhereDecoderStands}
+use Rattle.nbfx_decoder.specs.Standing.{WhereItFailed as WhereDecoderFailed}
 use Rattle.nbfx_decoder.proofs.StandsFacts.{stands_as}
 use Rattle.nbfx_decoder.proofs.Readable.{readable as payload_readable}
 use Rattle.nbfx_decoder.proofs.Sound.{keeps_within}
@@ -29,15 +34,23 @@ use Rattle.stream_reader.specs.declared.awaited.Closing.TheVariants as closings
 use Rattle.stream_reader.specs.declared.side.Side.{Side as SideRead}
 use Rattle.stream_reader.specs.Saying.{Repeats}
 use Rattle.stream_reader.specs.Sides.{side_of}
-use Rattle.stream_reader.specs.Stream.{Settings, Situation, Stage, OpenPayload, StreamEvent, opened, accepted, message, ended, peer_fault, record_due, chunk_due, payload_open, direction_of, is_over_in, may_end_in, offence_at, open_from, payloads, stream, strings_at, strings_in, PayloadStanding}
-use Rattle.stream_reader.specs.Standing.{Awaits, Failed, FailedBehind, HasPart, IsIn, Reached, ReadsPayload, Recalls, ShowsTable, ShowsStrings, ShowsText, begun_in, items_in, failure_of, messages_of, settings_of, taken_of}
+use Rattle.stream_reader.specs.Stream.{Settings, Situation, Stage, OpenPayload, StreamEvent, opened}
+use Rattle.stream_reader.specs.Stream.{accepted, message, ended, peer_fault, record_due, chunk_due}
+use Rattle.stream_reader.specs.Stream.{payload_open, direction_of, is_over_in, may_end_in}
+use Rattle.stream_reader.specs.Stream.{offence_at, open_from, payloads, stream, strings_at}
+use Rattle.stream_reader.specs.Stream.{strings_in, PayloadStanding}
+use Rattle.stream_reader.specs.Standing.{Awaits, Failed, FailedBehind, HasPart, IsIn, Reached}
+use Rattle.stream_reader.specs.Standing.{ReadsPayload, Recalls, ShowsTable, ShowsStrings, ShowsText}
+use Rattle.stream_reader.specs.Standing.{begun_in, items_in, failure_of, messages_of, settings_of}
+use Rattle.stream_reader.specs.Standing.{taken_of}
 use Rattle.stream_reader.specs.Stepping.{KeepsShown, closing_step, has_ended, may_end_at, opened_at}
 use Rattle.stream_reader.proofs.Grammar.{readable}
 use Rattle.stream_reader.specs.Stream.{cut_off}
 use Rattle.stream_reader.proofs.Situations.{event_tells}
 
 -- a refused one stands for nothing
-pub not_failed : (r : StreamReader) (x : Settings) (p : List ℕ) (refusal : ReadRefusal) → Reached r x p → r.failure ≡ Some refusal → ⊥
+pub not_failed : (r : StreamReader) (x : Settings) (p : List ℕ) (refusal : ReadRefusal)
+    → Reached r x p → r.failure ≡ Some refusal → ⊥
 not_failed r x p refusal h e = let none = h.unfailed in cc
 
 pub failure_as : (r : StreamReader) (v : Option ReadRefusal) → failure_of r ≡ v → r.failure ≡ v
@@ -60,7 +73,8 @@ ended_as (awaits.Payload p) (record_due due) is = absurd is
 ended_as (awaits.Payload p) (chunk_due q) is = absurd is
 ended_as (awaits.Payload p) (payload_open q) is = refl
 
-pub opened_as : (a : Awaited) (stage : Stage) (from : ℕ) → Awaits a stage → opened_at a from ≡ open_from stage from
+pub opened_as : (a : Awaited) (stage : Stage) (from : ℕ) → Awaits a stage → opened_at a from
+    ≡ open_from stage from
 opened_as (awaits.Record due) (record_due other) from is = refl
 opened_as (awaits.Record due) (chunk_due p) from is = absurd is
 opened_as (awaits.Record due) (payload_open p) from is = absurd is
@@ -98,9 +112,11 @@ module _ (r : StreamReader) (x : Settings) (p : List ℕ) (h : Reached r x p) wh
   over_as_ended = sym (ended_as r.awaited (standing (stream x) p).situation.stage h.at.awaits)
 
   -- the first byte of what isn't whole
-  pub open_as_opened : open_from (standing (stream x) p).situation.stage (standing (stream x) p).from ≡ opened_at r.awaited r.unit_from
+  pub open_as_opened : open_from (standing (stream x) p).situation.stage
+      (standing (stream x) p).from ≡ opened_at r.awaited r.unit_from
   open_as_opened =
-      sym (opened_as r.awaited (standing (stream x) p).situation.stage (standing (stream x) p).from h.at.awaits)
+      sym (opened_as r.awaited (standing (stream x) p).situation.stage (standing (stream x) p).from
+      h.at.awaits)
       ∙ ap (opened_at r.awaited) (sym h.unit_from)
 
   may_end_so : may_end_in x (standing (stream x) p).situation.mode
@@ -109,7 +125,8 @@ module _ (r : StreamReader) (x : Settings) (p : List ℕ) (h : Reached r x p) wh
   may_end_so =
       may_end_as x (standing (stream x) p).situation.mode r.awaited
       (standing (stream x) p).situation.stage (standing (stream x) p).from (length p) h.at.awaits
-      ∙ ap (λ m. may_end_at (direction_of x.side) m r.awaited (standing (stream x) p).from (length p))
+      ∙ ap (λ m. may_end_at (direction_of x.side) m r.awaited (standing (stream x) p).from
+      (length p))
       (sym h.at.mode)
       ∙ ap (λ n. may_end_at (direction_of x.side) r.mode r.awaited n (length p)) (sym h.unit_from)
       ∙ ap (may_end_at (direction_of x.side) r.mode r.awaited r.unit_from) (sym h.taken)
@@ -132,7 +149,8 @@ module _ (r : StreamReader) (x : Settings) (p : List ℕ) (h : Reached r x p) wh
   recalled closings.End (Some (ended n)) e is =
       ap (λ m. Ok (0, closing_step closings.End m)) (sym (event_tells x p (ended n) e))
   recalled closings.Fault (Some (peer_fault n text)) e is =
-      ap (λ m. Ok (0, closing_step closings.Fault m)) (sym (event_tells x p (peer_fault n text) e).0)
+      ap (λ m. Ok (0, closing_step closings.Fault m))
+      (sym (event_tells x p (peer_fault n text) e).0)
   recalled closings.End None e is = absurd is
   recalled closings.End (Some (opened mode kind via)) e is = absurd is
   recalled closings.End (Some accepted) e is = absurd is
@@ -152,8 +170,11 @@ module _ (r : StreamReader) (x : Settings) (p : List ℕ) (h : Reached r x p) wh
       (recalled r.closing (event_at (stream x) p) refl (h.closing over))
 
 -- the strings behind bytes of a payload cost no more than they may, where those before it don't
-pub cost_within : (x : PayloadSettings) (strings : List (List ℕ)) (bytes : List ℕ) → used_cost strings ≤ x.limits.dictionary → used_cost (situation_of x strings bytes).strings ≤ x.limits.dictionary
-cost_within x strings bytes low = let keeps = (keeps_within x strings (payload_readable x strings) bytes).dictionary in omega (arith, keeps, low)
+pub cost_within : (x : PayloadSettings) (strings : List (List ℕ)) (bytes : List ℕ)
+    → used_cost strings ≤ x.limits.dictionary → used_cost (situation_of x strings bytes).strings
+    ≤ x.limits.dictionary
+cost_within x strings bytes low = let keeps = (keeps_within x strings (payload_readable x strings)
+    bytes).dictionary in omega (arith, keeps, low)
 
 -- the payload bytes that a decoder stands for are those of the situation
 pub record HasCome (d : Decoder) (z : Situation) : Type 0 where
@@ -181,21 +202,26 @@ has_part d x z p decodes h begun_is items_are strings_are =
       strings = ap (λ (s : PayloadStanding). s.situation.strings) there ∙ strings_are;
     }
 
-has_come : (d : Decoder) (x : Settings) (z : Situation) (stage : Stage) → z.stage ≡ stage → decoder_settings d ≡ payloads x z.kind → ReadsPayload d x z stage → HasCome d z
+has_come : (d : Decoder) (x : Settings) (z : Situation) (stage : Stage) → z.stage ≡ stage
+    → decoder_settings d ≡ payloads x z.kind → ReadsPayload d x z stage → HasCome d z
 has_come d x z (record_due due) is decodes h =
-    let first = standing_nothing (payload (decoder_settings d) z.strings) (payload_readable (decoder_settings d) z.strings) in
+    let first = standing_nothing (payload (decoder_settings d) z.strings)
+    (payload_readable (decoder_settings d) z.strings) in
     record {
       before = z.strings;
       bytes = [];
       stands_for = h;
       begun = ap (λ (s : PayloadStanding). s.begun) first ∙ sym (ap begun_in is);
       items = ap (λ (s : PayloadStanding). s.situation.items) first ∙ sym (ap items_in is);
-      strings = ap (λ (s : PayloadStanding). s.situation.strings) first ∙ sym (ap (strings_at z) is);
+      strings = ap (λ (s : PayloadStanding). s.situation.strings) first ∙ sym
+          (ap (strings_at z) is);
     }
 has_come d x z (chunk_due p) is decodes h =
-    has_part d x z p decodes h.1 (sym (ap begun_in is)) (sym (ap items_in is)) (sym (ap (strings_at z) is))
+    has_part d x z p decodes h.1 (sym (ap begun_in is)) (sym (ap items_in is))
+    (sym (ap (strings_at z) is))
 has_come d x z (payload_open p) is decodes h =
-    has_part d x z p decodes h.1 (sym (ap begun_in is)) (sym (ap items_in is)) (sym (ap (strings_at z) is))
+    has_part d x z p decodes h.1 (sym (ap begun_in is)) (sym (ap items_in is))
+    (sym (ap (strings_at z) is))
 
 pub comes_in : (r : StreamReader) (x : Settings) (z : Situation) → IsIn r x z → HasCome r.decoder z
 comes_in r x z h = has_come r.decoder x z z.stage refl h.decodes h.payload
@@ -208,16 +234,22 @@ shows_come d z h = record {
   there = inl h.stands_for;
   same = h.strings;
   within =
-      subst (λ (strings : List (List ℕ)). used_cost strings ≤ (decoder_settings d).limits.dictionary) h.strings
-      (cost_within (decoder_settings d) h.before h.bytes (stands_as d h.before h.bytes h.stands_for).before);
+      subst (λ (strings : List (List ℕ)). used_cost strings
+      ≤ (decoder_settings d).limits.dictionary) h.strings
+      (cost_within (decoder_settings d) h.before h.bytes
+      (stands_as d h.before h.bytes h.stands_for).before);
 }
 
-pub shows_in : (r : StreamReader) (x : Settings) (z : Situation) → IsIn r x z → ShowsTable r.decoder (strings_in z)
+pub shows_in : (r : StreamReader) (x : Settings) (z : Situation) → IsIn r x z → ShowsTable r.decoder
+    (strings_in z)
 shows_in r x z h = shows_come r.decoder z (comes_in r x z h)
 
 -- a decoder that stands for what another does
-module _ (old new : Decoder) (same : decoder_settings new ≡ decoder_settings old) (stands : WhereDecoderStands old (DecoderStandsFor new)) (failed : WhereDecoderFailed old (DecoderFailedBehind new)) where
-  part_too : (x : Settings) (z : Situation) (p : OpenPayload) → HasPart old x z p → HasPart new x z p
+module _ (old new : Decoder) (same : decoder_settings new ≡ decoder_settings old)
+    (stands : WhereDecoderStands old (DecoderStandsFor new))
+    (failed : WhereDecoderFailed old (DecoderFailedBehind new)) where
+  part_too : (x : Settings) (z : Situation) (p : OpenPayload) → HasPart old x z p → HasPart new x z
+      p
   part_too x z p h = record {
     bytes = h.bytes;
     stands_for = stands z.strings h.bytes h.stands_for;
@@ -238,9 +270,13 @@ module _ (old new : Decoder) (same : decoder_settings new ≡ decoder_settings o
     bytes = h.bytes;
     there = there h.there;
     same = ap (λ (s : PayloadSettings). (situation_of s h.before h.bytes).strings) same ∙ h.same;
-    within = subst (λ (s : PayloadSettings). used_cost strings ≤ s.limits.dictionary) (sym same) h.within;
+    within = subst (λ (s : PayloadSettings). used_cost strings ≤ s.limits.dictionary) (sym same)
+        h.within;
   } where
-    there : DecoderStandsFor old h.before h.bytes ⊎ ((fault : DecodeFault) × DecoderFailedBehind old fault h.before h.bytes) → DecoderStandsFor new h.before h.bytes ⊎ ((fault : DecodeFault) × DecoderFailedBehind new fault h.before h.bytes)
+    there : DecoderStandsFor old h.before h.bytes
+        ⊎ ((fault : DecodeFault) × DecoderFailedBehind old fault h.before h.bytes)
+        → DecoderStandsFor new h.before h.bytes
+        ⊎ ((fault : DecodeFault) × DecoderFailedBehind new fault h.before h.bytes)
     there (inl s) = inl (stands h.before h.bytes s)
     there (inr f) = inr (f.0, failed f.0 h.before h.bytes f.1)
 
@@ -249,9 +285,15 @@ pub same_settings : (old new : StreamReader) → new.side ≡ old.side → new.s
     → new.quotas ≡ old.quotas → settings_of new ≡ settings_of old
 unfolding settings_of
 same_settings old new side statics quotas =
-    ap (λ (s : SideRead). record { side = side_of s; statics = new.statics.now; limits = limits_of new.quotas })
+    ap (λ (s : SideRead). record {
+      side = side_of s;
+      statics = new.statics.now;
+      limits = limits_of
+          new.quotas;
+    })
     side
-    ∙ ap (λ s. record { side = side_of old.side; statics = s.now; limits = limits_of new.quotas }) statics
+    ∙ ap (λ s. record { side = side_of old.side; statics = s.now; limits = limits_of new.quotas })
+    statics
     ∙ ap (λ (q : Quotas). record {
       side = side_of old.side;
       statics = old.statics.now;
@@ -259,7 +301,9 @@ same_settings old new side statics quotas =
     }) quotas
 
 -- a refused reader shows what it stood for
-pub refused_shows : (old new : StreamReader) (x : Settings) (p : List ℕ) (refusal : ReadRefusal) (taken : ℕ) → Reached old x p → new.failure ≡ Some refusal → new.taken ≡ taken → KeepsShown old new
+pub refused_shows : (old new : StreamReader) (x : Settings) (p : List ℕ) (refusal : ReadRefusal)
+    (taken : ℕ) → Reached old x p → new.failure ≡ Some refusal → new.taken ≡ taken
+    → KeepsShown old new
     → Failed new x refusal taken p
 unfolding failure_of taken_of messages_of ShowsText ShowsStrings
 refused_shows old new x p refusal taken h failure taken_is kept = record {
@@ -268,10 +312,13 @@ refused_shows old new x p refusal taken h failure taken_is kept = record {
   text = subst (λ (f : FrameReader). FramesShowText f (standing (stream x) p).situation.text)
       (sym kept.frames) h.text;
   messages = kept.messages ∙ h.at.messages;
-  strings = subst (λ (d : Decoder). ShowsTable d (strings_in (standing (stream x) p).situation)) (sym kept.decoder) (shows_in old x (standing (stream x) p).situation h.at);
+  strings = subst (λ (d : Decoder). ShowsTable d (strings_in (standing (stream x) p).situation))
+      (sym kept.decoder) (shows_in old x (standing (stream x) p).situation h.at);
 }
 
 -- by what it is set to
-pub failed_as_set : (r : StreamReader) (x : Settings) (refusal : ReadRefusal) (taken : ℕ) (p : List ℕ) → settings_of r ≡ x → Failed r x refusal taken p → FailedBehind r refusal taken p
+pub failed_as_set : (r : StreamReader) (x : Settings) (refusal : ReadRefusal) (taken : ℕ)
+    (p : List ℕ) → settings_of r ≡ x → Failed r x refusal taken p → FailedBehind r refusal taken p
 unfolding FailedBehind
-failed_as_set r x refusal taken p set h = subst (λ (s : Settings). Failed r s refusal taken p) (sym set) h
+failed_as_set r x refusal taken p set h = subst (λ (s : Settings). Failed r s refusal taken p)
+    (sym set) h

@@ -1,5 +1,7 @@
--- Which bytes of a stream show each reason that refuses a record, and what refuses it by its length.
-use Rattle.std.proofs.Common.{◌≡◌, ℕ, ◌≤◌, ◌⊎◌, inl, inr, List, [], ◌∷◌, ◌++◌, length, Bool, true, false, Option, Some, None, refl, sym, ap, ◌∙◌, subst, arith, ◌↔◌}
+-- Which bytes of a stream show each reason that refuses a record, and what refuses it by its
+-- length.
+use Rattle.std.proofs.Common.{◌≡◌, ℕ, ◌≤◌, ◌⊎◌, inl, inr, List, [], ◌∷◌, ◌++◌, length, Bool, true}
+use Rattle.std.proofs.Common.{false, Option, Some, None, refl, sym, ap, ◌∙◌, subst, arith, ◌↔◌}
 use Rattle.std.specs.Prelude.{nat_le, ◌&&◌, not, if◌then◌else◌}
 use Rattle.std.specs.Option.{option_map, option_or}
 use Rattle.std.proofs.lemmas.Bool.{cases_Bool, leb-true}
@@ -9,13 +11,15 @@ use Rattle.unit_streams.specs.Front.{Front, begun, whole, wrong}
 use Rattle.unit_streams.specs.Parts.{seen}
 use Rattle.unit_streams.specs.Grammar.{standing}
 use Rattle.unit_streams.specs.Judging.{refusal_at, is_over_at}
-use Rattle.unit_streams.specs.Refusals.{AreUnits, IsRefusedByUnit, IsRefusedByBytes, IsRefusedByLength}
+use Rattle.unit_streams.specs.Refusals.{AreUnits, IsRefusedByUnit, IsRefusedByBytes}
+use Rattle.unit_streams.specs.Refusals.{IsRefusedByLength}
 use Rattle.unit_streams.proofs.Standing.{standing_length}
 use Rattle.unit_streams.proofs.Refusals.{refusals_are_three}
 use Rattle.nbfx_values.specs.declared.refusals.Offence.{Offence}
 use Rattle.nbfx_values.specs.declared.refusals.Reason.{Reason}
 use Rattle.nbfx_values.specs.declared.refusals.Reason.TheVariants as reasons
-use Rattle.nbfx_values.specs.declared.refusals.Place.TheVariants.{Frame as InFrame, Payload as InPayload}
+use Rattle.nbfx_values.specs.declared.refusals.Place.TheVariants.{Frame as InFrame}
+use Rattle.nbfx_values.specs.declared.refusals.Place.TheVariants.{Payload as InPayload}
 use Rattle.nmf_records.specs.declared.frame.Frame.{Frame}
 use Rattle.nmf_records.specs.declared.frame.FrameFault.{FrameFault}
 use Rattle.nmf_records.specs.declared.script.Due.{Due}
@@ -26,7 +30,13 @@ use Rattle.nmf_records.specs.Script.{may_come}
 use Rattle.nmf_records.proofs.Causes.{fault_cause}
 use Rattle.nmf_records.proofs.Faults.{fault_comes}
 use Rattle.nbfx_decoder.specs.Payload.{Refusal}
-use Rattle.stream_reader.specs.Stream.{OpenPayload, Settings, direction_of, Situation, Stage, record_due, chunk_due, payload_open, StreamUnit, frame, payload_byte, offence_at, offence_in, size_before, reason_of, reason_in, refusal_in, refused_payload, refused_record, on_payload, on_open, payload_by, with_byte, payload_at, unit_in, record_at, refused, is_over_in, open_from, too_long, stream}
+use Rattle.stream_reader.specs.Stream.{OpenPayload, Settings, direction_of, Situation, Stage}
+use Rattle.stream_reader.specs.Stream.{record_due, chunk_due, payload_open, StreamUnit, frame}
+use Rattle.stream_reader.specs.Stream.{payload_byte, offence_at, offence_in, size_before, reason_of}
+use Rattle.stream_reader.specs.Stream.{reason_in, refusal_in, refused_payload, refused_record}
+use Rattle.stream_reader.specs.Stream.{on_payload, on_open, payload_by, with_byte, payload_at}
+use Rattle.stream_reader.specs.Stream.{unit_in, record_at, refused, is_over_in, open_from, too_long}
+use Rattle.stream_reader.specs.Stream.{stream}
 use Rattle.stream_reader.specs.Reasons.{Shows, ShowsIn, ShowsFrom, IsTooLong}
 use Rattle.stream_reader.proofs.Grammar.{readable, quiet_over}
 use Rattle.stream_reader.proofs.Coming.{Comes, unit_of_record, unit_of_chunk}
@@ -84,7 +94,8 @@ said_so x z at read text from reason e =
     go None (Some p) is some = absurd (no_payload x z p from reason some)
     go None None is some = cc
 
-module _ (x : Settings) (p before bytes : List ℕ) (joined : p ≡ before ++ bytes) (units : AreUnits (stream x) before) where
+module _ (x : Settings) (p before bytes : List ℕ) (joined : p ≡ before ++ bytes)
+    (units : AreUnits (stream x) before) where
   place : (standing (stream x) before).from ≡ length before
   place =
       let n = standing_length (stream x) (readable x) before in
@@ -138,7 +149,8 @@ module _ (x : Settings) (p before bytes : List ℕ) (joined : p ≡ before ++ by
       let some' : refused_record x z (standing (stream x) before).from read.frame read.text
       ≡ Some (offence_at from reason)
       = ap (refused x z (standing (stream x) before).from) (sym is_read) ∙ some in
-      let told = said_so x z (standing (stream x) before).from read.frame read.text from reason some' in
+      let told = said_so x z (standing (stream x) before).from read.frame read.text from reason
+      some' in
       let is : IsRecordOf read.frame read.text bytes =
       subst (λ (b : List ℕ). IsRecordOf read.frame read.text b)
       (take_all (length bytes) bytes (omega arith)) comes.bytes_are in
@@ -244,7 +256,8 @@ module _ (x : Settings) (p before bytes : List ℕ) (joined : p ≡ before ++ by
 
   of_said : (stage : Stage) (due : Due) (reason : Reason)
       → (standing (stream x) before).situation.stage ≡ stage
-      → ((read : Read) → IsRecord read bytes → MayCome (may_come (direction_of x.side) due) read.frame
+      → ((read : Read) → IsRecord read bytes → MayCome (may_come (direction_of x.side) due)
+      read.frame
       → length read.text ≤ x.limits.via
       → unit_in x stage (standing (stream x) before).from bytes ≡ whole (frame read) (length bytes))
       → IsSaid x stage due bytes reason
@@ -292,14 +305,16 @@ module _ (x : Settings) (p before bytes : List ℕ) (joined : p ≡ before ++ by
       either due reason
       (of_fault (record_due due) due reason at refl going)
       (λ s. of_said (record_due due) due reason at
-      (λ read is may low. record_unit x due bytes (standing (stream x) before).from read going is may low)
+      (λ read is may low. record_unit x due bytes (standing (stream x) before).from read going is
+      may low)
       (subst (λ (v : Stage). IsSaid x v due bytes reason) at s))
       (subst (λ (v : Stage). Shows x due (size_before v) bytes reason) (sym at) shows)
   refused_in (chunk_due o) reason at on shows =
       either dues.Chunk reason
       (of_fault (chunk_due o) dues.Chunk reason at refl refl)
       (λ s. of_said (chunk_due o) dues.Chunk reason at
-      (λ read is may low. record_unit x dues.Chunk bytes (standing (stream x) before).from read refl is may low)
+      (λ read is may low. record_unit x dues.Chunk bytes (standing (stream x) before).from read refl
+      is may low)
       (subst (λ (v : Stage). IsSaid x v dues.Chunk bytes reason) at s))
       (subst (λ (v : Stage). Shows x dues.Chunk (size_before v) bytes reason) (sym at) shows)
   refused_in (payload_open o) reason at on shows = absurd shows
@@ -389,7 +404,8 @@ module _ (x : Settings) (p : List ℕ) where
   )
 
   pub too_long_is : (from : ℕ)
-      → (refusal_at (stream x) p ≡ Some (offence_at from reasons.SessionTooLong)) ↔ IsTooLong x p from
+      → (refusal_at (stream x) p ≡ Some (offence_at from reasons.SessionTooLong))
+      ↔ IsTooLong x p from
   too_long_is from = (
     (λ e. elim (record_refusal from reasons.SessionTooLong e) [
       | inl h ↦ absurd (never_long (standing (stream x) h.before).situation.stage h.bytes h.shows)

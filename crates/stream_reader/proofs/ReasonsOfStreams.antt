@@ -1,11 +1,14 @@
 -- Which streams are refused first in a record, are too long, and are cut off.
-use Rattle.std.proofs.Common.{◌≡◌, ℕ, zero, suc, ◌+◌, ◌-◌, ◌<◌, ◌≤◌, inl, inr, List, ◌++◌, length, take, drop, Bool, true, false, Option, Some, None, refl, sym, ap, ◌∙◌, subst, arith, ◌↔◌}
+use Rattle.std.proofs.Common.{◌≡◌, ℕ, zero, suc, ◌+◌, ◌-◌, ◌<◌, ◌≤◌, inl, inr, List, ◌++◌, length}
+use Rattle.std.proofs.Common.{take, drop, Bool, true, false, Option, Some, None, refl, sym, ap, ◌∙◌}
+use Rattle.std.proofs.Common.{subst, arith, ◌↔◌}
 use Rattle.std.specs.Prelude.{if◌then◌else◌}
 use Rattle.std.proofs.Math.Seq.{take-add}
 use Rattle.std.proofs.lemmas.Bool.{cases_lt, cases_Bool}
 use Rattle.std.proofs.lemmas.List.{length-take-le}
 use Rattle.unit_streams.specs.Grammar.{Standing, standing}
-use Rattle.unit_streams.specs.Judging.{refusal_at, is_over_at, ending_at, offence as offence_by, answer, offends}
+use Rattle.unit_streams.specs.Judging.{refusal_at, is_over_at, ending_at, offence as offence_by}
+use Rattle.unit_streams.specs.Judging.{answer, offends}
 use Rattle.unit_streams.proofs.Answers.{answers_are_first}
 use Rattle.unit_streams.proofs.Offences.{offences_are_first}
 use Rattle.unit_streams.proofs.Ends.{after_end}
@@ -14,19 +17,24 @@ use Rattle.nbfx_values.specs.declared.refusals.Offence.{Offence}
 use Rattle.nbfx_values.specs.declared.refusals.Reason.{Reason}
 use Rattle.nbfx_values.specs.declared.refusals.Reason.TheVariants as reasons
 use Rattle.nbfx_values.specs.declared.refusals.Place.{Place}
-use Rattle.nbfx_values.specs.declared.refusals.Place.TheVariants.{Frame as InFrame, Payload as InPayload}
+use Rattle.nbfx_values.specs.declared.refusals.Place.TheVariants.{Frame as InFrame}
+use Rattle.nbfx_values.specs.declared.refusals.Place.TheVariants.{Payload as InPayload}
 use Rattle.nbfx_values.specs.declared.session.Mode.{Mode}
 use Rattle.nbfx_decoder.specs.declared.section.Section.{Section}
 use Rattle.nbfx_decoder.specs.declared.section.Section.TheVariants.{TableSize, Strings, Nodes}
-use Rattle.nbfx_decoder.specs.Payload.{refusal, Settings as PayloadSettings, Situation as PayloadSituation}
+use Rattle.nbfx_decoder.specs.Payload.{refusal, Settings as PayloadSettings}
+use Rattle.nbfx_decoder.specs.Payload.{Situation as PayloadSituation}
 use Rattle.nbfx_decoder.specs.Reasons.{Shows as ShowsInSection}
 use Rattle.nbfx_decoder.specs.Standing.{situation_of}
 use Rattle.nmf_records.specs.declared.script.Due.TheVariants as dues
-use Rattle.stream_reader.specs.Stream.{Settings, Situation, Stage, record_due, chunk_due, payload_open, StreamEvent, offence_at, offence_in, payloads, is_over_in, open_from, may_end_in, cut_off, stream}
+use Rattle.stream_reader.specs.Stream.{Settings, Situation, Stage, record_due, chunk_due}
+use Rattle.stream_reader.specs.Stream.{payload_open, StreamEvent, offence_at, offence_in, payloads}
+use Rattle.stream_reader.specs.Stream.{is_over_in, open_from, may_end_in, cut_off, stream}
 use Rattle.stream_reader.specs.Reasons.{ShowsFrom, ShowsInPayload, ShowsOf, IsTooLong, IsCutOff}
 use Rattle.stream_reader.specs.Laws.{Begins}
 use Rattle.stream_reader.proofs.Grammar.{readable, quiet_over}
-use Rattle.stream_reader.proofs.Reasons.{refused_by_record, too_long_is, apart, never_cut, same_place}
+use Rattle.stream_reader.proofs.Reasons.{refused_by_record, too_long_is, apart, never_cut}
+use Rattle.stream_reader.proofs.Reasons.{same_place}
 use Rattle.stream_reader.proofs.PayloadRefusals.{in_payload_is}
 use Rattle.stream_reader.proofs.LoneAck.{ack_may_end, only_ack_may_end}
 

@@ -1,5 +1,6 @@
 -- What a record leads to that is read, and what its reader answers, by the limit and what may come.
-use Rattle.std.proofs.Common.{◌≡◌, ℕ, ◌+◌, ◌<◌, ◌≤◌, List, [], ◌++◌, length, Bool, true, false, Option, Some, None, Ok, Err, refl, sym, subst, arith}
+use Rattle.std.proofs.Common.{◌≡◌, ℕ, ◌+◌, ◌<◌, ◌≤◌, List, [], ◌++◌, length, Bool, true, false}
+use Rattle.std.proofs.Common.{Option, Some, None, Ok, Err, refl, sym, subst, arith}
 use Rattle.std.specs.Prelude.{◌==◌, if◌then◌else◌}
 use Rattle.std.specs.Option.{option_map, option_or}
 use Rattle.unit_streams.specs.Front.{begun, whole, wrong}
@@ -17,12 +18,18 @@ use Rattle.nmf_records.specs.declared.script.Direction.TheVariants.{FromInitiato
 use Rattle.nmf_records.specs.declared.script.Due.{Due}
 use Rattle.nmf_records.specs.declared.script.Due.TheVariants as dues
 use Rattle.nmf_records.specs.Reading.{MayCome, with_text, frame_at}
-use Rattle.nmf_records.specs.Reader.{StandsFor as FrameStandsFor, ShowsText as FramesShowText, FrameAnswers, AfterPiece, shown_behind}
+use Rattle.nmf_records.specs.Reader.{StandsFor as FrameStandsFor, ShowsText as FramesShowText}
+use Rattle.nmf_records.specs.Reader.{FrameAnswers, AfterPiece, shown_behind}
 use Rattle.nmf_records.specs.Script.{may_come}
 use Rattle.nbfx_decoder.specs.Payload.{Refusal}
 use Rattle.stream_reader.specs.declared.awaited.Awaited.{Awaited}
 use Rattle.stream_reader.specs.declared.awaited.Awaited.TheVariants as awaits
-use Rattle.stream_reader.specs.Stream.{Settings, OpenPayload, Situation, Stage, sized, record_due, chunk_due, payload_open, direction_of, reason_in, offence_at, payload_begun, payload_by, with_chunk, on_payload, after_record, completed_bare, completed_payload, completed_record, refused_payload, refused_record, after, refusal_in, offence_in}
+use Rattle.stream_reader.specs.Stream.{Settings, OpenPayload, Situation, Stage, sized, record_due}
+use Rattle.stream_reader.specs.Stream.{chunk_due, payload_open, direction_of, reason_in, offence_at}
+use Rattle.stream_reader.specs.Stream.{payload_begun, payload_by, with_chunk, on_payload}
+use Rattle.stream_reader.specs.Stream.{after_record, completed_bare, completed_payload}
+use Rattle.stream_reader.specs.Stream.{completed_record, refused_payload, refused_record, after}
+use Rattle.stream_reader.specs.Stream.{refusal_in, offence_in}
 use Rattle.stream_reader.specs.Standing.{HasBegun, HasPayloads}
 use Rattle.stream_reader.specs.Stepping.{due_of}
 use Rattle.stream_reader.proofs.MadePayloads.{size_large}

@@ -1,5 +1,7 @@
 -- A reader takes bytes of a record, or of a chunk's size.
-use Rattle.std.proofs.Common.{◌≡◌, ℕ, ◌+◌, ◌-◌, ◌<◌, ◌≤◌, List, [], ◌++◌, length, take, true, false, Option, Some, None, Result, Ok, Err, refl, sym, ap, ◌∙◌, subst, arith, length-append}
+use Rattle.std.proofs.Common.{◌≡◌, ℕ, ◌+◌, ◌-◌, ◌<◌, ◌≤◌, List, [], ◌++◌, length, take, true, false}
+use Rattle.std.proofs.Common.{Option, Some, None, Result, Ok, Err, refl, sym, ap, ◌∙◌, subst, arith}
+use Rattle.std.proofs.Common.{length-append}
 use Rattle.std.specs.Option.{option_or}
 use Rattle.std.proofs.Math.Seq.{take-length}
 use Rattle.std.proofs.lemmas.List.{length-take-le}
@@ -10,7 +12,9 @@ use Rattle.unit_streams.specs.Judging.{is_over_at, event_at, refusal_at}
 use Rattle.unit_streams.specs.Going.{IsQuiet, IsQuietBefore}
 use Rattle.unit_streams.proofs.Peeling.{extent, Decides}
 use Rattle.unit_streams.proofs.Fronts.{left_begun, decides_at, wrong_later}
-use Rattle.unit_streams.proofs.Passing.{given_none, leaves_quiet, leaves_standing, decides_quiet, whole_standing, whole_event, whole_refusal, whole_quiet, wrong_standing, wrong_quiet, wrong_refusal}
+use Rattle.unit_streams.proofs.Passing.{given_none, leaves_quiet, leaves_standing, decides_quiet}
+use Rattle.unit_streams.proofs.Passing.{whole_standing, whole_event, whole_refusal, whole_quiet}
+use Rattle.unit_streams.proofs.Passing.{wrong_standing, wrong_quiet, wrong_refusal}
 use Rattle.unit_streams.proofs.Standing.{standing_length}
 use Rattle.unit_streams.proofs.Units.{IsBetween, between_going}
 use Rattle.nbfx_values.specs.declared.refusals.Offence.{Offence}
@@ -22,7 +26,8 @@ use Rattle.nmf_records.specs.declared.frame.Expect.{Expect}
 use Rattle.nmf_records.specs.declared.script.Due.{Due}
 use Rattle.nmf_records.specs.declared.script.Due.TheVariants as dues
 use Rattle.nmf_records.specs.Reading.{MayCome, with_text, frame_at}
-use Rattle.nmf_records.specs.Reader.{StandsFor as FrameStandsFor, ShowsText as FramesShowText, text_after, shown_behind}
+use Rattle.nmf_records.specs.Reader.{StandsFor as FrameStandsFor, ShowsText as FramesShowText}
+use Rattle.nmf_records.specs.Reader.{text_after, shown_behind}
 use Rattle.nmf_records.specs.Script.{may_come}
 use Rattle.nmf_records.proofs.Records.{read_record}
 use Rattle.nbfx_decoder.specs.declared.decoder.Decoder.{Decoder}
@@ -33,15 +38,22 @@ use Rattle.stream_reader.specs.declared.reader.ReadRefusal.TheVariants.{Offence 
 use Rattle.stream_reader.specs.declared.reader.StreamReader.{StreamReader}
 use Rattle.stream_reader.specs.declared.reader.StreamStep.{StreamStep}
 use Rattle.stream_reader.specs.declared.reader.StreamStep.TheVariants as steps
-use Rattle.stream_reader.specs.Stream.{Settings, OpenPayload, Situation, StreamUnit, StreamEvent, opened, accepted, message, ended, peer_fault, frame, record_due, chunk_due, direction_of, reason_of, offence_at, unit_in, after_record, completed_record, refused_record, is_over_in, after, completed, refused, stream, strings_in}
-use Rattle.stream_reader.specs.Standing.{Awaits, IsIn, Reached, ReadsPayload, Recalls, HasBegun, HasPayloads, ShowsTable, ShowsText, ShowsStrings, taken_of, messages_of, failure_of}
+use Rattle.stream_reader.specs.Stream.{Settings, OpenPayload, Situation, StreamUnit, StreamEvent}
+use Rattle.stream_reader.specs.Stream.{opened, accepted, message, ended, peer_fault, frame}
+use Rattle.stream_reader.specs.Stream.{record_due, chunk_due, direction_of, reason_of, offence_at}
+use Rattle.stream_reader.specs.Stream.{unit_in, after_record, completed_record, refused_record}
+use Rattle.stream_reader.specs.Stream.{is_over_in, after, completed, refused, stream, strings_in}
+use Rattle.stream_reader.specs.Standing.{Awaits, IsIn, Reached, ReadsPayload, Recalls, HasBegun}
+use Rattle.stream_reader.specs.Standing.{HasPayloads, ShowsTable, ShowsText, ShowsStrings, taken_of}
+use Rattle.stream_reader.specs.Standing.{messages_of, failure_of}
 use Rattle.stream_reader.specs.Stepping.{UnitAnswers, BehindAnswers, due_of, step_of}
 use Rattle.stream_reader.proofs.MadePayloads.{reads_at}
 use Rattle.stream_reader.proofs.DueRecords.{read_due, refusing, encoding_due}
 use Rattle.stream_reader.proofs.Grammar.{readable, short_enough}
 use Rattle.stream_reader.proofs.PayloadFeeds.{none_begun}
 use Rattle.stream_reader.proofs.ReaderFacts.{shows_in}
-use Rattle.stream_reader.proofs.Texts.{ReadsDue, reads_record, reads_size, before_encoding, early, begun_text, wrong_text, whole_text}
+use Rattle.stream_reader.proofs.Texts.{ReadsDue, reads_record, reads_size, before_encoding, early}
+use Rattle.stream_reader.proofs.Texts.{begun_text, wrong_text, whole_text}
 use Rattle.stream_reader.proofs.RecordFacts.{begun_awaited, begun_due, quiet_payloads, refused_none}
 
 module _ (r : StreamReader) (x : Settings) (p c : List ℕ) (due : Due)
@@ -323,7 +335,8 @@ module _ (r : StreamReader) (x : Settings) (p c : List ℕ) (due : Due)
               record {
                 at = subst (IsIn new x) (sym situation_there) is_in;
                 frames =
-                    subst (HasBegun (direction_of x.side) new.awaited new.frames) (sym between.begun)
+                    subst (HasBegun (direction_of x.side) new.awaited new.frames)
+                    (sym between.begun)
                     (none_begun (direction_of x.side) new.awaited new.frames
                     (λ next. subst (λ (g : FrameReader). FrameStandsFor g next []) (sym same)
                     (fresh next)));

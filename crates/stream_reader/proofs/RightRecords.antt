@@ -1,4 +1,5 @@
--- What a record says that isn't refused by it: its version, a mode, an encoding, the Via that is served, a
+-- What a record says that isn't refused by it: its version, a mode, an encoding, the Via that is
+-- served, a
 -- size within the quota.
 use Rattle.std.proofs.Common.{◌≡◌, ℕ, ◌≤◌, inl, inr, Bool, true, false, Some, None, refl}
 use Rattle.std.specs.Prelude.{nat_lt, ◌==◌, ◌&&◌, if◌then◌else◌}

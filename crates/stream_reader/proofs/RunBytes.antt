@@ -1,5 +1,7 @@
 -- Short chunks in a stream: where they lead, and why they are refused, is said by their content.
-use Rattle.std.proofs.Common.{◌≡◌, ℕ, suc, ◌+◌, ◌-◌, ◌<◌, ◌≤◌, inl, inr, List, [], ◌∷◌, ◌++◌, length, take, drop, None, sym, ap, ◌∙◌, subst, arith, append_assoc, length-append}
+use Rattle.std.proofs.Common.{◌≡◌, ℕ, suc, ◌+◌, ◌-◌, ◌<◌, ◌≤◌, inl, inr, List, [], ◌∷◌, ◌++◌}
+use Rattle.std.proofs.Common.{length, take, drop, None, sym, ap, ◌∙◌, subst, arith, append_assoc}
+use Rattle.std.proofs.Common.{length-append}
 use Rattle.std.specs.List.{concat}
 use Rattle.std.proofs.Math.Nat.{eq-or-lt_of_le}
 use Rattle.std.proofs.Math.Seq.{take-append_seam, drop-append_seam, take-append-add, take-append-le}
@@ -31,7 +33,8 @@ module _ (x : Settings) (z : Situation) (from : ℕ) where
   }
 
   -- the first chunk and so many bytes behind it
-  along_first : (p bytes c : List ℕ) (contents : List (List ℕ)) → IsBetween x z from p bytes → IsShort c
+  along_first : (p bytes c : List ℕ) (contents : List (List ℕ)) → IsBetween x z from p bytes
+      → IsShort c
       → length (bytes ++ c) ≤ x.limits.payload → (j : ℕ) → 0 < j → j ≤ length c
       → length p + 1 + j ≤ x.limits.session
       → ((i : ℕ) → i < j → refusal_at (payload_in x z) (bytes ++ take i (c ++ concat contents))
@@ -45,7 +48,8 @@ module _ (x : Settings) (z : Situation) (from : ℕ) where
     shows = λ any.
         subst (λ (q : List ℕ). Shows x z q (bytes ++ take j (c ++ concat contents))) stream_bytes
         (subst (λ (d : List ℕ). Shows x z ((p ++ length c ∷ []) ++ take j c) (bytes ++ d))
-        (sym (take-append-le j c (concat contents) le)) (shows x z from p bytes c at short fits j some le));
+        (sym (take-append-le j c (concat contents) le))
+        (shows x z from p bytes c at short fits j some le));
   } where
     place : place_in (c ∷ contents) j ≡ 1 + j
     place = place_first c contents j some le
@@ -59,7 +63,8 @@ module _ (x : Settings) (z : Situation) (from : ℕ) where
         ∙ ap (λ n. p ++ take n (chunks_of (c ∷ contents))) count
 
   -- the first chunk, and of the others what is along behind it
-  along_more : (p bytes c : List ℕ) (contents : List (List ℕ)) → IsBetween x z from p bytes → IsShort c
+  along_more : (p bytes c : List ℕ) (contents : List (List ℕ)) → IsBetween x z from p bytes
+      → IsShort c
       → length (bytes ++ c) ≤ x.limits.payload → (j : ℕ) → length c < j
       → length p + 1 + length c ≤ x.limits.session
       → ((i : ℕ) → i < length c → refusal_at (payload_in x z) (bytes ++ take i c) ≡ None)

@@ -1,5 +1,7 @@
 -- A reader takes short chunks at once.
-use Rattle.std.proofs.Common.{◌≡◌, ℕ, zero, suc, ◌+◌, ◌<◌, ◌≤◌, inl, inr, List, [], ◌∷◌, ◌++◌, length, take, true, false, Some, None, Result, Ok, Err, refl, sym, ap, ◌∙◌, subst, arith, length-append}
+use Rattle.std.proofs.Common.{◌≡◌, ℕ, zero, suc, ◌+◌, ◌<◌, ◌≤◌, inl, inr, List, [], ◌∷◌, ◌++◌}
+use Rattle.std.proofs.Common.{length, take, true, false, Some, None, Result, Ok, Err, refl, sym, ap}
+use Rattle.std.proofs.Common.{◌∙◌, subst, arith, length-append}
 use Rattle.std.specs.List.{concat}
 use Rattle.std.proofs.Math.Nat.{eq-or-lt_of_le}
 use Rattle.std.proofs.Math.Seq.{take-length, take-append-le}
@@ -17,7 +19,10 @@ use Rattle.nmf_records.specs.Script.{may_come}
 use Rattle.nbfx_decoder.specs.Payload.{Refusal, refusal, payload, Settings as PayloadSettings}
 use Rattle.nbfx_decoder.specs.declared.faults.DecodeFault.{DecodeFault}
 use Rattle.nbfx_decoder.specs.declared.faults.DecodeFault.TheVariants as faults
-use Rattle.nbfx_decoder.specs.Standing.{settings_of as decoder_settings, StandsFor as DecoderStandsFor, FailedBehind as DecoderFailedBehind, FailedWithin, FeedAnswers}
+use Rattle.nbfx_decoder.specs.Standing.{settings_of as decoder_settings}
+use Rattle.nbfx_decoder.specs.Standing.{StandsFor as DecoderStandsFor}
+use Rattle.nbfx_decoder.specs.Standing.{FailedBehind as DecoderFailedBehind, FailedWithin}
+use Rattle.nbfx_decoder.specs.Standing.{FeedAnswers}
 use Rattle.stream_reader.specs.declared.awaited.Awaited.{Awaited}
 use Rattle.stream_reader.specs.declared.awaited.Awaited.TheVariants as awaits
 use Rattle.stream_reader.specs.declared.awaited.PayloadLeft.{PayloadLeft}
@@ -27,11 +32,17 @@ use Rattle.stream_reader.specs.declared.reader.StreamReader.{StreamReader}
 use Rattle.stream_reader.specs.declared.reader.StreamStep.{StreamStep}
 use Rattle.stream_reader.specs.declared.reader.StreamStep.TheVariants as steps
 use Rattle.stream_reader.specs.Runs.{AreShort, chunks_of, place_in}
-use Rattle.stream_reader.specs.Stream.{Form, chunked, sized, last_chunk, OpenPayload, PayloadStanding, Settings, Situation, Stage, StreamEvent, record_due, chunk_due, payload_open, direction_of, is_chunked, is_over_in, offence_in, payload_in, stream, strings_at}
+use Rattle.stream_reader.specs.Stream.{Form, chunked, sized, last_chunk, OpenPayload}
+use Rattle.stream_reader.specs.Stream.{PayloadStanding, Settings, Situation, Stage, StreamEvent}
+use Rattle.stream_reader.specs.Stream.{record_due, chunk_due, payload_open, direction_of}
+use Rattle.stream_reader.specs.Stream.{is_chunked, is_over_in, offence_in, payload_in, stream}
+use Rattle.stream_reader.specs.Stream.{strings_at}
 use Rattle.stream_reader.specs.Saying.{step_for}
-use Rattle.stream_reader.specs.Standing.{Awaits, Failed, HasBegun, HasPart, HasPayloads, IsIn, IsOpenSo, Reached, ReadsPayload, form_of}
+use Rattle.stream_reader.specs.Standing.{Awaits, Failed, HasBegun, HasPart, HasPayloads, IsIn}
+use Rattle.stream_reader.specs.Standing.{IsOpenSo, Reached, ReadsPayload, form_of}
 use Rattle.stream_reader.specs.Stepping.{UnitAnswers, more_shown, refusal_told}
-use Rattle.stream_reader.proofs.FailedFeeds.{StaysWith, failed_with, same_grammar, some_refused, unrefused_so}
+use Rattle.stream_reader.proofs.FailedFeeds.{StaysWith, failed_with, same_grammar, some_refused}
+use Rattle.stream_reader.proofs.FailedFeeds.{unrefused_so}
 use Rattle.stream_reader.proofs.Grammar.{readable}
 use Rattle.stream_reader.proofs.PayloadBytes.{units_place}
 use Rattle.stream_reader.proofs.ChunkBytes.{IsBetween, between}

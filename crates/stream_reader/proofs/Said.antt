@@ -1,5 +1,6 @@
 -- What bytes show of a record: a fault of framing, or what a whole one says.
-use Rattle.std.proofs.Common.{◌≡◌, ◌≢◌, ℕ, ◌+◌, ◌<◌, ◌≤◌, ◌⊎◌, inl, inr, List, length, Bool, true, false, Some, None, refl, sym, ap, ◌∙◌, subst, arith}
+use Rattle.std.proofs.Common.{◌≡◌, ◌≢◌, ℕ, ◌+◌, ◌<◌, ◌≤◌, ◌⊎◌, inl, inr, List, length, Bool, true}
+use Rattle.std.proofs.Common.{false, Some, None, refl, sym, ap, ◌∙◌, subst, arith}
 use Rattle.std.specs.Prelude.{nat_lt, ◌==◌, ◌&&◌, if◌then◌else◌}
 use Rattle.std.specs.Str.{bytes_eq}
 use Rattle.std.proofs.Math.Bool.{and-false}
@@ -16,15 +17,22 @@ use Rattle.nmf_records.specs.declared.frame.FrameFault.{FrameFault}
 use Rattle.nmf_records.specs.declared.frame.FrameFault.TheVariants as faults
 use Rattle.nmf_records.specs.declared.script.Due.{Due}
 use Rattle.nmf_records.specs.declared.script.Due.TheVariants as dues
-use Rattle.nmf_records.specs.declared.record_types.TheConstants.{EXTENSIBLE_ENCODING, UPGRADE_REQUEST}
+use Rattle.nmf_records.specs.declared.record_types.TheConstants.{EXTENSIBLE_ENCODING}
+use Rattle.nmf_records.specs.declared.record_types.TheConstants.{UPGRADE_REQUEST}
 use Rattle.nmf_records.specs.Records.{Read, IsRecord, IsRecordOf}
 use Rattle.nmf_records.specs.Reading.{bare, with_text, MayCome}
 use Rattle.nmf_records.specs.Script.{may_come}
 use Rattle.nmf_records.specs.Laws.{BeginsUnexpected}
 use Rattle.nmf_records.proofs.Causes.{HasCause}
-use Rattle.stream_reader.specs.Stream.{Settings, Side, initiators, receivers, direction_of, Stage, unexpected, size_before, serves, is_mode, is_binary, too_large, reason_of, reason_in}
-use Rattle.stream_reader.specs.Reasons.{IsOtherVersion, IsOtherMode, IsOtherVia, IsOtherEncoding, IsLargeHead, IsLargeChunk, Shows}
-use Rattle.stream_reader.proofs.DueRecords.{version_comes, mode_comes, via_comes, encoding_comes, envelope_comes, chunk_comes, version_due, mode_due, via_due, encoding_due, envelope_due, chunk_due as size_due}
+use Rattle.stream_reader.specs.Stream.{Settings, Side, initiators, receivers, direction_of, Stage}
+use Rattle.stream_reader.specs.Stream.{unexpected, size_before, serves, is_mode, is_binary}
+use Rattle.stream_reader.specs.Stream.{too_large, reason_of, reason_in}
+use Rattle.stream_reader.specs.Reasons.{IsOtherVersion, IsOtherMode, IsOtherVia, IsOtherEncoding}
+use Rattle.stream_reader.specs.Reasons.{IsLargeHead, IsLargeChunk, Shows}
+use Rattle.stream_reader.proofs.DueRecords.{version_comes, mode_comes, via_comes, encoding_comes}
+use Rattle.stream_reader.proofs.DueRecords.{envelope_comes, chunk_comes, version_due, mode_due}
+use Rattle.stream_reader.proofs.DueRecords.{via_due, encoding_due, envelope_due}
+use Rattle.stream_reader.proofs.DueRecords.{chunk_due as size_due}
 
 -- bytes that are wrong by a fault which is answered so
 abbrev pub IsFaulty : Settings → Due → List ℕ → Reason → Type 0

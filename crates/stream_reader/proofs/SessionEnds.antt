@@ -1,14 +1,18 @@
 -- A session is told by its events, whatever may follow, and so it closes its stream, and is one.
-use Rattle.std.proofs.Common.{◌≡◌, ℕ, ◌+◌, ◌<◌, ◌≤◌, List, [], ◌∷◌, ◌++◌, length, true, false, Option, None, refl, sym, ap, ◌∙◌, subst, arith, append_assoc, length-append}
+use Rattle.std.proofs.Common.{◌≡◌, ℕ, ◌+◌, ◌<◌, ◌≤◌, List, [], ◌∷◌, ◌++◌, length, true, false}
+use Rattle.std.proofs.Common.{Option, None, refl, sym, ap, ◌∙◌, subst, arith, append_assoc}
+use Rattle.std.proofs.Common.{length-append}
 use Rattle.std.proofs.lemmas.List.{append-nil}
 use Rattle.unit_streams.specs.Grammar.{standing}
-use Rattle.unit_streams.specs.Judging.{History, is_over_at, led_by, only, history, offence as offence_by, refusal_at}
+use Rattle.unit_streams.specs.Judging.{History, is_over_at, led_by, only, history}
+use Rattle.unit_streams.specs.Judging.{offence as offence_by, refusal_at}
 use Rattle.unit_streams.specs.Going.{IsGoing}
 use Rattle.unit_streams.proofs.Ends.{over_closed}
 use Rattle.unit_streams.proofs.Histories.{history_ends}
 use Rattle.unit_streams.proofs.Passing.{going_refusal, refusal_from}
 use Rattle.unit_streams.proofs.Units.{between_going}
-use Rattle.unit_streams.proofs.Along.{Passes, passes_none, passes_then, passes_unit, passes_between, passes_history}
+use Rattle.unit_streams.proofs.Along.{Passes, passes_none, passes_then, passes_unit, passes_between}
+use Rattle.unit_streams.proofs.Along.{passes_history}
 use Rattle.nbfx_values.specs.Limits.{IsGood, Limits}
 use Rattle.nbfx_values.specs.declared.session.Mode.{Mode}
 use Rattle.nbfx_values.specs.declared.session.Mode.TheVariants.{Singleton, Duplex, Simplex}
@@ -21,11 +25,19 @@ use Rattle.nmf_records.specs.declared.script.Due.TheVariants as dues
 use Rattle.nmf_records.specs.declared.script.Due.{Due}
 use Rattle.nmf_records.specs.Reading.{bare, MayCome}
 use Rattle.nmf_records.specs.Script.{behind_preamble, may_come}
-use Rattle.stream_reader.specs.Stream.{Settings, Side, initiators, receivers, Situation, record_due, beginning, frame, StreamEvent, opened, accepted, ended, peer_fault, after, completed, refused, is_over_in, stream}
-use Rattle.stream_reader.specs.Sessions.{IsBare, Carried, CarriesAll, CarriesThen, MayCarry, IsAckThen, IsFault, Parts, conversation, answer, lone_ack, broken_off, turned_down, HasParts, IsSession, MayFollow, IsClosed, SessionsAreTold, SpellsOneSession, message_events, session_events}
+use Rattle.stream_reader.specs.Stream.{Settings, Side, initiators, receivers, Situation, record_due}
+use Rattle.stream_reader.specs.Stream.{beginning, frame, StreamEvent, opened, accepted, ended}
+use Rattle.stream_reader.specs.Stream.{peer_fault, after, completed, refused, is_over_in, stream}
+use Rattle.stream_reader.specs.Sessions.{IsBare, Carried, CarriesAll, CarriesThen, MayCarry}
+use Rattle.stream_reader.specs.Sessions.{IsAckThen, IsFault, Parts, conversation, answer, lone_ack}
+use Rattle.stream_reader.specs.Sessions.{broken_off, turned_down, HasParts, IsSession, MayFollow}
+use Rattle.stream_reader.specs.Sessions.{IsClosed, SessionsAreTold, SpellsOneSession}
+use Rattle.stream_reader.specs.Sessions.{message_events, session_events}
 use Rattle.stream_reader.proofs.Grammar.{readable, quiet_over, short_enough}
 use Rattle.stream_reader.proofs.DueRecords.{record_unit}
-use Rattle.stream_reader.proofs.FromSession.{at, left_by, CarriesTo, chunked_to, sized_to, end_passes, fault_passes, initiator_carries, preamble_passes}
+use Rattle.stream_reader.proofs.FromSession.{at, left_by, CarriesTo, chunked_to, sized_to}
+use Rattle.stream_reader.proofs.FromSession.{end_passes, fault_passes, initiator_carries}
+use Rattle.stream_reader.proofs.FromSession.{preamble_passes}
 use Rattle.stream_reader.proofs.LoneAck.{ack_may_end}
 
 -- the bytes of a session lead to its end, and bring its events
@@ -44,14 +56,17 @@ module _ (endpoint : Option (List ℕ)) (statics : List Entry) (l : Limits) (goo
   initiators_end lone_ack b h = absurd h
   initiators_end (broken_off carried text) b h = absurd h
   initiators_end (turned_down text) b h = absurd h
-  initiators_end (conversation mode kind via carried) b (preamble, rest, is_preamble, (envelopes, end, may, all, is_end, joined), bytes_are) =
-      let c = initiator_carries endpoint statics l good mode kind via carried (0 + length preamble) envelopes may all in
+  initiators_end (conversation mode kind via carried) b
+      (preamble, rest, is_preamble, (envelopes, end, may, all, is_end, joined), bytes_are) =
+      let c = initiator_carries endpoint statics l good mode kind via carried (0 + length preamble)
+      envelopes may all in
       let events : List StreamEvent = message_events 0 [] carried in
       let p1 = passes_then (stream x) (beginning x) 0 preamble envelopes _ _
       (opened mode kind via ∷ []) events
       (preamble_passes endpoint statics l good mode kind via preamble is_preamble) c.passes in
       let p2 = passes_then (stream x) (beginning x) 0 (preamble ++ envelopes) end _ _
-      (opened mode kind via ∷ events) (ended (0 + length (preamble ++ envelopes) + length end) ∷ []) p1
+      (opened mode kind via ∷ events) (ended (0 + length (preamble ++ envelopes) + length end) ∷ [])
+      p1
       (end_passes x good mode kind via c.due (length carried) (0 + length (preamble ++ envelopes))
       (left_by [] carried) end c.going c.end_comes is_end) in
       let all_of : (preamble ++ envelopes) ++ end ≡ b =
@@ -68,7 +83,8 @@ module _ (endpoint : Option (List ℕ)) (statics : List Entry) (l : Limits) (goo
             (opened mode kind via ∷ events ++ ended n ∷ [])) size
             (subst (λ (c : List ℕ). Passes (stream x) (beginning x) 0 c
             (at (record_due dues.Over) mode kind via (length carried) (left_by [] carried))
-            (opened mode kind via ∷ events ++ ended (0 + length (preamble ++ envelopes) + length end) ∷ []))
+            (opened mode kind via ∷ events
+            ++ ended (0 + length (preamble ++ envelopes) + length end) ∷ []))
             all_of p2);
       }
 
@@ -84,7 +100,8 @@ module _ (kind : Kind) (statics : List Entry) (l : Limits) (good : IsGood l) whe
   ack_passes mode b is =
       passes_unit (stream (reads mode)) (readable (reads mode)) (beginning (reads mode)) 0 b
       (frame (bare frames.PreambleAck))
-      (record_unit (reads mode) dues.Ack b 0 (bare frames.PreambleAck) refl is refl (omega arith)) refl
+      (record_unit (reads mode) dues.Ack b 0 (bare frames.PreambleAck) refl is refl (omega arith))
+      refl
 
   receiver_carries : (mode : Mode) (carried : List Carried) (from : ℕ) (b : List ℕ)
       → MayCarry FromReceiver mode carried → CarriesAll (reads mode) mode kind [] carried b
@@ -132,13 +149,20 @@ module _ (kind : Kind) (statics : List Entry) (l : Limits) (good : IsGood l) whe
     ack_with : (carried : List Carried) (Rest : List ℕ → Type 0) (b : List ℕ)
         → IsAckThen (CarriesThen (reads mode) FromReceiver mode kind carried Rest) b
         → IsAckWith carried Rest b
-    ack_with carried Rest b (ack, rest, is_ack, (envelopes, last, may, all, is_last, joined), bytes_are) =
+    ack_with carried Rest b (
+      ack,
+      rest,
+      is_ack,
+      (envelopes, last, may, all, is_last, joined),
+      bytes_are,
+    ) =
         let c = receiver_carries mode carried (0 + length ack) envelopes may all in
         record {
           front = ack ++ envelopes;
           last = last;
           is_last = is_last;
-          bytes_are = append_assoc ack envelopes last ∙ ap (λ r. ack ++ r) (sym joined) ∙ sym bytes_are;
+          bytes_are = append_assoc ack envelopes last ∙ ap (λ r. ack ++ r) (sym joined) ∙ sym
+              bytes_are;
           due = c.due;
           going = c.going;
           end_comes = c.end_comes;
@@ -210,11 +234,13 @@ module _ (x : Settings) (good : IsGood x.limits) where
       → history (stream x) (b ++ rest) ≡ record { events = events; offence = None }
   unfolding is_over_at
   over_told b rest events within e =
-      let between = passes_between (stream x) (readable x) x.limits.session short b rest e.last events
+      let between = passes_between (stream x) (readable x) x.limits.session short b rest e.last
+      events
       e.passes within in
       let over : is_over_at (stream x) b ≡ true =
       ap (λ (z : Situation). is_over_in z.stage) between.situation ∙ e.over in
-      passes_history (stream x) (readable x) x.limits.session short b rest e.last events e.passes within
+      passes_history (stream x) (readable x) x.limits.session short b rest e.last events e.passes
+      within
       ∙ ap (led_by events) (over_closed (stream x) (readable x) (quiet_over x) rest b over
       (between_going (stream x) (readable x) b _ _ between))
       ∙ ap (λ es. record { events = es; offence = None }) (append-nil events)
@@ -226,7 +252,8 @@ module _ (x : Settings) (good : IsGood x.limits) where
   alone_told kind b side is within =
       let passes : Passes (stream x) (beginning x) 0 b
       (at (record_due dues.End) Simplex kind [] 0 []) (accepted ∷ []) =
-      subst (λ (s : Side). Passes (stream (record x { side = s })) (beginning (record x { side = s })) 0 b
+      subst (λ (s : Side). Passes (stream (record x { side = s }))
+      (beginning (record x { side = s })) 0 b
       (at (record_due dues.End) Simplex kind [] 0 []) (accepted ∷ [])) (sym side)
       (ack_passes kind x.statics x.limits good Simplex b is) in
       let between = passes_between (stream x) (readable x) x.limits.session short b [] _ _ passes
@@ -274,7 +301,8 @@ module _ (x : Settings) (good : IsGood x.limits) where
       (session_told h.parts h.session h.rest h.is_session h.may_follow)
 
 pub sessions_are_told : SessionsAreTold
-sessions_are_told x good parts session rest h follow = session_told x good parts session rest h follow
+sessions_are_told x good parts session rest h follow = session_told x good parts session rest h
+    follow
 
 -- bytes are the session of one list of documents at most
 pub spells_one_session : SpellsOneSession

@@ -1,20 +1,30 @@
 -- What holds of each situation of a stream, and of the event that its last unit completed.
-use Rattle.std.proofs.Common.{◌≡◌, ℕ, ◌+◌, ◌<◌, ◌≤◌, List, [], ◌∷◌, ◌++◌, length, true, Option, Some, None, refl, sym, ap, ◌∙◌, subst, arith, length-append}
+use Rattle.std.proofs.Common.{◌≡◌, ℕ, ◌+◌, ◌<◌, ◌≤◌, List, [], ◌∷◌, ◌++◌, length, true, Option}
+use Rattle.std.proofs.Common.{Some, None, refl, sym, ap, ◌∙◌, subst, arith, length-append}
 use Rattle.unit_streams.specs.Front.{IsOpen}
 use Rattle.unit_streams.specs.Grammar.{resumed, standing}
 use Rattle.unit_streams.specs.Judging.{event_at}
 use Rattle.unit_streams.proofs.Passing.{given_some}
-use Rattle.unit_streams.proofs.Standing.{standing_append, standing_keeps, standing_last, standing_length, standing_nothing, standing_open}
+use Rattle.unit_streams.proofs.Standing.{standing_append, standing_keeps, standing_last}
+use Rattle.unit_streams.proofs.Standing.{standing_length, standing_nothing, standing_open}
 use Rattle.nbfx_values.specs.Limits.{IsGood}
 use Rattle.string_tables.specs.SessionStrings.{used_cost}
 use Rattle.nmf_records.specs.declared.frame.Frame.{Frame}
 use Rattle.nmf_records.specs.declared.frame.Frame.TheVariants as frames
 use Rattle.nbfx_decoder.proofs.Readable.{readable as payload_readable}
 use Rattle.nbfx_decoder.proofs.Sound.{keeps_within}
-use Rattle.stream_reader.specs.Stream.{OpenPayload, PayloadStanding, Form, sized, chunked, Settings, Situation, Stage, beginning, record_due, chunk_due, payload_open, strings_in, StreamUnit, frame, payload_byte, Envelope, StreamEvent, opened, accepted, message, ended, peer_fault, unit_in, is_chunked, payload_in, payloads, payload_begun, with_chunk, with_byte, on_open, on_payload, payload_by, behind_payload, after_bare, after, completed_payload, completed_bare, completed, stream}
+use Rattle.stream_reader.specs.Stream.{OpenPayload, PayloadStanding, Form, sized, chunked, Settings}
+use Rattle.stream_reader.specs.Stream.{Situation, Stage, beginning, record_due, chunk_due}
+use Rattle.stream_reader.specs.Stream.{payload_open, strings_in, StreamUnit, frame, payload_byte}
+use Rattle.stream_reader.specs.Stream.{Envelope, StreamEvent, opened, accepted, message, ended}
+use Rattle.stream_reader.specs.Stream.{peer_fault, unit_in, is_chunked, payload_in, payloads}
+use Rattle.stream_reader.specs.Stream.{payload_begun, with_chunk, with_byte, on_open, on_payload}
+use Rattle.stream_reader.specs.Stream.{payload_by, behind_payload, after_bare, after}
+use Rattle.stream_reader.specs.Stream.{completed_payload, completed_bare, completed, stream}
 use Rattle.stream_reader.proofs.Grammar.{readable}
 use Rattle.stream_reader.specs.Laws.{FitsIn, IsBoundedIn, open_payload}
-use Rattle.stream_reader.proofs.Outcomes.{envelope_of, goes_on, wants_chunk, is_whole, is_refused, outcome}
+use Rattle.stream_reader.proofs.Outcomes.{envelope_of, goes_on, wants_chunk, is_whole, is_refused}
+use Rattle.stream_reader.proofs.Outcomes.{outcome}
 
 -- a payload stands behind these bytes of it
 pub record IsBehind (x : Settings) (z : Situation) (p : OpenPayload) (bytes : List ℕ) : Type 0 where
@@ -59,7 +69,8 @@ byte_behind x z p bytes byte some h = record {
   standing_is = ap (λ (s : PayloadStanding). resumed (payload_in x z) s (byte ∷ [])) h.standing_is
       ∙ sym (standing_append (payload_in x z) (payload_readable (payloads x z.kind) z.strings)
       bytes (byte ∷ []));
-  counted = let n = length-append bytes (byte ∷ []) in let m = h.counted in omega (arith, n, m, some);
+  counted = let n = length-append bytes (byte ∷ []) in let m = h.counted in omega
+      (arith, n, m, some);
 }
 
 -- the size of another chunk
@@ -282,7 +293,8 @@ module _ (x : Settings) where
 
   -- a payload's byte is a unit of its own, so within a payload nothing is begun
   pub nothing_begun : (p : List ℕ) (o : OpenPayload)
-      → (standing (stream x) p).situation.stage ≡ payload_open o → (standing (stream x) p).begun ≡ []
+      → (standing (stream x) p).situation.stage ≡ payload_open o → (standing (stream x) p).begun
+      ≡ []
   unfolding unit_in
   nothing_begun p o at =
       go (standing (stream x) p).begun (standing_open (stream x) (readable x) p)
@@ -323,7 +335,8 @@ module _ (x : Settings) where
   documents_fit good p e here = (event_tells p (message e) here).2 good
 
   -- what there is of an open payload
-  bounded : IsGood x.limits → (z : Situation) (o : OpenPayload) (bytes : List ℕ) → IsBehind x z o bytes
+  bounded : IsGood x.limits → (z : Situation) (o : OpenPayload) (bytes : List ℕ)
+      → IsBehind x z o bytes
       → used_cost z.strings ≤ x.limits.dictionary → IsBoundedIn x.limits o
   bounded good z o bytes behind low =
       let readable_in = payload_readable (payloads x z.kind) z.strings in

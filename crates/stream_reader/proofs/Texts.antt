@@ -1,6 +1,7 @@
 -- Which text is shown: that of the situation, until a record brings another. Where a text may still
 -- begin there is none before, and there are no strings before the encoding's record.
-use Rattle.std.proofs.Common.{◌≡◌, ℕ, ◌+◌, inl, inr, List, [], ◌∷◌, ◌++◌, take, drop, Bool, true, false, Option, Some, None, refl, sym, ap, ◌∙◌, subst}
+use Rattle.std.proofs.Common.{◌≡◌, ℕ, ◌+◌, inl, inr, List, [], ◌∷◌, ◌++◌, take, drop, Bool, true}
+use Rattle.std.proofs.Common.{false, Option, Some, None, refl, sym, ap, ◌∙◌, subst}
 use Rattle.std.specs.Prelude.{◌==◌, ◌||◌, not, if◌then◌else◌}
 use Rattle.std.proofs.lemmas.Bool.{eqb-true, cases_Bool, and_left}
 use Rattle.std.proofs.lemmas.List.{take-append-drop}
@@ -9,7 +10,10 @@ use Rattle.unit_streams.specs.Grammar.{standing}
 use Rattle.unit_streams.proofs.Standing.{standing_keeps}
 use Rattle.nbfx_values.specs.declared.session.Mode.{Mode}
 use Rattle.nbfx_values.specs.declared.session.Mode.TheVariants.{Singleton, Duplex, Simplex}
-use Rattle.nmf_records.specs.declared.record_types.TheConstants.{VERSION, MODE, VIA, KNOWN_ENCODING, UNSIZED_ENVELOPE, SIZED_ENVELOPE, END, FAULT, PREAMBLE_ACK, PREAMBLE_END}
+use Rattle.nmf_records.specs.declared.record_types.TheConstants.{VERSION, MODE, VIA, KNOWN_ENCODING}
+use Rattle.nmf_records.specs.declared.record_types.TheConstants.{UNSIZED_ENVELOPE, SIZED_ENVELOPE}
+use Rattle.nmf_records.specs.declared.record_types.TheConstants.{END, FAULT, PREAMBLE_ACK}
+use Rattle.nmf_records.specs.declared.record_types.TheConstants.{PREAMBLE_END}
 use Rattle.nmf_records.specs.declared.frame.Frame.{Frame}
 use Rattle.nmf_records.specs.declared.frame.Frame.TheVariants as frames
 use Rattle.nmf_records.specs.declared.frame.Expect.{Expect}
@@ -25,11 +29,18 @@ use Rattle.nmf_records.specs.Script.{behind_preamble, first, may_come}
 use Rattle.nmf_records.specs.Reader.{text_after, text_read}
 use Rattle.nmf_records.proofs.Records.{read_record}
 use Rattle.nmf_records.proofs.Showing.{plain_head}
-use Rattle.stream_reader.specs.Stream.{Form, sized, chunked, last_chunk, Settings, direction_of, OpenPayload, Situation, Stage, beginning, record_due, chunk_due, payload_open, StreamUnit, due_behind, due_in, is_over_in, mode_of, on_open, on_payload, payload_by, unit_in, behind_payload, payload_begun, with_byte, after_bare, after_record, after, stream}
-use Rattle.stream_reader.proofs.DueRecords.{version_due, mode_due, via_due, encoding_due, chunk_due as size_due}
+use Rattle.stream_reader.specs.Stream.{Form, sized, chunked, last_chunk, Settings, direction_of}
+use Rattle.stream_reader.specs.Stream.{OpenPayload, Situation, Stage, beginning, record_due}
+use Rattle.stream_reader.specs.Stream.{chunk_due, payload_open, StreamUnit, due_behind, due_in}
+use Rattle.stream_reader.specs.Stream.{is_over_in, mode_of, on_open, on_payload, payload_by}
+use Rattle.stream_reader.specs.Stream.{unit_in, behind_payload, payload_begun, with_byte}
+use Rattle.stream_reader.specs.Stream.{after_bare, after_record, after, stream}
+use Rattle.stream_reader.proofs.DueRecords.{version_due, mode_due, via_due, encoding_due}
+use Rattle.stream_reader.proofs.DueRecords.{chunk_due as size_due}
 use Rattle.stream_reader.proofs.Grammar.{readable}
 use Rattle.stream_reader.proofs.Coming.{unit_of_record, unit_of_chunk, unit_of_payload}
-use Rattle.stream_reader.proofs.Outcomes.{goes_on, wants_chunk, is_whole, is_refused, outcome, text_behind}
+use Rattle.stream_reader.proofs.Outcomes.{goes_on, wants_chunk, is_whole, is_refused, outcome}
+use Rattle.stream_reader.proofs.Outcomes.{text_behind}
 
 -- no Via was read yet
 abbrev pub before_via : Stage → Bool

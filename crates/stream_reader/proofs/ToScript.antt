@@ -1,5 +1,7 @@
 -- A session is the records of a script, with the payloads of documents.
-use Rattle.std.proofs.Common.{◌≡◌, ℕ, suc, ◌+◌, ◌<◌, ◌≤◌, List, [], ◌∷◌, ◌++◌, map, length, true, Option, None, refl, sym, ap, ◌∙◌, subst, inl, inr, append_assoc, length-append, arith}
+use Rattle.std.proofs.Common.{◌≡◌, ℕ, suc, ◌+◌, ◌<◌, ◌≤◌, List, [], ◌∷◌, ◌++◌, map, length, true}
+use Rattle.std.proofs.Common.{Option, None, refl, sym, ap, ◌∙◌, subst, inl, inr, append_assoc}
+use Rattle.std.proofs.Common.{length-append, arith}
 use Rattle.std.specs.Prelude.{All}
 use Rattle.std.proofs.lemmas.Bool.{le-ltb}
 use Rattle.std.proofs.lemmas.List.{append-nil}
@@ -18,9 +20,14 @@ use Rattle.nmf_records.specs.declared.script.Direction.TheVariants.{FromInitiato
 use Rattle.nmf_records.specs.declared.script.Due.TheVariants as dues
 use Rattle.nmf_records.specs.Records.{IsRecordOf}
 use Rattle.nmf_records.specs.Script.{AreEnvelopes, IsScript, IsUnsized as IsUnsizedScript}
-use Rattle.stream_reader.specs.Stream.{Settings, Side, initiators, receivers, direction_of, payloads, record_due, reason_in, serves, too_large}
-use Rattle.stream_reader.specs.Sessions.{AreChunks, Carried, CarriesAll, CarriesThen, HasParts, IsAckThen, IsBare, IsEnvelopeIn, IsFault, IsSized, IsWithin, MayCarry, Parts, answer, broken_off, conversation, joined, lone_ack, turned_down}
-use Rattle.stream_reader.specs.Scripts.{BeginsWith, Context, HasScript, IsFollowedBy, IsModeOf, IsShort, first_context, refused_there}
+use Rattle.stream_reader.specs.Stream.{Settings, Side, initiators, receivers, direction_of}
+use Rattle.stream_reader.specs.Stream.{payloads, record_due, reason_in, serves, too_large}
+use Rattle.stream_reader.specs.Sessions.{AreChunks, Carried, CarriesAll, CarriesThen, HasParts}
+use Rattle.stream_reader.specs.Sessions.{IsAckThen, IsBare, IsEnvelopeIn, IsFault, IsSized}
+use Rattle.stream_reader.specs.Sessions.{IsWithin, MayCarry, Parts, answer, broken_off}
+use Rattle.stream_reader.specs.Sessions.{conversation, joined, lone_ack, turned_down}
+use Rattle.stream_reader.specs.Scripts.{BeginsWith, Context, HasScript, IsFollowedBy, IsModeOf}
+use Rattle.stream_reader.specs.Scripts.{IsShort, first_context, refused_there}
 use Rattle.stream_reader.proofs.FromScript.{context_of, kind_is}
 
 -- records that are not refused

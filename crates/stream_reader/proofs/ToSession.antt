@@ -1,7 +1,9 @@
 -- What is left of a session at each stage of a stream, and that it is left where units lead to
 -- where
 -- the input may end.
-use Rattle.std.proofs.Common.{◌≡◌, ℕ, zero, suc, ◌+◌, ◌-◌, ◌<◌, ◌≤◌, ◌⊎◌, inl, inr, List, [], ◌∷◌, ◌++◌, length, take, Bool, true, false, Option, Some, None, refl, sym, ap, ◌∙◌, subst, arith, append_assoc}
+use Rattle.std.proofs.Common.{◌≡◌, ℕ, zero, suc, ◌+◌, ◌-◌, ◌<◌, ◌≤◌, ◌⊎◌, inl, inr, List, [], ◌∷◌}
+use Rattle.std.proofs.Common.{◌++◌, length, take, Bool, true, false, Option, Some, None, refl, sym}
+use Rattle.std.proofs.Common.{ap, ◌∙◌, subst, arith, append_assoc}
 use Rattle.std.specs.Option.{option_map, option_or}
 use Rattle.std.proofs.Math.Nat.{eq-or-lt_of_le}
 use Rattle.std.proofs.Math.Seq.{take-length}
@@ -25,13 +27,19 @@ use Rattle.nmf_records.specs.Script.{behind_preamble}
 use Rattle.nbfx_decoder.specs.Laws.{IsUnrefused, IsWholePayload, MayBegin, ShowsNothing}
 use Rattle.nbfx_decoder.specs.Payload.{NoEvent, PayloadUnit, Refusal, Situation as PayloadSituation}
 use Rattle.nbfx_decoder.specs.Standing.{situation_of}
-use Rattle.nbfx_decoder.proofs.PayloadAnswers.{finished_where_whole, nothing_is_refused, strings_behind}
+use Rattle.nbfx_decoder.proofs.PayloadAnswers.{finished_where_whole, nothing_is_refused}
+use Rattle.nbfx_decoder.proofs.PayloadAnswers.{strings_behind}
 use Rattle.nbfx_decoder.proofs.PayloadReasons.{unrefused_nothing}
-use Rattle.stream_reader.specs.Stream.{OpenPayload, PayloadStanding, Form, sized, chunked, last_chunk, Settings, direction_of, serves, Situation, Stage, record_due, chunk_due, payload_open, due_behind, is_chunked, behind_payload, payload_in, payloads, refusal_in, with_byte}
+use Rattle.stream_reader.specs.Stream.{OpenPayload, PayloadStanding, Form, sized, chunked}
+use Rattle.stream_reader.specs.Stream.{last_chunk, Settings, direction_of, serves, Situation, Stage}
+use Rattle.stream_reader.specs.Stream.{record_due, chunk_due, payload_open, due_behind, is_chunked}
+use Rattle.stream_reader.specs.Stream.{behind_payload, payload_in, payloads, refusal_in, with_byte}
 use Rattle.stream_reader.specs.Sessions.{IsBare, AreChunks, joined, Carried, CarriesAll, IsFault}
 use Rattle.stream_reader.proofs.Situations.{IsBehind, byte_behind}
-use Rattle.stream_reader.proofs.Outcomes.{HasAll, goes_on, wants_chunk, is_whole, is_refused, outcome}
-use Rattle.stream_reader.proofs.PayloadBytes.{behind_is, refusal_all, refusal_before, refusal_between}
+use Rattle.stream_reader.proofs.Outcomes.{HasAll, goes_on, wants_chunk, is_whole, is_refused}
+use Rattle.stream_reader.proofs.Outcomes.{outcome}
+use Rattle.stream_reader.proofs.PayloadBytes.{behind_is, refusal_all, refusal_before}
+use Rattle.stream_reader.proofs.PayloadBytes.{refusal_between}
 
 -- what closes a session: End, a Fault with a text, or, behind an Ack, nothing
 pub data Closing : Type 0 where

@@ -1,4 +1,5 @@
--- A worked stream for each refusal in a payload, by computation: the envelope's number, the offset in
+-- A worked stream for each refusal in a payload, by computation: the envelope's number, the offset
+-- in
 -- its payload, and the byte that shows it. Behind a preamble of 23 bytes stands an envelope of nine
 -- that brings a string.
 use Rattle.std.proofs.Common.{◌≡◌, ◌^◌, ℕ, List, [], ◌∷◌, ◌++◌, map, Some, None, refl}
@@ -9,9 +10,11 @@ use Rattle.nbfx_values.specs.declared.content.Item.TheVariants.{Start, Close}
 use Rattle.nbfx_values.specs.declared.refusals.Reason.{Reason}
 use Rattle.nbfx_values.specs.declared.refusals.Reason.TheVariants as reasons
 use Rattle.nbfx_decoder.specs.Payload.{refusal}
-use Rattle.stream_reader.specs.Stream.{Settings, StreamEvent, message, offence_at, offence_in, stream}
+use Rattle.stream_reader.specs.Stream.{Settings, StreamEvent, message, offence_at, offence_in}
+use Rattle.stream_reader.specs.Stream.{stream}
 use Rattle.stream_reader.specs.Judging.{offence}
-use Rattle.stream_reader.proofs.OnLiterals.{streams_on_literals, narrow, plain_preamble, preamble, set_to}
+use Rattle.stream_reader.proofs.OnLiterals.{streams_on_literals, narrow, plain_preamble, preamble}
+use Rattle.stream_reader.proofs.OnLiterals.{set_to}
 
 -- under quotas that are soon passed
 abbrev soon : Settings
@@ -87,7 +90,8 @@ node_out_of_place :
 unfolding streams_on_literals
 node_out_of_place = (refl, refl, refl)
 
--- an identifier that names no string, of the session's strings and of the static ones; behind a value
+-- an identifier that names no string, of the session's strings and of the static ones; behind a
+-- value
 -- that is none, and before content
 unknown_string :
     GoesOn 9 (0 ∷ 66 ∷ [])
@@ -132,7 +136,8 @@ too_much_content :
 unfolding streams_on_literals
 too_much_content = (refl, refl, refl, refl)
 
--- a payload that ends before its root does: behind a whole record, within one, within the table, and
+-- a payload that ends before its root does: behind a whole record, within one, within the table,
+-- and
 -- before its first byte
 document_cut :
     GoesOn 4 (0 ∷ 64 ∷ 1 ∷ [])
@@ -154,11 +159,14 @@ trailing_bytes = (refl, refl, refl)
 
 -- a refusal in a payload goes before that of the session's length, also at the payload's last byte
 payload_first :
-    (offence (narrow 36) (second 9 (0 ∷ 127 ∷ [])) ≡ Some (offence_in 1 (refusal 1 reasons.UnknownNode)))
-    × (offence (narrow 38) (second 4 (0 ∷ 64 ∷ 1 ∷ 120 ∷ [])) ≡ Some (offence_in 1 (refusal 4 reasons.DocumentCut)))
+    (offence (narrow 36) (second 9 (0 ∷ 127 ∷ []))
+    ≡ Some (offence_in 1 (refusal 1 reasons.UnknownNode)))
+    × (offence (narrow 38) (second 4 (0 ∷ 64 ∷ 1 ∷ 120 ∷ []))
+    ≡ Some (offence_in 1 (refusal 4 reasons.DocumentCut)))
     × (offence (narrow 35) (second 9 (0 ∷ 127 ∷ [])) ≡ Some (offence_at 32 reasons.SessionTooLong))
     × (offence (narrow 34) (second 0 []) ≡ Some (offence_in 1 (refusal 0 reasons.DocumentCut)))
-    × (offence (set_to 4 2048 (2 ^ 48)) (preamble ++ 6 ∷ 5 ∷ 127 ∷ []) ≡ Some (offence_at 23 reasons.MessageTooLarge))
+    × (offence (set_to 4 2048 (2 ^ 48)) (preamble ++ 6 ∷ 5 ∷ 127 ∷ [])
+    ≡ Some (offence_at 23 reasons.MessageTooLarge))
 unfolding streams_on_literals
 payload_first = (refl, refl, refl, refl, refl)
 
@@ -178,7 +186,8 @@ Brings bytes told = (map shown (events (stream soon) bytes) ≡ told) × (offenc
 abbrev named : List ℕ → List Item
 named name = Start [] name ∷ Close ∷ []
 
--- a string of the first payload is named in the second, which brings one more, and that in the third
+-- a string of the first payload is named in the second, which brings one more, and that in the
+-- third
 strings_stay : Brings (second 6 (2 ∷ 1 ∷ 98 ∷ 66 ∷ 1 ∷ 1 ∷ []) ++ 6 ∷ 4 ∷ 0 ∷ 66 ∷ 3 ∷ 1 ∷ 7 ∷ [])
     (nothing
     ∷ document 0 (named (codes "x")) (codes "a" ∷ [])
@@ -194,7 +203,9 @@ plain_and_session :
     (nothing ∷ document 0 (named (codes "x")) [] ∷ nothing ∷ [])
     × Brings (preamble ++ 6 ∷ 5 ∷ 0 ∷ 64 ∷ 1 ∷ 120 ∷ 1 ∷ 7 ∷ [])
     (nothing ∷ document 0 (named (codes "x")) [] ∷ nothing ∷ [])
-    × (offence soon (preamble ++ 6 ∷ 4 ∷ 64 ∷ 1 ∷ 120 ∷ 1 ∷ 7 ∷ []) ≡ Some (offence_in 0 (refusal 3 reasons.DocumentCut)))
-    × (offence soon (plain_preamble ++ 6 ∷ 5 ∷ 0 ∷ 64 ∷ 1 ∷ 120 ∷ 1 ∷ 7 ∷ []) ≡ Some (offence_in 0 (refusal 0 reasons.UnknownNode)))
+    × (offence soon (preamble ++ 6 ∷ 4 ∷ 64 ∷ 1 ∷ 120 ∷ 1 ∷ 7 ∷ [])
+    ≡ Some (offence_in 0 (refusal 3 reasons.DocumentCut)))
+    × (offence soon (plain_preamble ++ 6 ∷ 5 ∷ 0 ∷ 64 ∷ 1 ∷ 120 ∷ 1 ∷ 7 ∷ [])
+    ≡ Some (offence_in 0 (refusal 0 reasons.UnknownNode)))
 unfolding streams_on_literals
 plain_and_session = ((refl, refl), (refl, refl), refl, refl)

@@ -1,4 +1,5 @@
--- A worked stream for each refusal of a record, and of a stream's length and end, by computation: its
+-- A worked stream for each refusal of a record, and of a stream's length and end, by computation:
+-- its
 -- place, and the byte that shows it.
 use Rattle.std.proofs.Common.{◌≡◌, ◌^◌, ℕ, List, [], ◌∷◌, ◌++◌, length, Some, None, refl}
 use Rattle.unit_streams.specs.Judging.{events}
@@ -6,7 +7,9 @@ use Rattle.nbfx_values.specs.declared.refusals.Reason.{Reason}
 use Rattle.nbfx_values.specs.declared.refusals.Reason.TheVariants as reasons
 use Rattle.stream_reader.specs.Stream.{Settings, offence_at, stream}
 use Rattle.stream_reader.specs.Judging.{offence}
-use Rattle.stream_reader.proofs.OnLiterals.{streams_on_literals, element, of_session, preamble, set_to, usual, version, with_encoding, with_mode, with_via}
+use Rattle.stream_reader.proofs.OnLiterals.{streams_on_literals, element, of_session, preamble}
+use Rattle.stream_reader.proofs.OnLiterals.{set_to, usual, version, with_encoding, with_mode}
+use Rattle.stream_reader.proofs.OnLiterals.{with_via}
 
 -- the offence of a stream is that of a record at this offset
 abbrev Refuses : Settings → List ℕ → ℕ → Reason → Type 0
@@ -18,11 +21,13 @@ RefusesBehind x b from reason = Refuses x (preamble ++ b) from reason
 
 -- the same, after so many events, of which the preamble is one
 abbrev RefusesAfter : ℕ → Settings → List ℕ → ℕ → Reason → Type 0
-RefusesAfter n x b from reason = (length (events (stream x) (preamble ++ b)) ≡ n) × RefusesBehind x b from reason
+RefusesAfter n x b from reason = (length (events (stream x) (preamble ++ b)) ≡ n) × RefusesBehind x
+    b from reason
 
 -- the session of these bytes behind a preamble is closed
 abbrev ClosesAfter : ℕ → Settings → List ℕ → Type 0
-ClosesAfter n x b = (length (events (stream x) (preamble ++ b)) ≡ n) × (offence x (preamble ++ b) ≡ None)
+ClosesAfter n x b = (length (events (stream x) (preamble ++ b)) ≡ n)
+    × (offence x (preamble ++ b) ≡ None)
 
 -- a payload of at most five bytes
 abbrev of_five : Settings
@@ -155,7 +160,20 @@ truncated :
     × RefusesAfter 2 usual envelope 30 reasons.Truncated
     × RefusesAfter 2 usual (envelope ++ 6 ∷ 5 ∷ 0 ∷ []) 30 reasons.Truncated
 unfolding streams_on_literals
-truncated = (refl, refl, refl, refl, refl, refl, refl, refl, refl, (refl, refl), (refl, refl), (refl, refl))
+truncated = (
+  refl,
+  refl,
+  refl,
+  refl,
+  refl,
+  refl,
+  refl,
+  refl,
+  refl,
+  (refl, refl),
+  (refl, refl),
+  (refl, refl),
+)
 
 -- the session quota is read before the end: places as above
 quota_reached :

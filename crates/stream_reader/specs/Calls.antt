@@ -1,6 +1,8 @@
--- What the calls of a reader answer and leave, one record for each. A machine that is a reader set to
+-- What the calls of a reader answer and leave, one record for each. A machine that is a reader set
+-- to
 -- one side cites them of its reader.
-use Rattle.std.specs.Prelude.{◌≡◌, ⊤, ℕ, ◌+◌, ◌≤◌, List, ◌++◌, length, take, false, true, Option, Some, None, Result, Ok, Err, IfOk, IfErr, OnOk, IsErrOf}
+use Rattle.std.specs.Prelude.{◌≡◌, ⊤, ℕ, ◌+◌, ◌≤◌, List, ◌++◌, length, take, false, true, Option}
+use Rattle.std.specs.Prelude.{Some, None, Result, Ok, Err, IfOk, IfErr, OnOk, IsErrOf}
 use Rattle.unit_streams.specs.Grammar.{standing}
 use Rattle.unit_streams.specs.Judging.{answer, event_at, is_over_at, ending_at}
 use Rattle.nbfx_values.specs.Measures.{content_of}
@@ -12,7 +14,10 @@ use Rattle.stream_reader.specs.declared.reader.ReadRefusal.TheVariants as refusa
 use Rattle.stream_reader.specs.declared.reader.StreamReader.{StreamReader}
 use Rattle.stream_reader.specs.declared.reader.StreamStep.{StreamStep}
 use Rattle.stream_reader.specs.Saying.{Says, Repeats}
-use Rattle.stream_reader.specs.Standing.{settings_of, taken_of, held_of, content_held_of, failure_of, StandsFor, FailedBehind, ShowsText, ShowsStrings, WhereItStands, WhereItFailed, FailsBy, HasPayloads, begun_in, items_in}
+use Rattle.stream_reader.specs.Standing.{settings_of, taken_of, held_of, content_held_of}
+use Rattle.stream_reader.specs.Standing.{failure_of, StandsFor, FailedBehind, ShowsText}
+use Rattle.stream_reader.specs.Standing.{ShowsStrings, WhereItStands, WhereItFailed, FailsBy}
+use Rattle.stream_reader.specs.Standing.{HasPayloads, begun_in, items_in}
 use Rattle.stream_reader.specs.Stream.{Situation, stream, strings_in}
 
 -- the situation behind the bytes p

@@ -1,7 +1,9 @@
 -- What holds of streams of either side by their definitions alone, whatever the settings.
-use Rattle.std.specs.Prelude.{◌≡◌, ◌+◌, ◌≤◌, ◌<◌, ◌*◌, ◌-◌, ℕ, List, length, take, false, Option, Some, None, ◌↔◌}
+use Rattle.std.specs.Prelude.{◌≡◌, ◌+◌, ◌≤◌, ◌<◌, ◌*◌, ◌-◌, ℕ, List, length, take, false, Option}
+use Rattle.std.specs.Prelude.{Some, None, ◌↔◌}
 use Rattle.unit_streams.specs.Grammar.{standing}
-use Rattle.unit_streams.specs.Judging.{event_at, refusal_at, is_over_at, ending_at, offence as offence_by, answer, offends}
+use Rattle.unit_streams.specs.Judging.{event_at, refusal_at, is_over_at, ending_at}
+use Rattle.unit_streams.specs.Judging.{offence as offence_by, answer, offends}
 use Rattle.nbfx_values.specs.Limits.{IsGood, Limits}
 use Rattle.nbfx_values.specs.Measures.{content_of, depth_of, opened_by}
 use Rattle.nbfx_values.specs.declared.session.Kind.{Kind}
@@ -12,7 +14,9 @@ use Rattle.nbfx_values.specs.declared.refusals.Reason.TheVariants.{Truncated, Se
 use Rattle.string_tables.specs.SessionStrings.{used_cost}
 use Rattle.nbfx_decoder.specs.Payload.{refusal}
 use Rattle.nbfx_decoder.specs.Values.{values_of}
-use Rattle.stream_reader.specs.Stream.{Settings, Stage, record_due, chunk_due, payload_open, Envelope, OpenPayload, message, opened, peer_fault, ended, offence_at, offence_in, stream, strings_in}
+use Rattle.stream_reader.specs.Stream.{Settings, Stage, record_due, chunk_due, payload_open}
+use Rattle.stream_reader.specs.Stream.{Envelope, OpenPayload, message, opened, peer_fault, ended}
+use Rattle.stream_reader.specs.Stream.{offence_at, offence_in, stream, strings_in}
 use Rattle.stream_reader.specs.Reasons.{ShowsFrom, ShowsInPayload, IsTooLong, IsCutOff}
 
 -- a document that an envelope brings, and the strings behind it, are within the quotas

@@ -1,6 +1,7 @@
 -- Which bytes of a stream of either side give each reason for refusing it in a record, or by its
 -- length, and where it is cut off.
-use Rattle.std.specs.Prelude.{◌≡◌, ◌≢◌, ℕ, ◌+◌, ◌<◌, ◌≤◌, ◌⊎◌, ◌==◌, List, [], ◌∷◌, ◌++◌, length, drop, Bool, true, false, Some}
+use Rattle.std.specs.Prelude.{◌≡◌, ◌≢◌, ℕ, ◌+◌, ◌<◌, ◌≤◌, ◌⊎◌, ◌==◌, List, [], ◌∷◌, ◌++◌, length}
+use Rattle.std.specs.Prelude.{drop, Bool, true, false, Some}
 use Rattle.unit_streams.specs.Grammar.{standing}
 use Rattle.unit_streams.specs.Judging.{is_over_at}
 use Rattle.unit_streams.specs.Going.{IsGoing}
@@ -15,17 +16,22 @@ use Rattle.nbfx_values.specs.declared.refusals.Reason.{Reason}
 use Rattle.nbfx_values.specs.declared.refusals.Reason.TheVariants as reasons
 use Rattle.nmf_records.specs.declared.script.Due.{Due}
 use Rattle.nmf_records.specs.declared.script.Due.TheVariants as dues
-use Rattle.nmf_records.specs.declared.record_types.TheConstants.{VERSION, MODE, KNOWN_ENCODING, SIZED_ENVELOPE, PREAMBLE_ACK}
-use Rattle.nmf_records.specs.declared.frame.Frame.TheVariants.{Via, SizedEnvelope, UnsizedEnvelope, Chunk}
+use Rattle.nmf_records.specs.declared.record_types.TheConstants.{VERSION, MODE, KNOWN_ENCODING}
+use Rattle.nmf_records.specs.declared.record_types.TheConstants.{SIZED_ENVELOPE, PREAMBLE_ACK}
+use Rattle.nmf_records.specs.declared.frame.Frame.TheVariants.{Via, SizedEnvelope, UnsizedEnvelope}
+use Rattle.nmf_records.specs.declared.frame.Frame.TheVariants.{Chunk}
 use Rattle.nmf_records.specs.Records.{IsRecordOf}
 use Rattle.nmf_records.specs.Reading.{MayCome}
 use Rattle.nmf_records.specs.Script.{may_come}
-use Rattle.nmf_records.specs.Laws.{BeginsUnknown, BeginsUnexpected, IntegerComes, HasLongText, HasBadText}
+use Rattle.nmf_records.specs.Laws.{BeginsUnknown, BeginsUnexpected, IntegerComes, HasLongText}
+use Rattle.nmf_records.specs.Laws.{HasBadText}
 use Rattle.nbfx_decoder.specs.Payload.{Settings as PayloadSettings}
 use Rattle.nbfx_decoder.specs.Reasons.{IsCutAt, ShowsFrom as ShowsAt}
 use Rattle.nbfx_decoder.specs.Laws.{ShowsNothing}
 use Rattle.stream_reader.specs.Sessions.{IsBare, joined}
-use Rattle.stream_reader.specs.Stream.{Settings, Situation, Stage, payloads, record_due, chunk_due, payload_open, initiators, receivers, direction_of, open_from, stream, unexpected}
+use Rattle.stream_reader.specs.Stream.{Settings, Situation, Stage, payloads, record_due, chunk_due}
+use Rattle.stream_reader.specs.Stream.{payload_open, initiators, receivers, direction_of, open_from}
+use Rattle.stream_reader.specs.Stream.{stream, unexpected}
 
 -- a known type that may not come, which is answered so
 abbrev pub BeginsOtherwise : Settings → Due → List ℕ → Reason → Type 0

@@ -1,7 +1,8 @@
 -- The sessions of MC-NMF in each direction and mode, as a grammar: an initiator's preamble or a
 -- receiver's Ack, envelopes whose payloads are documents, each under the strings that the ones
 -- before left, and what closes the session; and the events that these parts are.
-use Rattle.std.specs.Prelude.{◌≡◌, ⊤, ℕ, ◌<◌, ◌≤◌, ◌+◌, ◌↔◌, List, [], ◌∷◌, ◌++◌, length, true, None}
+use Rattle.std.specs.Prelude.{◌≡◌, ⊤, ℕ, ◌<◌, ◌≤◌, ◌+◌, ◌↔◌, List, [], ◌∷◌, ◌++◌, length, true}
+use Rattle.std.specs.Prelude.{None}
 use Rattle.unit_streams.specs.Judging.{history, offence as offence_by}
 use Rattle.nbfx_values.specs.Limits.{IsGood}
 use Rattle.nbfx_values.specs.declared.content.Item.{Item}
@@ -15,7 +16,9 @@ use Rattle.nmf_records.specs.declared.frame.Frame.TheVariants as frames
 use Rattle.nmf_records.specs.declared.script.Direction.{Direction}
 use Rattle.nmf_records.specs.declared.script.Direction.TheVariants.{FromInitiator, FromReceiver}
 use Rattle.nmf_records.specs.Records.{IsRecordOf}
-use Rattle.stream_reader.specs.Stream.{Envelope, Settings, Side, StreamEvent, initiators, receivers, opened, accepted, message, ended, peer_fault, payloads, serves, stream}
+use Rattle.stream_reader.specs.Stream.{Envelope, Settings, Side, StreamEvent, initiators, receivers}
+use Rattle.stream_reader.specs.Stream.{opened, accepted, message, ended, peer_fault, payloads}
+use Rattle.stream_reader.specs.Stream.{serves, stream}
 
 -- a record without a text
 abbrev pub IsBare : Frame → List ℕ → Type 0

@@ -1,6 +1,7 @@
 -- What a reader of a stream stands for, and what it shows. Of the bytes that it used it keeps the
 -- framing's text, and of an open payload what a decoder does.
-use Rattle.std.specs.Prelude.{◌≡◌, ⊤, ℕ, ◌+◌, ◌<◌, ◌≤◌, ◌⊎◌, List, [], ◌++◌, length, take, true, Option, Some, None}
+use Rattle.std.specs.Prelude.{◌≡◌, ⊤, ℕ, ◌+◌, ◌<◌, ◌≤◌, ◌⊎◌, List, [], ◌++◌, length, take, true}
+use Rattle.std.specs.Prelude.{Option, Some, None}
 use Rattle.unit_streams.specs.Grammar.{standing}
 use Rattle.unit_streams.specs.Judging.{Answer, event_at, is_over_at, refusal_at, used}
 use Rattle.unit_streams.specs.Going.{IsGoing, IsQuiet}
@@ -11,12 +12,16 @@ use Rattle.nbfx_values.specs.declared.content.Item.{Item}
 use Rattle.string_tables.specs.SessionStrings.{used_cost}
 use Rattle.nbfx_decoder.specs.declared.decoder.Decoder.{Decoder}
 use Rattle.nbfx_decoder.specs.declared.faults.DecodeFault.{DecodeFault}
-use Rattle.nbfx_decoder.specs.Standing.{settings_of as decoder_settings, held_of as decoder_held_of, content_held_of as decoder_content_held_of, situation_of, StandsFor as DecoderStandsFor, FailedBehind as DecoderFailedBehind}
+use Rattle.nbfx_decoder.specs.Standing.{settings_of as decoder_settings, held_of as decoder_held_of}
+use Rattle.nbfx_decoder.specs.Standing.{content_held_of as decoder_content_held_of, situation_of}
+use Rattle.nbfx_decoder.specs.Standing.{StandsFor as DecoderStandsFor}
+use Rattle.nbfx_decoder.specs.Standing.{FailedBehind as DecoderFailedBehind}
 use Rattle.nmf_records.specs.declared.frame.Expect.{Expect}
 use Rattle.nmf_records.specs.declared.reader.FrameReader.{FrameReader}
 use Rattle.nmf_records.specs.declared.script.Direction.{Direction}
 use Rattle.nmf_records.specs.declared.script.Due.TheVariants as dues
-use Rattle.nmf_records.specs.Reader.{StandsFor as FrameStandsFor, ShowsText as FramesShowText, held_of as frames_held_of}
+use Rattle.nmf_records.specs.Reader.{StandsFor as FrameStandsFor, ShowsText as FramesShowText}
+use Rattle.nmf_records.specs.Reader.{held_of as frames_held_of}
 use Rattle.nmf_records.specs.Script.{may_come}
 use Rattle.stream_reader.specs.declared.awaited.Awaited.{Awaited}
 use Rattle.stream_reader.specs.declared.awaited.Awaited.TheVariants as awaits
@@ -29,7 +34,10 @@ use Rattle.stream_reader.specs.declared.reader.ReadRefusal.{ReadRefusal}
 use Rattle.stream_reader.specs.declared.reader.ReadRefusal.TheVariants.{Offence as Refused, Memory}
 use Rattle.stream_reader.specs.declared.reader.StreamReader.{StreamReader}
 use Rattle.stream_reader.specs.Sides.{side_of}
-use Rattle.stream_reader.specs.Stream.{Settings, Situation, Stage, Form, sized, chunked, last_chunk, OpenPayload, StreamEvent, ended, peer_fault, record_due, chunk_due, payload_open, direction_of, payload_in, payloads, stream, strings_in}
+use Rattle.stream_reader.specs.Stream.{Settings, Situation, Stage, Form, sized, chunked, last_chunk}
+use Rattle.stream_reader.specs.Stream.{OpenPayload, StreamEvent, ended, peer_fault, record_due}
+use Rattle.stream_reader.specs.Stream.{chunk_due, payload_open, direction_of, payload_in, payloads}
+use Rattle.stream_reader.specs.Stream.{stream, strings_in}
 
 -- what the reader is set to
 unfoldable pub settings_of : StreamReader → Settings

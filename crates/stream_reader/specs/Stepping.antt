@@ -1,5 +1,6 @@
 -- What the parts of a reader's step answer. Public contracts cite none of this.
-use Rattle.std.specs.Prelude.{◌≡◌, ℕ, ◌+◌, ◌-◌, ◌<◌, ◌^◌, ◌==◌, ◌&&◌, List, [], ◌++◌, take, length, Bool, true, false, Option, Some, None, Result, Ok, Err, if◌then◌else◌}
+use Rattle.std.specs.Prelude.{◌≡◌, ℕ, ◌+◌, ◌-◌, ◌<◌, ◌^◌, ◌==◌, ◌&&◌, List, [], ◌++◌, take, length}
+use Rattle.std.specs.Prelude.{Bool, true, false, Option, Some, None, Result, Ok, Err, if◌then◌else◌}
 use Rattle.unit_streams.specs.Grammar.{standing}
 use Rattle.unit_streams.specs.Judging.{event_at, refusal_at}
 use Rattle.unit_streams.specs.Going.{IsQuietBefore, IsQuiet}
@@ -27,13 +28,19 @@ use Rattle.stream_reader.specs.declared.awaited.Form.{Form}
 use Rattle.stream_reader.specs.declared.awaited.Form.TheVariants as forms
 use Rattle.stream_reader.specs.declared.awaited.PayloadLeft.{PayloadLeft}
 use Rattle.nbfx_decoder.specs.Payload.{refusal}
-use Rattle.nbfx_decoder.specs.Standing.{StandsFor as DecoderStandsFor, settings_of as decoder_settings}
+use Rattle.nbfx_decoder.specs.Standing.{StandsFor as DecoderStandsFor}
+use Rattle.nbfx_decoder.specs.Standing.{settings_of as decoder_settings}
 use Rattle.nbfx_values.specs.QuotasOf.{limits_of}
 use Rattle.nbfx_values.specs.declared.session.Mode.{Mode}
 use Rattle.stream_reader.specs.Sides.{side_of}
-use Rattle.stream_reader.specs.Stream.{OpenPayload, Settings, Situation, StreamEvent, after_record, completed_record, refused_record, direction_of, due_behind, is_chunked, is_over_in, kind_of, mode_of, offence_in, payloads, stream, strings_in}
+use Rattle.stream_reader.specs.Stream.{OpenPayload, Settings, Situation, StreamEvent, after_record}
+use Rattle.stream_reader.specs.Stream.{completed_record, refused_record, direction_of, due_behind}
+use Rattle.stream_reader.specs.Stream.{is_chunked, is_over_in, kind_of, mode_of, offence_in}
+use Rattle.stream_reader.specs.Stream.{payloads, stream, strings_in}
 use Rattle.stream_reader.specs.Saying.{step_for}
-use Rattle.stream_reader.specs.Standing.{DecideNothing, Failed, HasPart, HasPayloads, IsIn, IsOpenSo, Reached, Recalls, ShowsTable, form_of, settings_of}
+use Rattle.stream_reader.specs.Standing.{DecideNothing, Failed, HasPart, HasPayloads, IsIn}
+use Rattle.stream_reader.specs.Standing.{IsOpenSo, Reached, Recalls, ShowsTable, form_of}
+use Rattle.stream_reader.specs.Standing.{settings_of}
 
 -- the step that an event is told by, where there is one
 abbrev pub step_of : Option StreamEvent → StreamStep

@@ -1,7 +1,8 @@
 -- A stream of either side as a grammar of units: a record, where an envelope's is its head, the
 -- size of a chunk, or a byte of an envelope's payload. What the payload is read by is nested in it:
 -- a byte of it, sized or of a chunk, leads on where the payload stands, by the grammar of payloads.
-use Rattle.std.specs.Prelude.{ℕ, ◌+◌, ◌-◌, List, [], ◌∷◌, Bool, true, false, Option, Some, None, nat_lt, nat_le, ◌==◌, ◌&&◌, ◌||◌, not, if◌then◌else◌}
+use Rattle.std.specs.Prelude.{ℕ, ◌+◌, ◌-◌, List, [], ◌∷◌, Bool, true, false, Option, Some, None}
+use Rattle.std.specs.Prelude.{nat_lt, nat_le, ◌==◌, ◌&&◌, ◌||◌, not, if◌then◌else◌}
 use Rattle.std.specs.Option.{option_map, option_or}
 use Rattle.std.specs.Str.{bytes_eq}
 use Rattle.unit_streams.specs.Front.{Front, begun}
@@ -20,16 +21,21 @@ use Rattle.nbfx_values.specs.declared.refusals.Offence.{Offence}
 use Rattle.nbfx_values.specs.declared.refusals.Reason.{Reason}
 use Rattle.nbfx_values.specs.declared.refusals.Reason.TheVariants as reasons
 use Rattle.string_tables.specs.StaticStrings.{Entry}
-use Rattle.nbfx_decoder.specs.Payload.{NoEvent, PayloadUnit, Refusal, payload, Settings as PayloadSettings, Situation as PayloadSituation}
+use Rattle.nbfx_decoder.specs.Payload.{NoEvent, PayloadUnit, Refusal, payload}
+use Rattle.nbfx_decoder.specs.Payload.{Settings as PayloadSettings, Situation as PayloadSituation}
 use Rattle.nmf_records.specs.declared.frame.Frame.{Frame}
-use Rattle.nmf_records.specs.declared.frame.Frame.TheVariants.{Version, Mode as ModeRecord, Via, KnownEncoding, UnsizedEnvelope, Chunk, SizedEnvelope, End, Fault, PreambleAck, PreambleEnd}
+use Rattle.nmf_records.specs.declared.frame.Frame.TheVariants.{Version, Mode as ModeRecord, Via}
+use Rattle.nmf_records.specs.declared.frame.Frame.TheVariants.{KnownEncoding, UnsizedEnvelope}
+use Rattle.nmf_records.specs.declared.frame.Frame.TheVariants.{Chunk, SizedEnvelope, End, Fault}
+use Rattle.nmf_records.specs.declared.frame.Frame.TheVariants.{PreambleAck, PreambleEnd}
 use Rattle.nmf_records.specs.declared.frame.FrameFault.{FrameFault}
 use Rattle.nmf_records.specs.declared.frame.FrameFault.TheVariants as faults
 use Rattle.nmf_records.specs.declared.script.Direction.{Direction}
 use Rattle.nmf_records.specs.declared.script.Direction.TheVariants.{FromInitiator, FromReceiver}
 use Rattle.nmf_records.specs.declared.script.Due.{Due}
 use Rattle.nmf_records.specs.declared.script.Due.TheVariants as dues
-use Rattle.nmf_records.specs.declared.record_types.TheConstants.{EXTENSIBLE_ENCODING, UPGRADE_REQUEST}
+use Rattle.nmf_records.specs.declared.record_types.TheConstants.{EXTENSIBLE_ENCODING}
+use Rattle.nmf_records.specs.declared.record_types.TheConstants.{UPGRADE_REQUEST}
 use Rattle.nmf_records.specs.Records.{Read}
 use Rattle.nmf_records.specs.Reading.{frame_at}
 use Rattle.nmf_records.specs.Script.{first, may_come, leads, may_end}

@@ -12,7 +12,9 @@ pub record FindsAtMost (found : Option ℕ) (other : ℕ) : Type 0 where
 
 module _ (text_of : ℕ → Option (List ℕ)) where
   -- what is found names the text, and each identifier that does has one found that is no greater
-  pub gives_least : (found : Option ℕ) (text : List ℕ) → ((id : ℕ) → found ≡ Some id → text_of id ≡ Some text) → ((other : ℕ) → text_of other ≡ Some text → FindsAtMost found other)
+  pub gives_least : (found : Option ℕ) (text : List ℕ)
+      → ((id : ℕ) → found ≡ Some id → text_of id ≡ Some text)
+      → ((other : ℕ) → text_of other ≡ Some text → FindsAtMost found other)
       → MatchOption found ((id : ℕ) → text_of id ≢ Some text) (IsLeastName text_of text)
   gives_least None text named lowest = λ id names. cc (lowest id names).is
   gives_least (Some id) text named lowest = record {
@@ -23,18 +25,23 @@ module _ (text_of : ℕ → Option (List ℕ)) where
         omega (arith, same, first.below);
   }
 
-  module _ (least_of : List ℕ → Option ℕ) (gives : GivesLeast text_of least_of) (text : List ℕ) where
-    -- what a call found of a text
-    pub found_least : (found : Option ℕ) → found ≡ least_of text → IfSome found (IsLeastName text_of text)
-    found_least found is = named found (rw is (gives text))
-      where
-        named : (o : Option ℕ) → MatchOption o ((id : ℕ) → text_of id ≢ Some text) (IsLeastName text_of text) → IfSome o (IsLeastName text_of text)
-        named None at = tt
-        named (Some id) at = at
+  module _ (least_of : List ℕ → Option ℕ) (gives : GivesLeast text_of least_of) (text : List ℕ)
+    where
+      -- what a call found of a text
+      pub found_least : (found : Option ℕ) → found ≡ least_of text
+          → IfSome found (IsLeastName text_of text)
+      found_least found is = named found (rw is (gives text))
+        where
+          named : (o : Option ℕ) → MatchOption o ((id : ℕ) → text_of id ≢ Some text)
+              (IsLeastName text_of text) → IfSome o (IsLeastName text_of text)
+          named None at = tt
+          named (Some id) at = at
 
-    pub found_none : (found : Option ℕ) → found ≡ least_of text → IfNone found ((id : ℕ) → text_of id ≢ Some text)
-    found_none found is = unnamed found (rw is (gives text))
-      where
-        unnamed : (o : Option ℕ) → MatchOption o ((id : ℕ) → text_of id ≢ Some text) (IsLeastName text_of text) → IfNone o ((id : ℕ) → text_of id ≢ Some text)
-        unnamed None at = at
-        unnamed (Some id) at = tt
+      pub found_none : (found : Option ℕ) → found ≡ least_of text
+          → IfNone found ((id : ℕ) → text_of id ≢ Some text)
+      found_none found is = unnamed found (rw is (gives text))
+        where
+          unnamed : (o : Option ℕ) → MatchOption o ((id : ℕ) → text_of id ≢ Some text)
+              (IsLeastName text_of text) → IfNone o ((id : ℕ) → text_of id ≢ Some text)
+          unnamed None at = at
+          unnamed (Some id) at = tt

@@ -2,7 +2,8 @@
 use Rattle.std.specs.Prelude.{◌≡◌, ℕ, List, [], ◌∷◌, Option, Some, None, codes, map, refl}
 use Rattle.string_tables.specs.StaticStrings.{Entry, in_order, least_static_id, static_text}
 use Rattle.string_tables.specs.SessionStrings.{cost, least_session_id, session_text, used_cost}
-use Rattle.string_tables.specs.StringTable.{StringTable, chosen_id, least_id, named_text, with_strings}
+use Rattle.string_tables.specs.StringTable.{StringTable, chosen_id, least_id, named_text}
+use Rattle.string_tables.specs.StringTable.{with_strings}
 
 -- strings that every envelope uses, one of them twice
 abbrev statics : List Entry

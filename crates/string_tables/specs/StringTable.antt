@@ -1,6 +1,7 @@
 -- What identifiers name, in a table of static strings and the strings of one direction of a
 -- session.
-use Rattle.std.specs.Prelude.{◌≡◌, ◌≢◌, ℕ, ◌+◌, ◌*◌, ◌%◌, ◌≤◌, ◌==◌, ◌⊎◌, if◌then◌else◌, List, ◌++◌, Option, Some, None, slice_get}
+use Rattle.std.specs.Prelude.{◌≡◌, ◌≢◌, ℕ, ◌+◌, ◌*◌, ◌%◌, ◌≤◌, ◌==◌, ◌⊎◌, if◌then◌else◌, List, ◌++◌}
+use Rattle.std.specs.Prelude.{Option, Some, None, slice_get}
 use Rattle.std.specs.Option.{option_or}
 use Rattle.string_tables.specs.StaticStrings.{Entry, least_static_id, least_with, static_text}
 use Rattle.string_tables.specs.SessionStrings.{least_session_id, session_text}

@@ -1,5 +1,7 @@
 -- What follows for a front that rests on its own bytes.
-use Rattle.std.proofs.Common.{◌≡◌, ℕ, ◌+◌, ◌-◌, ◌<◌, ◌≤◌, ◌⊎◌, inl, inr, List, [], ◌++◌, length, take, drop, refl, sym, ap, ◌∙◌, subst, arith, append_assoc, length-append}
+use Rattle.std.proofs.Common.{◌≡◌, ℕ, ◌+◌, ◌-◌, ◌<◌, ◌≤◌, ◌⊎◌, inl, inr, List, [], ◌++◌, length}
+use Rattle.std.proofs.Common.{take, drop, refl, sym, ap, ◌∙◌, subst, arith, append_assoc}
+use Rattle.std.proofs.Common.{length-append}
 use Rattle.std.proofs.lemmas.Bool.{cases_lt}
 use Rattle.std.proofs.Math.Seq.{take-append-add}
 use Rattle.std.proofs.lemmas.List.{take-append-le, take-append-drop}
@@ -67,7 +69,8 @@ module _ {A R : Type 0} (f : List ℕ → Front A R) (reads : ReadsFront f) wher
         | inr le ↦
             let front : take n (b ++ c) ≡ take n b = take-append-le n b c le in
             let whole : take n b ++ drop n b ≡ b = take-append-drop n b in
-            let early : f (take n b) ≡ begun = begun_before (take n b) (drop n b) (ap f whole ∙ h) in
+            let early : f (take n b) ≡ begun = begun_before (take n b) (drop n b) (ap f whole ∙ h)
+            in
             absurd (d.said (sym d.alone ∙ ap f front ∙ early))
       ]
 
@@ -76,23 +79,30 @@ module _ {A R : Type 0} (f : List ℕ → Front A R) (reads : ReadsFront f) wher
   leaves_or_decides b c h = go (decided (b ++ c))
     where
       along : f (b ++ c) ≡ begun → (j : ℕ) → f (b ++ take j c) ≡ begun
-      along e j = begun_before (b ++ take j c) (drop j c) (ap f (append_assoc b (take j c) (drop j c) ∙ ap (λ y. b ++ y) (take-append-drop j c)) ∙ e)
+      along e j = begun_before (b ++ take j c) (drop j c)
+          (ap f (append_assoc b (take j c) (drop j c) ∙ ap (λ y. b ++ y) (take-append-drop j c)) ∙
+          e)
 
-      at : (n : ℕ) → n ≡ extent (f (b ++ c)) → IsDecided f (b ++ c) n → length b < n → Decides f b c (n - length b)
+      at : (n : ℕ) → n ≡ extent (f (b ++ c)) → IsDecided f (b ++ c) n → length b < n
+          → Decides f b c (n - length b)
       at n e d lt =
           let size : length b + (n - length b) ≡ n = omega (arith, lt) in
-          let front : (j : ℕ) → take (length b + j) (b ++ c) ≡ b ++ take j c = λ j. take-append-add b c j in
+          let front : (j : ℕ) → take (length b + j) (b ++ c) ≡ b ++ take j c = λ j. take-append-add
+          b c j in
           record {
             some = omega (arith, lt);
             within = omega (arith, d.within, length-append b c, lt);
             decided = ap f (sym (front (n - length b)) ∙ ap (λ k. take k (b ++ c)) size) ∙ d.alone;
             extent_is = sym e ∙ sym size;
-            before = λ j less. ap f (sym (front j)) ∙ d.first (length b + j) (omega (arith, less, lt));
+            before = λ j less. ap f (sym (front j)) ∙ d.first (length b + j)
+                (omega (arith, less, lt));
           }
 
-      go : (f (b ++ c) ≡ begun) ⊎ IsDecided f (b ++ c) (extent (f (b ++ c))) → Leaves f b c ⊎ ((n : ℕ) × Decides f b c n)
+      go : (f (b ++ c) ≡ begun) ⊎ IsDecided f (b ++ c) (extent (f (b ++ c))) → Leaves f b c
+          ⊎ ((n : ℕ) × Decides f b c n)
       go (inl e) = inl (record { along = along e; at_end = e })
-      go (inr d) = let lt = decided_later b c (extent (f (b ++ c))) h d in inr (extent (f (b ++ c)) - length b, at (extent (f (b ++ c))) refl d lt)
+      go (inr d) = let lt = decided_later b c (extent (f (b ++ c))) h d in inr
+          (extent (f (b ++ c)) - length b, at (extent (f (b ++ c))) refl d lt)
 
   -- what follows a begun front and is begun still leaves it so
   pub left_begun : (b c : List ℕ) → f b ≡ begun → f (b ++ c) ≡ begun → Leaves f b c
@@ -103,23 +113,28 @@ module _ {A R : Type 0} (f : List ℕ → Front A R) (reads : ReadsFront f) wher
       ]
 
   -- what decides it does so with the byte that it says
-  pub decides_at : (b c : List ℕ) (n : ℕ) → f b ≡ begun → (f (b ++ c) ≡ begun → ⊥) → extent (f (b ++ c)) ≡ length b + n → Decides f b c n
+  pub decides_at : (b c : List ℕ) (n : ℕ) → f b ≡ begun → (f (b ++ c) ≡ begun → ⊥)
+      → extent (f (b ++ c)) ≡ length b + n → Decides f b c n
   decides_at b c n h said e =
       elim (leaves_or_decides b c h) [
         | inl l ↦ absurd (said l.at_end)
-        | inr d ↦ let same : d.0 ≡ n = omega (arith, d.1.extent_is, e) in subst (Decides f b c) same d.1
+        | inr d ↦ let same : d.0 ≡ n = omega (arith, d.1.extent_is, e) in subst (Decides f b c) same
+            d.1
       ]
 
   -- what shows a front to be wrong has more bytes than were begun
-  pub wrong_later : (b c : List ℕ) → f b ≡ begun → (r : R) (k : ℕ) → f (b ++ c) ≡ wrong r k → length b < k
+  pub wrong_later : (b c : List ℕ) → f b ≡ begun → (r : R) (k : ℕ) → f (b ++ c) ≡ wrong r k
+      → length b < k
   wrong_later b c h r k e =
       elim (decided (b ++ c)) [
         | inl none ↦ cc
-        | inr d ↦ let n = decided_later b c (extent (f (b ++ c))) h d in omega (arith, n, ap extent e)
+        | inr d ↦ let n = decided_later b c (extent (f (b ++ c))) h d in omega
+            (arith, n, ap extent e)
       ]
 
   -- a whole or wrong front has a byte, and has no more than there are
-  pub decided_within : f [] ≡ begun → (b : List ℕ) → (f b ≡ begun) ⊎ ((0 < extent (f b)) × (extent (f b) ≤ length b))
+  pub decided_within : f [] ≡ begun → (b : List ℕ) → (f b ≡ begun)
+      ⊎ ((0 < extent (f b)) × (extent (f b) ≤ length b))
   decided_within nothing b =
       elim (decided b) [
         | inl e ↦ inl e
@@ -127,11 +142,13 @@ module _ {A R : Type 0} (f : List ℕ → Front A R) (reads : ReadsFront f) wher
       ]
 
   -- the same of a whole one
-  pub whole_some : f [] ≡ begun → (b : List ℕ) (a : A) (n : ℕ) → f b ≡ whole a n → (0 < n) × (n ≤ length b)
+  pub whole_some : f [] ≡ begun → (b : List ℕ) (a : A) (n : ℕ) → f b ≡ whole a n → (0 < n)
+      × (n ≤ length b)
   whole_some nothing b a n e =
       elim (decided_within nothing b) [
         | inl h ↦ cc
-        | inr p ↦ let k : extent (f b) ≡ n = ap extent e in (omega (arith, p.0, k), omega (arith, p.1, k))
+        | inr p ↦ let k : extent (f b) ≡ n = ap extent e in
+            (omega (arith, p.0, k), omega (arith, p.1, k))
       ]
 
 -- a front that has begun isn't whole

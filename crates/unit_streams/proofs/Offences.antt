@@ -1,9 +1,11 @@
 -- The offence of a stream is the first refusal of a prefix, or else its end's.
-use Rattle.std.proofs.Common.{◌≡◌, ℕ, zero, suc, ◌<◌, ◌≤◌, ◌⊎◌, inl, inr, List, [], ◌∷◌, ◌++◌, length, take, drop, Option, Some, None, refl, sym, ap, ◌∙◌, arith}
+use Rattle.std.proofs.Common.{◌≡◌, ℕ, zero, suc, ◌<◌, ◌≤◌, ◌⊎◌, inl, inr, List, [], ◌∷◌, ◌++◌}
+use Rattle.std.proofs.Common.{length, take, drop, Option, Some, None, refl, sym, ap, ◌∙◌, arith}
 use Rattle.std.proofs.Math.Seq.{take-nil}
 use Rattle.std.proofs.lemmas.List.{append-nil, take_all, drop_all}
 use Rattle.unit_streams.specs.Grammar.{Grammar}
-use Rattle.unit_streams.specs.Judging.{refusal_at, ending_at, History, history_from, history, offence}
+use Rattle.unit_streams.specs.Judging.{refusal_at, ending_at, History, history_from, history}
+use Rattle.unit_streams.specs.Judging.{offence}
 use Rattle.unit_streams.specs.Laws.{IsRefusedAt, IsRefusedAtEnd, OffencesAreFirst}
 use Rattle.unit_streams.proofs.Answers.{shifted, none_taken}
 use Rattle.unit_streams.proofs.Histories.{history_behind, history_refused, history_ends}
@@ -21,7 +23,8 @@ module _ {Z U E R : Type 0} (g : Grammar Z U E R) where
   AreUnrefused p y = (i : ℕ) → i ≤ length y → refusal_at g (p ++ take i y) ≡ None
 
   -- a byte that isn't refused, and those behind it
-  one_more : (p : List ℕ) (b : ℕ) (y : List ℕ) → refusal_at g p ≡ None → FirstRefused (p ++ b ∷ []) y ⊎ AreUnrefused (p ++ b ∷ []) y → FirstRefused p (b ∷ y) ⊎ AreUnrefused p (b ∷ y)
+  one_more : (p : List ℕ) (b : ℕ) (y : List ℕ) → refusal_at g p ≡ None → FirstRefused (p ++ b ∷ [])
+      y ⊎ AreUnrefused (p ++ b ∷ []) y → FirstRefused p (b ∷ y) ⊎ AreUnrefused p (b ∷ y)
   one_more p b y none (inl f) = inl (record {
     reason = f.reason;
     place = suc f.place;
@@ -37,7 +40,8 @@ module _ {Z U E R : Type 0} (g : Grammar Z U E R) where
     unrefused zero le = ap (refusal_at g) (none_taken g p (b ∷ y)) ∙ none
     unrefused (suc i) le = ap (refusal_at g) (sym (shifted g p b y i)) ∙ all i (omega arith)
 
-  first_or_none : (y p : List ℕ) (v : Option R) → refusal_at g p ≡ v → FirstRefused p y ⊎ AreUnrefused p y
+  first_or_none : (y p : List ℕ) (v : Option R) → refusal_at g p ≡ v → FirstRefused p y
+      ⊎ AreUnrefused p y
   first_or_none y p (Some r) e = inl (record {
     reason = r;
     place = 0;
@@ -45,34 +49,54 @@ module _ {Z U E R : Type 0} (g : Grammar Z U E R) where
     before = λ i lt. absurd (omega arith);
     refused = ap (refusal_at g) (none_taken g p y) ∙ e;
   })
-  first_or_none [] p None e = inr (λ i le. ap (λ c. refusal_at g (p ++ c)) (take-nil i) ∙ ap (refusal_at g) (append-nil p) ∙ e)
-  first_or_none (b ∷ y) p None e = one_more p b y e (first_or_none y (p ++ b ∷ []) (refusal_at g (p ++ b ∷ [])) refl)
+  first_or_none [] p None e = inr (λ i le. ap (λ c. refusal_at g (p ++ c)) (take-nil i) ∙
+      ap (refusal_at g) (append-nil p) ∙ e)
+  first_or_none (b ∷ y) p None e = one_more p b y e
+      (first_or_none y (p ++ b ∷ []) (refusal_at g (p ++ b ∷ [])) refl)
 
   -- where nothing that follows is refused, the end decides
-  pub unrefused_from : (p y : List ℕ) → ((i : ℕ) → i ≤ length y → refusal_at g (p ++ take i y) ≡ None) → (history_from g p y).offence ≡ ending_at g (p ++ y)
+  pub unrefused_from : (p y : List ℕ) → ((i : ℕ) → i ≤ length y → refusal_at g (p ++ take i y)
+      ≡ None) → (history_from g p y).offence ≡ ending_at g (p ++ y)
   unrefused_from p y all =
       let whole : take (length y) y ≡ y = take_all (length y) y (omega arith) in
       let none : drop (length y) y ≡ [] = drop_all (length y) y (omega arith) in
-      ap (λ (h : History E R). h.offence) (history_behind g p y (length y) (omega arith) (λ i lt. all i (omega arith)))
+      ap (λ (h : History E R). h.offence)
+      (history_behind g p y (length y) (omega arith) (λ i lt. all i (omega arith)))
       ∙ ap (λ c. (history_from g (p ++ take (length y) y) c).offence) none
       ∙ ap (λ c. (history_from g (p ++ c) []).offence) whole
-      ∙ ap (λ (h : History E R). h.offence) (history_ends g (p ++ y) (ap (λ c. refusal_at g (p ++ c)) (sym whole) ∙ all (length y) (omega arith)))
+      ∙ ap (λ (h : History E R). h.offence)
+      (history_ends g (p ++ y) (ap (λ c. refusal_at g (p ++ c)) (sym whole) ∙ all (length y)
+      (omega arith)))
 
   -- of a stream
   module _ (bytes : List ℕ) where
-    first_offence : (n : ℕ) (r : R) → n ≤ length bytes → ((i : ℕ) → i < n → refusal_at g (take i bytes) ≡ None) → refusal_at g (take n bytes) ≡ Some r → offence g bytes ≡ Some r
+    first_offence : (n : ℕ) (r : R) → n ≤ length bytes
+        → ((i : ℕ) → i < n → refusal_at g (take i bytes) ≡ None) → refusal_at g (take n bytes)
+        ≡ Some r → offence g bytes ≡ Some r
     unfolding offence history
     first_offence n r within before e =
-        ap (λ (h : History E R). h.offence) (history_behind g [] bytes n within before) ∙ ap (λ (h : History E R). h.offence) (history_refused g (take n bytes) (drop n bytes) r e)
+        ap (λ (h : History E R). h.offence) (history_behind g [] bytes n within before) ∙
+        ap (λ (h : History E R). h.offence) (history_refused g (take n bytes) (drop n bytes) r e)
 
-    pub unrefused_offence : ((i : ℕ) → i ≤ length bytes → refusal_at g (take i bytes) ≡ None) → offence g bytes ≡ ending_at g bytes
+    pub unrefused_offence : ((i : ℕ) → i ≤ length bytes → refusal_at g (take i bytes) ≡ None)
+        → offence g bytes ≡ ending_at g bytes
     unfolding offence history
     unrefused_offence all = unrefused_from [] bytes all
 
-    pub refused_or_not : ((r : R) × IsRefusedAt g bytes r) ⊎ ((i : ℕ) → i ≤ length bytes → refusal_at g (take i bytes) ≡ None)
+    pub refused_or_not : ((r : R) × IsRefusedAt g bytes r)
+        ⊎ ((i : ℕ) → i ≤ length bytes → refusal_at g (take i bytes) ≡ None)
     refused_or_not =
         elim (first_or_none bytes [] (refusal_at g []) refl) [
-          | inl f ↦ inl (f.reason, record { place = f.place; within = f.within; before = f.before; refused = f.refused })
+          | inl f ↦ inl (
+            f.reason,
+            record {
+              place = f.place;
+              within = f.within;
+              before = f.before;
+              refused =
+                  f.refused;
+            },
+          )
           | inr all ↦ inr all
         ]
 
@@ -80,7 +104,9 @@ module _ {Z U E R : Type 0} (g : Grammar Z U E R) where
     refused_offence r h = first_offence h.place r h.within h.before h.refused
 
     -- a stream without an offence is refused nowhere, nor at its end
-    pub no_offence : offence g bytes ≡ None → ((i : ℕ) → i ≤ length bytes → refusal_at g (take i bytes) ≡ None) × (ending_at g bytes ≡ None)
+    pub no_offence : offence g bytes ≡ None
+        → ((i : ℕ) → i ≤ length bytes → refusal_at g (take i bytes) ≡ None)
+        × (ending_at g bytes ≡ None)
     no_offence e =
         elim refused_or_not [
           | inl (r, h) ↦ let some = refused_offence r h in cc
@@ -90,7 +116,8 @@ module _ {Z U E R : Type 0} (g : Grammar Z U E R) where
     first_is : (r : R) → offence g bytes ≡ Some r → IsRefusedAt g bytes r ⊎ IsRefusedAtEnd g bytes r
     first_is r e =
         elim refused_or_not [
-          | inl (r', h) ↦ let some = refused_offence r' h in let same : r' ≡ r = cc in inl (rw same at h)
+          | inl (r', h) ↦ let some = refused_offence r' h in let same : r'
+              ≡ r = cc in inl (rw same at h)
           | inr all ↦ inr (record { unrefused = all; ended = sym (unrefused_offence all) ∙ e })
         ]
 

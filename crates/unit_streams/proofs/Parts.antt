@@ -1,10 +1,14 @@
 -- Things that are made of parts are known by their own bytes where their parts are.
-use Rattle.std.proofs.Common.{◌≡◌, ◌≢◌, ℕ, ◌+◌, ◌-◌, ◌<◌, ◌≤◌, ◌⊎◌, inl, inr, List, [], ◌∷◌, ◌++◌, length, take, drop, Result, Ok, Err, refl, sym, ap, ◌∙◌, subst, arith, length-append, length-drop}
+use Rattle.std.proofs.Common.{◌≡◌, ◌≢◌, ℕ, ◌+◌, ◌-◌, ◌<◌, ◌≤◌, ◌⊎◌, inl, inr, List, [], ◌∷◌, ◌++◌}
+use Rattle.std.proofs.Common.{length, take, drop, Result, Ok, Err, refl, sym, ap, ◌∙◌, subst, arith}
+use Rattle.std.proofs.Common.{length-append, length-drop}
 use Rattle.std.proofs.Math.Seq.{take-add}
 use Rattle.std.proofs.lemmas.Bool.{cases_lt, lt-ltb, le-ltb}
-use Rattle.std.proofs.lemmas.List.{drop-append-le, drop-take, take-append-le, take-append-drop, length-take-le}
+use Rattle.std.proofs.lemmas.List.{drop-append-le, drop-take, take-append-le, take-append-drop}
+use Rattle.std.proofs.lemmas.List.{length-take-le}
 use Rattle.unit_streams.specs.Front.{Front, begun, whole, wrong, ReadsFront}
-use Rattle.unit_streams.specs.Parts.{Reader, given, refuse, a_byte, some_bytes, further, ◌>>=◌, seen, judged_whole, judged}
+use Rattle.unit_streams.specs.Parts.{Reader, given, refuse, a_byte, some_bytes, further, ◌>>=◌}
+use Rattle.unit_streams.specs.Parts.{seen, judged_whole, judged}
 use Rattle.unit_streams.proofs.Peeling.{extent}
 use Rattle.unit_streams.proofs.Fronts.{IsDecided, reads_by, decided}
 
@@ -29,7 +33,8 @@ reads_refuse {A} {R} r = let v : Front A R = wrong r 0 in reads_at_once v (λ e.
 -- a byte
 pub reads_byte : {R : Type 0} → ReadsFront (a_byte {R = R})
 reads_byte {R} = reads_by (a_byte {R = R}) cases where
-  cases : (b : List ℕ) → (a_byte {R = R} b ≡ begun) ⊎ IsDecided (a_byte {R = R}) b (extent (a_byte {R = R} b))
+  cases : (b : List ℕ) → (a_byte {R = R} b ≡ begun) ⊎ IsDecided (a_byte {R = R}) b
+      (extent (a_byte {R = R} b))
   cases [] = inl refl
   cases (x ∷ b) = inr (record {
     said = λ h. cc;
@@ -49,21 +54,27 @@ module _ {R : Type 0} (n : ℕ) where
 
   pub reads_bytes : ReadsFront (some_bytes {R = R} n)
   reads_bytes = reads_by (some_bytes {R = R} n) cases where
-    cases : (b : List ℕ) → (some_bytes {R = R} n b ≡ begun) ⊎ IsDecided (some_bytes {R = R} n) b (extent (some_bytes {R = R} n b))
+    cases : (b : List ℕ) → (some_bytes {R = R} n b ≡ begun) ⊎ IsDecided (some_bytes {R = R} n) b
+        (extent (some_bytes {R = R} n b))
     cases b =
         elim (cases_lt (length b) n) [
           | inl lt ↦ inl (few b lt)
-          | inr le ↦ inr (subst (λ (m : ℕ). IsDecided (some_bytes {R = R} n) b m) (sym (ap extent (enough b le))) (record {
-            said = λ h. let e = enough b le in cc;
-            within = le;
-            alone = enough (take n b) (omega (arith, length-take-le n b le)) ∙ ap (λ c. whole c n) (take_own b le) ∙ sym (enough b le);
-            first = λ j lt. few (take j b) (omega (arith, length-take-le j b (omega arith)));
-            stays = λ more. enough (b ++ more) (omega (arith, length-append b more)) ∙ ap (λ c. whole c n) (take-append-le n b more le) ∙ sym (enough b le);
-          }))
+          | inr le ↦ inr (subst (λ (m : ℕ). IsDecided (some_bytes {R = R} n) b m)
+              (sym (ap extent (enough b le))) (record {
+                said = λ h. let e = enough b le in cc;
+                within = le;
+                alone = enough (take n b) (omega (arith, length-take-le n b le)) ∙ ap (λ c. whole c n)
+                    (take_own b le) ∙ sym (enough b le);
+                first = λ j lt. few (take j b) (omega (arith, length-take-le j b (omega arith)));
+                stays = λ more. enough (b ++ more) (omega (arith, length-append b more)) ∙
+                    ap (λ c. whole c n) (take-append-le n b more le) ∙ sym (enough b le);
+              }))
         ]
       where
         take_own : (b : List ℕ) → n ≤ length b → take n (take n b) ≡ take n b
-        take_own b le = sym (take-append-le n (take n b) (drop n b) (omega (arith, length-take-le n b le))) ∙ ap (take n) (take-append-drop n b)
+        take_own b le = sym
+            (take-append-le n (take n b) (drop n b) (omega (arith, length-take-le n b le))) ∙
+            ap (take n) (take-append-drop n b)
 
 module _ {A B R : Type 0} (f : Reader A R) (next : A → Reader B R) where
   -- what comes behind a first part, by what that is
@@ -75,43 +86,55 @@ module _ {A B R : Type 0} (f : Reader A R) (next : A → Reader B R) where
   unfolding ◌>>=◌
   then_wrong b r n e = rw e refl
 
-  pub then_whole : (b : List ℕ) (a : A) (n : ℕ) → f b ≡ whole a n → (f >>= next) b ≡ further n (next a (drop n b))
+  pub then_whole : (b : List ℕ) (a : A) (n : ℕ) → f b ≡ whole a n → (f >>= next) b
+      ≡ further n (next a (drop n b))
   unfolding ◌>>=◌
   then_whole b a n e = rw e refl
 
   -- a whole thing has a first part and a rest
   pub then_parts : (b : List ℕ) (c : B) (k : ℕ) → (f >>= next) b ≡ whole c k
-      → (a : A) × (n : ℕ) × (m : ℕ) × (f b ≡ whole a n) × (next a (drop n b) ≡ whole c m) × (k ≡ n + m)
+      → (a : A) × (n : ℕ) × (m : ℕ) × (f b ≡ whole a n) × (next a (drop n b) ≡ whole c m)
+      × (k ≡ n + m)
   then_parts b c k e = by_first (f b) refl
     where
-      by_rest : (a : A) (n : ℕ) → f b ≡ whole a n → (v : Front B R) → next a (drop n b) ≡ v → further n v ≡ whole c k
-          → (a : A) × (n : ℕ) × (m : ℕ) × (f b ≡ whole a n) × (next a (drop n b) ≡ whole c m) × (k ≡ n + m)
+      by_rest : (a : A) (n : ℕ) → f b ≡ whole a n → (v : Front B R) → next a (drop n b) ≡ v
+          → further n v ≡ whole c k
+          → (a : A) × (n : ℕ) × (m : ℕ) × (f b ≡ whole a n) × (next a (drop n b) ≡ whole c m)
+          × (k ≡ n + m)
       by_rest a n h begun g told = cc
-      by_rest a n h (whole d m) g told = let same : d ≡ c = cc in let size : n + m ≡ k = cc in (a, n, m, h, g ∙ ap (λ x. whole x m) same, sym size)
+      by_rest a n h (whole d m) g told = let same : d ≡ c = cc in let size : n + m
+          ≡ k = cc in (a, n, m, h, g ∙ ap (λ x. whole x m) same, sym size)
       by_rest a n h (wrong r m) g told = cc
 
-      by_first : (v : Front A R) → f b ≡ v → (a : A) × (n : ℕ) × (m : ℕ) × (f b ≡ whole a n) × (next a (drop n b) ≡ whole c m) × (k ≡ n + m)
+      by_first : (v : Front A R) → f b ≡ v → (a : A) × (n : ℕ) × (m : ℕ) × (f b ≡ whole a n)
+          × (next a (drop n b) ≡ whole c m) × (k ≡ n + m)
       by_first begun h = let none = then_begun b h in cc
       by_first (whole a n) h = by_rest a n h (next a (drop n b)) refl (sym (then_whole b a n h) ∙ e)
       by_first (wrong r n) h = let none = then_wrong b r n h in cc
 
   module _ (reads : ReadsFront f) (rests : (a : A) → ReadsFront (next a)) where
     -- where the first part and the rest are decided
-    both : (b : List ℕ) (a : A) (n m : ℕ) → f b ≡ whole a n → next a (drop n b) ≢ begun → IsDecided (next a) (drop n b) m → IsDecided (f >>= next) b (n + m)
+    both : (b : List ℕ) (a : A) (n m : ℕ) → f b ≡ whole a n → next a (drop n b) ≢ begun
+        → IsDecided (next a) (drop n b) m → IsDecided (f >>= next) b (n + m)
     both b a n m e said d = record {
       said = λ h. not_begun (next a (drop n b)) refl (sym (then_whole b a n e) ∙ h);
-      within = let size = length-drop n b in let w = d.within in let v = reads.whole_within b a n e in omega (arith, size, w, v);
+      within = let size = length-drop n b in let w = d.within in let v = reads.whole_within b a n e
+          in omega (arith, size, w, v);
       alone =
-          then_whole (take (n + m) b) a n (front (n + m) (omega arith)) ∙ ap (λ c. further n (next a c)) (drop-take n m b) ∙ ap (further n) d.alone ∙ sym (then_whole b a n e);
+          then_whole (take (n + m) b) a n (front (n + m) (omega arith)) ∙
+          ap (λ c. further n (next a c)) (drop-take n m b) ∙ ap (further n) d.alone ∙ sym
+          (then_whole b a n e);
       first = first;
       stays = λ more.
-          then_whole (b ++ more) a n (reads.whole_stays b more a n e) ∙ ap (λ c. further n (next a c)) (drop-append-le n b more (reads.whole_within b a n e))
+          then_whole (b ++ more) a n (reads.whole_stays b more a n e) ∙
+          ap (λ c. further n (next a c)) (drop-append-le n b more (reads.whole_within b a n e))
           ∙ ap (further n) (d.stays more) ∙ sym (then_whole b a n e);
     } where
       front : (j : ℕ) → n ≤ j → f (take j b) ≡ whole a n
       front j le =
           let sum : j ≡ n + (j - n) = omega arith in
-          ap (λ i. f (take i b)) sum ∙ ap f (take-add n (j - n) b) ∙ reads.whole_stays (take n b) (take (j - n) (drop n b)) a n (reads.whole_alone b a n e)
+          ap (λ i. f (take i b)) sum ∙ ap f (take-add n (j - n) b) ∙ reads.whole_stays (take n b)
+          (take (j - n) (drop n b)) a n (reads.whole_alone b a n e)
 
       not_begun : (v : Front B R) → next a (drop n b) ≡ v → further n v ≡ begun → ⊥
       not_begun begun h g = said h
@@ -124,7 +147,9 @@ module _ {A B R : Type 0} (f : Reader A R) (next : A → Reader B R) where
             | inl less ↦ then_begun (take j b) (reads.whole_first b a n j e less)
             | inr le ↦
                 let sum : j ≡ n + (j - n) = omega arith in
-                then_whole (take j b) a n (front j le) ∙ ap (λ i. further n (next a (drop n (take i b)))) sum ∙ ap (λ c. further n (next a c)) (drop-take n (j - n) b)
+                then_whole (take j b) a n (front j le) ∙
+                ap (λ i. further n (next a (drop n (take i b)))) sum ∙
+                ap (λ c. further n (next a c)) (drop-take n (j - n) b)
                 ∙ ap (further n) (d.first (j - n) (omega arith))
           ]
 
@@ -134,7 +159,8 @@ module _ {A B R : Type 0} (f : Reader A R) (next : A → Reader B R) where
       within = reads.wrong_within b r n e;
       alone = then_wrong (take n b) r n (reads.wrong_alone b r n e) ∙ sym (then_wrong b r n e);
       first = λ j lt. then_begun (take j b) (reads.wrong_first b r n j e lt);
-      stays = λ more. then_wrong (b ++ more) r n (reads.wrong_stays b more r n e) ∙ sym (then_wrong b r n e);
+      stays = λ more. then_wrong (b ++ more) r n (reads.wrong_stays b more r n e) ∙ sym
+          (then_wrong b r n e);
     }
 
     -- what is made of two parts that are known by their own bytes is so too
@@ -146,20 +172,28 @@ module _ {A B R : Type 0} (f : Reader A R) (next : A → Reader B R) where
         extent_further n (whole c k) said = refl
         extent_further n (wrong r k) said = refl
 
-        by_rest : (b : List ℕ) (a : A) (n : ℕ) → f b ≡ whole a n → (next a (drop n b) ≡ begun) ⊎ IsDecided (next a) (drop n b) (extent (next a (drop n b)))
+        by_rest : (b : List ℕ) (a : A) (n : ℕ) → f b ≡ whole a n → (next a (drop n b) ≡ begun)
+            ⊎ IsDecided (next a) (drop n b) (extent (next a (drop n b)))
             → ((f >>= next) b ≡ begun) ⊎ IsDecided (f >>= next) b (extent ((f >>= next) b))
         by_rest b a n e (inl h) = inl (then_whole b a n e ∙ ap (further n) h)
         by_rest b a n e (inr d) =
-            let size : n + extent (next a (drop n b)) ≡ extent ((f >>= next) b) = sym (ap extent (then_whole b a n e) ∙ extent_further n (next a (drop n b)) d.said) in
-            inr (subst (λ (m : ℕ). IsDecided (f >>= next) b m) size (both b a n (extent (next a (drop n b))) e d.said d))
+            let size : n + extent (next a (drop n b)) ≡ extent ((f >>= next) b) = sym
+            (ap extent (then_whole b a n e) ∙ extent_further n (next a (drop n b)) d.said) in
+            inr (subst (λ (m : ℕ). IsDecided (f >>= next) b m) size
+            (both b a n (extent (next a (drop n b))) e d.said d))
 
-        by_first : (b : List ℕ) (v : Front A R) → f b ≡ v → ((f >>= next) b ≡ begun) ⊎ IsDecided (f >>= next) b (extent ((f >>= next) b))
+        by_first : (b : List ℕ) (v : Front A R) → f b ≡ v → ((f >>= next) b ≡ begun)
+            ⊎ IsDecided (f >>= next) b (extent ((f >>= next) b))
         by_first b begun e = inl (then_begun b e)
         by_first b (whole a n) e = by_rest b a n e (decided (next a) (rests a) (drop n b))
-        by_first b (wrong r n) e = inr (subst (λ (m : ℕ). IsDecided (f >>= next) b m) (sym (ap extent (then_wrong b r n e))) (first_wrong b r n e))
+        by_first b (wrong r n) e = inr
+            (subst (λ (m : ℕ). IsDecided (f >>= next) b m) (sym (ap extent (then_wrong b r n e)))
+            (first_wrong b r n e))
 
 -- what is read, as h takes it: h decides just what is decided, by as many bytes
-module _ {A B R S : Type 0} (h : Front A R → Front B S) (open_as : h begun ≡ begun) (said_as : (v : Front A R) → h v ≡ begun → v ≡ begun) (extent_as : (v : Front A R) → extent (h v) ≡ extent v) where
+module _ {A B R S : Type 0} (h : Front A R → Front B S) (open_as : h begun ≡ begun)
+    (said_as : (v : Front A R) → h v ≡ begun → v ≡ begun)
+    (extent_as : (v : Front A R) → extent (h v) ≡ extent v) where
   pub reads_as : (f : Reader A R) → ReadsFront f → ReadsFront (λ b. h (f b))
   reads_as f reads = reads_by (λ b. h (f b)) (λ b. elim (decided f reads b) [
     | inl e ↦ inl (ap h e ∙ open_as)

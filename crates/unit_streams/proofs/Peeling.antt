@@ -1,5 +1,7 @@
--- Readings of the front of some bytes that go byte by byte: each is decided at one byte, and stays so.
-use Rattle.std.proofs.Common.{◌≡◌, ℕ, zero, suc, ◌+◌, ◌<◌, ◌≤◌, ◌⊎◌, inl, inr, List, [], ◌∷◌, ◌++◌, length, take, sym, ap, ◌∙◌, append_assoc, arith, length-append}
+-- Readings of the front of some bytes that go byte by byte: each is decided at one byte, and stays
+-- so.
+use Rattle.std.proofs.Common.{◌≡◌, ℕ, zero, suc, ◌+◌, ◌<◌, ◌≤◌, ◌⊎◌, inl, inr, List, [], ◌∷◌, ◌++◌}
+use Rattle.std.proofs.Common.{length, take, sym, ap, ◌∙◌, append_assoc, arith, length-append}
 use Rattle.std.proofs.Math.Seq.{take-nil}
 use Rattle.std.proofs.lemmas.List.{append-nil}
 use Rattle.unit_streams.specs.Front.{Front, begun, whole, wrong, ReadsFront}
@@ -12,7 +14,8 @@ extent (wrong r n) = n
 
 pub record IsPeeling {A R : Type 0} (f : List ℕ → Front A R) : Type 0 where
   pub nothing : f [] ≡ begun
-  pub byte : (b : List ℕ) (x : ℕ) → f b ≡ begun → (f (b ++ x ∷ []) ≡ begun) ⊎ (extent (f (b ++ x ∷ [])) ≡ suc (length b))
+  pub byte : (b : List ℕ) (x : ℕ) → f b ≡ begun → (f (b ++ x ∷ []) ≡ begun)
+      ⊎ (extent (f (b ++ x ∷ [])) ≡ suc (length b))
   pub stays : (b : List ℕ) (x : ℕ) → 0 < extent (f b) → f (b ++ x ∷ []) ≡ f b
 
 module _ {A R : Type 0} (f : List ℕ → Front A R) (peels : IsPeeling f) where
@@ -57,7 +60,8 @@ module _ {A R : Type 0} (f : List ℕ → Front A R) (peels : IsPeeling f) where
     at (suc j) = ap f (sym (regroup b (take j c) x)) ∙ rest.along j
 
   -- a byte that leaves it begun, and a rest that decides it
-  decides_more : (b c : List ℕ) (x n : ℕ) → f b ≡ begun → Decides f (b ++ x ∷ []) c n → Decides f b (x ∷ c) (suc n)
+  decides_more : (b c : List ℕ) (x n : ℕ) → f b ≡ begun → Decides f (b ++ x ∷ []) c n
+      → Decides f b (x ∷ c) (suc n)
   decides_more b c x n h rest = record {
     some = omega arith;
     within = omega (arith, rest.within);
@@ -73,7 +77,8 @@ module _ {A R : Type 0} (f : List ℕ → Front A R) (peels : IsPeeling f) where
     at (suc j) lt = ap f (sym (regroup b (take j c) x)) ∙ rest.before j (omega arith)
 
   -- a byte that decides it
-  decides_now : (b c : List ℕ) (x : ℕ) → f b ≡ begun → extent (f (b ++ x ∷ [])) ≡ suc (length b) → Decides f b (x ∷ c) 1
+  decides_now : (b c : List ℕ) (x : ℕ) → f b ≡ begun → extent (f (b ++ x ∷ [])) ≡ suc (length b)
+      → Decides f b (x ∷ c) 1
   decides_now b c x h e = record {
     some = omega arith;
     within = omega arith;
@@ -86,7 +91,12 @@ module _ {A R : Type 0} (f : List ℕ → Front A R) (peels : IsPeeling f) where
 
   -- what follows a begun reading leaves it begun, or decides it at one of its bytes
   pub leaves_or_decides : (b c : List ℕ) → f b ≡ begun → Leaves f b c ⊎ ((n : ℕ) × Decides f b c n)
-  leaves_or_decides b [] h = inl (record { along = λ j. ap (λ y. f (b ++ y)) (take-nil j) ∙ ap f (append-nil b) ∙ h; at_end = ap f (append-nil b) ∙ h })
+  leaves_or_decides b [] h = inl
+      (record {
+        along = λ j. ap (λ y. f (b ++ y)) (take-nil j) ∙ ap f (append-nil b) ∙ h;
+        at_end =
+            ap f (append-nil b) ∙ h;
+      })
   leaves_or_decides b (x ∷ c) h =
       elim (peels.byte b x h) [
         | inl e ↦ elim (leaves_or_decides (b ++ x ∷ []) c e) [
@@ -115,8 +125,10 @@ module _ {A R : Type 0} (f : List ℕ → Front A R) (peels : IsPeeling f) where
   -- so the front of some bytes is known by its own bytes
   pub peels_front : ReadsFront f
   peels_front = record {
-    whole_within = λ b a k e. let d = decided_by b (λ h. cc) in omega (arith, ap extent e, d.1.extent_is, d.1.within);
-    wrong_within = λ b r k e. let d = decided_by b (λ h. cc) in omega (arith, ap extent e, d.1.extent_is, d.1.within);
+    whole_within = λ b a k e. let d = decided_by b (λ h. cc) in omega
+        (arith, ap extent e, d.1.extent_is, d.1.within);
+    wrong_within = λ b r k e. let d = decided_by b (λ h. cc) in omega
+        (arith, ap extent e, d.1.extent_is, d.1.within);
     whole_alone = λ b a k e.
         let d = decided_by b (λ h. cc) in
         let same : k ≡ d.0 = omega (arith, ap extent e, d.1.extent_is) in
@@ -127,6 +139,8 @@ module _ {A R : Type 0} (f : List ℕ → Front A R) (peels : IsPeeling f) where
         rw same (d.1.decided ∙ e ∙ ap (wrong r) same);
     whole_stays = λ b more a k e. goes_on f peels b more (decided_some b (λ h. cc)) ∙ e;
     wrong_stays = λ b more r k e. goes_on f peels b more (decided_some b (λ h. cc)) ∙ e;
-    whole_first = λ b a k j e lt. let d = decided_by b (λ h. cc) in d.1.before j (omega (arith, ap extent e, d.1.extent_is, lt));
-    wrong_first = λ b r k j e lt. let d = decided_by b (λ h. cc) in d.1.before j (omega (arith, ap extent e, d.1.extent_is, lt));
+    whole_first = λ b a k j e lt. let d = decided_by b (λ h. cc) in d.1.before j
+        (omega (arith, ap extent e, d.1.extent_is, lt));
+    wrong_first = λ b r k j e lt. let d = decided_by b (λ h. cc) in d.1.before j
+        (omega (arith, ap extent e, d.1.extent_is, lt));
   }

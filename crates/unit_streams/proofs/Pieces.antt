@@ -1,19 +1,26 @@
 -- How a piece is told of that is used up event by event, whatever is told.
-use Rattle.std.proofs.Common.{◌≡◌, ℕ, ◌+◌, ◌-◌, ◌≤◌, ◌<◌, List, [], ◌∷◌, ◌++◌, length, take, drop, Bool, true, Some, None, refl, sym, ap, ◌∙◌, subst, append_assoc, length-drop}
+use Rattle.std.proofs.Common.{◌≡◌, ℕ, ◌+◌, ◌-◌, ◌≤◌, ◌<◌, List, [], ◌∷◌, ◌++◌, length, take, drop}
+use Rattle.std.proofs.Common.{Bool, true, Some, None, refl, sym, ap, ◌∙◌, subst, append_assoc}
+use Rattle.std.proofs.Common.{length-drop}
 use Rattle.std.specs.List.{flat_map}
 use Rattle.std.proofs.Math.Seq.{take-add}
 use Rattle.std.proofs.lemmas.List.{append-nil, take_rest, take-append-drop}
 use Rattle.unit_streams.specs.Grammar.{Grammar}
 use Rattle.unit_streams.specs.Judging.{event_at, history_from, goes_on, completes, offends, answer}
 use Rattle.unit_streams.specs.Going.{IsPending, IsOpenAt}
-use Rattle.unit_streams.specs.Tellers.{Teller, told_along, told_of_history, report, told_so_far, state_at, Closes, StaysOpen, AreDue, IsReport}
-use Rattle.unit_streams.proofs.Telling.{open_report, means, goes_on_adds, completes_adds, completes_due, offends_adds}
+use Rattle.unit_streams.specs.Tellers.{Teller, told_along, told_of_history, report, told_so_far}
+use Rattle.unit_streams.specs.Tellers.{state_at, Closes, StaysOpen, AreDue, IsReport}
+use Rattle.unit_streams.proofs.Telling.{open_report, means, goes_on_adds, completes_adds}
+use Rattle.unit_streams.proofs.Telling.{completes_due, offends_adds}
 
 -- where the state says nothing, what is told of events is what is told of each
-pub told_flat : {S E R : Type 0} (t : Teller S E R) (f : E → List ℕ) → ((s : S) (e : E) → t.told s e ≡ f e) → (events : List E) (s : S) → told_along t s events ≡ flat_map f events
+pub told_flat : {S E R : Type 0} (t : Teller S E R) (f : E → List ℕ)
+    → ((s : S) (e : E) → t.told s e ≡ f e) → (events : List E) (s : S) → told_along t s events
+    ≡ flat_map f events
 unfolding told_along
 told_flat t f same [] s = refl
-told_flat t f same (e ∷ events) s = ap (λ l. l ++ told_along t (t.next s e) events) (same s e) ∙ ap (λ l. f e ++ l) (told_flat t f same events (t.next s e))
+told_flat t f same (e ∷ events) s = ap (λ l. l ++ told_along t (t.next s e) events) (same s e) ∙
+    ap (λ l. f e ++ l) (told_flat t f same events (t.next s e))
 
 -- the rest of a piece, of which so many bytes are used
 abbrev pub rest_of : List ℕ → ℕ → List ℕ
@@ -23,13 +30,16 @@ pub rest_length : (piece : List ℕ) (used : ℕ) → length (rest_of piece used
 rest_length piece used = ap length (take_rest piece used) ∙ length-drop used piece
 
 -- some bytes of the rest more
-pub further : (p piece : List ℕ) (used n : ℕ) → (p ++ take used piece) ++ take n (rest_of piece used) ≡ p ++ take (used + n) piece
+pub further : (p piece : List ℕ) (used n : ℕ) → (p ++ take used piece)
+    ++ take n (rest_of piece used) ≡ p ++ take (used + n) piece
 further p piece used n =
     append_assoc p (take used piece) (take n (rest_of piece used))
-    ∙ ap (λ l. p ++ l) (ap (λ l. take used piece ++ take n l) (take_rest piece used) ∙ sym (take-add used n piece))
+    ∙ ap (λ l. p ++ l) (ap (λ l. take used piece ++ take n l) (take_rest piece used) ∙ sym
+    (take-add used n piece))
 
 -- lines behind lines
-pub joined : (all here before lines line : List ℕ) → all ≡ here ++ line → here ≡ before ++ lines → all ≡ before ++ (lines ++ line)
+pub joined : (all here before lines line : List ℕ) → all ≡ here ++ line → here ≡ before ++ lines
+    → all ≡ before ++ (lines ++ line)
 joined all here before lines line e f = e ∙ ap (λ l. l ++ line) f ∙ append_assoc before lines line
 
 module _ {Z U E R S : Type 0} (g : Grammar Z U E R) (t : Teller S E R) (ends : E → Bool) where
@@ -39,14 +49,19 @@ module _ {Z U E R S : Type 0} (g : Grammar Z U E R) (t : Teller S E R) (ends : E
     pub within : n ≤ length (rest_of piece used)
     pub here : event_at g ((p ++ take used piece) ++ take n (rest_of piece used)) ≡ Some e
     -- what is told of it comes behind what was told
-    pub told : told_so_far g t ((p ++ take used piece) ++ take n (rest_of piece used)) ≡ told_so_far g t (p ++ take used piece) ++ t.told (state_at g t (p ++ take used piece)) e
-    pub state : state_at g t ((p ++ take used piece) ++ take n (rest_of piece used)) ≡ t.next (state_at g t (p ++ take used piece)) e
+    pub told : told_so_far g t ((p ++ take used piece) ++ take n (rest_of piece used))
+        ≡ told_so_far g t (p ++ take used piece) ++ t.told (state_at g t (p ++ take used piece)) e
+    pub state : state_at g t ((p ++ take used piece) ++ take n (rest_of piece used))
+        ≡ t.next (state_at g t (p ++ take used piece)) e
     pub stays_open : StaysOpen g ends ((p ++ take used piece) ++ take n (rest_of piece used)) e
     -- and is due, whatever follows
-    pub due : AreDue g t (p ++ piece) (told_so_far g t (p ++ take used piece)) (t.told (state_at g t (p ++ take used piece)) e)
+    pub due : AreDue g t (p ++ piece) (told_so_far g t (p ++ take used piece))
+        (t.told (state_at g t (p ++ take used piece)) e)
     -- the event that ends the stream is the last thing but the closing
     pub last : ends e ≡ true → (more : List ℕ)
-        → IsReport g t (told_so_far g t (p ++ take used piece)) ((p ++ piece) ++ more) (t.told (state_at g t (p ++ take used piece)) e ++ t.ends (t.next (state_at g t (p ++ take used piece)) e) None) None
+        → IsReport g t (told_so_far g t (p ++ take used piece)) ((p ++ piece) ++ more)
+        (t.told (state_at g t (p ++ take used piece)) e
+        ++ t.ends (t.next (state_at g t (p ++ take used piece)) e) None) None
 
   module _ (p piece : List ℕ) (used : ℕ) where
     abbrev q : List ℕ
@@ -57,7 +72,8 @@ module _ {Z U E R S : Type 0} (g : Grammar Z U E R) (t : Teller S E R) (ends : E
 
     -- what is used and the rest are the piece
     all_of : q ++ y ≡ p ++ piece
-    all_of = append_assoc p (take used piece) y ∙ ap (λ l. p ++ l) (ap (λ l. take used piece ++ l) (take_rest piece used) ∙ take-append-drop used piece)
+    all_of = append_assoc p (take used piece) y ∙ ap (λ l. p ++ l)
+        (ap (λ l. take used piece ++ l) (take_rest piece used) ∙ take-append-drop used piece)
 
     -- whatever follows
     stream_of : (more : List ℕ) → q ++ (y ++ more) ≡ (p ++ piece) ++ more
@@ -67,24 +83,37 @@ module _ {Z U E R S : Type 0} (g : Grammar Z U E R) (t : Teller S E R) (ends : E
       -- nothing is due where nothing more is known
       pub none_due : AreDue g t (p ++ piece) (told_so_far g t (p ++ take used piece)) []
       none_due more =
-          let rest : List ℕ = told_of_history t (state_at g t q) (history_from g q (y ++ more)) in
-          (rest, ap (report g t) (sym (stream_of more)) ∙ open_report g t q (y ++ more) on ∙ ap (λ l. l ++ rest) (sym (append-nil (told_so_far g t q))))
+          let rest : List ℕ = told_of_history t (state_at g t q) (history_from g q (y ++ more)) in (
+            rest,
+            ap (report g t) (sym (stream_of more)) ∙ open_report g t q (y ++ more) on ∙
+                ap (λ l. l ++ rest) (sym (append-nil (told_so_far g t q))),
+          )
 
       module _ (c : Closes g ends) where
         -- the rest decides nothing
         pub none_told : answer g (p ++ take used piece) (rest_of piece used) ≡ goes_on
-            → IsPending g (p ++ piece) × (told_so_far g t (p ++ piece) ≡ told_so_far g t (p ++ take used piece)) × (state_at g t (p ++ piece) ≡ state_at g t (p ++ take used piece))
+            → IsPending g (p ++ piece)
+            × (told_so_far g t (p ++ piece) ≡ told_so_far g t (p ++ take used piece))
+            × (state_at g t (p ++ piece) ≡ state_at g t (p ++ take used piece))
         none_told e =
-            let adds = goes_on_adds g t ends c q y on e in
-            (subst (IsPending g) all_of adds.0, ap (told_so_far g t) (sym all_of) ∙ adds.1, ap (state_at g t) (sym all_of) ∙ adds.2)
+            let adds = goes_on_adds g t ends c q y on e in (
+              subst (IsPending g) all_of adds.0,
+              ap (told_so_far g t) (sym all_of) ∙ adds.1,
+              ap (state_at g t) (sym all_of) ∙ adds.2,
+            )
 
         -- it shows a refusal
-        pub refusal_told : (n : ℕ) (r : R) → answer g (p ++ take used piece) (rest_of piece used) ≡ offends n r
-            → (more : List ℕ) → IsReport g t (told_so_far g t (p ++ take used piece)) ((p ++ piece) ++ more) (t.ends (state_at g t (p ++ take used piece)) (Some r)) (Some r)
-        refusal_told n r e more = subst (λ (l : List ℕ). IsReport g t (told_so_far g t q) l (t.ends (state_at g t q) (Some r)) (Some r)) (stream_of more) (offends_adds g t ends c q y on n r e more)
+        pub refusal_told : (n : ℕ) (r : R) → answer g (p ++ take used piece) (rest_of piece used)
+            ≡ offends n r
+            → (more : List ℕ) → IsReport g t (told_so_far g t (p ++ take used piece))
+            ((p ++ piece) ++ more) (t.ends (state_at g t (p ++ take used piece)) (Some r)) (Some r)
+        refusal_told n r e more = subst (λ (l : List ℕ). IsReport g t (told_so_far g t q) l
+            (t.ends (state_at g t q) (Some r)) (Some r)) (stream_of more)
+            (offends_adds g t ends c q y on n r e more)
 
         -- it completes an event
-        pub event_told : (n : ℕ) (e : E) → answer g (p ++ take used piece) (rest_of piece used) ≡ completes n e → TellsEvent p piece used n e
+        pub event_told : (n : ℕ) (e : E) → answer g (p ++ take used piece) (rest_of piece used)
+            ≡ completes n e → TellsEvent p piece used n e
         event_told n e is =
             let m = means g t ends c q y on n e is in
             let adds = completes_adds g t ends c q y on n e is in
@@ -97,19 +126,36 @@ module _ {Z U E R S : Type 0} (g : Grammar Z U E R) (t : Teller S E R) (ends : E
               told = adds.0;
               state = adds.1;
               stays_open = adds.2;
-              due = λ more. ((due more).0, ap (report g t) (sym (stream_of more)) ∙ (due more).1 ∙ sym (append_assoc (told_so_far g t q) v (due more).0));
-              last = λ is_end more. subst (λ (l : List ℕ). IsReport g t (told_so_far g t q) l (v ++ t.ends (t.next (state_at g t q) e) None) None) (stream_of more) (adds.3 is_end more);
+              due = λ more. (
+                (due more).0,
+                ap (report g t) (sym (stream_of more)) ∙ (due more).1 ∙
+                    sym (append_assoc (told_so_far g t q) v (due more).0),
+              );
+              last = λ is_end more. subst (λ (l : List ℕ). IsReport g t (told_so_far g t q) l
+                  (v ++ t.ends (t.next (state_at g t q) e) None) None) (stream_of more)
+                  (adds.3 is_end more);
             }
 
-module _ {Z U E R S : Type 0} (g : Grammar Z U E R) (t : Teller S E R) (bytes before lines : List ℕ) where
-  -- what is due behind lines
-  pub due_behind : (line here : List ℕ) → here ≡ before ++ lines → AreDue g t bytes here line → AreDue g t bytes before (lines ++ line)
-  due_behind line here e due more = let d = due more in (d.0, d.1 ∙ ap (λ l. (l ++ line) ++ d.0) e ∙ ap (λ l. l ++ d.0) (append_assoc before lines line))
+module _ {Z U E R S : Type 0} (g : Grammar Z U E R) (t : Teller S E R) (bytes before lines : List ℕ)
+  where
+    -- what is due behind lines
+    pub due_behind : (line here : List ℕ) → here ≡ before ++ lines → AreDue g t bytes here line
+        → AreDue g t bytes before (lines ++ line)
+    due_behind line here e due more = let d = due more in (
+      d.0,
+      d.1 ∙ ap (λ l. (l ++ line) ++ d.0) e ∙ ap (λ l. l ++ d.0)
+          (append_assoc before lines line),
+    )
 
-  -- the last lines are due
-  pub last_due : ((more : List ℕ) → report g t (bytes ++ more) ≡ before ++ lines) → AreDue g t bytes before lines
-  last_due all more = ([], all more ∙ sym (append-nil (before ++ lines)))
+    -- the last lines are due
+    pub last_due : ((more : List ℕ) → report g t (bytes ++ more) ≡ before ++ lines) → AreDue g t bytes
+        before lines
+    last_due all more = ([], all more ∙ sym (append-nil (before ++ lines)))
 
 -- what is told of bytes behind which the stream may go on is due
-pub told_due : {Z U E R S : Type 0} (g : Grammar Z U E R) (t : Teller S E R) (p : List ℕ) → IsOpenAt g p → AreDue g t (p ++ []) [] (told_so_far g t p)
-told_due g t p on more = (told_of_history t (state_at g t p) (history_from g p more), ap (λ l. report g t (l ++ more)) (append-nil p) ∙ open_report g t p more on)
+pub told_due : {Z U E R S : Type 0} (g : Grammar Z U E R) (t : Teller S E R) (p : List ℕ)
+    → IsOpenAt g p → AreDue g t (p ++ []) [] (told_so_far g t p)
+told_due g t p on more = (
+  told_of_history t (state_at g t p) (history_from g p more),
+  ap (λ l. report g t (l ++ more)) (append-nil p) ∙ open_report g t p more on,
+)

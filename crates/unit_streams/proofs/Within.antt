@@ -1,8 +1,12 @@
--- Things that are judged with their size, or must be whole within so many bytes, are known by their own bytes.
-use Rattle.std.proofs.Common.{◌≡◌, ℕ, ◌+◌, ◌-◌, ◌<◌, ◌≤◌, ◌⊎◌, inl, inr, List, [], ◌++◌, length, take, drop, Result, Ok, Err, refl, sym, ap, ◌∙◌, subst, arith, length-append, length-take}
+-- Things that are judged with their size, or must be whole within so many bytes, are known by their
+-- own bytes.
+use Rattle.std.proofs.Common.{◌≡◌, ℕ, ◌+◌, ◌-◌, ◌<◌, ◌≤◌, ◌⊎◌, inl, inr, List, [], ◌++◌, length}
+use Rattle.std.proofs.Common.{take, drop, Result, Ok, Err, refl, sym, ap, ◌∙◌, subst, arith}
+use Rattle.std.proofs.Common.{length-append, length-take}
 use Rattle.std.proofs.Math.Seq.{take-append-add, take-nil}
 use Rattle.std.proofs.lemmas.Bool.{cases_lt, le-leb, lt-leb}
-use Rattle.std.proofs.lemmas.List.{append-nil, take-take, take-append-le, take-append-drop, take_all, length-take-le}
+use Rattle.std.proofs.lemmas.List.{append-nil, take-take, take-append-le, take-append-drop}
+use Rattle.std.proofs.lemmas.List.{take_all, length-take-le}
 use Rattle.unit_streams.specs.Front.{Front, begun, whole, wrong, ReadsFront}
 use Rattle.unit_streams.specs.Parts.{Reader, judged_whole, judged_at, closed_at, within}
 use Rattle.unit_streams.proofs.Peeling.{extent}
@@ -31,25 +35,29 @@ module _ {A B R : Type 0} (judge : A → ℕ → Result B R) (f : Reader A R) wh
   pub reads_judged_at : ReadsFront f → ReadsFront (λ b. judged_at judge (f b))
   reads_judged_at reads = reads_by (λ b. judged_at judge (f b)) (λ b. elim (decided f reads b) [
     | inl e ↦ inl (ap (judged_at judge) e)
-    | inr d ↦ inr (subst (λ (n : ℕ). IsDecided (λ b. judged_at judge (f b)) b n) (sym (same_extent (f b))) (record {
-      said = λ h. d.said (begun_said (f b) h);
-      within = d.within;
-      alone = ap (judged_at judge) d.alone;
-      first = λ j lt. ap (judged_at judge) (d.first j lt);
-      stays = λ more. ap (judged_at judge) (d.stays more);
-    }))
+    | inr d ↦ inr (subst (λ (n : ℕ). IsDecided (λ b. judged_at judge (f b)) b n)
+        (sym (same_extent (f b))) (record {
+          said = λ h. d.said (begun_said (f b) h);
+          within = d.within;
+          alone = ap (judged_at judge) d.alone;
+          first = λ j lt. ap (judged_at judge) (d.first j lt);
+          stays = λ more. ap (judged_at judge) (d.stays more);
+        }))
   ])
 
 -- whole within so many bytes
-module _ {A R : Type 0} (limit : ℕ) (r : R) (f : Reader A R) (reads : ReadsFront f) (some : 0 < limit) where
+module _ {A R : Type 0} (limit : ℕ) (r : R) (f : Reader A R) (reads : ReadsFront f)
+    (some : 0 < limit) where
   abbrev read : Reader A R
   read = within limit r f
 
   -- what the reading of the bytes up to the limit makes it
-  closed_begun : (len : ℕ) (v : Front A R) → v ≡ begun → len < limit → closed_at limit r len v ≡ begun
+  closed_begun : (len : ℕ) (v : Front A R) → v ≡ begun → len < limit → closed_at limit r len v
+      ≡ begun
   closed_begun len v e lt = rw (e, lt-leb limit len lt) refl
 
-  closed_full : (len : ℕ) (v : Front A R) → v ≡ begun → limit ≤ len → closed_at limit r len v ≡ wrong r limit
+  closed_full : (len : ℕ) (v : Front A R) → v ≡ begun → limit ≤ len → closed_at limit r len v
+      ≡ wrong r limit
   closed_full len v e le = rw (e, le-leb limit len le) refl
 
   closed_said : (len : ℕ) (v : Front A R) → (v ≡ begun → ⊥) → closed_at limit r len v ≡ v
@@ -58,7 +66,8 @@ module _ {A R : Type 0} (limit : ℕ) (r : R) (f : Reader A R) (reads : ReadsFro
   closed_said len (wrong s n) said = refl
 
   front_of_front : (n : ℕ) (b : List ℕ) → n ≤ limit → take limit (take n b) ≡ take n (take limit b)
-  front_of_front n b le = take_all limit (take n b) (omega (arith, length-take n b, le)) ∙ sym (take-take n limit b le)
+  front_of_front n b le = take_all limit (take n b) (omega (arith, length-take n b, le)) ∙ sym
+      (take-take n limit b le)
 
   -- the bytes up to the limit have begun nothing more
   begun_early : (b : List ℕ) (j : ℕ) → f b ≡ begun → f (take j b) ≡ begun
@@ -71,14 +80,20 @@ module _ {A R : Type 0} (limit : ℕ) (r : R) (f : Reader A R) (reads : ReadsFro
     within = le;
     alone =
         let size = length-take-le limit b le in
-        closed_full (length (take limit b)) (f (take limit (take limit b))) (ap f (front_of_front limit b (omega arith)) ∙ begun_early (take limit b) limit e) (omega (arith, size))
+        closed_full (length (take limit b)) (f (take limit (take limit b)))
+        (ap f (front_of_front limit b (omega arith)) ∙ begun_early (take limit b) limit e)
+        (omega (arith, size))
         ∙ sym (closed_full (length b) (f (take limit b)) e le);
     first = λ j lt.
         let size = length-take-le j b (omega (arith, le, lt)) in
-        closed_begun (length (take j b)) (f (take limit (take j b))) (ap f (front_of_front j b (omega (arith, lt))) ∙ begun_early (take limit b) j e) (omega (arith, size, lt));
+        closed_begun (length (take j b)) (f (take limit (take j b)))
+        (ap f (front_of_front j b (omega (arith, lt))) ∙ begun_early (take limit b) j e)
+        (omega (arith, size, lt));
     stays = λ more.
-        let longer : limit ≤ length (b ++ more) = (let n = length-append b more in omega (arith, n, le)) in
-        closed_full (length (b ++ more)) (f (take limit (b ++ more))) (ap f (take-append-le limit b more le) ∙ e) longer
+        let longer : limit ≤ length (b ++ more) =
+        (let n = length-append b more in omega (arith, n, le)) in
+        closed_full (length (b ++ more)) (f (take limit (b ++ more)))
+        (ap f (take-append-le limit b more le) ∙ e) longer
         ∙ sym (closed_full (length b) (f (take limit b)) e le);
   }
 
@@ -88,7 +103,8 @@ module _ {A R : Type 0} (limit : ℕ) (r : R) (f : Reader A R) (reads : ReadsFro
       elim (cases_lt (length b) limit) [
         | inl lt ↦ (
           take (limit - length b) more,
-          (let sum : limit ≡ length b + (limit - length b) = omega (arith, lt) in ap (λ n. take n (b ++ more)) sum ∙ take-append-add b more (limit - length b))
+          (let sum : limit ≡ length b + (limit - length b) = omega (arith, lt) in
+              ap (λ n. take n (b ++ more)) sum ∙ take-append-add b more (limit - length b))
               ∙ ap (λ c. c ++ take (limit - length b) more) (sym (take_all limit b (omega arith))),
         )
         | inr le ↦ ([], take-append-le limit b more le ∙ sym (append-nil (take limit b)))
@@ -102,25 +118,36 @@ module _ {A R : Type 0} (limit : ℕ) (r : R) (f : Reader A R) (reads : ReadsFro
         said = λ h. d.said (sym same ∙ h);
         within = omega (arith, size, d.within);
         alone =
-            let front : f (take limit (take n b)) ≡ f (take limit b) = ap f (front_of_front n b (omega (arith, size, d.within))) ∙ d.alone in
-            closed_said (length (take n b)) (f (take limit (take n b))) (λ h. d.said (sym front ∙ h)) ∙ front ∙ sym same;
+            let front : f (take limit (take n b)) ≡ f (take limit b) = ap f
+            (front_of_front n b (omega (arith, size, d.within))) ∙ d.alone in
+            closed_said (length (take n b)) (f (take limit (take n b)))
+            (λ h. d.said (sym front ∙ h)) ∙ front ∙ sym same;
         first = λ j lt.
             let few = length-take j b in
-            closed_begun (length (take j b)) (f (take limit (take j b))) (ap f (front_of_front j b (omega (arith, size, d.within, lt))) ∙ d.first j lt) (omega (arith, few, size, d.within, lt));
+            closed_begun (length (take j b)) (f (take limit (take j b)))
+            (ap f (front_of_front j b (omega (arith, size, d.within, lt))) ∙ d.first j lt)
+            (omega (arith, few, size, d.within, lt));
         stays = λ more.
             let p = parts b more in
             let front : f (take limit (b ++ more)) ≡ f (take limit b) = ap f p.1 ∙ d.stays p.0 in
-            closed_said (length (b ++ more)) (f (take limit (b ++ more))) (λ h. d.said (sym front ∙ h)) ∙ front ∙ sym same;
+            closed_said (length (b ++ more)) (f (take limit (b ++ more)))
+            (λ h. d.said (sym front ∙ h)) ∙ front ∙ sym same;
       }
 
-  by_front : (b : List ℕ) → ((f (take limit b) ≡ begun) ⊎ IsDecided f (take limit b) (extent (f (take limit b)))) → (read b ≡ begun) ⊎ IsDecided read b (extent (read b))
+  by_front : (b : List ℕ)
+      → ((f (take limit b) ≡ begun) ⊎ IsDecided f (take limit b) (extent (f (take limit b))))
+      → (read b ≡ begun) ⊎ IsDecided read b (extent (read b))
   by_front b (inl e) =
       elim (cases_lt (length b) limit) [
         | inl lt ↦ inl (closed_begun (length b) (f (take limit b)) e lt)
-        | inr le ↦ inr (subst (λ (n : ℕ). IsDecided read b n) (sym (ap extent (closed_full (length b) (f (take limit b)) e le))) (cut b e le))
+        | inr le ↦ inr
+            (subst (λ (n : ℕ). IsDecided read b n)
+            (sym (ap extent (closed_full (length b) (f (take limit b)) e le))) (cut b e le))
       ]
   by_front b (inr d) =
-      inr (subst (λ (n : ℕ). IsDecided read b n) (sym (ap extent (closed_said (length b) (f (take limit b)) d.said))) (decided_within b (extent (f (take limit b))) d))
+      inr (subst (λ (n : ℕ). IsDecided read b n)
+      (sym (ap extent (closed_said (length b) (f (take limit b)) d.said)))
+      (decided_within b (extent (f (take limit b))) d))
 
   pub reads_within : ReadsFront (within limit r f)
   reads_within = reads_by (within limit r f) (λ b. by_front b (decided f reads (take limit b)))

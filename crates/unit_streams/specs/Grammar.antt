@@ -1,6 +1,7 @@
 -- What a stream is read by: units, one behind the other, and what they mean. Where a stream stands:
 -- its whole units peeled off the front, the situation behind them, and the bytes of the unit begun.
-use Rattle.std.specs.Prelude.{◌≡◌, ℕ, zero, suc, ◌+◌, List, [], ◌++◌, length, drop, Bool, true, false, Option, Some, None}
+use Rattle.std.specs.Prelude.{◌≡◌, ℕ, zero, suc, ◌+◌, List, [], ◌++◌, length, drop, Bool, true}
+use Rattle.std.specs.Prelude.{false, Option, Some, None}
 use Rattle.unit_streams.specs.Front.{Front, begun, whole, on_whole, ReadsFront}
 
 -- Situations are in Z, units in U, events in E and refusals in R. A unit is read at the offset at
@@ -101,8 +102,10 @@ pub record IsQuietWhenOver {Z U E R : Type 0} (g : Grammar Z U E R) : Type 0 whe
 pub record TellsItsEnd {Z U E R : Type 0} (g : Grammar Z U E R) (ends : E → Bool) : Type 0 where
   pub start : g.is_over g.start ≡ false
   pub told : (z : Z) (from : ℕ) (b : List ℕ) (u : U) (k : ℕ) (e : E)
-      → g.unit_at z from b ≡ whole u k → g.is_over z ≡ false → g.completed z from (from + k) u ≡ Some e
+      → g.unit_at z from b ≡ whole u k → g.is_over z ≡ false → g.completed z from (from + k) u
+      ≡ Some e
       → g.is_over (g.after z from u) ≡ ends e
   pub untold : (z : Z) (from : ℕ) (b : List ℕ) (u : U) (k : ℕ)
-      → g.unit_at z from b ≡ whole u k → g.is_over z ≡ false → g.completed z from (from + k) u ≡ None
+      → g.unit_at z from b ≡ whole u k → g.is_over z ≡ false → g.completed z from (from + k) u
+      ≡ None
       → g.is_over (g.after z from u) ≡ false

@@ -1,8 +1,11 @@
 -- What holds of every grammar whose units are known by their own bytes.
-use Rattle.std.specs.Prelude.{◌≡◌, ℕ, ◌+◌, ◌<◌, ◌≤◌, List, [], ◌++◌, length, take, true, Some, None, ◌↔◌, ◌⊎◌}
+use Rattle.std.specs.Prelude.{◌≡◌, ℕ, ◌+◌, ◌<◌, ◌≤◌, List, [], ◌++◌, length, take, true, Some, None}
+use Rattle.std.specs.Prelude.{◌↔◌, ◌⊎◌}
 use Rattle.unit_streams.specs.Front.{whole}
 use Rattle.unit_streams.specs.Grammar.{Grammar, standing, resumed}
-use Rattle.unit_streams.specs.Judging.{Answer, goes_on, completes, offends, answer, history, history_from, events_of, led_by, only, refusal_at, ending_at, is_over_at, offence}
+use Rattle.unit_streams.specs.Judging.{Answer, goes_on, completes, offends, answer, history}
+use Rattle.unit_streams.specs.Judging.{history_from, events_of, led_by, only, refusal_at, ending_at}
+use Rattle.unit_streams.specs.Judging.{is_over_at, offence}
 use Rattle.unit_streams.specs.Going.{Means, IsPending, history_by}
 use Rattle.unit_streams.specs.Units.{IsAccepted}
 

@@ -1,7 +1,9 @@
 -- What is told of a stream: a fold over its history, by a state that each event moves.
-use Rattle.std.specs.Prelude.{◌≡◌, ℕ, List, [], ◌∷◌, ◌++◌, take, Bool, true, false, Option, Some, None}
+use Rattle.std.specs.Prelude.{◌≡◌, ℕ, List, [], ◌∷◌, ◌++◌, take, Bool, true, false, Option, Some}
+use Rattle.std.specs.Prelude.{None}
 use Rattle.unit_streams.specs.Grammar.{Grammar, IsReadable, IsQuietWhenOver, TellsItsEnd}
-use Rattle.unit_streams.specs.Judging.{History, history, events, events_of, offence, ending_at, Answer, goes_on, completes, offends, answer}
+use Rattle.unit_streams.specs.Judging.{History, history, events, events_of, offence, ending_at}
+use Rattle.unit_streams.specs.Judging.{Answer, goes_on, completes, offends, answer}
 use Rattle.unit_streams.specs.Going.{IsPending, IsOpenAt}
 
 -- of events in E and refusals in R, by states in S

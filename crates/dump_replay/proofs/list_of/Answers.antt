@@ -4,4 +4,5 @@ use Rattle.std.proofs.lemmas.Iterator.Adapters.{YieldsList-from_vec}
 use Rattle.dump_replay.proofs.list_of.Goals as goal
 
 pub returns : goal.returns
-returns c = items_from_collect _ c.collect.ensures.ran (YieldsList-from_vec _ refl c.args.words.rest.ok.0)
+returns c = items_from_collect _ c.collect.ensures.ran
+    (YieldsList-from_vec _ refl c.args.words.rest.ok.0)

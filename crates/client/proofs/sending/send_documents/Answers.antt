@@ -1,4 +1,5 @@
-use Rattle.std.proofs.Common.{◌≡◌, ℕ, ◌+◌, List, [], ◌∷◌, ◌++◌, length, take, drop, refl, sym, ap, ◌∙◌, subst, arith}
+use Rattle.std.proofs.Common.{◌≡◌, ℕ, ◌+◌, List, [], ◌∷◌, ◌++◌, length, take, drop, refl, sym, ap}
+use Rattle.std.proofs.Common.{◌∙◌, subst, arith}
 use Rattle.std.proofs.lemmas.List.{length-take-le, take_all}
 use Rattle.io_edges.proofs.Putting.{PutsAll-nothing}
 use Rattle.nbfx_values.specs.declared.content.Item.{Item}
@@ -6,7 +7,8 @@ use Rattle.nbfx_encoder.specs.Sending.{names_in}
 use Rattle.session_ends.specs.Sent.{MayBeSent}
 use Rattle.client.specs.Sending.{IsSending, out_of, sending_of}
 use Rattle.client.specs.Sent.{Sending, SendsAll}
-use Rattle.client.proofs.Envelopes.{begins, first_ready, may_be_sent, may_send, one_taken, parted, sends_end, sends_more, sends_no_more}
+use Rattle.client.proofs.Envelopes.{begins, first_ready, may_be_sent, may_send, one_taken, parted}
+use Rattle.client.proofs.Envelopes.{sends_end, sends_more, sends_no_more}
 use Rattle.client.proofs.sending.send_documents.Goals as goal
 
 pub loop-number-init : goal.loop-number-init

@@ -2,7 +2,8 @@ use Rattle.std.proofs.Common.{◌≡◌, ◌<◌, ◌^◌, arith, subst}
 use Rattle.command_words.specs.Values.{IsNumber, text_behind}
 use Rattle.command_words.proofs.NumberFacts.{IsNumber-unique}
 use Rattle.command_words.proofs.number.number_within.Goals as goal
-use Rattle.command_words.proofs.number.number_within.Goals.{then-n-least-via-then-n-least, then-n-least-via-else-n-least+then-n-most}
+use Rattle.command_words.proofs.number.number_within.Goals.{then-n-least-via-then-n-least}
+use Rattle.command_words.proofs.number.number_within.Goals.{then-n-least-via-else-n-least+then-n-most}
 
 pub returns-then-n-least-clause-none : goal.returns-then-n-least-clause-none
 returns-then-n-least-clause-none c n low high is =

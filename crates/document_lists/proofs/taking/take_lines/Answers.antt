@@ -1,9 +1,11 @@
-use Rattle.std.proofs.Common.{◌≡◌, ℕ, ◌-◌, ◌<◌, inl, inr, List, [], ◌++◌, length, take, Some, Ok, Err, refl, sym, ap, ◌∙◌, subst, length-append, arith}
+use Rattle.std.proofs.Common.{◌≡◌, ℕ, ◌-◌, ◌<◌, inl, inr, List, [], ◌++◌, length, take, Some, Ok}
+use Rattle.std.proofs.Common.{Err, refl, sym, ap, ◌∙◌, subst, length-append, arith}
 use Rattle.std.proofs.lemmas.List.{append-nil}
 use Rattle.std.proofs.lemmas.Result.{err_from_is_err_and}
 use Rattle.io_edges.specs.Faults.{one_more}
 use Rattle.io_edges.specs.Flow.{Told}
-use Rattle.stream_loop.proofs.LoopSteps.{Came, end_left, end_over, end_taken, left_as, left_still, piece_came, room_is, taken_as, taken_still}
+use Rattle.stream_loop.proofs.LoopSteps.{Came, end_left, end_over, end_taken, left_as, left_still}
+use Rattle.stream_loop.proofs.LoopSteps.{piece_came, room_is, taken_as, taken_still}
 use Rattle.stream_loop.proofs.Writing.{counted_none, counted_with}
 use Rattle.stream_loop.specs.Edges.{Input, input_at}
 use Rattle.document_lists.specs.Reader.{ReadsPiece}
@@ -76,7 +78,8 @@ returns-then-n-eq0-clause-takes g c =
       i.2,
       end_over (g.S.Source.left c.args.source.now) (g.S.Source.left c.loop-n.source)
           (g.S.Source.left c.take.new.self) p c.take.new.room c.in-Ok-take.n c.if-n-eq0.true i.3
-          c.in-Ok-take.ensures.moved (c.in-Ok-take.ensures.ended (let room = c.loop-n.invariant.room in
+          c.in-Ok-take.ensures.moved
+          (c.in-Ok-take.ensures.ended (let room = c.loop-n.invariant.room in
           omega (arith, c.deref_mut.ensures.len, room))),
     )
     (inr (c.in-Ok-take.ensures.empty.once (ap Ok c.if-n-eq0.true)

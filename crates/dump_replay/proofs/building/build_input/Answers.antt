@@ -44,7 +44,8 @@ returns g c =
     (settings_of c.new-reader.result) opening i i' ending c.args.output
     c.holding-gathered.result.sink c.report_stream-ending.new.output.sink c.into_sink.result
     c.holding-gathered.result.gathered _ c.holding-gathered.ensures.sink
-    (c.holding-gathered.ensures.gathered ∙ c.deref.ensures.value ∙ c.in-Ok.ensures.bytes) c.into_sink.ensures
+    (c.holding-gathered.ensures.gathered ∙ c.deref.ensures.value ∙ c.in-Ok.ensures.bytes)
+    c.into_sink.ensures
     c.report_stream-ending.ensures.reported in
     subst (λ (s : Settings). EndsAs (lines_of_documents s) envelopes_and_end i i'
     (with_preamble opening o) o' tt ending) c.new-reader.ensures.settings beneath

@@ -8,7 +8,8 @@ use Rattle.dump_replay.specs.Noting.{Notes}
 use Rattle.dump_replay.specs.Outside.{Outside, SeenShelf, seen, shelf_at}
 use Rattle.dump_replay.specs.Running.{files_of}
 use Rattle.dump_replay.specs.Working.{Works}
-use Rattle.dump_replay.proofs.RunSteps.{fetched_first, fetched_more, not_read, possible, same_shelf, words_two}
+use Rattle.dump_replay.proofs.RunSteps.{fetched_first, fetched_more, not_read, possible, same_shelf}
+use Rattle.dump_replay.proofs.RunSteps.{words_two}
 use Rattle.dump_replay.proofs.run.run.Given.{Over}
 use Rattle.dump_replay.proofs.run.run.Goals as goal
 use Rattle.dump_replay.proofs.run.run.Goals.{After-drop-table-inside-3}

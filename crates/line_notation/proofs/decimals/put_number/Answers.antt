@@ -7,8 +7,18 @@ returns-then-n-lt10 g c =
 
 pub returns-then-n-lt100 : goal.returns-then-n-lt100
 returns-then-n-lt100 g c =
-    rw (two_digits c.args.n c.if-n-lt10.false c.if-n-lt100.true, ← c.last_digit-then-n-lt100.ensures, ← c.last_digit-then-n-lt100-2.ensures) c.put_bytes-then-n-lt100.ensures
+    rw (
+      two_digits c.args.n c.if-n-lt10.false c.if-n-lt100.true,
+      ← c.last_digit-then-n-lt100.ensures,
+      ← c.last_digit-then-n-lt100-2.ensures,
+    )
+    c.put_bytes-then-n-lt100.ensures
 
 pub returns-then-n-lt1000 : goal.returns-then-n-lt1000
 returns-then-n-lt1000 g c =
-    rw (three_digits c.args.n c.if-n-lt100.false c.if-n-lt1000.true, ← c.last_digit-then-n-lt1000.ensures, ← c.last_digit-then-n-lt1000-2.ensures, ← c.last_digit-then-n-lt1000-3.ensures) c.put_bytes-then-n-lt1000.ensures
+    rw (
+      three_digits c.args.n c.if-n-lt100.false c.if-n-lt1000.true,
+      ← c.last_digit-then-n-lt1000.ensures,
+      ← c.last_digit-then-n-lt1000-2.ensures,
+      ← c.last_digit-then-n-lt1000-3.ensures,
+    ) c.put_bytes-then-n-lt1000.ensures

@@ -8,9 +8,12 @@ pub returns-in_err-put_spaced_words : goal.returns-in_err-put_spaced_words
 returns-in_err-put_spaced_words g c =
     let small : length c.args.values.now < 2 ^ 64 = omega (arith, c.len-count.type_inv) in
     let p = err_from_is_err_and c.from_residual.result c.from_residual.ensures.1 in
-    rw (p.1, p.2, list_words c.args.values.now small) (PutsAll-cut _ (rw c.len-count.ensures at c.in_err-put_spaced_words.ensures))
+    rw (p.1, p.2, list_words c.args.values.now small)
+    (PutsAll-cut _ (rw c.len-count.ensures at c.in_err-put_spaced_words.ensures))
 
 pub returns : goal.returns
 returns g c =
     let small : length c.args.values.now < 2 ^ 64 = omega (arith, c.len-count.type_inv) in
-    rw (list_words c.args.values.now small) (PutsAll-then _ (rw c.len-count.ensures at c.in_ok-put_spaced_words.ensures) (rw c.as_slice.ensures at c.put_scalars.ensures))
+    rw (list_words c.args.values.now small)
+    (PutsAll-then _ (rw c.len-count.ensures at c.in_ok-put_spaced_words.ensures)
+    (rw c.as_slice.ensures at c.put_scalars.ensures))

@@ -11,9 +11,16 @@ returns-in_err-put_bytes g c =
 
 pub returns-in_err-put_bytes-2 : goal.returns-in_err-put_bytes-2
 returns-in_err-put_bytes-2 g c =
-    let p = err_from_is_err_and c.from_residual-in_err-put_bytes-2.result c.from_residual-in_err-put_bytes-2.ensures.1 in
-    rw (p.1, p.2, append-nil (spaced_word c.args.word)) (PutsAll-then _ c.in_ok-put_bytes.ensures (PutsAll-cut _ (rw (c.as_bytes.ensures.value ∙ c.word.ensures) at c.in_err-put_bytes-2.ensures)))
+    let p = err_from_is_err_and c.from_residual-in_err-put_bytes-2.result
+    c.from_residual-in_err-put_bytes-2.ensures.1 in
+    rw (p.1, p.2, append-nil (spaced_word c.args.word))
+    (PutsAll-then _ c.in_ok-put_bytes.ensures
+    (PutsAll-cut _ (rw (c.as_bytes.ensures.value ∙ c.word.ensures) at
+    c.in_err-put_bytes-2.ensures)))
 
 pub returns : goal.returns
 returns g c =
-    rw (append-nil (spaced_word c.args.word)) (PutsAll-then _ c.in_ok-put_bytes.ensures (PutsAll-then _ (rw (c.as_bytes.ensures.value ∙ c.word.ensures) at c.in_ok-put_bytes-2.ensures) c.put_spaced_word.ensures))
+    rw (append-nil (spaced_word c.args.word))
+    (PutsAll-then _ c.in_ok-put_bytes.ensures
+    (PutsAll-then _ (rw (c.as_bytes.ensures.value ∙ c.word.ensures) at c.in_ok-put_bytes-2.ensures)
+    c.put_spaced_word.ensures))

@@ -8,7 +8,8 @@ pub loop-count-preserved : goal.loop-count-preserved
 loop-count-preserved c =
     let count = c.loop-count.count in
     let width : count + 8 - count ≡ 8 = omega arith in
-    let next : list_all is_plain (take 8 (drop count c.args.bytes.now)) ≡ true = rw width at (sym c.each_is_plain.ensures ∙ c.if-not-each_is_plain.false) in
+    let next : list_all is_plain (take 8 (drop count c.args.bytes.now)) ≡ true = rw width at
+    (sym c.each_is_plain.ensures ∙ c.if-not-each_is_plain.false) in
     record {
       within = omega (arith, c.loop-count-test.true, c.loop-count.invariant.within);
       plain = more-plain count 8 c.args.bytes.now c.loop-count.invariant.plain next;

@@ -10,8 +10,11 @@ returns-in_err-put_bytes g c =
 
 pub returns-in_err-put_digits : goal.returns-in_err-put_digits
 returns-in_err-put_digits g c =
-    let p = err_from_is_err_and c.from_residual-in_err-put_digits.result c.from_residual-in_err-put_digits.ensures.1 in
-    rw (p.1, p.2) (PutsAll-cut (34 ∷ []) (PutsAll-then _ c.in_ok-put_bytes.ensures c.in_err-put_digits.ensures))
+    let p = err_from_is_err_and c.from_residual-in_err-put_digits.result
+    c.from_residual-in_err-put_digits.ensures.1 in
+    rw (p.1, p.2)
+    (PutsAll-cut (34 ∷ []) (PutsAll-then _ c.in_ok-put_bytes.ensures c.in_err-put_digits.ensures))
 
 pub returns : goal.returns
-returns g c = PutsAll-then _ c.in_ok-put_bytes.ensures (PutsAll-then _ c.in_ok-put_digits.ensures c.put_bytes-2.ensures)
+returns g c = PutsAll-then _ c.in_ok-put_bytes.ensures
+    (PutsAll-then _ c.in_ok-put_digits.ensures c.put_bytes-2.ensures)

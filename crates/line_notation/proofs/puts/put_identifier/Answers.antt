@@ -6,5 +6,6 @@ use Rattle.line_notation.proofs.puts.put_identifier.Goals as goal
 pub returns : goal.returns
 returns g c =
     let text : c.as_bytes.result.now ≡ identifier_word c.args.bytes.now =
-    c.as_bytes.ensures.value ∙ c.encode_lower.ensures.text ∙ ap (hyphenated_text lower) (c.hyphenated.ensures ∙ c.from_bytes_le-id.ensures) in
+    c.as_bytes.ensures.value ∙ c.encode_lower.ensures.text ∙ ap (hyphenated_text lower)
+    (c.hyphenated.ensures ∙ c.from_bytes_le-id.ensures) in
     rw text at c.put_bytes.ensures

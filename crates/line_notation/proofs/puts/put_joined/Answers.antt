@@ -6,7 +6,9 @@ use Rattle.line_notation.proofs.puts.put_joined.Goals as goal
 pub returns-in_err-put_word : goal.returns-in_err-put_word
 returns-in_err-put_word g c =
     let p = err_from_is_err_and c.from_residual.result c.from_residual.ensures.1 in
-    rw (p.1, p.2) (HavePut-one_cut word_bytes c.loop-word.word-index _ c.loop-word-test.true c.loop-word.invariant c.in_err-put_word.ensures)
+    rw (p.1, p.2) (HavePut-one_cut word_bytes c.loop-word.word-index _ c.loop-word-test.true
+    c.loop-word.invariant c.in_err-put_word.ensures)
 
 pub loop-word-preserved : goal.loop-word-preserved
-loop-word-preserved g c = HavePut-one word_bytes c.loop-word.word-index _ c.loop-word-test.true c.loop-word.invariant c.in_ok-put_word.ensures
+loop-word-preserved g c = HavePut-one word_bytes c.loop-word.word-index _ c.loop-word-test.true
+    c.loop-word.invariant c.in_ok-put_word.ensures

@@ -6,13 +6,20 @@ use Rattle.line_notation.proofs.puts.put_words.Goals as goal
 pub returns-in_err-put_bytes : goal.returns-in_err-put_bytes
 returns-in_err-put_bytes g c =
     let p = err_from_is_err_and c.from_residual.result c.from_residual.ensures.1 in
-    rw (p.1, p.2) (PutsAll-cut (10 ∷ []) (PutsAll-cut _ (rw c.as_bytes.ensures.value at c.in_err-put_bytes.ensures)))
+    rw (p.1, p.2)
+    (PutsAll-cut (10 ∷ [])
+    (PutsAll-cut _ (rw c.as_bytes.ensures.value at c.in_err-put_bytes.ensures)))
 
 pub returns-in_err-put_spaced_words : goal.returns-in_err-put_spaced_words
 returns-in_err-put_spaced_words g c =
-    let p = err_from_is_err_and c.from_residual-in_err-put_spaced_words.result c.from_residual-in_err-put_spaced_words.ensures.1 in
-    rw (p.1, p.2) (PutsAll-cut (10 ∷ []) (PutsAll-then _ (rw c.as_bytes.ensures.value at c.in_ok-put_bytes.ensures) c.in_err-put_spaced_words.ensures))
+    let p = err_from_is_err_and c.from_residual-in_err-put_spaced_words.result
+    c.from_residual-in_err-put_spaced_words.ensures.1 in
+    rw (p.1, p.2)
+    (PutsAll-cut (10 ∷ [])
+    (PutsAll-then _ (rw c.as_bytes.ensures.value at c.in_ok-put_bytes.ensures)
+    c.in_err-put_spaced_words.ensures))
 
 pub returns : goal.returns
 returns g c =
-    PutsAll-then _ (PutsAll-then _ (rw c.as_bytes.ensures.value at c.in_ok-put_bytes.ensures) c.in_ok-put_spaced_words.ensures) c.put_bytes-2.ensures
+    PutsAll-then _ (PutsAll-then _ (rw c.as_bytes.ensures.value at c.in_ok-put_bytes.ensures)
+    c.in_ok-put_spaced_words.ensures) c.put_bytes-2.ensures

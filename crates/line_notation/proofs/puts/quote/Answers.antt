@@ -13,10 +13,14 @@ returns-in_err-put_bytes g c =
 pub returns-in_err-put_within_quotes : goal.returns-in_err-put_within_quotes
 unfolding quoted
 returns-in_err-put_within_quotes g c =
-    let p = err_from_is_err_and c.from_residual-in_err-put_within_quotes.result c.from_residual-in_err-put_within_quotes.ensures.1 in
-    rw (p.1, p.2) (PutsAll-cut (34 ∷ []) (PutsAll-then _ c.in_ok-put_bytes.ensures c.in_err-put_within_quotes.ensures))
+    let p = err_from_is_err_and c.from_residual-in_err-put_within_quotes.result
+    c.from_residual-in_err-put_within_quotes.ensures.1 in
+    rw (p.1, p.2)
+    (PutsAll-cut (34 ∷ [])
+    (PutsAll-then _ c.in_ok-put_bytes.ensures c.in_err-put_within_quotes.ensures))
 
 pub returns : goal.returns
 unfolding quoted
 returns g c =
-    PutsAll-then _ c.in_ok-put_bytes.ensures (PutsAll-then _ c.in_ok-put_within_quotes.ensures c.put_bytes-2.ensures)
+    PutsAll-then _ c.in_ok-put_bytes.ensures (PutsAll-then _ c.in_ok-put_within_quotes.ensures
+    c.put_bytes-2.ensures)

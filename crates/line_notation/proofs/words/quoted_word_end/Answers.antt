@@ -6,7 +6,9 @@ loop-at-init c = word-begins c.args.line.now
 
 pub returns-then-not-in_quotes : goal.returns-then-not-in_quotes
 returns-then-not-in_quotes c =
-    word-ends c.args.line.now c.loop-at.in_quotes c.loop-at.at c.loop-at-test.true c.if-byte-eq32.true c.if-not-in_quotes.true c.loop-at.invariant
+    word-ends c.args.line.now c.loop-at.in_quotes c.loop-at.at c.loop-at-test.true
+    c.if-byte-eq32.true c.if-not-in_quotes.true c.loop-at.invariant
 
 pub returns : goal.returns
-returns c = line-ends c.args.line.now c.loop-at.in_quotes c.loop-at.at c.loop-at.auto.at-end c.loop-at-test.false c.loop-at.invariant
+returns c = line-ends c.args.line.now c.loop-at.in_quotes c.loop-at.at c.loop-at.auto.at-end
+    c.loop-at-test.false c.loop-at.invariant

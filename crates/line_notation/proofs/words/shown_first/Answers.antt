@@ -6,7 +6,8 @@ pub returns-in-34-closing : goal.returns-in-34-closing
 returns-in-34-closing c =
     let first : get_or c.args.line.now 0 0 ≡ 34 = grind arith in
     let last : get_or c.split_at.result.1.now 0 0 ≡ 34 = grind arith in
-    cuts-last c.args.line.now c.split_at.result.0.now c.split_at.result.1.now c.plain_count.result (record {
+    cuts-last c.args.line.now c.split_at.result.0.now c.split_at.result.1.now c.plain_count.result
+    (record {
       some = c.in-34.len_at_least;
       quote = first;
       count = c.plain_count.ensures;
@@ -19,7 +20,8 @@ returns-in-34-2 c =
     let first : get_or c.args.line.now 0 0 ≡ 34 = grind arith in
     let last : get_or c.split_at.result.1.now 0 0 ≡ 34 = grind arith in
     let space : get_or c.split_at.result.1.now 1 0 ≡ 32 = grind arith in
-    cuts-first c.args.line.now c.split_at.result.0.now c.split_at.result.1.now c.plain_count.result (record {
+    cuts-first c.args.line.now c.split_at.result.0.now c.split_at.result.1.now c.plain_count.result
+    (record {
       some = c.in-34.len_at_least;
       quote = first;
       count = c.plain_count.ensures;

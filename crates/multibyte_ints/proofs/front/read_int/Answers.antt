@@ -12,19 +12,23 @@ loop-at-init c = record { stands = c.new-reader.ensures; begins = int_peels.noth
 
 pub returns-in-Done : goal.returns-in-Done
 returns-in-Done c = (
-  whole_there c.args.bytes.now c.loop-at.at c.loop-at-test.true c.in-Done.value (c.in-Done.ensures.answers _ c.loop-at.invariant.stands),
+  whole_there c.args.bytes.now c.loop-at.at c.loop-at-test.true c.in-Done.value
+      (c.in-Done.ensures.answers _ c.loop-at.invariant.stands),
   ((c.in-Done.ensures.done _ c.in-Done.value c.loop-at.invariant.stands).0 refl).in_31_bits,
 )
 
 pub returns-in-Bad : goal.returns-in-Bad
-returns-in-Bad c = wrong_there c.args.bytes.now c.loop-at.at c.loop-at-test.true (c.in-Bad.ensures.answers _ c.loop-at.invariant.stands)
+returns-in-Bad c = wrong_there c.args.bytes.now c.loop-at.at c.loop-at-test.true
+    (c.in-Bad.ensures.answers _ c.loop-at.invariant.stands)
 
 pub loop-at-preserved : goal.loop-at-preserved
 loop-at-preserved c =
     let next = one_more c.args.bytes.now c.loop-at.at c.loop-at-test.true in
     record {
-      stands = subst (StandsFor c.feed.new.self) next (c.in-More.ensures.stands _ c.loop-at.invariant.stands);
-      begins = subst (λ (b : List ℕ). int_at b ≡ begun) next (c.in-More.ensures.answers _ c.loop-at.invariant.stands);
+      stands = subst (StandsFor c.feed.new.self) next
+          (c.in-More.ensures.stands _ c.loop-at.invariant.stands);
+      begins = subst (λ (b : List ℕ). int_at b ≡ begun) next
+          (c.in-More.ensures.answers _ c.loop-at.invariant.stands);
     }
 
 pub returns : goal.returns

@@ -5,4 +5,8 @@ use Rattle.multibyte_ints.specs.Reader.{StandsFor}
 use Rattle.multibyte_ints.proofs.front.read_int.Given as goal
 
 abbrev pub invariant-loop-at : goal.invariant-loop-at
-invariant-loop-at l = record { stands : StandsFor l.reader (take l.at l.bytes); begins : int_at (take l.at l.bytes) ≡ begun }
+invariant-loop-at l = record {
+  stands : StandsFor l.reader (take l.at l.bytes);
+  begins : int_at
+      (take l.at l.bytes) ≡ begun;
+}

@@ -7,4 +7,5 @@ pub feed-requires : goal.feed-requires
 feed-requires g c unfailed =
     let same = ap (λ (x : Settings). x.limits.payload) c.new-decoder.ensures.settings in
     let most = c.requires in
-    may_feed c.new-decoder.result 0 _ ([], [], c.new-decoder.ensures.stands, refl) (omega (arith, same, most))
+    may_feed c.new-decoder.result 0 _ ([], [], c.new-decoder.ensures.stands, refl)
+    (omega (arith, same, most))

@@ -11,7 +11,11 @@ returns-in_err-value-in-Attribute c =
     let prefix = prefix_seen c.in-Attribute.prefix_part in
     let name = name_seen c.in-Attribute.name_part in
     let value = value_seen c.in-Attribute.value_part in
-    let in_prefix = texts_of_made (is_utf8 prefix) (Some prefix) c.in_ok-prefix-in-Attribute.field-0 c.in_ok-prefix-in-Attribute.ensures.made in
-    let in_name = texts_of_made (name_is_text name) (Some name) c.in_ok-name-in-Attribute.field-0 c.in_ok-name-in-Attribute.ensures.made in
-    rw (c.in-Attribute.is, in_prefix, in_name) (exit c.from_residual-in_err-value-in-Attribute.ensures.1
-    (unmade_otherwise (attribute_nodes.Attribute prefix name) (value_is_text value) (value_of value) c.in_err-value-in-Attribute.ensures))
+    let in_prefix = texts_of_made (is_utf8 prefix) (Some prefix) c.in_ok-prefix-in-Attribute.field-0
+    c.in_ok-prefix-in-Attribute.ensures.made in
+    let in_name = texts_of_made (name_is_text name) (Some name) c.in_ok-name-in-Attribute.field-0
+    c.in_ok-name-in-Attribute.ensures.made in
+    rw (c.in-Attribute.is, in_prefix, in_name)
+    (exit c.from_residual-in_err-value-in-Attribute.ensures.1
+    (unmade_otherwise (attribute_nodes.Attribute prefix name) (value_is_text value) (value_of value)
+    c.in_err-value-in-Attribute.ensures))

@@ -4,7 +4,11 @@ use Rattle.nbfx_records.specs.Views.{IsList, listed}
 use Rattle.nbfx_records.proofs.building.scalars.Given as goal
 
 abbrev pub invariant-loop-part : goal.invariant-loop-part
-invariant-loop-part l = record { list : IsList l.rest; same : scalars_judged (listed l.list) ≡ led l.values (scalars_judged (listed l.rest)) }
+invariant-loop-part l = record {
+  list : IsList l.rest;
+  same : scalars_judged (listed l.list)
+      ≡ led l.values (scalars_judged (listed l.rest));
+}
 
 abbrev pub decreases-loop-part : goal.decreases-loop-part
 decreases-loop-part l = length l.rest

@@ -9,4 +9,6 @@ pub returns-in_err-byte : goal.returns-in_err-byte
 returns-in_err-byte c = exit c.from_residual.ensures.1 (then_stops _ c.in_err-byte.ensures.told)
 
 pub returns : goal.returns
-returns c = typed_tells (turn_of (may_close c.args.holder)) (asked.turn_of (may_close c.args.holder)) c.in_ok-byte.ensures c.record_kind.ensures c.turn_of.ensures
+returns c = typed_tells (turn_of (may_close c.args.holder))
+    (asked.turn_of (may_close c.args.holder)) c.in_ok-byte.ensures c.record_kind.ensures
+    c.turn_of.ensures

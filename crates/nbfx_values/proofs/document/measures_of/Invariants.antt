@@ -1,4 +1,5 @@
--- The items before the place lead to the position, with no more elements open than items, and have the measures.
+-- The items before the place lead to the position, with no more elements open than items, and have
+-- the measures.
 use Rattle.std.proofs.Common.{◌≡◌, ◌≤◌, Some, take}
 use Rattle.nbfx_values.specs.Measured.{AreMeasuresOf}
 use Rattle.nbfx_values.specs.Positions.{open_count, position_of}

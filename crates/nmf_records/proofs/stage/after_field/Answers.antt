@@ -3,7 +3,8 @@ use Rattle.nmf_records.proofs.Typed.{behind_version, behind_major, behind_mode, 
 use Rattle.nmf_records.proofs.stage.after_field.Goals as goal
 
 pub returns-in-Major-clause-reads : goal.returns-in-Major-clause-reads
-returns-in-Major-clause-reads c = λ limit expect p shape h. behind_version limit expect c.args.byte p (rw c.in-Major.is at shape) h
+returns-in-Major-clause-reads c = λ limit expect p shape h. behind_version limit expect c.args.byte
+    p (rw c.in-Major.is at shape) h
 
 pub returns-in-Minor-clause-reads : goal.returns-in-Minor-clause-reads
 returns-in-Minor-clause-reads c = λ limit expect p shape h.

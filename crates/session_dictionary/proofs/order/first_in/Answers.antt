@@ -4,7 +4,8 @@ use Rattle.std.specs.Str.{bytes_eq}
 use Rattle.std.proofs.lemmas.Bool.{both_ways}
 use Rattle.std.proofs.lemmas.Fn.{answers_by}
 use Rattle.std.proofs.lemmas.List.{take_all}
-use Rattle.session_dictionary.proofs.RunFacts.{first_found, is_before, none_found, none_past, parted}
+use Rattle.session_dictionary.proofs.RunFacts.{first_found, is_before, none_found, none_past}
+use Rattle.session_dictionary.proofs.RunFacts.{parted}
 use Rattle.session_dictionary.proofs.order.first_in.Goals as goal
 
 pub returns-in_err-position-clause-none : goal.returns-in_err-position-clause-none

@@ -1,4 +1,5 @@
-use Rattle.std.proofs.Common.{◌≡◌, ◌<◌, ℕ, ◌∷◌, List, Option, Some, None, length, get_or, sym, refl, ap, ◌∙◌, subst, arith, add-one}
+use Rattle.std.proofs.Common.{◌≡◌, ◌<◌, ℕ, ◌∷◌, List, Option, Some, None, length, get_or, sym, refl}
+use Rattle.std.proofs.Common.{ap, ◌∙◌, subst, arith, add-one}
 use Rattle.std.specs.Option.{IfNone}
 use Rattle.std.proofs.lemmas.Option.{IfSome_then}
 use Rattle.session_dictionary.specs.Order.{IsOrder}

@@ -1,4 +1,5 @@
-use Rattle.std.proofs.Common.{◌≡◌, ◌++◌, ◌+◌, ◌<◌, List, ℕ, length, get_or, take, drop, sym, ap, ◌∙◌, subst, arith, length-append, rules}
+use Rattle.std.proofs.Common.{◌≡◌, ◌++◌, ◌+◌, ◌<◌, List, ℕ, length, get_or, take, drop, sym, ap}
+use Rattle.std.proofs.Common.{◌∙◌, subst, arith, length-append, rules}
 use Rattle.std.specs.List.Sorted.{IsPermutation, IsSorted}
 use Rattle.std.proofs.lemmas.List.{get_or_default, take-append-drop, take_at}
 use Rattle.std.proofs.lemmas.List.Sorted.{length_permutation}

@@ -5,4 +5,5 @@ use Rattle.soap_envelope.proofs.attributes.soap_attribute_of.Goals as goal
 
 pub soap_attribute-requires-clause-valid : goal.soap_attribute-requires-clause-valid
 soap_attribute-requires-clause-valid c =
-    rw c.behind-behind.ensures (list_all-drop is_valid_item (c.args.at + 1) c.args.items.now c.requires.valid)
+    rw c.behind-behind.ensures (list_all-drop is_valid_item (c.args.at + 1) c.args.items.now
+    c.requires.valid)

@@ -6,5 +6,6 @@ use Rattle.soap_envelope.proofs.children.children_of.Given as goal
 abbrev pub invariant-loop-i : goal.invariant-loop-i
 invariant-loop-i l = record {
   few : l.inner ≤ l.i;
-  same : l.children.items ++ children_from (Some l.inner) l.i (drop l.i l.items) ≡ children_of l.items l.at;
+  same : l.children.items ++ children_from (Some l.inner) l.i (drop l.i l.items)
+      ≡ children_of l.items l.at;
 }

@@ -15,5 +15,7 @@ document-requires c =
     let put = c.in_ok-put_report.ensures.put in
     let made = rw (c.as_slice.ensures, c.new-items.ensures) at put in
     subst IsDocument (sym made)
-    (envelope-document action relates blocks (fault_body report) c.in_ok-action.ensures.utf8 c.requires
-    (names-lead report.names c.in_ok-put_report.ensures.names) (fault-content report c.as_str-reason.ensures.utf8))
+    (envelope-document action relates blocks (fault_body report) c.in_ok-action.ensures.utf8
+    c.requires
+    (names-lead report.names c.in_ok-put_report.ensures.names)
+    (fault-content report c.as_str-reason.ensures.utf8))

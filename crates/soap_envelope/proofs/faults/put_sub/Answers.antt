@@ -7,4 +7,5 @@ pub returns-in-OnlyAnonymous : goal.returns-in-OnlyAnonymous
 returns-in-OnlyAnonymous c = rw c.in-OnlyAnonymous.is c.put_nested.ensures
 
 pub returns-in-InvalidCardinality : goal.returns-in-InvalidCardinality
-returns-in-InvalidCardinality c = rw c.in-InvalidCardinality.is c.put_nested-in-InvalidCardinality.ensures
+returns-in-InvalidCardinality c = rw c.in-InvalidCardinality.is
+    c.put_nested-in-InvalidCardinality.ensures

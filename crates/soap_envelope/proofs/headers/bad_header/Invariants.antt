@@ -6,5 +6,6 @@ use Rattle.soap_envelope.proofs.headers.bad_header.Given as goal
 abbrev pub invariant-loop-child : goal.invariant-loop-child
 invariant-loop-child l = record {
   unchanged : l.scopes ≡ l.initial.scopes;
-  same : bad_header l.items l.initial.scopes (drop l.child-index l.children) ≡ bad_header l.items l.initial.scopes l.children;
+  same : bad_header l.items l.initial.scopes (drop l.child-index l.children) ≡ bad_header l.items
+      l.initial.scopes l.children;
 }

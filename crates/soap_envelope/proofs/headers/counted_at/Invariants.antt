@@ -4,4 +4,5 @@ use Rattle.soap_envelope.specs.Headers.{counted_at}
 use Rattle.soap_envelope.proofs.headers.counted_at.Given as goal
 
 abbrev pub invariant-loop-block : goal.invariant-loop-block
-invariant-loop-block l = counted_at l.local (drop l.block-index l.blocks) ≡ counted_at l.local l.blocks
+invariant-loop-block l = counted_at l.local (drop l.block-index l.blocks) ≡ counted_at l.local
+    l.blocks

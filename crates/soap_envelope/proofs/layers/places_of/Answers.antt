@@ -1,4 +1,5 @@
-use Rattle.std.proofs.Common.{◌≡◌, ◌∙◌, Bor, [], List, None, Option, Some, ap, get_or, if◌then◌else◌, sym, ℕ}
+use Rattle.std.proofs.Common.{◌≡◌, ◌∙◌, Bor, [], List, None, Option, Some, ap, get_or}
+use Rattle.std.proofs.Common.{if◌then◌else◌, sym, ℕ}
 use Rattle.std.specs.Option.{option_or}
 use Rattle.std.specs.Str.{bytes_eq}
 use Rattle.soap_envelope.specs.declared.layers.Declared.{Declared}

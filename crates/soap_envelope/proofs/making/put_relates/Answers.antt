@@ -1,4 +1,5 @@
-use Rattle.std.proofs.Common.{◌≡◌, List, [], ◌∷◌, ◌++◌, append_assoc, codes, false, length, eqb, refl, sym, ◌∙◌}
+use Rattle.std.proofs.Common.{◌≡◌, List, [], ◌∷◌, ◌++◌, append_assoc, codes, false, length, eqb}
+use Rattle.std.proofs.Common.{refl, sym, ◌∙◌}
 use Rattle.nbfx_values.specs.declared.content.Item.{Item}
 use Rattle.nbfx_values.specs.declared.content.Item.TheVariants.{Close}
 use Rattle.soap_envelope.specs.Making.{addressing_start, relates_block}

@@ -11,4 +11,5 @@ document-requires c =
     let put = c.in_ok-put_reply.ensures in
     let made = rw (c.as_slice.ensures, c.new-items.ensures) at put in
     subst IsDocument (sym made)
-    (envelope-document action relates [] body c.in_ok-action.ensures.utf8 c.requires.texts refl c.requires.content)
+    (envelope-document action relates [] body c.in_ok-action.ensures.utf8 c.requires.texts refl
+    c.requires.content)

@@ -5,7 +5,8 @@ use Rattle.soap_envelope.specs.Scopes.{declared_on, uri_in}
 use Rattle.soap_envelope.proofs.Lists.{drop-at}
 use Rattle.soap_envelope.proofs.NameFacts.{declares-step, has-step}
 use Rattle.soap_envelope.proofs.names.are_good.Goals as goal
-use Rattle.soap_envelope.proofs.names.are_good.Goals.{in-Xmlns+else-declares_before, in-Attr+else-not-is_bound}
+use Rattle.soap_envelope.proofs.names.are_good.Goals.{in-Xmlns+else-declares_before}
+use Rattle.soap_envelope.proofs.names.are_good.Goals.{in-Attr+else-not-is_bound}
 
 pub loop-attribute-preserved : goal.loop-attribute-preserved
 loop-attribute-preserved c =

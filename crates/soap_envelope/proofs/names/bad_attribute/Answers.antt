@@ -5,7 +5,8 @@ use Rattle.soap_envelope.specs.Scopes.{declared, uri_in}
 use Rattle.soap_envelope.proofs.Lists.{drop-at}
 use Rattle.soap_envelope.proofs.NameFacts.{attr-step, xmlns-step}
 use Rattle.soap_envelope.proofs.names.bad_attribute.Goals as goal
-use Rattle.soap_envelope.proofs.names.bad_attribute.Goals.{in-Xmlns+else-declares_before, in-Attr+else-not-is_bound}
+use Rattle.soap_envelope.proofs.names.bad_attribute.Goals.{in-Xmlns+else-declares_before}
+use Rattle.soap_envelope.proofs.names.bad_attribute.Goals.{in-Attr+else-not-is_bound}
 
 pub loop-i-preserved : goal.loop-i-preserved
 loop-i-preserved c =

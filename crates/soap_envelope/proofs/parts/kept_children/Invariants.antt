@@ -6,4 +6,5 @@ use Rattle.soap_envelope.proofs.parts.kept_children.Given as goal
 
 abbrev pub invariant-loop-child : goal.invariant-loop-child
 invariant-loop-child l =
-    l.kept.items ≡ filter (λ child. not (is_passed (slice_get l.items child))) (take l.child-index l.child-items)
+    l.kept.items ≡ filter (λ child. not (is_passed (slice_get l.items child)))
+    (take l.child-index l.child-items)

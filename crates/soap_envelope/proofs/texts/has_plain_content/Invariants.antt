@@ -6,4 +6,5 @@ use Rattle.soap_envelope.proofs.texts.has_plain_content.Given as goal
 
 abbrev pub invariant-loop-child : goal.invariant-loop-child
 invariant-loop-child l =
-    list_all (λ child. is_plain (slice_get l.items child)) (drop l.child-index l.child-items) ≡ has_plain_content l.items l.at
+    list_all (λ child. is_plain (slice_get l.items child)) (drop l.child-index l.child-items)
+    ≡ has_plain_content l.items l.at

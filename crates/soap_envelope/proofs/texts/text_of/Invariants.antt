@@ -6,4 +6,5 @@ use Rattle.soap_envelope.proofs.texts.text_of.Given as goal
 
 abbrev pub invariant-loop-child : goal.invariant-loop-child
 invariant-loop-child l =
-    string_bytes l.text ≡ flat_map (λ child. characters_of (slice_get l.items child)) (take l.child-index l.child-items)
+    string_bytes l.text ≡ flat_map (λ child. characters_of (slice_get l.items child))
+    (take l.child-index l.child-items)

@@ -1,5 +1,6 @@
 use Rattle.std.proofs.Common.{◌∙◌, sym, ap}
-use Rattle.static_dictionary.proofs.RowFacts.{id_of-parsed, within_most, within_most-small, within_most-great}
+use Rattle.static_dictionary.proofs.RowFacts.{id_of-parsed, within_most, within_most-small}
+use Rattle.static_dictionary.proofs.RowFacts.{within_most-great}
 use Rattle.static_dictionary.proofs.entry.id_of.Goals as goal
 
 pub returns-in_err-id : goal.returns-in_err-id

@@ -1,7 +1,8 @@
 use Rattle.std.proofs.Common.{◌∙◌, sym}
 use Rattle.static_dictionary.proofs.FileFacts.{no_header, other_header}
 use Rattle.static_dictionary.proofs.header.take_header.Goals as goal
-use Rattle.static_dictionary.proofs.header.take_header.Goals.{else-branch-via-then-branch+else-is_header, else-branch-via-else-branch}
+use Rattle.static_dictionary.proofs.header.take_header.Goals.{else-branch-via-then-branch+else-is_header}
+use Rattle.static_dictionary.proofs.header.take_header.Goals.{else-branch-via-else-branch}
 
 pub returns-clause-bad : goal.returns-clause-bad
 returns-clause-bad c =

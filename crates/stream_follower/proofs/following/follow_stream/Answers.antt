@@ -1,4 +1,5 @@
-use Rattle.std.proofs.Common.{ℕ, ◌<◌, ◌≡◌, List, [], ◌++◌, length, map, take, Some, Ok, refl, sym, ap, ◌∙◌, subst, arith}
+use Rattle.std.proofs.Common.{ℕ, ◌<◌, ◌≡◌, List, [], ◌++◌, length, map, take, Some, Ok, refl, sym}
+use Rattle.std.proofs.Common.{ap, ◌∙◌, subst, arith}
 use Rattle.std.proofs.lemmas.List.{append-nil}
 use Rattle.io_edges.specs.Faults.{one_more}
 use Rattle.unit_streams.specs.Grammar.{Grammar}
@@ -6,10 +7,12 @@ use Rattle.unit_streams.specs.Judging.{ending_at, events_in, events_of}
 use Rattle.unit_streams.proofs.Pending.{pending_open}
 use Rattle.stream_loop.specs.Edges.{Input, input_at}
 use Rattle.stream_loop.proofs.Writing.{counted_with, counted_none}
-use Rattle.stream_loop.proofs.LoopSteps.{room_is, first_pending, less_left, Came, piece_came, left_still, taken_still, end_left, end_taken, end_over}
+use Rattle.stream_loop.proofs.LoopSteps.{room_is, first_pending, less_left, Came, piece_came}
+use Rattle.stream_loop.proofs.LoopSteps.{left_still, taken_still, end_left, end_taken, end_over}
 use Rattle.stream_follower.specs.Hearing.{HearsOf}
 use Rattle.stream_follower.specs.declared.pieces.Progress.{Progress}
-use Rattle.stream_follower.proofs.Taking.{hears_at, decided, starved, ended, ending_is, broken, unbegun}
+use Rattle.stream_follower.proofs.Taking.{hears_at, decided, starved, ended, ending_is, broken}
+use Rattle.stream_follower.proofs.Taking.{unbegun}
 use Rattle.stream_follower.proofs.following.follow_stream.Given.{Over}
 use Rattle.stream_follower.proofs.following.follow_stream.Goals as goal
 use Rattle.stream_follower.proofs.following.follow_stream.Goals.{After-hear_piece}

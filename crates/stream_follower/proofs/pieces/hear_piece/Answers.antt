@@ -1,4 +1,5 @@
-use Rattle.std.proofs.Common.{rules, ◌+◌, refl, ◌≡◌, ◌-◌, ℕ, ◌<◌, ◌≤◌, List, [], ◌∷◌, ◌++◌, length, map, take, false, Some, None, Ok, Err, sym, ap, ◌∙◌, subst, arith}
+use Rattle.std.proofs.Common.{rules, ◌+◌, refl, ◌≡◌, ◌-◌, ℕ, ◌<◌, ◌≤◌, List, [], ◌∷◌, ◌++◌, length}
+use Rattle.std.proofs.Common.{map, take, false, Some, None, Ok, Err, sym, ap, ◌∙◌, subst, arith}
 use Rattle.std.proofs.lemmas.List.{append-nil, map-append}
 use Rattle.unit_streams.specs.Grammar.{Grammar}
 use Rattle.unit_streams.specs.Judging.{is_over_at, answer, events_of}
@@ -8,7 +9,8 @@ use Rattle.stream_loop.specs.Answers.{Says}
 use Rattle.stream_loop.specs.declared.reading_end.FeedFault.TheVariants.{Refused}
 use Rattle.stream_loop.proofs.PieceSteps.{said_at}
 use Rattle.stream_follower.specs.Hearing.{HasRead}
-use Rattle.stream_follower.proofs.Bringing.{BringsEvent, event_brought, first_brought, more_brought, refusal_brought}
+use Rattle.stream_follower.proofs.Bringing.{BringsEvent, event_brought, first_brought, more_brought}
+use Rattle.stream_follower.proofs.Bringing.{refusal_brought}
 use Rattle.stream_follower.proofs.pieces.hear_piece.Given.{Over}
 use Rattle.stream_follower.proofs.pieces.hear_piece.Goals as goal
 use Rattle.stream_follower.proofs.pieces.hear_piece.Goals.{After-feed}

@@ -1,4 +1,6 @@
-use Rattle.std.proofs.Common.{rules, ◌+◌, refl, ◌≡◌, Bool, ◌-◌, ℕ, ◌<◌, ◌≤◌, append_assoc, List, [], ◌++◌, length, take, false, Option, Some, None, Result, Ok, Err, sym, ap, ◌∙◌, subst, arith}
+use Rattle.std.proofs.Common.{rules, ◌+◌, refl, ◌≡◌, Bool, ◌-◌, ℕ, ◌<◌, ◌≤◌, append_assoc, List, []}
+use Rattle.std.proofs.Common.{◌++◌, length, take, false, Option, Some, None, Result, Ok, Err, sym}
+use Rattle.std.proofs.Common.{ap, ◌∙◌, subst, arith}
 use Rattle.std.proofs.lemmas.List.{append-nil}
 use Rattle.std.proofs.lemmas.Result.{err_from_is_err_and}
 use Rattle.io_edges.specs.Puts.{PutsAll}
@@ -12,7 +14,8 @@ use Rattle.unit_streams.proofs.Pieces.{rest_of, rest_length, further, joined, no
 use Rattle.stream_loop.specs.Answers.{Says, written_by}
 use Rattle.stream_loop.specs.Reading.{HasRead}
 use Rattle.stream_loop.specs.declared.reading_end.FeedFault.TheVariants.{Refused}
-use Rattle.stream_loop.proofs.PieceSteps.{said_at, puts_as, ReadsEvent, read_more, event_read, refusal_read, reads_judged}
+use Rattle.stream_loop.proofs.PieceSteps.{said_at, puts_as, ReadsEvent, read_more, event_read}
+use Rattle.stream_loop.proofs.PieceSteps.{refusal_read, reads_judged}
 use Rattle.stream_loop.proofs.pieces.read_piece.Given.{Over}
 use Rattle.stream_loop.proofs.pieces.read_piece.Goals as goal
 use Rattle.stream_loop.proofs.pieces.read_piece.Goals.{After-feed}

@@ -1,4 +1,5 @@
-use Rattle.std.proofs.Common.{ℕ, ◌<◌, ◌≡◌, List, [], ◌++◌, length, take, inl, inr, Bool, Option, Some, Result, Ok, Err, refl, sym, ap, ◌∙◌, subst, arith}
+use Rattle.std.proofs.Common.{ℕ, ◌<◌, ◌≡◌, List, [], ◌++◌, length, take, inl, inr, Bool, Option}
+use Rattle.std.proofs.Common.{Some, Result, Ok, Err, refl, sym, ap, ◌∙◌, subst, arith}
 use Rattle.std.proofs.lemmas.List.{append-nil}
 use Rattle.std.proofs.lemmas.Result.{err_from_is_err_and}
 use Rattle.std.specs.Prelude.{⊤}
@@ -15,7 +16,11 @@ use Rattle.stream_loop.specs.Edges.{Input, Output, input_at, output_at}
 use Rattle.stream_loop.specs.Reading.{ReadsOf, done}
 use Rattle.stream_loop.specs.declared.pieces.Progress.{Progress}
 use Rattle.stream_loop.proofs.Writing.{counted_with, counted_none, after_flush, puts_grow}
-use Rattle.stream_loop.proofs.LoopSteps.{room_is, first_read, first_pending, reads_at, ends_at, less_left, Came, piece_came, has_reported, lines_due, left_still, taken_still, end_left, end_taken, end_over, WritesLines, flush_cut, left_as, taken_as, writes_lines, writes_more, writes_none, writes_some}
+use Rattle.stream_loop.proofs.LoopSteps.{room_is, first_read, first_pending, reads_at, ends_at}
+use Rattle.stream_loop.proofs.LoopSteps.{less_left, Came, piece_came, has_reported, lines_due}
+use Rattle.stream_loop.proofs.LoopSteps.{left_still, taken_still, end_left, end_taken, end_over}
+use Rattle.stream_loop.proofs.LoopSteps.{WritesLines, flush_cut, left_as, taken_as, writes_lines}
+use Rattle.stream_loop.proofs.LoopSteps.{writes_more, writes_none, writes_some}
 use Rattle.stream_loop.proofs.reporting.put_report.Given.{Over}
 use Rattle.stream_loop.proofs.reporting.put_report.Goals as goal
 use Rattle.stream_loop.proofs.reporting.put_report.Goals.{After-read_piece}

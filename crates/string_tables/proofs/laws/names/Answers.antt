@@ -16,4 +16,5 @@ pub returns-clause-one_text : goal.returns-clause-one_text
 returns-clause-one_text c = names_one_text
 
 pub returns-clause-static_ids : goal.returns-clause-static_ids
-returns-clause-static_ids c entries id text rises held = (static_text-stands 0 entries id text rises held).static_id
+returns-clause-static_ids c entries id text rises held =
+    (static_text-stands 0 entries id text rises held).static_id

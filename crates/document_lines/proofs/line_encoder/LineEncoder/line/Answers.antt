@@ -3,7 +3,8 @@ use Rattle.line_notation.specs.Standing.{Standing, after, answer}
 use Rattle.document_lines.proofs.Sending.{line_done, line_more}
 use Rattle.document_lines.proofs.Standings.{next_after}
 use Rattle.document_lines.proofs.line_encoder.LineEncoder.line.Goals as goal
-use Rattle.document_lines.proofs.line_encoder.LineEncoder.line.Goals.{then-is_full+else-not-is_between, else-is_full}
+use Rattle.document_lines.proofs.line_encoder.LineEncoder.line.Goals.{then-is_full+else-not-is_between}
+use Rattle.document_lines.proofs.line_encoder.LineEncoder.line.Goals.{else-is_full}
 
 -- a document is whole
 pub returns-in-Ok-Done-clause-answers : goal.returns-in-Ok-Done-clause-answers

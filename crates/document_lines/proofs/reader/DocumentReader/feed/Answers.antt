@@ -1,4 +1,6 @@
-use Rattle.std.proofs.Common.{◌≡◌, ℕ, ◌+◌, ◌-◌, ◌<◌, ◌≤◌, inl, inr, List, ◌++◌, length, take, drop, Result, Ok, Err, refl, sym, ap, ◌∙◌, arith, length-append, length-drop}
+use Rattle.std.proofs.Common.{◌≡◌, ℕ, ◌+◌, ◌-◌, ◌<◌, ◌≤◌, inl, inr, List, ◌++◌, length, take, drop}
+use Rattle.std.proofs.Common.{Result, Ok, Err, refl, sym, ap, ◌∙◌, arith, length-append}
+use Rattle.std.proofs.Common.{length-drop}
 use Rattle.std.specs.Prelude.{Option}
 use Rattle.std.proofs.lemmas.Bool.{cases_lt}
 use Rattle.std.proofs.lemmas.List.{take-append-drop, length-take-le}
@@ -8,7 +10,8 @@ use Rattle.document_lines.specs.Input.{Settings}
 use Rattle.document_lines.specs.Standing.{StandsFor, UnitAnswers, WhereItStands, settings_of}
 use Rattle.document_lines.specs.declared.InputFault.{InputFault}
 use Rattle.document_lines.specs.declared.reader.DocumentReader.{DocumentReader}
-use Rattle.document_lines.proofs.FeedSteps.{Along, along_end, along_event, along_more, along_refused, along_too_long, stands_by, unit_by}
+use Rattle.document_lines.proofs.FeedSteps.{Along, along_end, along_event, along_more}
+use Rattle.document_lines.proofs.FeedSteps.{along_refused, along_too_long, stands_by, unit_by}
 use Rattle.document_lines.proofs.reader.DocumentReader.feed.Goals as goal
 use Rattle.document_lines.proofs.reader.DocumentReader.feed.Goals.{At-loop-used}
 

@@ -3,7 +3,8 @@ use Rattle.nbfx_values.specs.QuotasOf.{limits_of}
 use Rattle.stream_follower.specs.Writing.{Goes}
 use Rattle.action_dispatch.specs.declared.answers.Answer.{Answer}
 use Rattle.duplex_server.specs.declared.requests.Request.TheVariants.{Opened, Received}
-use Rattle.duplex_server.specs.Owed.{Answering, Replying, answering, behind_reply, payload_of, told_reply}
+use Rattle.duplex_server.specs.Owed.{Answering, Replying, answering, behind_reply, payload_of}
+use Rattle.duplex_server.specs.Owed.{told_reply}
 use Rattle.duplex_server.specs.Replying.{replying}
 use Rattle.duplex_server.proofs.Heard.{hears, hears_quietly}
 use Rattle.duplex_server.proofs.replier.ReplierListenerRequest.hear.Goals as goal

@@ -6,7 +6,8 @@ use Rattle.initiator_machine.proofs.initiator.Initiator.end_of_input.Goals as go
 
 pub unreachable-requires : goal.unreachable-requires
 unfolding reader_of
-unreachable-requires c = c.requires (c.in-Err-Memory.ensures.wanted (ap Err c.in-Err-Memory.field-0-is))
+unreachable-requires c = c.requires
+    (c.in-Err-Memory.ensures.wanted (ap Err c.in-Err-Memory.field-0-is))
 
 pub returns-in-Ok : goal.returns-in-Ok
 unfolding reader_of

@@ -6,4 +6,5 @@ pub returns-then-length-self-clause-reached : goal.returns-then-length-self-clau
 returns-then-length-self-clause-reached c p e = above_is _ p _ _ e c.if-length-self.true
 
 pub returns-else-length-self-clause-reached : goal.returns-else-length-self-clause-reached
-returns-else-length-self-clause-reached c p e = begins_text _ _ p e c.if-length-self.false c.clear.ensures.items
+returns-else-length-self-clause-reached c p e = begins_text _ _ p e c.if-length-self.false
+    c.clear.ensures.items

@@ -13,9 +13,12 @@ returns-in-Done c p s =
     let utf8 = (string_from_whole _ p _ _ whole).2.utf8 in
     let bytes = c.deref.ensures.value in
     ap (λ t. t.now) c.unwrap_or.ensures
-    ∙ read_as_text c.from_utf8.result _ c.deref.result.now _ c.from_utf8.ensures.cases (subst IsUtf8 (sym bytes) utf8)
+    ∙ read_as_text c.from_utf8.result _ c.deref.result.now _ c.from_utf8.ensures.cases
+    (subst IsUtf8 (sym bytes) utf8)
     ∙ bytes ∙ sym (ap text_of whole)
 
 pub returns-in_default : goal.returns-in_default
 unfolding StringStandsFor limit_of
-returns-in_default c p s = sym (no_text_in c.args.self.now p _ s.0 s.1 (λ e. c.in_default.not-Done (c.step.ensures ∙ ap step_of e)))
+returns-in_default c p s = sym
+    (no_text_in c.args.self.now p _ s.0 s.1
+    (λ e. c.in_default.not-Done (c.step.ensures ∙ ap step_of e)))

@@ -1,6 +1,7 @@
 use Rattle.std.proofs.Common.{◌∙◌, length, ap, refl, arith}
 use Rattle.nbfx_values.specs.Measures.{capped, content_of}
-use Rattle.nbfx_decoder.proofs.ShownFacts.{raw_here, raw_small, content_is, content_small, failed_bytes, failed_items, items_few, values_few}
+use Rattle.nbfx_decoder.proofs.ShownFacts.{raw_here, raw_small, content_is, content_small}
+use Rattle.nbfx_decoder.proofs.ShownFacts.{failed_bytes, failed_items, items_few, values_few}
 use Rattle.nbfx_decoder.proofs.decoder.Decoder.kept.Goals as goal
 
 pub returns-clause-raw : goal.returns-clause-raw
@@ -20,7 +21,8 @@ returns-clause-within c strings p h =
 pub returns-clause-failed : goal.returns-clause-failed
 returns-clause-failed c fault strings p h =
     let bytes = c.len.ensures ∙ ap length (failed_bytes c.args.self.now fault strings p h) in
-    let items = c.content.ensures ∙ ap (λ l. capped (content_of l)) (failed_items c.args.self.now fault strings p h) in
+    let items = c.content.ensures ∙ ap (λ l. capped (content_of l))
+    (failed_items c.args.self.now fault strings p h) in
     rw (bytes, items) refl
 
 pub returns-clause-few_items : goal.returns-clause-few_items

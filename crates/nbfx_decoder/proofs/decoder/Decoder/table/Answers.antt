@@ -8,10 +8,12 @@ pub returns-clause-strings : goal.returns-clause-strings
 returns-clause-strings c strings p h = c.table.ensures ∙ table_here c.args.self.now strings p h
 
 pub returns-clause-failed : goal.returns-clause-failed
-returns-clause-failed c fault strings p h = c.table.ensures ∙ failed_table c.args.self.now fault strings p h
+returns-clause-failed c fault strings p h = c.table.ensures ∙ failed_table c.args.self.now fault
+    strings p h
 
 pub returns-clause-within : goal.returns-clause-within
 returns-clause-within c strings p h =
-    let cost = ap (λ (t : LimitedStrings). used_cost t.strings) (c.table.ensures ∙ table_here c.args.self.now strings p h) in
+    let cost = ap (λ (t : LimitedStrings). used_cost t.strings)
+    (c.table.ensures ∙ table_here c.args.self.now strings p h) in
     let le = cost_small c.args.self.now strings p h in
     omega (arith, cost, le)

@@ -8,10 +8,12 @@ use Rattle.nbfx_decoder.proofs.decoder.Decoder.take_all.Given as goal
 abbrev pub invariant-loop-used : goal.invariant-loop-used
 invariant-loop-used l = record {
   within : l.used ≤ length l.bytes;
-  taken : l.self.units.from + length l.self.begun ≤ l.initial.self.units.from + length l.initial.self.begun + l.used;
+  taken : l.self.units.from + length l.self.begun ≤ l.initial.self.units.from
+      + length l.initial.self.begun + l.used;
   failure : l.self.failure ≡ l.initial.self.failure;
   kept : KeepsSettings l.initial.self.units l.self.units;
-  far : (x : Settings) (strings : List (List ℕ)) (p : List ℕ) → Reached l.initial.self x strings p → HasTaken l.self x strings p l.bytes l.used;
+  far : (x : Settings) (strings : List (List ℕ)) (p : List ℕ) → Reached l.initial.self x strings p
+      → HasTaken l.self x strings p l.bytes l.used;
 }
 
 abbrev pub decreases-loop-used : goal.decreases-loop-used

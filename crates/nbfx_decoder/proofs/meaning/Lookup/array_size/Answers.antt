@@ -11,5 +11,7 @@ returns c =
     let names = c.in_ok-names.ensures.told in
     let parts = c.in_ok-parts.ensures.told in
     rw (c.together-2.ensures, c.together.ensures) (record {
-      told = array_measured (table_of c.args.self.now) a (is_utf8 a.prefix) (name_is_text a.name) names.0 names.1 parts.0 parts.1 c.in_ok-names.names c.in_ok-parts.parts c.in_ok-cells.cells names.2 parts.2 c.in_ok-cells.ensures.told;
+      told = array_measured (table_of c.args.self.now) a (is_utf8 a.prefix) (name_is_text a.name)
+          names.0 names.1 parts.0 parts.1 c.in_ok-names.names c.in_ok-parts.parts
+          c.in_ok-cells.cells names.2 parts.2 c.in_ok-cells.ensures.told;
     })

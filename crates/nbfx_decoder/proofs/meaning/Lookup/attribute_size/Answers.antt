@@ -17,7 +17,9 @@ returns-in_ok-value_size-in-Attribute c =
     let value = value_seen c.in-Attribute.value in
     let names = c.in_ok-names-in-Attribute.ensures.told in
     rw (c.in-Attribute.is, c.together.ensures) (record {
-      told = attribute_measured (table_of c.args.self.now) prefix name names.0 (is_utf8 prefix) (name_is_text name) (value_is_text value) (value_of value) names.1 c.in_ok-names-in-Attribute.names names.2 c.in_ok-value_size-in-Attribute.field-0
+      told = attribute_measured (table_of c.args.self.now) prefix name names.0 (is_utf8 prefix)
+          (name_is_text name) (value_is_text value) (value_of value) names.1
+          c.in_ok-names-in-Attribute.names names.2 c.in_ok-value_size-in-Attribute.field-0
           c.in_ok-value_size-in-Attribute.ensures.told;
     })
 
@@ -27,6 +29,8 @@ returns-in-Declaration c =
     let prefix = prefix_seen c.in-Declaration.prefix in
     let uri = name_seen c.in-Declaration.uri in
     rw c.in-Declaration.is (record {
-      told = measured_as (attribute_nodes.Xmlns prefix) (is_utf8 prefix && name_is_text uri) (Some uri) (λ named. weighed (λ local. length prefix + length local) (name_text table named)) (weigh_part table)
+      told = measured_as (attribute_nodes.Xmlns prefix) (is_utf8 prefix && name_is_text uri)
+          (Some uri) (λ named. weighed (λ local. length prefix + length local)
+          (name_text table named)) (weigh_part table)
           (declaration_weighed table prefix) _ c.names_size-in-Declaration.ensures.told;
     })

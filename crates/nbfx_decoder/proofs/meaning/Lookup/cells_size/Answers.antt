@@ -11,9 +11,12 @@ pub returns-in_err-value : goal.returns-in_err-value
 returns-in_err-value c =
     let here = c.loop-place.invariant in
     leaves _ c.from_residual.ensures.1
-    (unmeasured (cells_judged (cells_seen c.args.part.now)) (λ values. Some (capped (sum_by scalar_content values))) _
-    (step_wrong (cells_seen c.args.part.now) c.loop-place._place c.loop-place.rest.now here.0 here.1 c.loop-place-test.true c.width-width.result c.text_kind_in-kind.result _ _
-    c.width-width.ensures.is c.text_kind_in-kind.ensures c.split_at.ensures.front c.split_at.ensures.back c.in_err-value.field-0.0 c.in_err-value.ensures).made)
+    (unmeasured (cells_judged (cells_seen c.args.part.now))
+    (λ values. Some (capped (sum_by scalar_content values))) _
+    (step_wrong (cells_seen c.args.part.now) c.loop-place._place c.loop-place.rest.now here.0 here.1
+    c.loop-place-test.true c.width-width.result c.text_kind_in-kind.result _ _
+    c.width-width.ensures.is c.text_kind_in-kind.ensures c.split_at.ensures.front
+    c.split_at.ensures.back c.in_err-value.field-0.0 c.in_err-value.ensures).made)
 
 pub loop-place-preserved : goal.loop-place-preserved
 loop-place-preserved c =
@@ -23,12 +26,21 @@ loop-place-preserved c =
     let content = c.content.ensures in
     let more = c.saturating_add-content.ensures in (
       here.0 ++ value ∷ [],
-      step_left (cells_seen c.args.part.now) c.loop-place._place c.loop-place.rest.now here.0 here.1 c.loop-place-test.true c.width-width.result c.text_kind_in-kind.result _ _
-          c.width-width.ensures.is c.text_kind_in-kind.ensures c.split_at.ensures.front c.split_at.ensures.back value (here.0 ++ value ∷ []) c.in_ok-value.ensures.made refl,
+      step_left (cells_seen c.args.part.now) c.loop-place._place c.loop-place.rest.now here.0 here.1
+          c.loop-place-test.true c.width-width.result c.text_kind_in-kind.result _ _
+          c.width-width.ensures.is c.text_kind_in-kind.ensures c.split_at.ensures.front
+          c.split_at.ensures.back value (here.0 ++ value ∷ []) c.in_ok-value.ensures.made refl,
       omega (arith, sum, content, more, here.2),
     )
 
 pub returns : goal.returns
 returns c =
     let here = c.loop-place.invariant in
-    record { told = (here.0, all_done (cells_seen c.args.part.now) c.loop-place._place c.loop-place.rest.now here.0 here.1 c.loop-place-test.false, ap (λ n. Some n) here.2) }
+    record {
+      told = (
+        here.0,
+        all_done (cells_seen c.args.part.now) c.loop-place._place
+            c.loop-place.rest.now here.0 here.1 c.loop-place-test.false,
+        ap (λ n. Some n) here.2,
+      );
+    }

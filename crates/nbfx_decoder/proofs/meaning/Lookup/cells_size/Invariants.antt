@@ -7,4 +7,5 @@ use Rattle.nbfx_decoder.proofs.meaning.Lookup.cells_size.Given as goal
 
 abbrev pub invariant-loop-place : goal.invariant-loop-place
 invariant-loop-place l =
-    (values : List Scalar) × AreLeft (cells_seen l.part) l._place l.rest values × (l.content ≡ capped (sum_by scalar_content values))
+    (values : List Scalar) × AreLeft (cells_seen l.part) l._place l.rest values
+    × (l.content ≡ capped (sum_by scalar_content values))

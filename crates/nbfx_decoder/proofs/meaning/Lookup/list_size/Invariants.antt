@@ -10,7 +10,8 @@ use Rattle.nbfx_decoder.proofs.meaning.Lookup.list_size.Given as goal
 abbrev pub invariant-loop-part : goal.invariant-loop-part
 invariant-loop-part l = record {
   list : IsList l.rest;
-  so_far : AreWeighed scalar_is_text scalar_value (meant_scalar (table_of l.self)) scalar_content (listed l.list) (listed l.rest) l.content;
+  so_far : AreWeighed scalar_is_text scalar_value (meant_scalar (table_of l.self)) scalar_content
+      (listed l.list) (listed l.rest) l.content;
 }
 
 abbrev pub decreases-loop-part : goal.decreases-loop-part

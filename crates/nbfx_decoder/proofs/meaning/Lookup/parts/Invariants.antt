@@ -6,4 +6,5 @@ use Rattle.nbfx_decoder.proofs.MeaningFacts.{AreFound}
 use Rattle.nbfx_decoder.proofs.meaning.Lookup.parts.Given as goal
 
 abbrev pub invariant-loop-part : goal.invariant-loop-part
-invariant-loop-part l = AreFound (meant_part (table_of l.self)) is_valid_part is_valid_attribute l.yielded l.parts
+invariant-loop-part l = AreFound (meant_part (table_of l.self)) is_valid_part is_valid_attribute
+    l.yielded l.parts

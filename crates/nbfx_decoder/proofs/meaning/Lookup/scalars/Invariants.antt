@@ -6,4 +6,5 @@ use Rattle.nbfx_decoder.proofs.MeaningFacts.{AreFound}
 use Rattle.nbfx_decoder.proofs.meaning.Lookup.scalars.Given as goal
 
 abbrev pub invariant-loop-scalar : goal.invariant-loop-scalar
-invariant-loop-scalar l = AreFound (meant_scalar (table_of l.self)) is_valid_raw is_valid_scalar l.yielded l.values
+invariant-loop-scalar l = AreFound (meant_scalar (table_of l.self)) is_valid_raw is_valid_scalar
+    l.yielded l.values

@@ -16,7 +16,9 @@ returns-in_ok-raw-in-One c =
     let table = table_of c.args.self.now in
     let scalar = scalar_seen c.in-One.part in
     rw c.in-One.is (record {
-      told = measured_as One (scalar_is_text scalar) (scalar_value scalar) (weigh_scalar table) (weigh_value table) (λ raw. weighed-map value_content values.One (meant_scalar table raw)) (Ok c.scalar_size-size.result)
+      told = measured_as One (scalar_is_text scalar) (scalar_value scalar) (weigh_scalar table)
+          (weigh_value table) (λ raw. weighed-map value_content values.One (meant_scalar table raw))
+          (Ok c.scalar_size-size.result)
           (c.in_ok-raw-in-One.raw, c.in_ok-raw-in-One.ensures.made, c.scalar_size-size.ensures);
     })
 
@@ -25,6 +27,8 @@ returns-in-List c =
     let table = table_of c.args.self.now in
     let list = listed c.in-List.list.now in
     rw c.in-List.is (record {
-      told = measured_as ListOf (list_all scalar_is_text list) (each scalar_value list) (weigh_scalars table) (weigh_value table) (λ raws. weighed-map value_content values.List (each (meant_scalar table) raws)) _
+      told = measured_as ListOf (list_all scalar_is_text list) (each scalar_value list)
+          (weigh_scalars table) (weigh_value table)
+          (λ raws. weighed-map value_content values.List (each (meant_scalar table) raws)) _
           c.list_size.ensures.told;
     })

@@ -13,6 +13,9 @@ returns-in-Ok-push-clause-answers c done x z from at =
     let found = ap (λ t. items_of t c.args.node) (sym c.names.ensures) ∙ c.in-Ok.ensures.found in
     let document = c.push.new.document in
     record {
-      unrefused = unrefused c.args.self.now x z from at c.args.node _ refl more found document pushed.0 (capped (content_of document)) refl pushed.1 (omega (arith, small));
-      at = behind_node c.args.self.now x z from at c.args.node _ refl more found document pushed.0 (capped (content_of document)) refl pushed.1 (omega (arith, small)) _ refl refl refl refl refl refl refl;
+      unrefused = unrefused c.args.self.now x z from at c.args.node _ refl more found document
+          pushed.0 (capped (content_of document)) refl pushed.1 (omega (arith, small));
+      at = behind_node c.args.self.now x z from at c.args.node _ refl more found document pushed.0
+          (capped (content_of document)) refl pushed.1 (omega (arith, small)) _ refl refl refl refl
+          refl refl refl;
     }

@@ -7,11 +7,14 @@ use Rattle.nbfx_decoder.proofs.units.UnitReader.attribute_of.Goals as goal
 
 pub pass_quickly-requires-clause-stands : goal.pass_quickly-requires-clause-stands
 pass_quickly-requires-clause-stands c = record {
-  shape = record_seen (records.Attribute (Attribute c.args.prefix.now c.args.name.now c.args.value));
+  shape = record_seen
+      (records.Attribute (Attribute c.args.prefix.now c.args.name.now c.args.value));
   single = subst (λ v. HasOne (value_seen v)) (sym c.in-One.is) tt;
   stands = c.requires.stands;
   makes = c.attribute_node.ensures;
 }
 
 pub returns-in-One : goal.returns-in-One
-returns-in-One c bytes has = c.pass_quickly.ensures (record_seen (records.Attribute (Attribute c.args.prefix.now c.args.name.now c.args.value))) bytes has c.attribute_node.ensures
+returns-in-One c bytes has = c.pass_quickly.ensures
+    (record_seen (records.Attribute (Attribute c.args.prefix.now c.args.name.now c.args.value)))
+    bytes has c.attribute_node.ensures

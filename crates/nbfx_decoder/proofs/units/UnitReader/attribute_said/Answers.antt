@@ -31,7 +31,8 @@ returns-in-List-clause-said c =
     (table_of c.names.result) c.names.ensures
     (subst (MayMake c.args.self.now) seen c.requires.within)
     (subst MakesValid seen c.requires.valid) in
-    subst (λ (shape : Shape). IfOk c.list_attribute.result (IsSaid c.args.self.now shape)) (sym seen)
+    subst (λ (shape : Shape). IfOk c.list_attribute.result (IsSaid c.args.self.now shape))
+    (sym seen)
     (attribute_all_said (prefix_seen it.prefix) (name_seen it.name) (listed list.now)
     c.args.self.now (table_of c.names.result) c.names.ensures means c.list_attribute.result
     c.list_attribute.ensures.says)

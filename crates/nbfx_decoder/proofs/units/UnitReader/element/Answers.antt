@@ -10,7 +10,13 @@ pass_quickly-requires-clause-stands c =
     record {
       shape = record_seen (records.Element c.in-Ok.part);
       single = tt;
-      stands = record { bytes = c.args.bytes.now; are = λ i. (c.type_inv.bytes i).fits; few = c.requires.few; has = record { whole = told.told } };
+      stands = record {
+        bytes = c.args.bytes.now;
+        are = λ i. (c.type_inv.bytes i).fits;
+        few =
+            c.requires.few;
+        has = record { whole = told.told };
+      };
       makes = c.element_node.ensures;
     }
 
@@ -18,4 +24,5 @@ pub returns-in-Ok : goal.returns-in-Ok
 returns-in-Ok c =
     let may = let no = c.if-not-takes.false in c.takes.ensures.0 cc in
     let told = c.in-Ok.ensures (place_in c.args.self.now) may in
-    c.pass_quickly.ensures (record_seen (records.Element c.in-Ok.part)) c.args.bytes.now (record { whole = told.told }) c.element_node.ensures
+    c.pass_quickly.ensures (record_seen (records.Element c.in-Ok.part)) c.args.bytes.now
+    (record { whole = told.told }) c.element_node.ensures

@@ -11,13 +11,19 @@ pass_record-requires-clause-stands c = record {
   bytes = c.args.begun.now;
   are = c.parts.ensures.bytes;
   few = c.requires.few;
-  has = record { whole = subst (λ (p : NodePlace). IsWhole (shape_at p) c.args.begun.now 0 (record_seen c.in-Ok.part) c.in-Ok.used) c.place-place.ensures c.in-Ok.ensures.tells.told };
+  has = record {
+    whole = subst (λ (p : NodePlace). IsWhole (shape_at p) c.args.begun.now 0
+        (record_seen c.in-Ok.part) c.in-Ok.used) c.place-place.ensures c.in-Ok.ensures.tells.told;
+  };
 }
 
 pub returns-in-Ok-clause-reads : goal.returns-in-Ok-clause-reads
 returns-in-Ok-clause-reads c =
     c.pass_record.ensures c.args.begun.now
-    (record { whole = subst (λ (p : NodePlace). IsWhole (shape_at p) c.args.begun.now 0 (record_seen c.in-Ok.part) c.in-Ok.used) c.place-place.ensures c.in-Ok.ensures.tells.told })
+    (record {
+      whole = subst (λ (p : NodePlace). IsWhole (shape_at p) c.args.begun.now 0
+          (record_seen c.in-Ok.part) c.in-Ok.used) c.place-place.ensures c.in-Ok.ensures.tells.told;
+    })
 
 pub returns-in-Err-clause-reads : goal.returns-in-Err-clause-reads
 returns-in-Err-clause-reads c =

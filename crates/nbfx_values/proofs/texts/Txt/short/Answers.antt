@@ -4,4 +4,5 @@ use Rattle.std.proofs.lemmas.Str.{is_utf8-from_IsUtf8}
 use Rattle.nbfx_values.proofs.texts.Txt.short.Goals as goal
 
 pub returns-in-Ok-clause-utf8 : goal.returns-in-Ok-clause-utf8
-returns-in-Ok-clause-utf8 c = ap is_utf8 c.in-Ok.ensures.ok ∙ is_utf8-from_IsUtf8 c.args.text.now c.utf8.text
+returns-in-Ok-clause-utf8 c = ap is_utf8 c.in-Ok.ensures.ok ∙ is_utf8-from_IsUtf8 c.args.text.now
+    c.utf8.text

@@ -1,4 +1,5 @@
-use Rattle.nmf_records.proofs.Heads.{head_answers, head_shows, head_within, none_failed, stands_anew}
+use Rattle.nmf_records.proofs.Heads.{head_answers, head_shows, head_within, none_failed}
+use Rattle.nmf_records.proofs.Heads.{stands_anew}
 use Rattle.nmf_records.proofs.reader.FrameReader.feed.Goals as goal
 
 pub returns-in-Some-clause-within : goal.returns-in-Some-clause-within

@@ -1,28 +1,34 @@
-use Rattle.std.proofs.Common.{◌≡◌, ℕ, ◌-◌, List, ◌++◌, length, take, drop, Some, refl, sym, ap, ◌∙◌, subst, arith, length-drop}
+use Rattle.std.proofs.Common.{◌≡◌, ℕ, ◌-◌, List, ◌++◌, length, take, drop, Some, refl, sym, ap, ◌∙◌}
+use Rattle.std.proofs.Common.{subst, arith, length-drop}
 use Rattle.std.proofs.lemmas.List.{append-nil, take_rest}
 use Rattle.unit_streams.specs.Front.{begun, whole, wrong}
 use Rattle.unit_streams.proofs.Taken.{all_taken}
 use Rattle.nmf_records.specs.declared.frame.FrameRefusal.{FrameRefusal}
 use Rattle.nmf_records.specs.Reading.{with_text, frame_at}
 use Rattle.nmf_records.specs.Reader.{StandsFor, ShowsText, text_after, limit_of}
-use Rattle.nmf_records.proofs.Feeding.{rest_of, along, len_along, after_after, begun_shows, begun_still, refusal_is, no_refusal, piece_decided, piece_shows}
+use Rattle.nmf_records.proofs.Feeding.{rest_of, along, len_along, after_after, begun_shows}
+use Rattle.nmf_records.proofs.Feeding.{begun_still, refusal_is, no_refusal, piece_decided}
+use Rattle.nmf_records.proofs.Feeding.{piece_shows}
 use Rattle.nmf_records.proofs.reader.FrameReader.feed_on.Goals as goal
 use Rattle.nmf_records.proofs.reader.FrameReader.feed_on.Goals.{After-loop-used}
 
 pub returns-in-Failed-clause-answers : goal.returns-in-Failed-clause-answers
 unfolding StandsFor
-returns-in-Failed-clause-answers c = λ p stands. let none : ⊥ = rw c.in-Failed.is at stands.shape in absurd none
+returns-in-Failed-clause-answers c = λ p stands. let none : ⊥ = rw c.in-Failed.is at stands.shape in
+    absurd none
 
 pub returns-in-Failed-clause-text : goal.returns-in-Failed-clause-text
 unfolding StandsFor
-returns-in-Failed-clause-text c = λ p s stands h. let none : ⊥ = rw c.in-Failed.is at stands.shape in absurd none
+returns-in-Failed-clause-text c = λ p s stands h. let none : ⊥ = rw c.in-Failed.is at stands.shape
+    in absurd none
 
 pub returns-in-Failed-clause-failed : goal.returns-in-Failed-clause-failed
 returns-in-Failed-clause-failed c = refusal_is _ _ c.in-Failed.is ∙ ap Some (sym c.refusal.ensures)
 
 pub returns-in-Failed-clause-repeated : goal.returns-in-Failed-clause-repeated
 returns-in-Failed-clause-repeated c = λ refusal e.
-    let same : Some c.refusal.result ≡ Some refusal = ap Some c.refusal.ensures ∙ sym (refusal_is _ _ c.in-Failed.is) ∙ e in cc
+    let same : Some c.refusal.result ≡ Some refusal = ap Some c.refusal.ensures ∙ sym
+    (refusal_is _ _ c.in-Failed.is) ∙ e in cc
 
 pub loop-used-init : goal.loop-used-init
 loop-used-init c =
@@ -30,12 +36,14 @@ loop-used-init c =
     record {
       within = omega arith;
       stands = λ p stands. subst (StandsFor r c.args.expect) (sym (append-nil p)) stands;
-      text = λ p s stands h. subst (λ q. ShowsText r (text_after s c.args.expect q begun)) (sym (append-nil p)) (begun_shows r c.args.expect p s stands h);
+      text = λ p s stands h. subst (λ q. ShowsText r (text_after s c.args.expect q begun))
+          (sym (append-nil p)) (begun_shows r c.args.expect p s stands h);
       limit = refl;
     }
 
 -- how many bytes of the piece are left
-rest_len : (piece : List ℕ) (used : ℕ) → length (take (length piece - used) (drop used piece)) ≡ length piece - used
+rest_len : (piece : List ℕ) (used : ℕ) → length (take (length piece - used) (drop used piece))
+    ≡ length piece - used
 rest_len piece used = ap length (take_rest piece used) ∙ length-drop used piece
 
 -- the reader at this byte of the piece, for what it stood for before
@@ -46,18 +54,28 @@ loop-used-preserved c =
     let used : ℕ = c.loop-used.used in
     let n : ℕ = c.advance-n.result.0 in
     let inv = c.loop-used.invariant in
-    let goes : (p : List ℕ) → StandsFor r c.args.expect p → StandsFor c.advance-n.new.self c.args.expect ((p ++ take used piece) ++ take n (rest_of p piece used n))
-    = λ p stands. rw c.in-Going.is at (c.advance-n.ensures.steps (p ++ take used piece) (inv.stands p stands)) in
+    let goes : (p : List ℕ) → StandsFor r c.args.expect p → StandsFor c.advance-n.new.self
+    c.args.expect ((p ++ take used piece) ++ take n (rest_of p piece used n))
+    = λ p stands. rw c.in-Going.is at (c.advance-n.ensures.steps (p ++ take used piece)
+    (inv.stands p stands)) in
     record {
-      within = let len = rest_len piece used in omega (arith, c.advance-n.ensures.within, inv.within);
-      stands = λ p stands. subst (StandsFor c.advance-n.new.self c.args.expect) (along p piece used n) (goes p stands);
+      within = let len = rest_len piece used in omega
+          (arith, c.advance-n.ensures.within, inv.within);
+      stands = λ p stands. subst (StandsFor c.advance-n.new.self c.args.expect)
+          (along p piece used n) (goes p stands);
       text = λ p s stands h.
           let b : List ℕ = p ++ take used piece in
           let more : List ℕ = take n (rest_of p piece used n) in
-          let shown = c.advance-n.ensures.text b (text_after s c.args.expect b begun) (inv.stands p stands) (inv.text p s stands h) in
-          let still : frame_at (limit_of c.loop-used.self) c.args.expect (b ++ more) ≡ begun = begun_still (limit_of c.loop-used.self) c.advance-n.new.self c.args.expect (b ++ more) c.advance-n.ensures.limit (goes p stands) in
-          subst (λ q. ShowsText c.advance-n.new.self (text_after s c.args.expect q begun)) (along p piece used n)
-          (subst (ShowsText c.advance-n.new.self) (after_after s c.args.expect b more (frame_at (limit_of c.loop-used.self) c.args.expect (b ++ more)) ∙ ap (text_after s c.args.expect (b ++ more)) still) shown);
+          let shown = c.advance-n.ensures.text b (text_after s c.args.expect b begun)
+          (inv.stands p stands) (inv.text p s stands h) in
+          let still : frame_at (limit_of c.loop-used.self) c.args.expect (b ++ more)
+          ≡ begun = begun_still (limit_of c.loop-used.self) c.advance-n.new.self c.args.expect
+          (b ++ more) c.advance-n.ensures.limit (goes p stands) in
+          subst (λ q. ShowsText c.advance-n.new.self (text_after s c.args.expect q begun))
+          (along p piece used n)
+          (subst (ShowsText c.advance-n.new.self)
+          (after_after s c.args.expect b more (frame_at (limit_of c.loop-used.self) c.args.expect
+          (b ++ more)) ∙ ap (text_after s c.args.expect (b ++ more)) still) shown);
       limit = c.advance-n.ensures.limit ∙ inv.limit;
     }
 
@@ -67,9 +85,11 @@ returns-in-Done-clause-answers c = λ p stands.
     let used : ℕ = c.loop-used.used in
     let n : ℕ = c.advance-n.result.0 in
     let inv = c.loop-used.invariant in
-    let led = rw c.in-Done.is at (c.advance-n.ensures.steps (p ++ take used piece) (inv.stands p stands)) in
+    let led = rw c.in-Done.is at (c.advance-n.ensures.steps (p ++ take used piece)
+    (inv.stands p stands)) in
     let decided = piece_decided _ _ c.args.expect p piece used n inv.limit (λ h. cc) in
-    let len = len_along p piece used n (omega (arith, rest_len piece used, c.advance-n.ensures.within, inv.within)) in
+    let len = len_along p piece used n
+    (omega (arith, rest_len piece used, c.advance-n.ensures.within, inv.within)) in
     (led.0, decided ∙ led.1 ∙ ap (whole (with_text c.in-Done.frame led.0)) len)
 
 pub returns-in-Done-clause-stands : goal.returns-in-Done-clause-stands
@@ -80,61 +100,77 @@ pub returns-in-Done-clause-text : goal.returns-in-Done-clause-text
 returns-in-Done-clause-text c = λ p s stands h.
     let inv = c.loop-used.invariant in
     let led = rw c.in-Done.is at (c.advance-n.ensures.steps _ (inv.stands p stands)) in
-    piece_shows _ _ c.args.expect p c.args.piece.now c.loop-used.used c.advance-n.result.0 inv.limit c.advance-n.new.self s (λ h. cc)
+    piece_shows _ _ c.args.expect p c.args.piece.now c.loop-used.used c.advance-n.result.0 inv.limit
+    c.advance-n.new.self s (λ h. cc)
     (c.advance-n.ensures.text _ _ (inv.stands p stands) (inv.text p s stands h))
 
 pub returns-in-Done-clause-repeated : goal.returns-in-Done-clause-repeated
-returns-in-Done-clause-repeated c = λ refusal e. absurd (no_refusal _ refusal c.in_default.not-Failed e)
+returns-in-Done-clause-repeated c = λ refusal e. absurd
+    (no_refusal _ refusal c.in_default.not-Failed e)
 
 pub returns-in-Done-clause-unchanged : goal.returns-in-Done-clause-unchanged
-returns-in-Done-clause-unchanged c = λ refusal e. absurd (no_refusal _ refusal c.in_default.not-Failed e)
+returns-in-Done-clause-unchanged c = λ refusal e. absurd
+    (no_refusal _ refusal c.in_default.not-Failed e)
 
 pub returns-in-Wrong-clause-answers : goal.returns-in-Wrong-clause-answers
 returns-in-Wrong-clause-answers c = λ p stands.
     let inv = c.loop-used.invariant in
     let led = rw c.in-Wrong.is at (c.advance-n.ensures.steps _ (inv.stands p stands)) in
-    piece_decided _ _ c.args.expect p c.args.piece.now c.loop-used.used c.advance-n.result.0 inv.limit (λ h. cc) ∙ led.0
-    ∙ ap (wrong c.in-Wrong.fault) (sym led.1) ∙ ap (λ (r : FrameRefusal). wrong r.fault r.shown_by) (sym c.refusal-in-Wrong.ensures)
+    piece_decided _ _ c.args.expect p c.args.piece.now c.loop-used.used c.advance-n.result.0
+    inv.limit (λ h. cc) ∙ led.0
+    ∙ ap (wrong c.in-Wrong.fault) (sym led.1) ∙ ap (λ (r : FrameRefusal). wrong r.fault r.shown_by)
+    (sym c.refusal-in-Wrong.ensures)
 
 pub returns-in-Wrong-clause-text : goal.returns-in-Wrong-clause-text
 returns-in-Wrong-clause-text c = λ p s stands h.
     let inv = c.loop-used.invariant in
     let led = rw c.in-Wrong.is at (c.advance-n.ensures.steps _ (inv.stands p stands)) in
     let decided = led.0 in
-    piece_shows _ _ c.args.expect p c.args.piece.now c.loop-used.used c.advance-n.result.0 inv.limit c.advance-n.new.self s (λ h. cc)
+    piece_shows _ _ c.args.expect p c.args.piece.now c.loop-used.used c.advance-n.result.0 inv.limit
+    c.advance-n.new.self s (λ h. cc)
     (c.advance-n.ensures.text _ _ (inv.stands p stands) (inv.text p s stands h))
 
 pub returns-in-Wrong-clause-failed : goal.returns-in-Wrong-clause-failed
 returns-in-Wrong-clause-failed c =
-    let kept = rw c.in-Wrong.is at c.advance-n.ensures.kept in kept ∙ ap Some (sym c.refusal-in-Wrong.ensures)
+    let kept = rw c.in-Wrong.is at c.advance-n.ensures.kept in kept ∙ ap Some
+    (sym c.refusal-in-Wrong.ensures)
 
 pub returns-in-Wrong-clause-repeated : goal.returns-in-Wrong-clause-repeated
-returns-in-Wrong-clause-repeated c = λ refusal e. absurd (no_refusal _ refusal c.in_default.not-Failed e)
+returns-in-Wrong-clause-repeated c = λ refusal e. absurd
+    (no_refusal _ refusal c.in_default.not-Failed e)
 
 pub returns-in-Wrong-clause-unchanged : goal.returns-in-Wrong-clause-unchanged
-returns-in-Wrong-clause-unchanged c = λ refusal e. absurd (no_refusal _ refusal c.in_default.not-Failed e)
+returns-in-Wrong-clause-unchanged c = λ refusal e. absurd
+    (no_refusal _ refusal c.in_default.not-Failed e)
 
 -- where the piece is used up, the reader stands for all of it
 module _ (c : After-loop-used) (p : List ℕ) where
   all : p ++ take c.loop-used.used c.args.piece.now ≡ p ++ c.args.piece.now
-  all = all_taken p c.args.piece.now c.loop-used.used (omega (arith, c.loop-used.invariant.within, c.loop-used-test.false))
+  all = all_taken p c.args.piece.now c.loop-used.used
+      (omega (arith, c.loop-used.invariant.within, c.loop-used-test.false))
 
-  still : StandsFor c.args.self.now c.args.expect p → frame_at (limit_of c.args.self.now) c.args.expect (p ++ c.args.piece.now) ≡ begun
+  still : StandsFor c.args.self.now c.args.expect p → frame_at (limit_of c.args.self.now)
+      c.args.expect (p ++ c.args.piece.now) ≡ begun
   still stands =
       let inv = c.loop-used.invariant in
       ap (frame_at (limit_of c.args.self.now) c.args.expect) (sym all)
-      ∙ begun_still (limit_of c.args.self.now) c.loop-used.self c.args.expect (p ++ take c.loop-used.used c.args.piece.now) inv.limit (inv.stands p stands)
+      ∙ begun_still (limit_of c.args.self.now) c.loop-used.self c.args.expect
+      (p ++ take c.loop-used.used c.args.piece.now) inv.limit (inv.stands p stands)
 
 pub returns-clause-answers : goal.returns-clause-answers
-returns-clause-answers c = λ p stands. (omega (arith, c.loop-used.invariant.within, c.loop-used-test.false), still c p stands)
+returns-clause-answers c = λ p stands.
+    (omega (arith, c.loop-used.invariant.within, c.loop-used-test.false), still c p stands)
 
 pub returns-clause-stands : goal.returns-clause-stands
-returns-clause-stands c = λ p stands. subst (StandsFor c.loop-used.self c.args.expect) (all c p) (c.loop-used.invariant.stands p stands)
+returns-clause-stands c = λ p stands. subst (StandsFor c.loop-used.self c.args.expect) (all c p)
+    (c.loop-used.invariant.stands p stands)
 
 pub returns-clause-text : goal.returns-clause-text
 returns-clause-text c = λ p s stands h.
-    subst (λ y. ShowsText c.loop-used.self (text_after s c.args.expect (p ++ c.args.piece.now) y)) (sym (still c p stands))
-    (subst (λ q. ShowsText c.loop-used.self (text_after s c.args.expect q begun)) (all c p) (c.loop-used.invariant.text p s stands h))
+    subst (λ y. ShowsText c.loop-used.self (text_after s c.args.expect (p ++ c.args.piece.now) y))
+    (sym (still c p stands))
+    (subst (λ q. ShowsText c.loop-used.self (text_after s c.args.expect q begun)) (all c p)
+    (c.loop-used.invariant.text p s stands h))
 
 pub returns-clause-repeated : goal.returns-clause-repeated
 returns-clause-repeated c = λ refusal e. absurd (no_refusal _ refusal c.in_default.not-Failed e)

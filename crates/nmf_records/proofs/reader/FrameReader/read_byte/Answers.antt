@@ -12,17 +12,24 @@ pub returns-in-Field-clause-progresses : goal.returns-in-Field-clause-progresses
 unfolding StandsFor
 returns-in-Field-clause-progresses c = λ p stands reads.
     let r = c.args.self.now in
-    let shape : HasShape c.args.expect (stages.Field c.in-Field.field) p = rw c.in-Field.is at stands.shape in
+    let shape : HasShape c.args.expect (stages.Field c.in-Field.field) p = rw c.in-Field.is at
+    stands.shape in
     let int : IntStandsFor r.size [] = rw c.in-Field.is at stands.size in
-    field_leads (limit_of r) c.args.expect c.in-Field.field p c.args.byte r c.after_field.result shape (c.after_field.ensures.reads _ _ p shape stands.begun) (c.after_field.ensures.goes _ p shape) int
+    field_leads (limit_of r) c.args.expect c.in-Field.field p c.args.byte r c.after_field.result
+    shape (c.after_field.ensures.reads _ _ p shape stands.begun)
+    (c.after_field.ensures.goes _ p shape) int
 
 pub returns-in-Size-clause-progresses : goal.returns-in-Size-clause-progresses
 unfolding StandsFor
 returns-in-Size-clause-progresses c = λ p stands reads.
     let r = c.args.self.now in
-    let shape : HasShape c.args.expect (stages.Size c.in-Size.size) p = rw c.in-Size.is at stands.shape in
-    let int : IntStandsFor r.size (size_bytes (stages.Size c.in-Size.size) p) = rw c.in-Size.is at stands.size in
-    size_byte_leads (limit_of r) c.args.expect c.in-Size.size p c.args.byte c.read_size_byte.new.self c.read_size_byte.result stands.begun shape (c.read_size_byte.ensures.answers _ int)
+    let shape : HasShape c.args.expect (stages.Size c.in-Size.size) p = rw c.in-Size.is at
+    stands.shape in
+    let int : IntStandsFor r.size (size_bytes (stages.Size c.in-Size.size) p) = rw c.in-Size.is at
+    stands.size in
+    size_byte_leads (limit_of r) c.args.expect c.in-Size.size p c.args.byte
+    c.read_size_byte.new.self c.read_size_byte.result stands.begun shape
+    (c.read_size_byte.ensures.answers _ int)
 
 pub returns-in-Size-clause-limit : goal.returns-in-Size-clause-limit
 unfolding limit_of
@@ -39,15 +46,22 @@ returns-in_default-clause-progresses c = λ p stands reads.
 pub returns-in-Field-clause-text : goal.returns-in-Field-clause-text
 unfolding StandsFor
 returns-in-Field-clause-text c = λ p s stands reads h.
-    let shape : HasShape c.args.expect (stages.Field c.in-Field.field) p = rw c.in-Field.is at stands.shape in
-    plain_shows c.args.self.now s c.args.expect (p ++ c.args.byte ∷ []) (frame_at (limit_of c.args.self.now) c.args.expect (p ++ c.args.byte ∷ [])) (field_head c.args.expect c.in-Field.field p (c.args.byte ∷ []) shape) h
+    let shape : HasShape c.args.expect (stages.Field c.in-Field.field) p = rw c.in-Field.is at
+    stands.shape in
+    plain_shows c.args.self.now s c.args.expect (p ++ c.args.byte ∷ [])
+    (frame_at (limit_of c.args.self.now) c.args.expect (p ++ c.args.byte ∷ []))
+    (field_head c.args.expect c.in-Field.field p (c.args.byte ∷ []) shape) h
 
 pub returns-in-Size-clause-text : goal.returns-in-Size-clause-text
 unfolding StandsFor
 returns-in-Size-clause-text c = λ p s stands reads h.
-    let shape : HasShape c.args.expect (stages.Size c.in-Size.size) p = rw c.in-Size.is at stands.shape in
-    plain_shows c.read_size_byte.new.self s c.args.expect (p ++ c.args.byte ∷ []) (frame_at (limit_of c.args.self.now) c.args.expect (p ++ c.args.byte ∷ [])) (size_head c.args.expect c.in-Size.size p (c.args.byte ∷ []) shape)
-    (shows_same c.args.self.now c.read_size_byte.new.self s (ap (λ (r : FrameReader). r.text) c.read_size_byte.ensures.others) h)
+    let shape : HasShape c.args.expect (stages.Size c.in-Size.size) p = rw c.in-Size.is at
+    stands.shape in
+    plain_shows c.read_size_byte.new.self s c.args.expect (p ++ c.args.byte ∷ [])
+    (frame_at (limit_of c.args.self.now) c.args.expect (p ++ c.args.byte ∷ []))
+    (size_head c.args.expect c.in-Size.size p (c.args.byte ∷ []) shape)
+    (shows_same c.args.self.now c.read_size_byte.new.self s
+    (ap (λ (r : FrameReader). r.text) c.read_size_byte.ensures.others) h)
 
 pub returns-in_default-clause-text : goal.returns-in_default-clause-text
 unfolding StandsFor

@@ -13,28 +13,39 @@ pub returns-in-Text-clause-progresses : goal.returns-in-Text-clause-progresses
 unfolding StandsFor
 returns-in-Text-clause-progresses c = λ p stands.
     let r = c.args.self.now in
-    let shape : HasShape c.args.expect (stages.Text c.in-Text.text) p = rw c.in-Text.is at stands.shape in
+    let shape : HasShape c.args.expect (stages.Text c.in-Text.text) p = rw c.in-Text.is at
+    stands.shape in
     let int : IntStandsFor r.size [] = rw c.in-Text.is at stands.size in
     let text : StringStandsFor r.text (drop 1 p) = rw c.in-Text.is at stands.text in
-    let size : c.read_text.new.self.size ≡ r.size = ap (λ (r : FrameReader). r.size) c.read_text.ensures.others in
-    text_leads (limit_of r) c.args.expect c.in-Text.text p (take c.read_text.result.0 c.args.bytes.now) c.read_text.new.self c.read_text.result.1
-    stands.begun shape (rw size int) (c.read_text.ensures.answers (drop 1 p) text (text_begun (limit_of r) c.args.expect c.in-Text.text p stands.begun shape))
+    let size : c.read_text.new.self.size ≡ r.size = ap (λ (r : FrameReader). r.size)
+    c.read_text.ensures.others in
+    text_leads (limit_of r) c.args.expect c.in-Text.text p
+    (take c.read_text.result.0 c.args.bytes.now) c.read_text.new.self c.read_text.result.1
+    stands.begun shape (rw size int)
+    (c.read_text.ensures.answers (drop 1 p) text
+    (text_begun (limit_of r) c.args.expect c.in-Text.text p stands.begun shape))
 
 pub returns-in-Text-clause-text : goal.returns-in-Text-clause-text
 unfolding StandsFor
 returns-in-Text-clause-text c = λ p s stands h.
     let r = c.args.self.now in
-    let shape : HasShape c.args.expect (stages.Text c.in-Text.text) p = rw c.in-Text.is at stands.shape in
+    let shape : HasShape c.args.expect (stages.Text c.in-Text.text) p = rw c.in-Text.is at
+    stands.shape in
     let text : StringStandsFor r.text (drop 1 p) = rw c.in-Text.is at stands.text in
     let taken : List ℕ = take c.read_text.result.0 c.args.bytes.now in
-    let more : p ++ taken ≡ kind_of_text c.in-Text.text ∷ (drop 1 p ++ taken) = ap (λ (x : List ℕ). x ++ taken) shape in
-    let h' : frame_at (limit_of r) c.args.expect (kind_of_text c.in-Text.text ∷ drop 1 p) ≡ begun = ap (frame_at (limit_of r) c.args.expect) (sym shape) ∙ stands.begun in
-    rw more (text_shows (limit_of r) c.read_text.new.self s c.args.expect c.in-Text.text (drop 1 p) (drop 1 p ++ taken) c.read_text.ensures.limit h' (c.read_text.ensures.stands (drop 1 p) text))
+    let more : p ++ taken ≡ kind_of_text c.in-Text.text ∷ (drop 1 p ++ taken) =
+    ap (λ (x : List ℕ). x ++ taken) shape in
+    let h' : frame_at (limit_of r) c.args.expect (kind_of_text c.in-Text.text ∷ drop 1 p)
+    ≡ begun = ap (frame_at (limit_of r) c.args.expect) (sym shape) ∙ stands.begun in
+    rw more (text_shows (limit_of r) c.read_text.new.self s c.args.expect c.in-Text.text (drop 1 p)
+    (drop 1 p ++ taken) c.read_text.ensures.limit h' (c.read_text.ensures.stands (drop 1 p) text))
 
 pub returns-in-Failed-clause-progresses : goal.returns-in-Failed-clause-progresses
 unfolding StandsFor
-returns-in-Failed-clause-progresses c = λ p stands. let none : ⊥ = rw c.in-Failed.is at stands.shape in absurd none
+returns-in-Failed-clause-progresses c = λ p stands. let none : ⊥ = rw c.in-Failed.is at stands.shape
+    in absurd none
 
 pub returns-in-Failed-clause-text : goal.returns-in-Failed-clause-text
 unfolding StandsFor
-returns-in-Failed-clause-text c = λ p s stands h. let none : ⊥ = rw c.in-Failed.is at stands.shape in absurd none
+returns-in-Failed-clause-text c = λ p s stands h. let none : ⊥ = rw c.in-Failed.is at stands.shape
+    in absurd none

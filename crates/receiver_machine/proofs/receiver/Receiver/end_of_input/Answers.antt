@@ -5,12 +5,15 @@ use Rattle.receiver_machine.specs.declared.receiver.Receiver.{Receiver}
 use Rattle.stream_reader.specs.Standing.{failure_of as failure_at}
 use Rattle.stream_reader.proofs.EndTold.{ends_well, ends_refused}
 use Rattle.receiver_machine.proofs.Owing.{owed_failed}
-use Rattle.receiver_machine.specs.Standing.{owed_unless, settings_of, taken_of, messages_of, failure_of, ShowsText, ShowsStrings, StandsFor, FailedBehind, owed_of}
+use Rattle.receiver_machine.specs.Standing.{owed_unless, settings_of, taken_of, messages_of}
+use Rattle.receiver_machine.specs.Standing.{failure_of, ShowsText, ShowsStrings, StandsFor}
+use Rattle.receiver_machine.specs.Standing.{FailedBehind, owed_of}
 use Rattle.receiver_machine.proofs.receiver.Receiver.end_of_input.Goals as goal
 
 pub unreachable-requires : goal.unreachable-requires
 unfolding settings_of taken_of messages_of failure_of ShowsText ShowsStrings StandsFor FailedBehind
-unreachable-requires c = c.requires (c.in-Err-Memory.ensures.wanted (ap Err c.in-Err-Memory.field-0-is))
+unreachable-requires c = c.requires
+    (c.in-Err-Memory.ensures.wanted (ap Err c.in-Err-Memory.field-0-is))
 
 pub returns-in-Ok-clause-answers : goal.returns-in-Ok-clause-answers
 unfolding settings_of taken_of messages_of failure_of ShowsText ShowsStrings StandsFor FailedBehind
@@ -18,7 +21,8 @@ returns-in-Ok-clause-answers c = λ p stands. ends_well _ (c.in-Ok.ensures.answe
 
 pub returns-in-Err-Offence-clause-answers : goal.returns-in-Err-Offence-clause-answers
 unfolding settings_of taken_of messages_of failure_of ShowsText ShowsStrings StandsFor FailedBehind
-returns-in-Err-Offence-clause-answers c = λ p stands. ends_refused _ c.in-Err-Offence.offence (rw c.in-Err-Offence.field-0-is at (c.in-Err-Offence.ensures.answers p stands))
+returns-in-Err-Offence-clause-answers c = λ p stands. ends_refused _ c.in-Err-Offence.offence
+    (rw c.in-Err-Offence.field-0-is at (c.in-Err-Offence.ensures.answers p stands))
 
 pub returns-in-Err-Offence-clause-owed : goal.returns-in-Err-Offence-clause-owed
 unfolding owed_of

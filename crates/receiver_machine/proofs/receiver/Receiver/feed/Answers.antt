@@ -1,4 +1,5 @@
-use Rattle.receiver_machine.specs.Standing.{settings_of, failure_of, StandsFor, FailedBehind, owed_of}
+use Rattle.receiver_machine.specs.Standing.{settings_of, failure_of, StandsFor, FailedBehind}
+use Rattle.receiver_machine.specs.Standing.{owed_of}
 use Rattle.receiver_machine.proofs.Owing.{owed_fed, repeats_it}
 use Rattle.receiver_machine.proofs.receiver.Receiver.feed.Goals as goal
 
@@ -9,5 +10,6 @@ returns-clause-unchanged c = λ refusal e. rw c.after-self.ensures (repeats_it _
 
 pub returns-clause-owed : goal.returns-clause-owed
 unfolding StandsFor owed_of
-returns-clause-owed c = λ p stands. rw c.after-self.ensures (owed_fed _ _ _ p c.args.piece.now _ stands
+returns-clause-owed c = λ p stands. rw c.after-self.ensures
+    (owed_fed _ _ _ p c.args.piece.now _ stands
     (c.feed-answer.ensures.stands p stands) c.feed-answer.ensures.refused)

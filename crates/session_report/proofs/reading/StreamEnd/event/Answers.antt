@@ -1,4 +1,5 @@
-use Rattle.session_report.proofs.Saying.{says_accepted, says_ended, says_fault, says_message, says_opened}
+use Rattle.session_report.proofs.Saying.{says_accepted, says_ended, says_fault, says_message}
+use Rattle.session_report.proofs.Saying.{says_opened}
 use Rattle.session_report.proofs.reading.StreamEnd.event.Goals as goal
 
 pub returns-in_ok-via-in-Opened : goal.returns-in_ok-via-in-Opened

@@ -1,4 +1,5 @@
-use Rattle.std.proofs.Common.{◌≡◌, ℕ, ◌^◌, ◌<◌, List, Option, Some, None, Result, Ok, Err, arith, refl, sym, ◌∙◌, subst}
+use Rattle.std.proofs.Common.{◌≡◌, ℕ, ◌^◌, ◌<◌, List, Option, Some, None, Result, Ok, Err, arith}
+use Rattle.std.proofs.Common.{refl, sym, ◌∙◌, subst}
 use Rattle.std.proofs.Math.Logic.{∥∥₁_map}
 use Rattle.nbfx_values.specs.QuotasOf.{limits_of}
 use Rattle.nbfx_values.specs.declared.refusals.Reason.{Reason}
@@ -16,7 +17,8 @@ use Rattle.stream_reader.specs.declared.reader.ReadRefusal.{ReadRefusal}
 use Rattle.stream_reader.specs.declared.reader.StreamStep.{StreamStep}
 use Rattle.stream_reader.specs.Stream.{Settings, Situation, Stage, payloads, reason_in}
 use Rattle.stream_reader.proofs.MadePayloads.{bounded_made}
-use Rattle.stream_reader.proofs.Behind.{behind_refusal, bare_answers, made_answers, made_decoded, made_some, no_payload, made_none}
+use Rattle.stream_reader.proofs.Behind.{behind_refusal, bare_answers, made_answers, made_decoded}
+use Rattle.stream_reader.proofs.Behind.{made_some, no_payload, made_none}
 use Rattle.stream_reader.proofs.reader.StreamReader.behind.Goals as goal
 
 -- what it is set to
@@ -99,7 +101,8 @@ returns-in-Some-made-clause-answers c = λ read z text same here.
     ∙ no_reason c.reason_in.result c.in_default.not-Some in
     let makes = subst (MakesPayload r.awaited r.unit_from c.args.frame) c.in-Some-made.is
     c.payload_by-made.ensures in
-    let m = made_some r x z c.args.frame text h r.unit_from r.taken c.in-Some-made.payload makes good
+    let m = made_some r x z c.args.frame text h r.unit_from r.taken c.in-Some-made.payload makes
+    good
     (low r) in
     made_answers r x z c.args.frame text h r.unit_from r.taken c.behind_payload.new.self
     c.in-Some-made.payload m c.behind_payload.result good

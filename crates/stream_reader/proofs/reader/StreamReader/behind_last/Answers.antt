@@ -1,7 +1,8 @@
 use Rattle.std.proofs.Common.{◌≡◌, [], subst, ap, arith, sym, refl}
 use Rattle.std.proofs.Math.Logic.{∥∥₁_map}
 use Rattle.nbfx_decoder.specs.declared.decoder.Decoder.{Decoder}
-use Rattle.nbfx_decoder.specs.Standing.{settings_of as decoder_settings, FailedBehind as DecoderFailedBehind}
+use Rattle.nbfx_decoder.specs.Standing.{settings_of as decoder_settings}
+use Rattle.nbfx_decoder.specs.Standing.{FailedBehind as DecoderFailedBehind}
 use Rattle.stream_reader.specs.declared.awaited.Awaited.TheVariants as awaits
 use Rattle.stream_reader.specs.Bounds.{IsBounded}
 use Rattle.stream_reader.specs.Standing.{failure_of}

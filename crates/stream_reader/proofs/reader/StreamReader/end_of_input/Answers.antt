@@ -7,7 +7,8 @@ use Rattle.stream_reader.specs.declared.reader.StreamReader.{StreamReader}
 use Rattle.stream_reader.specs.Standing.{StandsFor, failure_of, settings_of}
 use Rattle.stream_reader.specs.Stepping.{may_end_at}
 use Rattle.stream_reader.specs.Stream.{direction_of, offence_at}
-use Rattle.stream_reader.proofs.ReaderFacts.{not_failed, ending_is, failed_as_set, refused_shows, same_settings}
+use Rattle.stream_reader.proofs.ReaderFacts.{not_failed, ending_is, failed_as_set, refused_shows}
+use Rattle.stream_reader.proofs.ReaderFacts.{same_settings}
 use Rattle.stream_reader.proofs.reader.StreamReader.end_of_input.Goals as goal
 
 -- whose stream it reads

@@ -1,4 +1,6 @@
-use Rattle.std.proofs.Common.{◌≡◌, ℕ, ◌+◌, ◌-◌, ◌<◌, ◌≤◌, inl, inr, List, ◌++◌, length, take, drop, true, false, Some, Result, Ok, Err, refl, sym, ap, ◌∙◌, subst, arith, length-append, length-drop}
+use Rattle.std.proofs.Common.{◌≡◌, ℕ, ◌+◌, ◌-◌, ◌<◌, ◌≤◌, inl, inr, List, ◌++◌, length, take, drop}
+use Rattle.std.proofs.Common.{true, false, Some, Result, Ok, Err, refl, sym, ap, ◌∙◌, subst, arith}
+use Rattle.std.proofs.Common.{length-append, length-drop}
 use Rattle.std.proofs.lemmas.Bool.{cases_lt}
 use Rattle.std.proofs.lemmas.List.{take-append-drop, length-take-le}
 use Rattle.unit_streams.specs.Judging.{event_at, is_over_at}
@@ -13,8 +15,12 @@ use Rattle.stream_reader.specs.Saying.{Repeats}
 use Rattle.stream_reader.specs.Stream.{Settings, offence_at, stream}
 use Rattle.stream_reader.specs.Standing.{Reached, StandsFor, failure_of, settings_of}
 use Rattle.stream_reader.specs.Stepping.{has_ended, taken_since, UnitAnswers}
-use Rattle.stream_reader.proofs.ReaderFacts.{not_failed, open_as_opened, over_as_ended, refused_shows, repeats_end, same_settings}
-use Rattle.stream_reader.proofs.FeedSteps.{Along, Fed, FedRefused, along_none, along_more, along_event, along_refused, along_too_long, along_end, fails_at_once, fails_since, says_refused, some_taken, unit_by, wanted_payloads}
+use Rattle.stream_reader.proofs.ReaderFacts.{not_failed, open_as_opened, over_as_ended}
+use Rattle.stream_reader.proofs.ReaderFacts.{refused_shows, repeats_end, same_settings}
+use Rattle.stream_reader.proofs.FeedSteps.{Along, Fed, FedRefused, along_none, along_more}
+use Rattle.stream_reader.proofs.FeedSteps.{along_event, along_refused, along_too_long, along_end}
+use Rattle.stream_reader.proofs.FeedSteps.{fails_at_once, fails_since, says_refused, some_taken}
+use Rattle.stream_reader.proofs.FeedSteps.{unit_by, wanted_payloads}
 use Rattle.stream_reader.proofs.reader.StreamReader.feed.Goals as goal
 use Rattle.stream_reader.proofs.reader.StreamReader.feed.Goals.{At-loop-used}
 

@@ -10,7 +10,9 @@ invariant-loop-used l = record {
   within : l.used ≤ l.room;
   settings : settings_of l.self ≡ settings_of l.initial.self;
   taken : l.self.taken ≡ l.initial.self.taken + l.used;
-  along : (p : List ℕ) → StandsFor l.initial.self p → is_over_at (stream (settings_of l.initial.self)) p ≡ false → Along l.self (settings_of l.initial.self) p l.piece l.used;
+  along : (p : List ℕ) → StandsFor l.initial.self p
+      → is_over_at (stream (settings_of l.initial.self)) p ≡ false
+      → Along l.self (settings_of l.initial.self) p l.piece l.used;
 }
 
 abbrev pub decreases-loop-used : goal.decreases-loop-used

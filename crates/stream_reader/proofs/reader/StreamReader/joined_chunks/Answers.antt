@@ -1,8 +1,10 @@
-use Rattle.std.proofs.Common.{◌≡◌, ℕ, ◌+◌, ◌≤◌, List, ◌++◌, length, Ok, Err, refl, sym, ap, ◌∙◌, subst, arith}
+use Rattle.std.proofs.Common.{◌≡◌, ℕ, ◌+◌, ◌≤◌, List, ◌++◌, length, Ok, Err, refl, sym, ap, ◌∙◌}
+use Rattle.std.proofs.Common.{subst, arith}
 use Rattle.std.proofs.Math.Logic.{∥∥₁_map}
 use Rattle.unit_streams.specs.Grammar.{standing}
 use Rattle.nbfx_decoder.specs.declared.decoder.Decoder.{Decoder}
-use Rattle.nbfx_decoder.specs.Standing.{settings_of as decoder_settings, FailedWithin, FeedAnswers, StandsFor as DecoderStandsFor}
+use Rattle.nbfx_decoder.specs.Standing.{settings_of as decoder_settings, FailedWithin, FeedAnswers}
+use Rattle.nbfx_decoder.specs.Standing.{StandsFor as DecoderStandsFor}
 use Rattle.stream_reader.specs.declared.awaited.Awaited.{Awaited}
 use Rattle.stream_reader.specs.declared.awaited.Awaited.TheVariants as awaits
 use Rattle.stream_reader.specs.declared.awaited.PayloadLeft.{PayloadLeft}
@@ -12,7 +14,8 @@ use Rattle.stream_reader.specs.Runs.{place_in as place_of}
 use Rattle.stream_reader.specs.Standing.{StandsFor, failure_of, settings_of}
 use Rattle.stream_reader.specs.Stepping.{UnitAnswers}
 use Rattle.stream_reader.specs.Stream.{Settings, stream}
-use Rattle.stream_reader.proofs.Bounded.{bounded_at, bounded_fed, bounded_refused, failed_within, may_take}
+use Rattle.stream_reader.proofs.Bounded.{bounded_at, bounded_fed, bounded_refused, failed_within}
+use Rattle.stream_reader.proofs.Bounded.{may_take}
 use Rattle.stream_reader.proofs.ReaderFacts.{same_settings}
 use Rattle.stream_reader.proofs.RunFeeds.{chunk_part, run_fails, run_took}
 use Rattle.stream_reader.proofs.reader.StreamReader.joined_chunks.Goals as goal
@@ -157,4 +160,5 @@ returns-clause-answers c = λ p h.
     (subst (λ (b : List ℕ). DecoderStandsFor c.feed.new.self
     (standing (stream x) p).situation.strings (part.bytes ++ b)) run.content_is
     (c.in_default.ensures.stands _ part.bytes part.stands_for))
-    (ap (λ n. r.taken + n) run_size) (ap (λ n. r.taken + n) run_size) refl c.args.chunks.now run.run_is
+    (ap (λ n. r.taken + n) run_size) (ap (λ n. r.taken + n) run_size) refl c.args.chunks.now
+    run.run_is

@@ -6,9 +6,14 @@ use Rattle.nbfx_values.specs.Measures.{content_of}
 use Rattle.nbfx_values.specs.declared.limits.Kept.{Kept}
 use Rattle.nbfx_decoder.specs.declared.decoder.Decoder.{Decoder}
 use Rattle.nbfx_decoder.specs.declared.faults.DecodeFault.{DecodeFault}
-use Rattle.nbfx_decoder.specs.Standing.{settings_of as decoder_settings, StandsFor as DecoderStandsFor, FailedBehind as DecoderFailedBehind, WhereItStands as WhereDecoderStands, WhereItFailed as WhereDecoderFailed}
+use Rattle.nbfx_decoder.specs.Standing.{settings_of as decoder_settings}
+use Rattle.nbfx_decoder.specs.Standing.{StandsFor as DecoderStandsFor}
+use Rattle.nbfx_decoder.specs.Standing.{FailedBehind as DecoderFailedBehind}
+use Rattle.nbfx_decoder.specs.Standing.{WhereItStands as WhereDecoderStands}
+use Rattle.nbfx_decoder.specs.Standing.{WhereItFailed as WhereDecoderFailed}
 use Rattle.stream_reader.specs.Bounds.{IsBounded}
-use Rattle.stream_reader.specs.Standing.{FailedBehind, ShowsTable, ShowsStrings, StandsFor, held_of, settings_of}
+use Rattle.stream_reader.specs.Standing.{FailedBehind, ShowsTable, ShowsStrings, StandsFor, held_of}
+use Rattle.stream_reader.specs.Standing.{settings_of}
 use Rattle.stream_reader.proofs.ReaderFacts.{comes_in, shows_in}
 use Rattle.stream_reader.proofs.reader.StreamReader.kept.Goals as goal
 use Rattle.stream_reader.proofs.reader.StreamReader.kept.Goals.{After-saturating_add}
@@ -18,7 +23,14 @@ unfolding StandsFor settings_of
 returns-clause-raw c = λ p h.
     let come = comes_in c.args.self.now _ _ h.at in
     let raw = c.kept-payload.ensures.raw come.before come.bytes come.stands_for in
-    omega (arith, raw, ap length come.begun, c.saturating_add.ensures, c.held.ensures.within, c.args.self.now.limit)
+    omega (
+      arith,
+      raw,
+      ap length come.begun,
+      c.saturating_add.ensures,
+      c.held.ensures.within,
+      c.args.self.now.limit,
+    )
 
 pub returns-clause-content : goal.returns-clause-content
 unfolding StandsFor
@@ -27,11 +39,18 @@ returns-clause-content c = λ p h.
     c.kept-payload.ensures.content come.before come.bytes come.stands_for ∙ ap content_of come.items
 
 -- what a decoder keeps
-kept_within : (d : Decoder) (kept : Kept) → WhereDecoderStands d (λ before bytes. (kept.raw ≤ (decoder_settings d).limits.payload) × (kept.content ≤ (decoder_settings d).limits.content))
-    → WhereDecoderFailed d (λ fault before bytes. kept ≡ record { raw = 0; content = 0 }) → (strings : List (List ℕ)) → ShowsTable d strings
-    → (kept.raw ≤ (decoder_settings d).limits.payload) × (kept.content ≤ (decoder_settings d).limits.content)
+kept_within : (d : Decoder) (kept : Kept) → WhereDecoderStands d
+    (λ before bytes. (kept.raw ≤ (decoder_settings d).limits.payload)
+    × (kept.content ≤ (decoder_settings d).limits.content))
+    → WhereDecoderFailed d (λ fault before bytes. kept ≡ record { raw = 0; content = 0 })
+    → (strings : List (List ℕ)) → ShowsTable d strings
+    → (kept.raw ≤ (decoder_settings d).limits.payload)
+    × (kept.content ≤ (decoder_settings d).limits.content)
 kept_within d kept stands failed strings h = by_there h.there where
-  by_there : DecoderStandsFor d h.before h.bytes ⊎ ((fault : DecodeFault) × DecoderFailedBehind d fault h.before h.bytes) → (kept.raw ≤ (decoder_settings d).limits.payload) × (kept.content ≤ (decoder_settings d).limits.content)
+  by_there : DecoderStandsFor d h.before h.bytes
+      ⊎ ((fault : DecodeFault) × DecoderFailedBehind d fault h.before h.bytes)
+      → (kept.raw ≤ (decoder_settings d).limits.payload)
+      × (kept.content ≤ (decoder_settings d).limits.content)
   by_there (inl s) = stands h.before h.bytes s
   by_there (inr f) =
       let none = failed f.0 h.before h.bytes f.1 in
@@ -41,13 +60,25 @@ kept_within d kept stands failed strings h = by_there h.there where
 
 module _ (c : After-saturating_add) where
   shown_within : (strings : List (List ℕ)) → ShowsStrings c.args.self.now strings
-      → (c.saturating_add.result ≤ (settings_of c.args.self.now).limits.payload + (settings_of c.args.self.now).limits.via) × (c.kept-payload.result.content ≤ (settings_of c.args.self.now).limits.content)
+      → (c.saturating_add.result ≤ (settings_of c.args.self.now).limits.payload
+      + (settings_of c.args.self.now).limits.via)
+      × (c.kept-payload.result.content ≤ (settings_of c.args.self.now).limits.content)
   unfolding ShowsStrings settings_of
   shown_within strings h =
-      let within = kept_within c.args.self.now.decoder c.kept-payload.result c.kept-payload.ensures.within c.kept-payload.ensures.failed strings h in (
+      let within = kept_within c.args.self.now.decoder c.kept-payload.result
+      c.kept-payload.ensures.within c.kept-payload.ensures.failed strings h in (
         ∥∥₁_elim c.args.self.now.bounded le_prop
-            (λ (b : IsBounded _ _ _). let payload = ap (λ (l : Limits). l.payload) b.limits in omega (arith, within.0, payload, c.saturating_add.ensures, c.held.ensures.within, c.args.self.now.limit)),
-        ∥∥₁_elim c.args.self.now.bounded le_prop (λ (b : IsBounded _ _ _). let content = ap (λ (l : Limits). l.content) b.limits in omega (arith, within.1, content)),
+            (λ (b : IsBounded _ _ _). let payload = ap (λ (l : Limits). l.payload) b.limits in omega (
+              arith,
+              within.0,
+              payload,
+              c.saturating_add.ensures,
+              c.held.ensures.within,
+              c.args.self.now.limit,
+            )),
+        ∥∥₁_elim c.args.self.now.bounded le_prop
+            (λ (b : IsBounded _ _ _). let content = ap (λ (l : Limits). l.content) b.limits in omega
+            (arith, within.1, content)),
       )
 
 pub returns-clause-within : goal.returns-clause-within
@@ -65,4 +96,13 @@ returns-clause-held c =
     let payload = c.kept-payload.ensures.held in
     let text = c.held.ensures.counted in
     let within = c.held.ensures.within in
-    omega (arith, few, payload, text, within, c.args.self.now.limit, c.args.self.now.quotas.good.via_most, c.saturating_add.ensures)
+    omega (
+      arith,
+      few,
+      payload,
+      text,
+      within,
+      c.args.self.now.limit,
+      c.args.self.now.quotas.good.via_most,
+      c.saturating_add.ensures,
+    )

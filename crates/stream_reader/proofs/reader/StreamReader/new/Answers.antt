@@ -5,7 +5,8 @@ use Rattle.nbfx_values.specs.declared.refusals.Offence.{Offence}
 use Rattle.nmf_records.specs.Script.{first, may_come}
 use Rattle.unit_streams.specs.Judging.{is_over_at}
 use Rattle.stream_reader.specs.Sides.{side_of}
-use Rattle.stream_reader.specs.Stream.{Settings, Situation, StreamEvent, beginning, direction_of, payloads, stream}
+use Rattle.stream_reader.specs.Stream.{Settings, Situation, StreamEvent, beginning, direction_of}
+use Rattle.stream_reader.specs.Stream.{payloads, stream}
 use Rattle.stream_reader.specs.Standing.{StandsFor, settings_of}
 use Rattle.stream_reader.proofs.Grammar.{readable}
 use Rattle.nbfx_decoder.specs.Payload.{Settings as PayloadSettings}
@@ -18,7 +19,8 @@ use Rattle.stream_reader.proofs.reader.StreamReader.new.Goals as goal
 not_over : (x : Settings) → is_over_at (stream x) [] ≡ false
 unfolding is_over_at
 not_over x =
-    ap (λ (s : Standing Situation StreamEvent Offence). (stream x).is_over s.situation) (stands_first x)
+    ap (λ (s : Standing Situation StreamEvent Offence). (stream x).is_over s.situation)
+    (stands_first x)
     ∙ first_on x.side
 
 pub returns-clause-stands : goal.returns-clause-stands

@@ -1,4 +1,5 @@
-use Rattle.std.proofs.Common.{◌≡◌, ℕ, ◌+◌, ◌≤◌, ◌<◌, ◌^◌, List, length, min, take, refl, sym, ap, ◌∙◌, subst, arith}
+use Rattle.std.proofs.Common.{◌≡◌, ℕ, ◌+◌, ◌≤◌, ◌<◌, ◌^◌, List, length, min, take, refl, sym, ap}
+use Rattle.std.proofs.Common.{◌∙◌, subst, arith}
 use Rattle.std.proofs.lemmas.List.{length-take-le}
 use Rattle.std.proofs.lemmas.Result.{err_from_is_err_and}
 use Rattle.std.proofs.Math.Logic.{∥∥₁_map}
@@ -13,7 +14,8 @@ use Rattle.stream_reader.specs.Bounds.{IsBounded, size_of, to_come}
 use Rattle.stream_reader.specs.Standing.{Reached, StandsFor, failure_of, settings_of}
 use Rattle.stream_reader.specs.Stream.{Settings, stream}
 use Rattle.stream_reader.proofs.Bounded.{bounded_fed, bounded_refused, failed_within, may_take}
-use Rattle.stream_reader.proofs.PayloadFeeds.{found, own, more_left, has_decoded, feed_took, feed_behind, feed_fails}
+use Rattle.stream_reader.proofs.PayloadFeeds.{found, own, more_left, has_decoded, feed_took}
+use Rattle.stream_reader.proofs.PayloadFeeds.{feed_behind, feed_fails}
 use Rattle.stream_reader.proofs.PayloadSteps.{decoded_as}
 use Rattle.stream_reader.proofs.ReaderFacts.{failure_as, same_settings}
 use Rattle.stream_reader.proofs.Situations.{messages_within}

@@ -9,7 +9,8 @@ use Rattle.stream_reader.specs.declared.reader.StreamReader.{StreamReader}
 use Rattle.stream_reader.specs.Sides.{side_of}
 use Rattle.stream_reader.specs.Standing.{Awaits, settings_of}
 use Rattle.stream_reader.specs.Stepping.{size_before_of}
-use Rattle.stream_reader.specs.Stream.{Stage, record_due, chunk_due, payload_open, reason_in, serves, size_before, too_large}
+use Rattle.stream_reader.specs.Stream.{Stage, record_due, chunk_due, payload_open, reason_in}
+use Rattle.stream_reader.specs.Stream.{serves, size_before, too_large}
 use Rattle.stream_reader.proofs.reader.StreamReader.reason_in.Goals as goal
 
 -- what it is set to
@@ -62,5 +63,6 @@ returns-in-Chunk c = λ stage text awaits shown.
     ∙ before_as c.args.self.now.awaited stage awaits in
     c.too_large-in-Chunk.ensures (settings_of c.args.self.now) (limits_are c.args.self.now)
     ∙ ap (λ n. too_large (settings_of c.args.self.now) (n + c.from-in-Chunk-2.result)) before
-    ∙ ap (λ n. too_large (settings_of c.args.self.now) (size_before stage + n)) c.from-in-Chunk-2.ensures
+    ∙ ap (λ n. too_large (settings_of c.args.self.now) (size_before stage + n))
+    c.from-in-Chunk-2.ensures
     ∙ ap (λ f. reason_in (settings_of c.args.self.now) stage f text) (sym c.in-Chunk.is)

@@ -1,4 +1,5 @@
-use Rattle.std.proofs.Common.{◌≡◌, ℕ, ◌+◌, ◌^◌, ◌<◌, ◌≤◌, false, List, ◌++◌, length, refl, sym, ap, ◌∙◌, subst, arith, length-append}
+use Rattle.std.proofs.Common.{◌≡◌, ℕ, ◌+◌, ◌^◌, ◌<◌, ◌≤◌, false, List, ◌++◌, length, refl, sym, ap}
+use Rattle.std.proofs.Common.{◌∙◌, subst, arith, length-append}
 use Rattle.std.proofs.lemmas.Result.{err_from_is_err_and}
 use Rattle.unit_streams.specs.Front.{whole}
 use Rattle.unit_streams.specs.Grammar.{standing}
@@ -8,19 +9,22 @@ use Rattle.nmf_records.specs.declared.frame.Expect.{Expect}
 use Rattle.nmf_records.specs.declared.frame.Frame.{Frame}
 use Rattle.nmf_records.specs.declared.reader.FrameReader.{FrameReader}
 use Rattle.nmf_records.specs.Reading.{frame_at, with_text}
-use Rattle.nmf_records.specs.Reader.{limit_of, shown_behind, ShowsText as FramesShowText, StandsFor as FrameStandsFor}
+use Rattle.nmf_records.specs.Reader.{limit_of, shown_behind, ShowsText as FramesShowText}
+use Rattle.nmf_records.specs.Reader.{StandsFor as FrameStandsFor}
 use Rattle.nmf_records.specs.Script.{may_come}
 use Rattle.nmf_records.proofs.Frames.{frames_front}
 use Rattle.stream_reader.specs.declared.reader.ReadRefusal.TheVariants.{Offence as Refused}
 use Rattle.stream_reader.specs.declared.reader.StreamReader.{StreamReader}
 use Rattle.stream_reader.specs.Sides.{side_of}
-use Rattle.stream_reader.specs.Stream.{Settings, Situation, direction_of, offence_at, reason_of, stream}
+use Rattle.stream_reader.specs.Stream.{Settings, Situation, direction_of, offence_at, reason_of}
+use Rattle.stream_reader.specs.Stream.{stream}
 use Rattle.stream_reader.specs.Standing.{Reached, StandsFor, failure_of, settings_of}
 use Rattle.stream_reader.specs.Stepping.{IsDue, due_of}
 use Rattle.stream_reader.proofs.Grammar.{readable}
 use Rattle.stream_reader.proofs.ReaderFacts.{failure_as, same_settings}
 use Rattle.stream_reader.proofs.RecordFacts.{done_so, more_so, shown_so, wrong_so}
-use Rattle.stream_reader.proofs.RecordSteps.{frames_here, may_come_so, none_before, shown_via, record_more, record_done, record_refused, record_wrong}
+use Rattle.stream_reader.proofs.RecordSteps.{frames_here, may_come_so, none_before, shown_via}
+use Rattle.stream_reader.proofs.RecordSteps.{record_more, record_done, record_refused, record_wrong}
 use Rattle.stream_reader.proofs.Situations.{messages_within}
 use Rattle.stream_reader.proofs.reader.StreamReader.record.Goals as goal
 use Rattle.stream_reader.proofs.reader.StreamReader.record.Goals.{After-feed}
@@ -159,7 +163,8 @@ returns-in_ok-step-in-Ok-default-Done-clause-answers c = λ p h on.
     let said = done_so _ (x f p).limits.via _ _ (limit_is (r f p)) (expected_is f p) c.feed.new.self
     (b f p) (y f p) step.n _ read step.field-0-1-is
     (step.ensures.answers _ (stands f p h on)) (step.ensures.stands _ (stands f p h on)) in
-    let behind = done.answers read (z f p) said.0 (rw step.field-0-1-is refl) (is_due f p h on read said.0 step.n said.1
+    let behind = done.answers read (z f p) said.0 (rw step.field-0-1-is refl)
+    (is_due f p h on read said.0 step.n said.1
     refl refl refl refl refl refl) in
     record_done (r f p) (x f p) p (y f p) c.args.due c.requires.awaited h on (fits f p h on) read
     said.0 step.n said.1 c.behind.new.self c.feed.new.self done.keeps.frames (shown f p h on)
@@ -178,7 +183,8 @@ returns-in_err-step-in-Ok-default-Done-clause-answers c = λ p h on.
     let said = done_so _ (x f p).limits.via _ _ (limit_is (r f p)) (expected_is f p) c.feed.new.self
     (b f p) (y f p) step.n _ read step.field-0-1-is
     (step.ensures.answers _ (stands f p h on)) (step.ensures.stands _ (stands f p h on)) in
-    let behind = done.answers read (z f p) said.0 (rw step.field-0-1-is refl) (is_due f p h on read said.0 step.n said.1
+    let behind = done.answers read (z f p) said.0 (rw step.field-0-1-is refl)
+    (is_due f p h on read said.0 step.n said.1
     refl refl refl refl refl refl) in
     let told = err_from_is_err_and c.from_residual.result c.from_residual.ensures.1 in
     rw (told.1, told.2)

@@ -1,14 +1,16 @@
 use Rattle.std.proofs.Common.{refl, ◌∙◌}
 use Rattle.std.proofs.Math.Logic.{∥∥₁_map}
 use Rattle.stream_reader.specs.Bounds.{IsBounded}
-use Rattle.stream_reader.specs.Standing.{StandsFor, FailedBehind, ShowsText, ShowsStrings, settings_of, taken_of, messages_of, failure_of}
+use Rattle.stream_reader.specs.Standing.{StandsFor, FailedBehind, ShowsText, ShowsStrings}
+use Rattle.stream_reader.specs.Standing.{settings_of, taken_of, messages_of, failure_of}
 use Rattle.stream_reader.proofs.Bounded.{bounded_reused}
 use Rattle.stream_reader.proofs.ReaderFacts.{reads_too, shows_too}
 use Rattle.stream_reader.proofs.reader.StreamReader.reuse.Goals as goal
 
 pub invariant_of-self-clause-bounded : goal.invariant_of-self-clause-bounded
 invariant_of-self-clause-bounded c =
-    ∥∥₁_map c.args.self.now.bounded (λ (b : IsBounded _ _ _). bounded_reused _ _ _ _ c.reuse.ensures.settings b c.reuse.ensures.stands c.reuse.ensures.failed)
+    ∥∥₁_map c.args.self.now.bounded (λ (b : IsBounded _ _ _). bounded_reused _ _ _ _
+    c.reuse.ensures.settings b c.reuse.ensures.stands c.reuse.ensures.failed)
 
 pub returns-clause-stands : goal.returns-clause-stands
 unfolding StandsFor settings_of
@@ -19,7 +21,8 @@ returns-clause-stands c = λ p h. record {
     kind = h.at.kind;
     messages = h.at.messages;
     decodes = c.reuse.ensures.settings ∙ h.at.decodes;
-    payload = reads_too _ _ c.reuse.ensures.settings c.reuse.ensures.stands c.reuse.ensures.failed _ _ _ h.at.payload;
+    payload = reads_too _ _ c.reuse.ensures.settings c.reuse.ensures.stands c.reuse.ensures.failed _
+        _ _ h.at.payload;
   };
   frames = h.frames;
   text = h.text;
@@ -38,7 +41,8 @@ returns-clause-failed c = λ refusal taken p h. record {
   taken_is = h.taken_is;
   text = h.text;
   messages = h.messages;
-  strings = shows_too _ _ c.reuse.ensures.settings c.reuse.ensures.stands c.reuse.ensures.failed _ h.strings;
+  strings = shows_too _ _ c.reuse.ensures.settings c.reuse.ensures.stands c.reuse.ensures.failed _
+      h.strings;
 }
 
 pub returns-clause-settings : goal.returns-clause-settings

@@ -6,41 +6,56 @@ use Rattle.session_dictionary.specs.Strings.{LimitedStrings}
 use Rattle.string_tables.specs.SessionStrings.{used_cost}
 use Rattle.nbfx_decoder.specs.declared.decoder.Decoder.{Decoder}
 use Rattle.nbfx_decoder.specs.declared.faults.DecodeFault.{DecodeFault}
-use Rattle.nbfx_decoder.specs.Standing.{StandsFor as DecoderStandsFor, FailedBehind as DecoderFailedBehind, WhereItStands as WhereDecoderStands, WhereItFailed as WhereDecoderFailed, table_at}
+use Rattle.nbfx_decoder.specs.Standing.{StandsFor as DecoderStandsFor}
+use Rattle.nbfx_decoder.specs.Standing.{FailedBehind as DecoderFailedBehind}
+use Rattle.nbfx_decoder.specs.Standing.{WhereItStands as WhereDecoderStands}
+use Rattle.nbfx_decoder.specs.Standing.{WhereItFailed as WhereDecoderFailed, table_at}
 use Rattle.stream_reader.specs.Bounds.{IsBounded}
-use Rattle.stream_reader.specs.Standing.{ShowsTable, ShowsStrings, StandsFor, FailedBehind, settings_of}
+use Rattle.stream_reader.specs.Standing.{ShowsTable, ShowsStrings, StandsFor, FailedBehind}
+use Rattle.stream_reader.specs.Standing.{settings_of}
 use Rattle.stream_reader.proofs.ReaderFacts.{shows_in}
 use Rattle.stream_reader.proofs.reader.StreamReader.table.Goals as goal
 use Rattle.stream_reader.proofs.reader.StreamReader.table.Goals.{After-table}
 
 -- the table that a decoder has
-has_strings : (d : Decoder) (table : LimitedStrings) → WhereDecoderStands d (λ before bytes. table ≡ table_at d before bytes) → WhereDecoderFailed d (λ fault before bytes. table ≡ table_at d before bytes)
+has_strings : (d : Decoder) (table : LimitedStrings) → WhereDecoderStands d
+    (λ before bytes. table ≡ table_at d before bytes) → WhereDecoderFailed d
+    (λ fault before bytes. table ≡ table_at d before bytes)
     → (strings : List (List ℕ)) → ShowsTable d strings → table.strings ≡ strings
-has_strings d table stands failed strings h = ap (λ (t : LimitedStrings). t.strings) (by_there h.there) ∙ h.same where
-  by_there : DecoderStandsFor d h.before h.bytes ⊎ ((fault : DecodeFault) × DecoderFailedBehind d fault h.before h.bytes) → table ≡ table_at d h.before h.bytes
-  by_there (inl s) = stands h.before h.bytes s
-  by_there (inr f) = failed f.0 h.before h.bytes f.1
+has_strings d table stands failed strings h = ap (λ (t : LimitedStrings). t.strings)
+    (by_there h.there) ∙ h.same where
+      by_there : DecoderStandsFor d h.before h.bytes
+          ⊎ ((fault : DecodeFault) × DecoderFailedBehind d fault h.before h.bytes) → table
+          ≡ table_at d h.before h.bytes
+      by_there (inl s) = stands h.before h.bytes s
+      by_there (inr f) = failed f.0 h.before h.bytes f.1
 
 pub returns-clause-shown : goal.returns-clause-shown
 unfolding ShowsStrings
-returns-clause-shown c = λ strings h. has_strings c.args.self.now.decoder _ c.table.ensures.strings c.table.ensures.failed strings h
+returns-clause-shown c = λ strings h. has_strings c.args.self.now.decoder _ c.table.ensures.strings
+    c.table.ensures.failed strings h
 
 pub returns-clause-stands : goal.returns-clause-stands
 unfolding StandsFor
-returns-clause-stands c = λ p h. has_strings c.args.self.now.decoder _ c.table.ensures.strings c.table.ensures.failed _ (shows_in c.args.self.now _ _ h.at)
+returns-clause-stands c = λ p h. has_strings c.args.self.now.decoder _ c.table.ensures.strings
+    c.table.ensures.failed _ (shows_in c.args.self.now _ _ h.at)
 
 pub returns-clause-failed : goal.returns-clause-failed
 unfolding FailedBehind ShowsStrings
-returns-clause-failed c = λ refusal taken p h. has_strings c.args.self.now.decoder _ c.table.ensures.strings c.table.ensures.failed _ h.strings
+returns-clause-failed c = λ refusal taken p h. has_strings c.args.self.now.decoder _
+    c.table.ensures.strings c.table.ensures.failed _ h.strings
 
 module _ (c : After-table) where
-  shown_within : (strings : List (List ℕ)) → ShowsStrings c.args.self.now strings → used_cost c.table.result.now.strings ≤ (settings_of c.args.self.now).limits.dictionary
+  shown_within : (strings : List (List ℕ)) → ShowsStrings c.args.self.now strings
+      → used_cost c.table.result.now.strings ≤ (settings_of c.args.self.now).limits.dictionary
   unfolding ShowsStrings settings_of
   shown_within strings h =
-      let same = has_strings c.args.self.now.decoder _ c.table.ensures.strings c.table.ensures.failed strings h in
+      let same = has_strings c.args.self.now.decoder _ c.table.ensures.strings
+      c.table.ensures.failed strings h in
       ∥∥₁_elim c.args.self.now.bounded le_prop
       (λ (b : IsBounded _ _ _).
-      subst (λ (s : List (List ℕ)). used_cost s ≤ (settings_of c.args.self.now).limits.dictionary) (sym same)
+      subst (λ (s : List (List ℕ)). used_cost s ≤ (settings_of c.args.self.now).limits.dictionary)
+      (sym same)
       (subst (λ (l : Limits). used_cost strings ≤ l.dictionary) b.limits h.within))
 
 pub returns-clause-within : goal.returns-clause-within

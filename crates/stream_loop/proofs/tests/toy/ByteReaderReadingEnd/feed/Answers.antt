@@ -4,7 +4,8 @@ use Rattle.unit_streams.specs.Judging.{is_over_at}
 use Rattle.stream_loop.specs.Answers.{said}
 use Rattle.stream_loop.specs.Toy.{bytes_to_0, HasRead}
 use Rattle.stream_loop.specs.declared.tests.toy.Why.TheVariants.{Bad, Cut, TooLong}
-use Rattle.stream_loop.proofs.Toys.{going, fed_long, fed_none, fed_bad, fed_byte, fed_stands, first_none, first_some}
+use Rattle.stream_loop.proofs.Toys.{going, fed_long, fed_none, fed_bad, fed_byte, fed_stands}
+use Rattle.stream_loop.proofs.Toys.{first_none, first_some}
 use Rattle.stream_loop.proofs.tests.toy.ByteReaderReadingEnd.feed.Goals as goal
 
 -- a reader whose stream isn't over
