@@ -13,7 +13,8 @@ use Rattle.duplex_server.specs.Owed.{Answering}
 use Rattle.connection_server.specs.declared.stopping.ServeFault.{ServeFault}
 use Rattle.connection_server.specs.declared.stopping.ServeFault.TheVariants as stops
 use Rattle.connection_server.specs.Lines.{connection_line}
-use Rattle.connection_server.specs.Served.{Connection, CutsLast, Ends, Network, ServesAll}
+use Rattle.io_edges.specs.Wires.{Network}
+use Rattle.connection_server.specs.Served.{Connection, CutsLast, Ends, ServesAll}
 use Rattle.connection_server.specs.Served.{WritesLines, held_behind, stop_by}
 use Rattle.connection_server.specs.Along.{HasLines, IsAlong, ServesOne}
 use Rattle.connection_server.proofs.Reporting.{cut_lines, more_lines, no_lines}

@@ -4,11 +4,11 @@ use Rattle.std.proofs.Common.{IfSome, refl, sym, ap, ◌∙◌, subst, append_as
 use Rattle.std.proofs.lemmas.List.{append-nil, map-append}
 use Rattle.std.proofs.lemmas.List.Elements.{All-nil, All-push}
 use Rattle.io_edges.specs.Flow.{Told}
-use Rattle.io_edges.specs.Wires.{Fresh, added_up}
+use Rattle.io_edges.specs.Wires.{Fresh, Network, added_up}
 use Rattle.duplex_server.specs.declared.outcome.Outcome.{Outcome}
 use Rattle.duplex_server.specs.Owed.{Answering}
 use Rattle.duplex_server.specs.Serving.{Serves}
-use Rattle.connection_server.specs.Served.{AreNew, Connection, Ends, IsServed, Network, ServesEach}
+use Rattle.connection_server.specs.Served.{AreNew, Connection, Ends, IsServed, ServesEach}
 use Rattle.connection_server.specs.Served.{ends_at, faults_along, moved, told_pair, with_faults}
 use Rattle.connection_server.specs.Along.{ServesOne}
 use Rattle.connection_server.proofs.Meeting.{is_served, pair_told}

@@ -6,7 +6,8 @@ use Rattle.io_edges.specs.Flow.{Told}
 use Rattle.io_edges.specs.declared.Failed.{Failed}
 use Rattle.duplex_server.specs.declared.outcome.Outcome.{Outcome}
 use Rattle.duplex_server.specs.Owed.{Answering}
-use Rattle.connection_server.specs.Served.{Connection, Ends, IsServed, Network, ServesEach}
+use Rattle.io_edges.specs.Wires.{Network}
+use Rattle.connection_server.specs.Served.{Connection, Ends, IsServed, ServesEach}
 use Rattle.connection_server.specs.Served.{WritesAll, held_behind, moved, told_pair, with_faults}
 
 module _ (x : Answering) (endpoint : Option (List ℕ)) {R K : Type 0} (seen : R × K → Ends)

@@ -4,7 +4,7 @@ use Rattle.std.specs.Prelude.{◌≡◌, ◌⊎◌, ⊤, ℕ, ◌<◌, ◌≤◌
 use Rattle.std.specs.Prelude.{Option, Some, Result, Ok, Err}
 use Rattle.io_edges.specs.Faults.{CountsFaults, Rose}
 use Rattle.io_edges.specs.Flow.{Told, GrowsByPrefix}
-use Rattle.io_edges.specs.Wires.{Fresh, added_up}
+use Rattle.io_edges.specs.Wires.{Fresh, Network, added_up}
 use Rattle.io_edges.specs.declared.SinkFault.{SinkFault}
 use Rattle.io_edges.specs.declared.SinkFault.TheVariants as sinks
 use Rattle.stream_loop.specs.Edges.{Input, Output, input_at}
@@ -47,27 +47,6 @@ abbrev pub ends_at : {R K : Type 0} → (left taken : R → Option (List ℕ))
 ends_at left taken reads empty_takes written held writes may_want ends = record {
   input = input_at left taken reads empty_takes ends.0;
   sink = sink_at written held writes may_want ends.1;
-}
-
--- of a wire: the connections to come and what was taken from and written to each ended one, where
--- these are told; how many connections are handed out and not closed; and how many faults its calls
--- met, and the ends of ended connections
-pub record Network (R K : Type 0) : Type 0 where
-  pub waiting : Option (List (R × K))
-  pub closed : Option (List (List ℕ × List ℕ))
-  pub out : ℕ
-  pub faults : ℕ
-  pub end_faults : ℕ
-
-abbrev pub network_at : {W R K : Type 0} → (waiting : W → Option (List (R × K)))
-    → (closed : W → Option (List (List ℕ × List ℕ))) → (out faults end_faults : W → ℕ) → W
-    → Network R K
-network_at waiting closed out faults end_faults wire = record {
-  waiting = waiting wire;
-  closed = closed wire;
-  out = out wire;
-  faults = faults wire;
-  end_faults = end_faults wire;
 }
 
 -- ---- a connection

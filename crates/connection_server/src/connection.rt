@@ -7,7 +7,8 @@ ghost use Rattle.stream_reader.specs.Sides.{endpoint_of};
 ghost use Rattle.duplex_server.specs.Owed.{answering};
 ghost use Rattle.duplex_server.specs.Serving.{Serves};
 ghost use Rattle.connection_server.specs.Along.{ServesNext};
-ghost use Rattle.connection_server.specs.Served.{SinkState, ends_at, network_at, sink_at};
+ghost use Rattle.io_edges.specs.Wires.{network_at};
+ghost use Rattle.connection_server.specs.Served.{SinkState, ends_at, sink_at};
 
 use action_dispatch::Service;
 use duplex_server::{Inbound, Outbound, Outcome, serve_one};

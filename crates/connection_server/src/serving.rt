@@ -6,7 +6,8 @@ ghost use Rattle.nbfx_values.specs.QuotasOf.{limits_of};
 ghost use Rattle.stream_loop.specs.Edges.{output_at};
 ghost use Rattle.stream_reader.specs.Sides.{endpoint_of};
 ghost use Rattle.duplex_server.specs.Owed.{answering};
-ghost use Rattle.connection_server.specs.Served.{ServesAll, ends_at, network_at};
+ghost use Rattle.io_edges.specs.Wires.{network_at};
+ghost use Rattle.connection_server.specs.Served.{ServesAll, ends_at};
 
 use crate::connection::{Server, serve_next};
 use crate::lines::put_line;

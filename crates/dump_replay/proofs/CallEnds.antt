@@ -23,7 +23,8 @@ use Rattle.client.specs.declared.outcome.ClientIn.{ClientIn}
 use Rattle.client.specs.declared.outcome.ClientIn.TheVariants as heard
 use Rattle.client.specs.declared.outcome.ClientOut.{ClientOut}
 use Rattle.client.specs.declared.outcome.ClientOut.TheVariants as out
-use Rattle.session_calls.specs.Places.{CallsOne, CallsPlace, Network}
+use Rattle.io_edges.specs.Wires.{Network}
+use Rattle.session_calls.specs.Places.{CallsOne, CallsPlace}
 use Rattle.session_calls.specs.Statuses.{fails, fails_in, fails_out, fails_report, inbound_status}
 use Rattle.session_calls.specs.Statuses.{is_unfit, outcome_status, reason_status, status_of}
 use Rattle.session_calls.specs.Statuses.{wants_memory}

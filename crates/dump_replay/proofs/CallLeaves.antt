@@ -7,13 +7,14 @@ use Rattle.nbfx_values.specs.Limits.{Limits}
 use Rattle.nbfx_values.specs.declared.content.Item.{Item}
 use Rattle.string_tables.specs.StaticStrings.{Entry}
 use Rattle.stream_loop.specs.Edges.{Input, Output}
-use Rattle.connection_server.specs.Served.{Network, SinkState}
+use Rattle.io_edges.specs.Wires.{Network}
+use Rattle.connection_server.specs.Served.{SinkState}
 use Rattle.client.specs.Sent.{Sending, sending}
 use Rattle.session_calls.specs.Tags.{sent_line}
 use Rattle.session_calls.specs.declared.called.Called.{Called}
 use Rattle.command_words.specs.Tasks.{Opening}
 use Rattle.dump_replay.specs.Calling.{CalledOrNot, CalledPlace, TookNone, UnreadSecond}
-use Rattle.dump_replay.specs.Calling.{ending_of_list, network_of, output_of}
+use Rattle.dump_replay.specs.Calling.{ending_of_list, output_of}
 use Rattle.dump_replay.specs.Outside.{Outside, SeenShelf, seen}
 use Rattle.dump_replay.specs.Running.{CountsWire}
 use Rattle.dump_replay.specs.Working.{Leaves}
@@ -49,7 +50,7 @@ module _ (Says : List ℕ → Type 0) (limits : Limits) (i i' : Input) (o o' : O
   pub calls_wire : Left → CountsWire n.faults n'.faults n.end_faults n'.end_faults status
   calls_wire (inl h) = called_wire reader (λ (k : K). output_of (writer k))
       (sending limits statics opening.mode opening.kind (h.first ++ second)) opening.via
-      (sent_line (length h.first) (length second)) (network_of n) (network_of n') o o' h.called
+      (sent_line (length h.first) (length second)) n n' o o' h.called
       status h.status_is h.calls
   calls_wire (inr h) = subst (λ (status : ℕ). CountsWire n.faults n'.faults n.end_faults
       n'.end_faults status) (sym h.status_is) (record {
@@ -61,7 +62,7 @@ module _ (Says : List ℕ → Type 0) (limits : Limits) (i i' : Input) (o o' : O
   pub calls_out : Left → n'.out ≡ n.out
   calls_out (inl h) = called_out reader (λ (k : K). output_of (writer k))
       (sending limits statics opening.mode opening.kind (h.first ++ second)) opening.via
-      (sent_line (length h.first) (length second)) (network_of n) (network_of n') o o' h.called
+      (sent_line (length h.first) (length second)) n n' o o' h.called
       h.calls
   calls_out (inr h) = ap (λ (w : Network R K). w.out) h.same
 
@@ -79,10 +80,10 @@ module _ (Says : List ℕ → Type 0) (limits : Limits) (i i' : Input) (o o' : O
           not_two = called_two h.called;
           asked_once = h.taken.asked_once;
           read_fault = λ three. absurd (called_three h.called three);
-          write_fault = λ four. called_four reader to x opening.via line (network_of n)
-              (network_of n') o o' h.called h.calls four;
+          write_fault = λ four. called_four reader to x opening.via line n
+              n' o o' h.called h.calls four;
           reads = h.taken.counted.grows;
-          writes = called_writes reader to x opening.via line (network_of n) (network_of n') o o'
+          writes = called_writes reader to x opening.via line n n' o o'
               h.called h.calls;
         })
 

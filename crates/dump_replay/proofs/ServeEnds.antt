@@ -3,7 +3,8 @@ use Rattle.std.proofs.Common.{ℕ, List, Option, Result}
 use Rattle.stream_loop.specs.Edges.{Output}
 use Rattle.duplex_server.specs.Owed.{Answering}
 use Rattle.connection_server.specs.declared.stopping.ServeFault.{ServeFault}
-use Rattle.connection_server.specs.Served.{Ends, Network, ServesAll}
+use Rattle.io_edges.specs.Wires.{Network}
+use Rattle.connection_server.specs.Served.{Ends, ServesAll}
 
 pub served_less : (x : Answering) (endpoint : Option (List ℕ)) {R K : Type 0} (ends : R × K → Ends)
     (most : ℕ) (n n' : Network R K) (o o' : Output) (stop : Result (Unit {0}) ServeFault)

@@ -28,7 +28,8 @@ use Rattle.session_summary.specs.declared.summary.Summary.{Summary}
 use Rattle.session_summary.specs.declared.summary.Summary.TheVariants as summaries
 use Rattle.connection_server.specs.declared.stopping.ServeFault.{ServeFault}
 use Rattle.connection_server.specs.declared.stopping.ServeFault.TheVariants as stops
-use Rattle.connection_server.specs.Served.{Network, SinkState}
+use Rattle.io_edges.specs.Wires.{Network}
+use Rattle.connection_server.specs.Served.{SinkState}
 use Rattle.dump_replay.specs.Answering.{status_of_replay}
 use Rattle.dump_replay.specs.Building.{Builds, status_of_building}
 use Rattle.dump_replay.specs.Outside.{Outside, SeenShelf, seen}

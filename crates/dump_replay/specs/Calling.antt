@@ -17,9 +17,10 @@ use Rattle.document_lists.specs.declared.fetching.FileFault.{FileFault}
 use Rattle.document_lists.specs.declared.fetching.FileFault.TheVariants as files
 use Rattle.document_lists.specs.declared.reading.ListFault.{ListFault}
 use Rattle.document_lists.specs.declared.reading.ListFault.TheVariants as lists
-use Rattle.connection_server.specs.Served.{Network, SinkState}
+use Rattle.io_edges.specs.Wires.{Network}
+use Rattle.connection_server.specs.Served.{SinkState}
 use Rattle.client.specs.Sent.{sending}
-use Rattle.session_calls.specs.Places.{CallsPlace, Network as NetworkCalled}
+use Rattle.session_calls.specs.Places.{CallsPlace}
 use Rattle.session_calls.specs.Statuses.{fault_of, status_of}
 use Rattle.session_calls.specs.Tags.{sent_line}
 use Rattle.session_calls.specs.declared.called.Called.{Called}
@@ -66,16 +67,6 @@ abbrev pub note_of_called : Called → List ℕ
 note_of_called called = note_by (fault_of called) (status_of called)
 
 -- ---- what is left
-
--- the wire, as a call sees it
-abbrev pub network_of : {R K : Type 0} → Network R K → NetworkCalled R K
-network_of n = record {
-  waiting = n.waiting;
-  closed = n.closed;
-  out = n.out;
-  faults = n.faults;
-  end_faults = n.end_faults;
-}
 
 -- where a connection's bytes go, as a call sees it
 abbrev pub output_of : SinkState → Output
@@ -130,7 +121,7 @@ module _ (Says : List ℕ → Type 0) where
         pub called : Called
         pub calls : CallsPlace reader (λ (k : K). output_of (writer k))
             (sending limits statics opening.mode opening.kind (first ++ second)) opening.via
-            (sent_line (length first) (length second)) (network_of n) (network_of n') o o' called
+            (sent_line (length first) (length second)) n n' o o' called
         pub status_is : status ≡ status_of called
         pub says : Says (note_of_called called)
 

@@ -2,7 +2,8 @@
 use Rattle.std.specs.Prelude.{ℕ, Option}
 use Rattle.io_edges.specs.Store.{Store}
 use Rattle.stream_loop.specs.Edges.{Input, Output}
-use Rattle.connection_server.specs.Served.{Ends, Network, SinkState}
+use Rattle.io_edges.specs.Wires.{Network}
+use Rattle.connection_server.specs.Served.{Ends, SinkState}
 
 -- of a shelf: its files, where it tells them, and how many calls met a fault
 pub record SeenShelf : Type 0 where

@@ -3,7 +3,8 @@
 ghost use Rattle.std.specs.Prelude.{◌≡◌, ◌≤◌, ◌<◌, ◌^◌, []};
 ghost use Rattle.nbfx_values.specs.QuotasOf.{limits_of};
 ghost use Rattle.stream_loop.specs.Edges.{input_at, output_at};
-ghost use Rattle.connection_server.specs.Served.{network_at, sink_at};
+ghost use Rattle.io_edges.specs.Wires.{network_at};
+ghost use Rattle.connection_server.specs.Served.{sink_at};
 ghost use Rattle.command_words.specs.Asking.{task_of};
 ghost use Rattle.dump_replay.specs.Noting.{Notes};
 ghost use Rattle.dump_replay.specs.Outside.{seen, shelf_at};

@@ -12,6 +12,27 @@ abbrev pub Fresh : {X : Type 0} → Option X → Option (List ℕ) → Type 0
 Fresh None told = IfSome told (λ l. l ≡ [])
 Fresh (Some closed) told = told ≡ Some []
 
+-- what is seen of a wire at one moment: the connections to come and what was taken from and written
+-- to each ended one, where these are told; how many connections are handed out and not closed; and
+-- how many faults its calls met, and the ends of ended connections
+pub record Network (R K : Type 0) : Type 0 where
+  pub waiting : Option (List (R × K))
+  pub closed : Option (List (List ℕ × List ℕ))
+  pub out : ℕ
+  pub faults : ℕ
+  pub end_faults : ℕ
+
+abbrev pub network_at : {W R K : Type 0} → (waiting : W → Option (List (R × K)))
+    → (closed : W → Option (List (List ℕ × List ℕ))) → (out faults end_faults : W → ℕ) → W
+    → Network R K
+network_at waiting closed out faults end_faults wire = record {
+  waiting = waiting wire;
+  closed = closed wire;
+  out = out wire;
+  faults = faults wire;
+  end_faults = end_faults wire;
+}
+
 -- a wire in memory
 pub record PlannedWire : Type 0 where
   pub waiting : List (PlannedSource × PlannedSink)

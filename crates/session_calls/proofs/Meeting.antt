@@ -2,7 +2,7 @@
 use Rattle.std.proofs.Common.{◌≡◌, ℕ, List, [], ◌∷◌, ◌++◌, Option, Some, None, subst}
 use Rattle.std.specs.Prelude.{IfSome}
 use Rattle.io_edges.specs.Flow.{Told}
-use Rattle.io_edges.specs.Wires.{Fresh}
+use Rattle.io_edges.specs.Wires.{Fresh, Network}
 use Rattle.unit_streams.specs.Grammar.{Grammar}
 use Rattle.stream_loop.specs.Edges.{Input, Output}
 use Rattle.stream_loop.proofs.Writing.{told_some}
@@ -23,7 +23,7 @@ use Rattle.nbfx_values.specs.declared.session.Mode.{Mode}
 use Rattle.string_tables.specs.StaticStrings.{Entry}
 use Rattle.session_calls.specs.declared.called.Called.{Called}
 use Rattle.session_calls.specs.Peers.{CallsPeer}
-use Rattle.session_calls.specs.Places.{CallsPlace, Network}
+use Rattle.session_calls.specs.Places.{CallsPlace}
 use Rattle.session_calls.specs.Tags.{sent_line}
 
 -- what was taken stays told

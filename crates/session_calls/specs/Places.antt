@@ -2,7 +2,7 @@
 use Rattle.std.specs.Prelude.{◌≡◌, ⊤, ℕ, List, [], ◌∷◌, ◌++◌, Option, Some}
 use Rattle.io_edges.specs.Faults.{CountsFaults}
 use Rattle.io_edges.specs.Flow.{Told}
-use Rattle.io_edges.specs.Wires.{Fresh, added_up}
+use Rattle.io_edges.specs.Wires.{Fresh, Network, added_up}
 use Rattle.session_ends.specs.Sent.{MayBeSent}
 use Rattle.stream_loop.specs.Edges.{Input, Output}
 use Rattle.client.specs.declared.outcome.CallOutcome.{CallOutcome}
@@ -11,27 +11,6 @@ use Rattle.session_calls.specs.declared.called.Called.{Called}
 use Rattle.session_calls.specs.declared.called.Called.TheVariants.{WrongCount, Starved, Unconnected}
 use Rattle.session_calls.specs.declared.called.Called.TheVariants.{Closed}
 use Rattle.session_calls.specs.Peers.{CallsPeer}
-
--- what is seen of a wire at one moment: the connections to come and what was taken from and written
--- to each ended one, where these are told; how many connections are handed out and not closed; and
--- how many faults its calls met, and the ends of ended connections
-pub record Network (R K : Type 0) : Type 0 where
-  pub waiting : Option (List (R × K))
-  pub closed : Option (List (List ℕ × List ℕ))
-  pub out : ℕ
-  pub faults : ℕ
-  pub end_faults : ℕ
-
-abbrev pub network_at : {W R K : Type 0} → (waiting : W → Option (List (R × K)))
-    → (closed : W → Option (List (List ℕ × List ℕ))) → (out faults end_faults : W → ℕ) → W
-    → Network R K
-network_at waiting closed out faults end_faults wire = record {
-  waiting = waiting wire;
-  closed = closed wire;
-  out = out wire;
-  faults = faults wire;
-  end_faults = end_faults wire;
-}
 
 -- ends through which nothing has moved, and which have met no fault; they tell what moves where the
 -- wire tells what the ended connections left

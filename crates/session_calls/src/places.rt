@@ -5,7 +5,8 @@ ghost use Rattle.nbfx_values.specs.QuotasOf.{limits_of};
 ghost use Rattle.session_ends.specs.Sent.{MayBeSent};
 ghost use Rattle.stream_loop.specs.Edges.{input_at, output_at};
 ghost use Rattle.client.specs.Sent.{sending};
-ghost use Rattle.session_calls.specs.Places.{CallsOne, CallsPlace, network_at};
+ghost use Rattle.io_edges.specs.Wires.{network_at};
+ghost use Rattle.session_calls.specs.Places.{CallsOne, CallsPlace};
 ghost use Rattle.session_calls.specs.Sending.{line_of, sending_of};
 ghost use Rattle.session_calls.specs.Tags.{sent_line};
 

@@ -2,7 +2,7 @@ use Rattle.std.proofs.Common.{Option, List, ℕ, refl}
 use Rattle.nbfx_values.specs.QuotasOf.{limits_of}
 use Rattle.stream_reader.specs.Sides.{endpoint_of}
 use Rattle.duplex_server.specs.Owed.{Answering, answering}
-use Rattle.connection_server.specs.Served.{Network, network_at}
+use Rattle.io_edges.specs.Wires.{Network, network_at}
 use Rattle.connection_server.proofs.Turns.{met, serves_one}
 use Rattle.connection_server.proofs.connection.serve_next.Given.{Over}
 use Rattle.connection_server.proofs.connection.serve_next.Goals as goal

@@ -3,7 +3,8 @@ use Rattle.nbfx_values.specs.QuotasOf.{limits_of}
 use Rattle.stream_reader.specs.Sides.{endpoint_of}
 use Rattle.io_edges.specs.Gathering.{Gathering}
 use Rattle.duplex_server.specs.Owed.{answering}
-use Rattle.connection_server.specs.Served.{Ends, Network, ends_at, network_at}
+use Rattle.io_edges.specs.Wires.{Network, network_at}
+use Rattle.connection_server.specs.Served.{Ends, ends_at}
 use Rattle.connection_server.proofs.Stops.{none_served, served_under}
 use Rattle.connection_server.proofs.serving.serve_connections.Given.{Over}
 use Rattle.connection_server.proofs.serving.serve_connections.Goals as goal

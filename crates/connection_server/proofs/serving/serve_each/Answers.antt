@@ -6,7 +6,8 @@ use Rattle.stream_follower.specs.Writing.{PutsTo}
 use Rattle.duplex_server.specs.declared.outcome.Outcome.{Outcome}
 use Rattle.duplex_server.specs.Owed.{answering}
 use Rattle.connection_server.specs.Lines.{connection_line}
-use Rattle.connection_server.specs.Served.{Ends, Network, ends_at, network_at}
+use Rattle.io_edges.specs.Wires.{Network, network_at}
+use Rattle.connection_server.specs.Served.{Ends, ends_at}
 use Rattle.connection_server.proofs.Stops.{along_more, along_none, output_failed}
 use Rattle.connection_server.proofs.serving.serve_each.Given.{Over}
 use Rattle.connection_server.proofs.serving.serve_each.Goals as goal

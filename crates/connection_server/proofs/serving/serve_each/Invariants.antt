@@ -2,7 +2,8 @@ use Rattle.nbfx_values.specs.QuotasOf.{limits_of}
 use Rattle.stream_reader.specs.Sides.{endpoint_of}
 use Rattle.duplex_server.specs.Owed.{answering}
 use Rattle.connection_server.specs.Along.{IsAlong}
-use Rattle.connection_server.specs.Served.{ends_at, network_at}
+use Rattle.io_edges.specs.Wires.{network_at}
+use Rattle.connection_server.specs.Served.{ends_at}
 use Rattle.connection_server.proofs.serving.serve_each.Given as goal
 
 abbrev pub invariant-loop-number : goal.invariant-loop-number

@@ -2,7 +2,8 @@ use Rattle.std.proofs.Common.{◌≡◌, ℕ, ◌⊎◌, inl, inr, List, [], map
 use Rattle.std.specs.String.{string_bytes}
 use Rattle.io_edges.specs.Faults.{Rose}
 use Rattle.stream_loop.specs.Edges.{Input, Output, input_at, output_at}
-use Rattle.connection_server.specs.Served.{Network, SinkState, network_at, sink_at}
+use Rattle.io_edges.specs.Wires.{Network, network_at}
+use Rattle.connection_server.specs.Served.{SinkState, sink_at}
 use Rattle.command_words.specs.Asking.{asked_of}
 use Rattle.dump_replay.specs.Noting.{Notes}
 use Rattle.dump_replay.specs.Outside.{Outside, SeenShelf, seen, shelf_at}

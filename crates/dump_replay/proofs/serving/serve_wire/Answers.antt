@@ -5,7 +5,8 @@ use Rattle.stream_reader.specs.Sides.{endpoint_of}
 use Rattle.duplex_server.specs.Owed.{answering}
 use Rattle.session_replay.specs.Responding.{served_by}
 use Rattle.connection_server.specs.declared.stopping.ServeFault.TheVariants as stops
-use Rattle.connection_server.specs.Served.{Ends, Network, ServesAll, network_at, sink_at}
+use Rattle.io_edges.specs.Wires.{Network, network_at}
+use Rattle.connection_server.specs.Served.{Ends, ServesAll, sink_at}
 use Rattle.connection_server.proofs.Stops.{none_served}
 use Rattle.command_words.specs.Asking.{serving_of}
 use Rattle.dump_replay.specs.Outside.{ends_seen}

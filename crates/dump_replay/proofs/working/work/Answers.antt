@@ -1,7 +1,8 @@
 use Rattle.std.proofs.Common.{◌≡◌, ℕ, inl, inr, List, [], refl, sym, subst}
 use Rattle.nbfx_values.specs.QuotasOf.{limits_of}
 use Rattle.stream_loop.specs.Edges.{Input, Output, input_at, output_at}
-use Rattle.connection_server.specs.Served.{Network, SinkState, network_at, sink_at}
+use Rattle.io_edges.specs.Wires.{Network, network_at}
+use Rattle.connection_server.specs.Served.{SinkState, sink_at}
 use Rattle.command_words.specs.Asking.{opening_of, serving_of}
 use Rattle.dump_replay.specs.Noting.{Notes}
 use Rattle.dump_replay.specs.Outside.{SeenShelf, seen, shelf_at}

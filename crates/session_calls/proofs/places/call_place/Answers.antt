@@ -1,7 +1,7 @@
 use Rattle.std.proofs.Common.{◌++◌, length}
 use Rattle.nbfx_values.specs.QuotasOf.{limits_of}
 use Rattle.stream_loop.specs.Edges.{Output, input_at, output_at}
-use Rattle.session_calls.specs.Places.{Network, network_at}
+use Rattle.io_edges.specs.Wires.{Network, network_at}
 use Rattle.session_calls.proofs.Meeting.{placed_as}
 use Rattle.session_calls.proofs.places.call_place.Given.{Over}
 use Rattle.session_calls.proofs.places.call_place.Goals as goal

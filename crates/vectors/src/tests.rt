@@ -1,7 +1,6 @@
 ghost use Rattle.std.specs.Prelude.{◌≡◌, IfOk};
 
-use super::*;
-use crate::run::{Ran, run};
+use dump_replay::run::{Ran, run};
 use io_edges::{MemoryShelf, MemorySink, MemorySource, MemoryWire};
 use std::alloc::{AllocError, Global};
 use std::collections::BTreeMap;

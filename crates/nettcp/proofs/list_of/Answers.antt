@@ -1,7 +1,7 @@
 use Rattle.std.proofs.Common.{refl}
 use Rattle.std.proofs.lemmas.Iterator.{items_from_collect}
 use Rattle.std.proofs.lemmas.Iterator.Adapters.{YieldsList-from_vec}
-use Rattle.dump_replay.proofs.list_of.Goals as goal
+use Rattle.nettcp.proofs.list_of.Goals as goal
 
 pub returns : goal.returns
 returns c = items_from_collect _ c.collect.ensures.ran

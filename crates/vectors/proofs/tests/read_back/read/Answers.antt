@@ -1,6 +1,6 @@
 use Rattle.std.proofs.Common.{◌+◌}
 use Rattle.line_notation.proofs.Counting.{one-more-read}
-use Rattle.dump_replay.proofs.tests.read_back.read.Goals as goal
+use Rattle.vectors.proofs.tests.read_back.read.Goals as goal
 
 pub loop-line-preserved : goal.loop-line-preserved
 loop-line-preserved c = one-more-read (c.loop-line.line-index + 1) c.loop-line.reader
