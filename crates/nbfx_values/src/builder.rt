@@ -173,13 +173,15 @@ impl DocBuilder {
             return Err(PushFault::OutOfPlace);
         };
         let open = before.open_count();
-        let text = Item::Text(value);
-        let measures = self.measures.with(open, &text).with(open, &Item::Close);
+        let measures = self
+            .measures
+            .with_text(open, &value)
+            .with(open, &Item::Close);
         if measures.content > most {
-            discard(text);
+            discard(value);
             return Err(PushFault::TooMuchContent);
         }
-        self.items.push_two(text, Item::Close)?;
+        self.items.push_two(Item::Text(value), Item::Close)?;
         self.position = behind;
         self.measures = measures;
         Ok(())

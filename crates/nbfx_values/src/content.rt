@@ -6,7 +6,7 @@ ghost use Rattle.nbfx_values.specs.Items as spec;
 ghost use Rattle.nbfx_values.specs.Items.{attribute_item, fits_kind, is_valid_array, is_valid_attribute, is_valid_item};
 
 use crate::copies::Copied;
-use crate::lists::Sequence;
+use crate::lists::{Sequence, discard};
 use crate::scalars::{Scalar, Value, Values};
 use crate::texts::Txt;
 use unit_streams::Memory;
@@ -51,8 +51,8 @@ impl Drop for Item {
                 prefix,
                 local,
                 value,
-            } => drop((prefix, local, value)),
-            Item::Text(value) => drop(value),
+            } => discard((prefix, local, value)),
+            Item::Text(_value) => {}
             Item::Comment(text) => drop(text),
             Item::Array(array) => drop(array),
             Item::Close => {}

@@ -146,6 +146,18 @@ impl Measures {
         }
     }
 
+    /// Those with a text of this value more, while so many elements are open.
+    #[inline(always)]
+    pub(crate) fn with_text(self, before: usize, value: &Value) -> Measures
+        ensures { (items : List Item) → opened_by 0 items ≡ before → AreMeasuresOf items self
+            → AreMeasuresOf (items ++ Item.Text value.now ∷ []) result }
+    {
+        Measures {
+            depth: self.depth.max(before as u64),
+            content: self.content.saturating_add(value.content()),
+        }
+    }
+
     /// Those with one item more, before which so many elements are open.
     #[inline(always)]
     pub(crate) fn with(self, before: usize, item: &Item) -> Measures

@@ -19,7 +19,7 @@ pub struct Dec {
 }
 
 /// One value of a text record.
-#[derive(Debug, Drop)]
+#[derive(Debug)]
 pub enum Scalar {
     /// A whole number, from -2^63 to 2^64 - 1.
     Number(i128),
@@ -44,14 +44,45 @@ pub enum Scalar {
     QName(u8, Txt),
 }
 
+// Most values hold no memory of their own, and aren't to be moved in order to be dropped.
+impl Drop for Scalar {
+    #[inline(always)]
+    fn drop(self) {
+        match self {
+            Scalar::Text(_text) => {}
+            Scalar::Bytes(_bytes) => {}
+            Scalar::QName(_letter, _name) => {}
+            Scalar::Number(_)
+            | Scalar::Truth(_)
+            | Scalar::Float(_)
+            | Scalar::Double(_)
+            | Scalar::Decimal(_)
+            | Scalar::DateTime(_)
+            | Scalar::TimeSpan(_)
+            | Scalar::UniqueId(_)
+            | Scalar::Uuid(_) => {}
+        }
+    }
+}
+
 /// Values without a list among them.
 pub type Values = Sequence<Scalar>;
 
 /// The value of a text or of an attribute.
-#[derive(Debug, Drop)]
+#[derive(Debug)]
 pub enum Value {
     One(Scalar),
     List(Values),
+}
+
+impl Drop for Value {
+    #[inline(always)]
+    fn drop(self) {
+        match self {
+            Value::One(_scalar) => {}
+            Value::List(_values) => {}
+        }
+    }
 }
 
 // Whether all are bytes, as those of every list of bytes are.

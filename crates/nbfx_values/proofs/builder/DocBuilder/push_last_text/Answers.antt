@@ -31,7 +31,7 @@ invariant_of-self-2 c =
     let counted = open-position items c.position-before.result ends ∙ sym c.open_count-open.ensures
     in
     let measured = last_text_measured items c.args.value c.open_count-open.result _ _ _ counted
-    c.self.invariant.measured c.with.ensures c.with-measures.ensures in
+    c.self.invariant.measured c.with_text.ensures c.with-measures.ensures in
     rw c.in_ok-push_two.ensures.pushed (record { leads = leads; measured = measured })
 
 pub returns-clause-out_of_place : goal.returns-clause-out_of_place
@@ -55,7 +55,7 @@ returns-then-measures-most-clause-too_much c =
     (ap position_of c.self.view_is ∙ c.position-before.ensures.ends) ∙ sym c.open_count-open.ensures
     in
     let measured = last_text_measured items c.args.value c.open_count-open.result _ _ _ counted
-    c.self.invariant.measured c.with.ensures c.with-measures.ensures in
+    c.self.invariant.measured c.with_text.ensures c.with-measures.ensures in
     let content = measured.content ∙
     ap (λ (xs : List Item). capped (content_of (xs ++ text ∷ Close ∷ []))) c.self.view_is in
     λ _. subst (λ (n : ℕ). c.args.most < n) content c.if-measures-most.true
@@ -68,7 +68,7 @@ returns-clause-pushed c =
     (ap position_of c.self.view_is ∙ c.position-before.ensures.ends) ∙ sym c.open_count-open.ensures
     in
     let measured = last_text_measured items c.args.value c.open_count-open.result _ _ _ counted
-    c.self.invariant.measured c.with.ensures c.with-measures.ensures in
+    c.self.invariant.measured c.with_text.ensures c.with-measures.ensures in
     let pushed = c.in_ok-push_two.ensures.pushed in
     let content = measured.content ∙ ap (λ (xs : List Item). capped (content_of xs)) (sym pushed) in (
       pushed ∙ ap (λ (xs : List Item). xs ++ text ∷ Close ∷ []) c.self.view_is,
