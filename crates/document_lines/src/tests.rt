@@ -61,7 +61,7 @@ fn line(line: u64, kind: LineKind) -> Ended {
 
 #[test]
 fn documents_are_written_in_any_pieces(rt: HostRuntime) -> Result<(), Fail> {
-    let cases: [(&[u8], &[u8], Ended); 8] = [
+    let cases: [(&[u8], &[u8], Ended); 11] = [
         (b"", b"", Ok(())),
         (b"start \"\" \"x\"\nclose\n", FIRST, Ok(())),
         (
@@ -75,11 +75,23 @@ fn documents_are_written_in_any_pieces(rt: HostRuntime) -> Result<(), Fail> {
             line(3, LineKind::Cut),
         ),
         (b"start \"\" \"x\"\n", b"", line(2, LineKind::Cut)),
+        // The last line has no line feed.
+        (b"start \"\" \"x\"\nclose", b"", line(2, LineKind::Cut)),
         (b"start \"\" \"x\"\r\n", b"", line(1, LineKind::NotALine)),
+        (
+            b"start \"\" \"x\"\nclose\r\n",
+            b"",
+            line(2, LineKind::NotALine),
+        ),
         (
             b"start \"\" \"x\"\nclose\n\0\n",
             FIRST,
             line(3, LineKind::NotALine),
+        ),
+        (
+            b"start \"\" \"x\"\ncomment \"\0\"\n",
+            b"",
+            line(2, LineKind::NotALine),
         ),
         (
             b"\xEF\xBB\xBFstart \"\" \"x\"\n",

@@ -14,17 +14,16 @@ use Rattle.line_notation.specs.declared.line.Keyword.TheVariants as keywords
 use Rattle.line_notation.specs.declared.line.Line.{Line}
 use Rattle.line_notation.specs.declared.reader.LineKind.TheVariants.{BadText, OutOfRange}
 use Rattle.line_notation.specs.Forms.{Form, start, ns, attr, text, comment, array, values, close}
-use Rattle.line_notation.specs.Forms.{array_kind_in, form_behind, form_of, keyword_in, two_texts_at}
+use Rattle.line_notation.specs.Forms.{array_kind_in, form_behind, two_texts_at}
 use Rattle.line_notation.specs.Judging.{are_in_range, are_scalars, has_bad_text, have_good_texts}
 use Rattle.line_notation.specs.Judging.{is_out_of_range, judged, said, scalars_of, value_of}
 use Rattle.line_notation.specs.Options.{alone, ◌>>=◌}
 use Rattle.line_notation.specs.Placing.{IsHeld}
 use Rattle.line_notation.specs.Quoted.{quoted_in}
-use Rattle.line_notation.specs.Reading.{judged_form}
+use Rattle.line_notation.specs.Reading.{judged_behind}
 use Rattle.line_notation.specs.Scalars.{one_word}
 use Rattle.line_notation.specs.Values.{Written, no_more, one, list, how_many, if_some, value_in}
 use Rattle.line_notation.specs.Values.{values_in}
-use Rattle.line_notation.specs.Words.{next_in, words_of}
 use Rattle.line_notation.proofs.GatherFacts.{some_same}
 use Rattle.line_notation.proofs.TokenFacts.{found}
 
@@ -156,11 +155,9 @@ behind-some keywords.Values words form e =
 behind-some keywords.Close [] form e = subst IsSome (some_same e) tt
 behind-some keywords.Close (word ∷ words) form e = absurd cc
 
-pub form-held : (kind : Option ArrayKind) (line : List ℕ) (said : Line) → judged_form kind line
-    ≡ Some (Ok said) → IsHeld kind said
-form-held kind line said e =
-    let f = found (form_of line) (λ form. Some (judged kind form)) (Ok said) e in
-    let n = found (next_in (words_of line)) _ f.value f.read_is in
-    let k = found (keyword_in n.value.0) _ f.value n.step_is in
-    judged-held kind f.value said (behind-some k.value n.value.1 f.value k.step_is)
+pub behind-held : (kind : Option ArrayKind) (keyword : Keyword) (words : List (List ℕ))
+    (said : Line) → judged_behind kind keyword words ≡ Some (Ok said) → IsHeld kind said
+behind-held kind keyword words said e =
+    let f = found (form_behind keyword words) (λ form. Some (judged kind form)) (Ok said) e in
+    judged-held kind f.value said (behind-some keyword words f.value f.read_is)
     (some_same f.step_is)

@@ -8,19 +8,22 @@ use Rattle.nbfx_values.specs.declared.position.Position.TheVariants.{Before, Wit
 use Rattle.nbfx_values.specs.Documents.{IsDocument}
 use Rattle.nbfx_values.specs.Positions.{position_of}
 use Rattle.nbfx_values.proofs.Walks.{document-position, position_of-document}
+use Rattle.line_notation.specs.declared.line.Keyword.{Keyword}
 use Rattle.line_notation.specs.declared.line.Line.{Line}
 use Rattle.line_notation.specs.declared.reader.LineKind.{LineKind}
 use Rattle.line_notation.specs.declared.reader.LineKind.TheVariants.{NotALine}
 use Rattle.line_notation.specs.declared.words.Stop.{Stop}
 use Rattle.line_notation.specs.declared.words.Stop.TheVariants as stops
-use Rattle.line_notation.specs.Forms.{Form, form_of}
+use Rattle.line_notation.specs.Forms.{Form, form_behind, form_in, form_of, keyword_in}
 use Rattle.line_notation.specs.Judging.{judged as judge}
 use Rattle.line_notation.specs.Options.{◌>>=◌}
-use Rattle.line_notation.specs.Placing.{Places, stopped}
-use Rattle.line_notation.specs.Reading.{judged_form}
-use Rattle.line_notation.specs.Standing.{is_passed_over, on, ends, kind_of, led, outcome}
+use Rattle.line_notation.specs.Placing.{Places, led_by, stopped}
+use Rattle.line_notation.specs.Reading.{judged_behind}
+use Rattle.line_notation.specs.Scalars.{one_word}
+use Rattle.line_notation.specs.Standing.{is_passed_over, on, ends, kind_of, outcome}
 use Rattle.line_notation.specs.Standing.{outcome_of, placed_at}
 use Rattle.line_notation.specs.Steps.{Stops}
+use Rattle.line_notation.specs.Words.{words_of}
 use Rattle.line_notation.proofs.GatherFacts.{some_same}
 
 -- to the end of a document
@@ -48,31 +51,59 @@ outcome-read [] None (b ∷ line) read = refl
 outcome-read [] (Some a) line read = refl
 outcome-read (item ∷ items) array line read = refl
 
-pub outcome-judged : (items : List Item) (array : Option ArrayItem) (line : List ℕ)
-    (judged : Result Line LineKind) → is_passed_over items array line ≡ false
-    → judged_form (kind_of array) line ≡ Some judged → outcome items array line ≡ led items array
-    judged
-outcome-judged items array line judged read e = outcome-read items array line read ∙ go
-    (form_of line) e
-  where
-    go : (form : Option Form) → (form >>= λ f. Some (judge (kind_of array) f)) ≡ Some judged
-        → outcome_of items array form ≡ led items array judged
-    go None e = absurd cc
-    go (Some f) e = ap (led items array) (some_same e)
+-- a keyword, if there is one, and the words behind it
+abbrev with_rest : Option Keyword → List (List ℕ) → Option (Keyword × List (List ℕ))
+with_rest own rest = ◌>>=◌ {A = Keyword} {B = Keyword × List (List ℕ)} own (λ k. Some (k, rest))
 
-outcome-none : (items : List Item) (array : Option ArrayItem) (line : List ℕ) → is_passed_over items
-    array line ≡ false
-    → judged_form (kind_of array) line ≡ None → outcome items array line ≡ Err NotALine
-outcome-none items array line read e = outcome-read items array line read ∙ go (form_of line) e
+-- by its keyword and the words behind it
+pub outcome-behind : (items : List Item) (array : Option ArrayItem) (line : List ℕ)
+    (keyword : Keyword) (words : List (List ℕ)) → is_passed_over items array line ≡ false
+    → one_word keyword_in (words_of line) ≡ Some (keyword, words) → outcome items array line
+    ≡ led_by items array (judged_behind (kind_of array) keyword words)
+outcome-behind items array line keyword words read e = outcome-read items array line read
+    ∙ ap (outcome_of items array) (go (words_of line) e) ∙ led-behind (form_behind keyword words)
   where
-    go : (form : Option Form) → (form >>= λ f. Some (judge (kind_of array) f)) ≡ None
-        → outcome_of items array form ≡ Err NotALine
-    go None e = refl
-    go (Some f) e = absurd cc
+    first : (word : List ℕ) (rest : List (List ℕ)) (own : Option Keyword)
+        → with_rest own rest ≡ Some (keyword, words)
+        → (own >>= λ k. form_behind k rest) ≡ form_behind keyword words
+    first word rest None e = absurd cc
+    first word rest (Some k) e = ap (λ found. form_behind found.0 found.1) (some_same e)
+
+    go : (all : List (List ℕ)) → one_word keyword_in all ≡ Some (keyword, words) → form_in all
+        ≡ form_behind keyword words
+    go [] e = absurd cc
+    go (word ∷ rest) e = first word rest (keyword_in word) e
+
+    led-behind : (form : Option Form) → outcome_of items array form
+        ≡ led_by items array (form >>= λ f. Some (judge (kind_of array) f))
+    led-behind None = refl
+    led-behind (Some f) = refl
+
+-- a line without a keyword
+outcome-none : (items : List Item) (array : Option ArrayItem) (line : List ℕ)
+    → is_passed_over items array line ≡ false → one_word keyword_in (words_of line) ≡ None
+    → outcome items array line ≡ Err NotALine
+outcome-none items array line read e = outcome-read items array line read
+    ∙ ap (outcome_of items array) (go (words_of line) e)
+  where
+    first : (rest : List (List ℕ)) (own : Option Keyword) → with_rest own rest ≡ None
+        → (own >>= λ k. form_behind k rest) ≡ None
+    first rest None e = refl
+    first rest (Some k) e = absurd cc
+
+    go : (all : List (List ℕ)) → one_word keyword_in all ≡ None → form_in all ≡ None
+    go [] e = refl
+    go (word ∷ rest) e = first rest (keyword_in word) e
 
 pub outcome-stops : (items : List Item) (array : Option ArrayItem) (line : List ℕ) (stop : Stop)
-    → is_passed_over items array line ≡ false
-    → Stops stop (judged_form (kind_of array) line) → Places (Err (stopped stop))
-    (outcome items array line) items array
+    → is_passed_over items array line ≡ false → Stops stop (one_word keyword_in (words_of line))
+    → Places (Err (stopped stop)) (outcome items array line) items array
 outcome-stops items array line stops.NotALine read h = outcome-none items array line read h
 outcome-stops items array line stops.Memory read h = tt
+
+-- words behind a keyword that are not read on
+pub behind-stops : (items : List Item) (array : Option ArrayItem)
+    (found : Option (Result Line LineKind)) (stop : Stop) → Stops stop found
+    → Places (Err (stopped stop)) (led_by items array found) items array
+behind-stops items array found stops.NotALine h = ap (led_by items array) h
+behind-stops items array found stops.Memory h = tt

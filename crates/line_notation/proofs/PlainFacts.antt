@@ -1,9 +1,12 @@
 -- A text that stands in the line itself: plain bytes in quotes.
-use Rattle.std.proofs.Common.{◌≡◌, ◌∙◌, ◌<◌, ◌≤◌, ◌+◌, ◌-◌, ◌++◌, ℕ, suc, List, [], ◌∷◌, length}
+use Rattle.std.proofs.Common.{◌≡◌, ◌∙◌, ◌<◌, ◌≤◌, ◌+◌, ◌-◌, ◌++◌, ◌==◌, ◌&&◌, not, nat_le, nat_lt}
+use Rattle.std.proofs.Common.{slice_index, ℕ, zero, suc, List, [], ◌∷◌, length}
 use Rattle.std.proofs.Common.{take, drop, take_while, get_or, Bool, true, false, Option, None, Some}
 use Rattle.std.proofs.Common.{Result, Ok, Err, refl, sym, ap, subst, append_assoc, arith}
 use Rattle.std.specs.List.{list_all, prefix_len}
-use Rattle.std.proofs.lemmas.Bool.{and_parts}
+use Rattle.std.proofs.lemmas.Bool.{and_parts, ltb-true}
+use Rattle.std.proofs.lemmas.Str.{IsUtf8-from_ascii}
+use Rattle.std.specs.Str.{IsAscii, IsUtf8}
 use Rattle.std.proofs.lemmas.List.{take-append-drop, take_all}
 use Rattle.std.proofs.lemmas.List.Folds.{length-prefix_len}
 use Rattle.line_notation.specs.declared.reader.LineKind.{LineKind}
@@ -17,6 +20,14 @@ use Rattle.line_notation.specs.Steps.{CutsShown, Finds, Gives, TakesShown}
 use Rattle.line_notation.specs.Words.{words_left, words_of}
 use Rattle.line_notation.proofs.PiecesFacts.{plain-pieces, quoted_in-quoted, quoted-closes}
 use Rattle.line_notation.proofs.SpacedFacts.{closed-ends, closed-goes_on}
+
+-- a plain byte is below 128
+plain-below : (b : ℕ) → is_plain b ≡ true → b < 128
+plain-below b h =
+    let p = and_parts (nat_le 32 b && nat_lt b 127 && not (b == 34)) (not (b == 92)) h in
+    let q = and_parts (nat_le 32 b && nat_lt b 127) (not (b == 34)) p.0 in
+    let below = ltb-true b 127 (and_parts (nat_le 32 b) (nat_lt b 127) q.0).1 in
+    omega (arith, below)
 
 -- the plain bytes at the front are plain
 front-plain : (bytes : List ℕ) → list_all is_plain (take_while is_plain bytes) ≡ true
@@ -32,6 +43,20 @@ front-plain (b ∷ bytes) = go (is_plain b) refl (front-plain bytes)
 count-plain : (bytes : List ℕ) (n : ℕ) → n ≡ length (take_while is_plain bytes) → list_all is_plain
     (take n bytes) ≡ true
 count-plain bytes n e = rw (e ∙ length-prefix_len is_plain bytes) (front-plain bytes)
+
+-- and ASCII, and so UTF-8
+plain-ascii : (text : List ℕ) → list_all is_plain text ≡ true → IsAscii text
+plain-ascii [] h i = omega arith
+plain-ascii (b ∷ text) h i =
+    let p = and_parts (is_plain b) (list_all is_plain text) h in
+    go i (plain-below b p.0) (plain-ascii text p.1)
+  where
+    go : (i : ℕ) → b < 128 → IsAscii text → slice_index (b ∷ text) i < 128
+    go zero first rest = first
+    go (suc i) first rest = rest i
+
+pub plain-utf8 : (text : List ℕ) → list_all is_plain text ≡ true → IsUtf8 text
+plain-utf8 text h = IsUtf8-from_ascii text (plain-ascii text h)
 
 -- plain bytes in quotes write themselves
 plain-written : (text : List ℕ) → list_all is_plain text ≡ true → ArePieces text text

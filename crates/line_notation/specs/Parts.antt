@@ -90,6 +90,12 @@ judged_token (listed n) = tokens.Count (kept OutOfRange (λ n. nat_le n (2 ^ 64 
 abbrev pub judged_token_at : Option (Token × List (List ℕ)) → Option (JudgedToken × List (List ℕ))
 judged_token_at read = read >>= λ token. Some (judged_token token.0, token.1)
 
+-- a value that is no list, as a token
+abbrev pub as_token : Option (Result Scalar LineKind × List (List ℕ))
+    → Option (JudgedToken × List (List ℕ))
+as_token None = None
+as_token (Some (s, words)) = Some (tokens.Scalar s, words)
+
 -- what the values of a line stand in, by the array that is open
 abbrev pub holder_of : Option ArrayKind → Holder
 holder_of None = holders.Nothing

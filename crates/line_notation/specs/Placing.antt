@@ -19,7 +19,7 @@ use Rattle.line_notation.specs.declared.reader.LineStep.{LineStep}
 use Rattle.line_notation.specs.declared.reader.LineStep.TheVariants.{More, Done}
 use Rattle.line_notation.specs.declared.words.Stop.{Stop}
 use Rattle.line_notation.specs.declared.words.Stop.TheVariants as stops
-use Rattle.line_notation.specs.Standing.{Placed, on, ends}
+use Rattle.line_notation.specs.Standing.{Placed, led, on, ends}
 
 -- where a step of reading stopped
 abbrev pub stopped : Stop → Refusal
@@ -46,6 +46,12 @@ IsHeld kind (says.Array a) = IsTrue (is_held a)
 IsHeld None (says.Values values) = Unit {0}
 IsHeld (Some kind) (says.Values values) =
     IsTrue (nat_lt 0 (length values) && list_all (fits_kind kind) values)
+
+-- where what was read of a line leads, or it has no form
+abbrev pub led_by : List Item → Option ArrayItem → Option (Result Line LineKind)
+    → Result Placed LineKind
+led_by items array None = Err NotALine
+led_by items array (Some judged) = led items array judged
 
 -- a line led where these items and this array are, unless memory ran out
 abbrev pub Places : Result LineStep Refusal → Result Placed LineKind → List Item → Option ArrayItem

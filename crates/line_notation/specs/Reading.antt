@@ -11,17 +11,14 @@ use Rattle.line_notation.specs.declared.line.Line.{Line}
 use Rattle.line_notation.specs.declared.line.Line.TheVariants as says
 use Rattle.line_notation.specs.declared.reader.LineKind.{LineKind}
 use Rattle.line_notation.specs.declared.reader.LineKind.TheVariants.{OutOfPlace}
-use Rattle.line_notation.specs.Forms.{array_kind_in, form_behind, form_of}
+use Rattle.line_notation.specs.Forms.{array_kind_in, form_behind}
 use Rattle.line_notation.specs.Judging.{begun_array, judged}
 use Rattle.line_notation.specs.Options.{alone, ◌>>=◌}
 use Rattle.line_notation.specs.Parts.{both, gathered_in, holder_of, judged_text_in, judged_texts_at}
 use Rattle.line_notation.specs.Parts.{judged_value_in, mapped}
 use Rattle.line_notation.specs.Scalars.{one_word}
 
--- what a form says, if there is one
-abbrev pub judged_form : Option ArrayKind → List ℕ → Option (Result Line LineKind)
-judged_form kind line = form_of line >>= λ form. Some (judged kind form)
-
+-- what the form behind a keyword says, if there is one
 abbrev pub judged_behind : Option ArrayKind → Keyword → List (List ℕ)
     → Option (Result Line LineKind)
 judged_behind kind keyword words = form_behind keyword words >>= λ form. Some (judged kind form)

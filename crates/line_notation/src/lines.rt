@@ -2,7 +2,7 @@
 ghost use Rattle.std.specs.Prelude.{◌≡◌, Some};
 ghost use Rattle.line_notation.specs.Options.{alone};
 ghost use Rattle.line_notation.specs.Reading as spec;
-ghost use Rattle.line_notation.specs.Reading.{judged_behind, judged_form};
+ghost use Rattle.line_notation.specs.Reading.{judged_behind};
 ghost use Rattle.line_notation.specs.Steps.{Finds};
 
 use crate::arrays::array_kind;
@@ -34,6 +34,7 @@ fn texts_alone(alloc: Global, words: &mut Words) -> Result<Judged<(Txt, Txt)>, S
     alone(texts, words)
 }
 
+#[inline(always)]
 fn start(alloc: Global, words: &mut Words) -> Result<Judged<Line>, Stop>
     ensures { Finds (λ line. line) result (spec.read_start words.old) }
 {
@@ -41,6 +42,7 @@ fn start(alloc: Global, words: &mut Words) -> Result<Judged<Line>, Stop>
     Ok(texts.map(|(prefix, local)| Line::Item(Item::Start { prefix, local })))
 }
 
+#[inline(always)]
 fn declaration(alloc: Global, words: &mut Words) -> Result<Judged<Line>, Stop>
     ensures { Finds (λ line. line) result (spec.read_declaration words.old) }
 {
@@ -48,6 +50,7 @@ fn declaration(alloc: Global, words: &mut Words) -> Result<Judged<Line>, Stop>
     Ok(texts.map(|(prefix, uri)| Line::Item(Item::Xmlns { prefix, uri })))
 }
 
+#[inline(always)]
 fn attribute(alloc: Global, words: &mut Words) -> Result<Judged<Line>, Stop>
     ensures { Finds (λ line. line) result (spec.read_attribute words.old) }
 {
@@ -62,6 +65,7 @@ fn attribute(alloc: Global, words: &mut Words) -> Result<Judged<Line>, Stop>
     }))
 }
 
+#[inline(always)]
 fn text_item(alloc: Global, words: &mut Words) -> Result<Judged<Line>, Stop>
     ensures { Finds (λ line. line) result (spec.read_text words.old) }
 {
@@ -112,6 +116,7 @@ fn values(alloc: Global, kind: Option<ArrayKind>, words: &mut Words) -> Result<J
     Ok(values_of(kind, all.values))
 }
 
+#[inline(always)]
 fn close(words: &Words) -> Result<Judged<Line>, Stop>
     ensures { Finds (λ line. line) result (spec.read_close words.now) }
 {
@@ -122,8 +127,9 @@ fn close(words: &Words) -> Result<Judged<Line>, Stop>
     }
 }
 
-// What the words behind a keyword say.
-fn read_behind(
+// What the words behind a keyword say where an array of the kind is open, or none is.
+#[inline(always)]
+pub fn read_behind(
     alloc: Global,
     kind: Option<ArrayKind>,
     keyword: Keyword,
@@ -141,13 +147,4 @@ fn read_behind(
         Keyword::Values => values(alloc, kind, words),
         Keyword::Close => close(words),
     }
-}
-
-/// What a line says where an array of the kind is open, or none is.
-pub fn read(alloc: Global, kind: Option<ArrayKind>, line: &[u8]) -> Result<Judged<Line>, Stop>
-    ensures { Finds (λ line. line) result (judged_form kind line.now) }
-{
-    let mut words = Words::of(line);
-    let keyword = Keyword::of(words.next()?).ok_or(Stop::NotALine)?;
-    read_behind(alloc, kind, keyword, &mut words)
 }

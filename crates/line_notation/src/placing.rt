@@ -1,15 +1,17 @@
 // Where what a line says leads.
-ghost use Rattle.std.specs.Prelude.{◌≡◌, None, Some, Ok, Err, IfErr, IfOk, IsTrue};
+ghost use Rattle.std.specs.Prelude.{◌≡◌, [], None, Some, Ok, Err, IfErr, IfOk, IsTrue};
+ghost use Rattle.nbfx_values.specs.Documents.{IsDocument};
 ghost use Rattle.nbfx_values.specs.Items.{is_valid_attribute, is_valid_item};
 ghost use Rattle.nbfx_values.specs.Positions.{position_of};
-ghost use Rattle.line_notation.specs.Placing.{IsHeld, IsOpen, Places, is_held};
+ghost use Rattle.line_notation.specs.Placing.{IsHeld, IsOpen, Places, is_held, led_by};
+ghost use Rattle.line_notation.specs.Reading.{judged_behind};
 ghost use Rattle.line_notation.specs.Standing as spec;
 ghost use Rattle.line_notation.specs.Standing.{is_passed_over, kind_of, on, outcome, placed, placed_array, placed_item, with_attribute};
 
-use crate::line::Line;
-use crate::lines;
+use crate::line::{Keyword, Line};
+use crate::lines::read_behind;
 use crate::reader::{LineKind, LineStep};
-use crate::words::Stop;
+use crate::words::{Stop, Words};
 use nbfx_values::{ArrayItem, ArrayKind, AttrItem, DocBuilder, Item, Memory, Position, PushFault};
 use std::alloc::Global;
 
@@ -56,20 +58,34 @@ impl From<Memory> for Refusal {
     }
 }
 
+// The document that has ended.
+#[inline(never)]
+fn ended(builder: &mut DocBuilder) -> LineStep
+    requires { IsDocument builder.old }
+    ensures document { result ≡ LineStep.Done builder.old }
+    ensures anew { builder.new ≡ [] }
+{
+    match builder.finish() {
+        Some(doc) => LineStep::Done(doc),
+        None => unreachable!(),
+    }
+}
+
 // What an item does that is put behind the others.
+#[inline(always)]
 fn place_item(builder: &mut DocBuilder, item: Item) -> Result<LineStep, Refusal>
     requires { IsTrue (is_valid_item item) }
     ensures { Places result (placed_item builder.old item) builder.new None }
 {
-    match builder.push(item) {
+    match builder.push_within(u64::MAX, item) {
         Ok(()) => {}
         Err(PushFault::OutOfPlace) => return Err(Refusal::Kind(LineKind::OutOfPlace)),
         Err(PushFault::TooMuchContent) => unreachable!(),
         Err(PushFault::Memory) => return Err(Refusal::Memory),
     }
-    match builder.finish() {
-        Some(doc) => Ok(LineStep::Done(doc)),
-        None => Ok(LineStep::More),
+    match builder.position() {
+        Position::After => Ok(ended(builder)),
+        Position::Before | Position::Within { .. } => Ok(LineStep::More),
     }
 }
 
@@ -133,6 +149,7 @@ fn place_by_array(
 
 // What a line does that says this, where an array is open or none is. Most lines are of an item in
 // no array, for which nothing is moved but the item.
+#[inline(always)]
 fn place(
     builder: &mut DocBuilder,
     array: &mut Option<ArrayItem>,
@@ -163,7 +180,69 @@ fn open_kind(array: &Option<ArrayItem>) -> Option<ArrayKind>
     array.as_ref().map(|array| array.kind)
 }
 
-// What a line does.
+// Reads the words behind a keyword, and places what they say.
+#[inline(always)]
+fn place_read(
+    alloc: Global,
+    builder: &mut DocBuilder,
+    array: &mut Option<ArrayItem>,
+    keyword: Keyword,
+    words: &mut Words,
+) -> Result<LineStep, Refusal>
+    requires { IsOpen array.old }
+    ensures places { Places result (led_by builder.old array.old
+        (judged_behind (kind_of array.old) keyword words.old)) builder.new array.new }
+    ensures open { IsOpen array.new }
+{
+    let line = read_behind(alloc, open_kind(array), keyword, words)??;
+    place(builder, array, line)
+}
+
+// The same, apart from the code for the keywords that come most often.
+#[inline(never)]
+fn place_rare(
+    alloc: Global,
+    builder: &mut DocBuilder,
+    array: &mut Option<ArrayItem>,
+    keyword: Keyword,
+    words: &mut Words,
+) -> Result<LineStep, Refusal>
+    requires { IsOpen array.old }
+    ensures places { Places result (led_by builder.old array.old
+        (judged_behind (kind_of array.old) keyword words.old)) builder.new array.new }
+    ensures open { IsOpen array.new }
+{
+    place_read(alloc, builder, array, keyword, words)
+}
+
+// The same. Each keyword that comes often has a copy of the code, which makes its item where it is
+// put.
+#[inline(always)]
+fn place_behind(
+    alloc: Global,
+    builder: &mut DocBuilder,
+    array: &mut Option<ArrayItem>,
+    keyword: Keyword,
+    words: &mut Words,
+) -> Result<LineStep, Refusal>
+    requires { IsOpen array.old }
+    ensures places { Places result (led_by builder.old array.old
+        (judged_behind (kind_of array.old) keyword words.old)) builder.new array.new }
+    ensures open { IsOpen array.new }
+{
+    match keyword {
+        Keyword::Start => place_read(alloc, builder, array, Keyword::Start, words),
+        Keyword::Ns => place_read(alloc, builder, array, Keyword::Ns, words),
+        Keyword::Attr => place_read(alloc, builder, array, Keyword::Attr, words),
+        Keyword::Text => place_read(alloc, builder, array, Keyword::Text, words),
+        Keyword::Close => place_read(alloc, builder, array, Keyword::Close, words),
+        Keyword::Comment | Keyword::Array | Keyword::Values => {
+            place_rare(alloc, builder, array, keyword, words)
+        }
+    }
+}
+
+// Reads a line, and places what it says.
 pub fn read_placed(
     alloc: Global,
     builder: &mut DocBuilder,
@@ -177,6 +256,7 @@ pub fn read_placed(
     if is_passed_over(builder, array, line) {
         return Ok(LineStep::More);
     }
-    let line = lines::read(alloc, open_kind(array), line)??;
-    place(builder, array, line)
+    let mut words = Words::of(line);
+    let keyword = words.next_keyword()?;
+    place_behind(alloc, builder, array, keyword, &mut words)
 }

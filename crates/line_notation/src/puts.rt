@@ -119,7 +119,8 @@ pub fn plain_count(bytes: &[u8]) -> usize
     eights + plain_ones(rest)
 }
 
-// Whether a quoted text shows each byte as it is, by so many bytes at the front and so many at the end. Some may be among both.
+// Whether a quoted text shows each byte as it is, by so many bytes at the front and so many at the
+// end. Some may be among both.
 #[inline(always)]
 fn ends_are_plain(bytes: &[u8], front: usize, back: usize) -> bool
     requires within { (front ≤ length bytes.now) × (back ≤ length bytes.now) }

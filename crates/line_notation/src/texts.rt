@@ -1,9 +1,10 @@
 // Texts out of words.
-ghost use Rattle.std.specs.Prelude.{◌≡◌, ◌≤◌, IfSome, Some, length};
+ghost use Rattle.std.specs.Prelude.{◌≡◌, ◌≤◌, IfSome, Some, length, true};
+ghost use Rattle.std.specs.List.{list_all};
 ghost use Rattle.std.specs.Option.{option_copied};
 ghost use Rattle.line_notation.specs.Parts.{escape_at, judged_text, judged_text_in, judged_texts_at};
 ghost use Rattle.line_notation.specs.Quoted as spec;
-ghost use Rattle.line_notation.specs.Quoted.{between_quotes, digit_in, pair_in, quoted_in};
+ghost use Rattle.line_notation.specs.Quoted.{between_quotes, digit_in, is_plain, pair_in, quoted_in};
 ghost use Rattle.line_notation.specs.Scalars.{one_word};
 ghost use Rattle.line_notation.specs.Steps.{Finds, Gives};
 
@@ -79,15 +80,14 @@ pub fn between_quotes(word: &[u8]) -> Option<&[u8]>
     }
 }
 
-// The text of bytes that stand in the line itself.
+// The text of plain bytes, which stand in the line itself. They are ASCII.
 #[inline(always)]
 fn shown_text(alloc: Global, bytes: &[u8]) -> Result<Judged<Txt>, Stop>
+    requires { list_all is_plain bytes.now ≡ true }
     ensures { Finds (λ text. text) result (Some (judged_text bytes.now)) }
 {
-    match str::from_utf8(bytes) {
-        Ok(text) => Ok(Ok(Txt::of(alloc, text)?)),
-        Err(_) => Ok(Err(LineKind::BadText)),
-    }
+    let text = unsafe { str::from_utf8_unchecked(bytes) };
+    Ok(Ok(Txt::of(alloc, text)?))
 }
 
 fn judged_text(bytes: Vec<u8>) -> Judged<Txt>

@@ -1,7 +1,8 @@
 // Values out of the words of a line.
 ghost use Rattle.std.specs.Prelude.{◌≡◌, ◌≤◌, ◌<◌, ◌^◌, ◌-◌, IfOk, IfNone, IfSome, IsErrOf, Some, length};
 ghost use Rattle.line_notation.specs.Parts as spec;
-ghost use Rattle.line_notation.specs.Parts.{IsTooMuch, gathered_in, holder_of, no_values, judged_token_at, judged_value_in, mapped, may_hold_a_list, refit, tallied, value_behind, with_list, with_scalar, with_token};
+ghost use Rattle.line_notation.specs.Parts.{IsTooMuch, as_token, gathered_in, holder_of, no_values, judged_at, judged_token_at, judged_value_in, mapped, may_hold_a_list, refit, tallied, value_behind, with_list, with_scalar, with_token};
+ghost use Rattle.line_notation.specs.Scalars.{scalar_at};
 ghost use Rattle.line_notation.specs.Steps.{Finds, Gives};
 ghost use Rattle.line_notation.specs.Values.{plain_at, token_at};
 
@@ -20,18 +21,28 @@ pub enum JudgedToken {
     Count(Judged<u128>),
 }
 
+// A value of this kind, which the next words are.
+#[inline(always)]
+fn kind_token(alloc: Global, kind: ScalarKind, words: &mut Words) -> Result<JudgedToken, Stop>
+    ensures { Gives (λ token. token) result words.new
+        (as_token (judged_at (scalar_at kind words.old))) }
+{
+    let scalar = scalar(alloc, kind, words)?;
+    Ok(JudgedToken::Scalar(scalar))
+}
+
 // What the words behind this one say, which names a kind of value.
 fn scalar_token(alloc: Global, word: &[u8], words: &mut Words) -> Result<JudgedToken, Stop>
     ensures { Gives (λ token. token) result words.new
         (judged_token_at (plain_at word.now words.old)) }
 {
     let kind = ScalarKind::of(word).ok_or(Stop::NotALine)?;
-    let scalar = scalar(alloc, kind, words)?;
-    Ok(JudgedToken::Scalar(scalar))
+    kind_token(alloc, kind, words)
 }
 
-// What the next words say.
-fn token(alloc: Global, words: &mut Words) -> Result<JudgedToken, Stop>
+// What the next words say, whatever they begin with.
+#[inline(never)]
+fn any_token(alloc: Global, words: &mut Words) -> Result<JudgedToken, Stop>
     ensures token { Gives (λ token. token) result words.new (judged_token_at (token_at words.old)) }
     ensures few { length words.old ≤ 2 ^ 63 }
 {
@@ -41,6 +52,21 @@ fn token(alloc: Global, words: &mut Words) -> Result<JudgedToken, Stop>
         return Ok(JudgedToken::Count(count));
     }
     scalar_token(alloc, word, words)
+}
+
+// What the next words say. Each kind that comes often has a copy of the code.
+#[inline(always)]
+fn token(alloc: Global, words: &mut Words) -> Result<JudgedToken, Stop>
+    ensures token { Gives (λ token. token) result words.new (judged_token_at (token_at words.old)) }
+    ensures few { length words.old ≤ 2 ^ 63 }
+{
+    match words.next_kind() {
+        Some(ScalarKind::Text) => kind_token(alloc, ScalarKind::Text, words),
+        Some(ScalarKind::Number) => kind_token(alloc, ScalarKind::Number, words),
+        Some(ScalarKind::UniqueId) => kind_token(alloc, ScalarKind::UniqueId, words),
+        Some(kind) => kind_token(alloc, kind, words),
+        None => any_token(alloc, words),
+    }
 }
 
 /// How many values have come.

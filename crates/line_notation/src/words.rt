@@ -1,10 +1,14 @@
 // The words of a line, one after the other.
-ghost use Rattle.std.specs.Prelude.{◌≡◌, ◌≤◌, ◌<◌, ◌^◌, ◌↔◌, [], length, take_while, IfNone, IfSome, IsTrue};
+ghost use Rattle.std.specs.Prelude.{◌≡◌, ◌≤◌, ◌<◌, ◌^◌, ◌↔◌, [], ◌∷◌, length, take_while, IfNone, IfSome, IsTrue};
 ghost use Rattle.std.specs.Option.{option_copied};
 ghost use Rattle.line_notation.specs.Steps.{CutsShown, CutsWord, Gives, TakesShown};
-ghost use Rattle.line_notation.specs.Words.{goes_on_within, is_bare, next_in, words_of};
+ghost use Rattle.line_notation.specs.Forms.{keyword_in, keyword_word};
+ghost use Rattle.line_notation.specs.Scalars.{one_word, scalar_kind_word};
+ghost use Rattle.line_notation.specs.Words.{goes_on_within, is_bare, next_in, words_left, words_of};
 
+use crate::line::Keyword;
 use crate::puts::plain_count;
+use crate::scalars::ScalarKind;
 use std::alloc::{AllocError, AllocFailed};
 use std::marker::Model;
 use unit_streams::Memory;
@@ -145,6 +149,41 @@ fn shown_first(line: &[u8]) -> Option<(&[u8], Option<&[u8]>)>
     }
 }
 
+// A keyword that comes often, if the line begins with it, and what is left of the line behind its
+// space.
+#[inline(always)]
+fn common_keyword(line: &[u8]) -> Option<(Keyword, Option<&[u8]>)>
+    ensures { IfSome result (λ cut. words_of line.now ≡ keyword_word cut.0
+        ∷ words_left (option_copied cut.1)) }
+{
+    match line {
+        [b's', b't', b'a', b'r', b't', b' ', left @ ..] => Some((Keyword::Start, Some(left))),
+        [b'n', b's', b' ', left @ ..] => Some((Keyword::Ns, Some(left))),
+        [b'a', b't', b't', b'r', b' ', left @ ..] => Some((Keyword::Attr, Some(left))),
+        [b't', b'e', b'x', b't', b' ', left @ ..] => Some((Keyword::Text, Some(left))),
+        [b'c', b'l', b'o', b's', b'e'] => Some((Keyword::Close, None)),
+        _ => None,
+    }
+}
+
+// The same of a word that names a kind of value.
+#[inline(always)]
+fn common_kind(line: &[u8]) -> Option<(ScalarKind, Option<&[u8]>)>
+    ensures { IfSome result (λ cut. words_of line.now ≡ scalar_kind_word cut.0
+        ∷ words_left (option_copied cut.1)) }
+{
+    match line {
+        [b's', b't', b'r', b'i', b'n', b'g', b' ', left @ ..] => {
+            Some((ScalarKind::Text, Some(left)))
+        }
+        [b'n', b'u', b'm', b'b', b'e', b'r', b' ', left @ ..] => {
+            Some((ScalarKind::Number, Some(left)))
+        }
+        [b'i', b'd', b' ', left @ ..] => Some((ScalarKind::UniqueId, Some(left))),
+        _ => None,
+    }
+}
+
 impl<'a> Words<'a> {
     // All words of a line.
     pub fn of(line: &'a [u8]) -> Words<'a>
@@ -170,6 +209,44 @@ impl<'a> Words<'a> {
         let (shown, left) = shown_first(self.rest?)?;
         self.rest = left;
         Some(shown)
+    }
+
+    // The kind of value that the next word names, if it is one that comes often. Any other word is
+    // left.
+    #[inline(always)]
+    pub fn next_kind(&mut self) -> Option<ScalarKind>
+        ensures kind { IfSome result (λ kind. self.old ≡ scalar_kind_word kind ∷ self.new) }
+        ensures unchanged { IfNone result (self.new ≡ self.old) }
+        ensures few { length self.old ≤ 2 ^ 63 }
+    {
+        let (kind, left) = common_kind(self.rest?)?;
+        self.rest = left;
+        Some(kind)
+    }
+
+    // The keyword that the next word is.
+    #[inline(always)]
+    pub fn next_keyword(&mut self) -> Result<Keyword, Stop>
+        ensures { Gives (λ keyword. keyword) result self.new (one_word keyword_in self.old) }
+    {
+        let Some(line) = self.rest else {
+            return Err(Stop::NotALine);
+        };
+        match common_keyword(line) {
+            Some((keyword, left)) => {
+                self.rest = left;
+                Ok(keyword)
+            }
+            None => self.any_keyword(),
+        }
+    }
+
+    #[inline(never)]
+    fn any_keyword(&mut self) -> Result<Keyword, Stop>
+        ensures { Gives (λ keyword. keyword) result self.new (one_word keyword_in self.old) }
+    {
+        let word = self.next()?;
+        Keyword::of(word).ok_or(Stop::NotALine)
     }
 
     // The next word, if there is one.
