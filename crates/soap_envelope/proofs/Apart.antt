@@ -39,7 +39,7 @@ abbrev pub are_apart : List Declaration → Bool
 are_apart [] = true
 are_apart (d ∷ ds) = not (has ds d.prefix) && are_apart ds
 
-lacks-filter : (f : Declaration → Bool) (ds : List Declaration) (p : List ℕ) → has ds p ≡ false
+pub lacks-filter : (f : Declaration → Bool) (ds : List Declaration) (p : List ℕ) → has ds p ≡ false
     → has (filter f ds) p ≡ false
 lacks-filter f [] p h = refl
 lacks-filter f (d ∷ ds) p h = elim (cases_Bool (bytes_eq d.prefix p)) [
@@ -71,7 +71,7 @@ apart-filter f (d ∷ ds) h =
     ]
 
 -- whether the prefixes ascend
-abbrev order : List ℕ → List ℕ → Ordering
+abbrev pub order : List ℕ → List ℕ → Ordering
 order = slice_cmp nat_cmp
 
 abbrev is_above : List ℕ → Declaration → Bool

@@ -19,6 +19,7 @@ use Rattle.soap_envelope.specs.Children.{open_behind}
 use Rattle.soap_envelope.specs.Names.{soap}
 use Rattle.soap_envelope.specs.Parts.{is_element, kept_children, parts_among, parts_behind}
 use Rattle.soap_envelope.specs.Parts.{parts_of, root_scope}
+use Rattle.soap_envelope.specs.Resolved.{scope_behind}
 use Rattle.soap_envelope.specs.Scopes.{Declaration, Scope, around, declaration, declared, is_bound}
 use Rattle.soap_envelope.specs.Scopes.{uri_in, within}
 use Rattle.soap_envelope.proofs.Declarations.{filtered}
@@ -133,13 +134,8 @@ around-top zero outer scope h e = h
 around-top (suc n) outer scope h e =
     let none : suc n ≡ 0 = eqb-true (suc n) 0 e in absurd (omega arith)
 
--- the scope behind an item
-abbrev scope_behind : Scope → Item → List Item → Scope
-scope_behind scope (Start p l) more = declared more ∷ scope
-scope_behind scope Close more = around scope
-scope_behind scope item more = scope
-
-names-behind : (scope : Scope) (item : Item) (more : List Item) → good_names scope (item ∷ more)
+-- good names go on behind an item
+pub names-behind : (scope : Scope) (item : Item) (more : List Item) → good_names scope (item ∷ more)
     ≡ true
     → good_names (scope_behind scope item more) more ≡ true
 names-behind scope (Start p l) more h =
@@ -245,7 +241,7 @@ begun items at scope s h = rw add-one (begun_at items at s h)
     begun_at (Start p l ∷ xs) zero s h = names-behind scope (Start p l) xs h
     begun_at (x ∷ xs) zero s h = absurd cc
 
-head-good : (scope : Scope) (xs : List Item) → good_names scope xs ≡ true
+pub head-good : (scope : Scope) (xs : List Item) → good_names scope xs ≡ true
     → good_names scope (behind_head xs) ≡ true
 head-good scope (Xmlns p u ∷ xs) h = head-good scope xs h
 head-good scope (Attr p l v ∷ xs) h = head-good scope xs h

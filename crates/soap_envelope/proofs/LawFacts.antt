@@ -55,14 +55,14 @@ root-starts : (scope : Scope) (root : Option Item) → wrong_name (name_by scope
 root-starts scope (Some (Start p l)) h = refl
 root-starts scope root h = absurd cc
 
-record IsViewed (doc : List Item) (v : View) : Type 0 where
-  names : bad_name doc ≡ None
-  root : is_start (slice_get doc 0) ≡ true
-  parts : Parts
-  are_parts : parts_of doc ≡ Ok parts
-  place : parts.body ≡ v.body_at
+pub record IsViewed (doc : List Item) (v : View) : Type 0 where
+  pub names : bad_name doc ≡ None
+  pub root : is_start (slice_get doc 0) ≡ true
+  pub parts : Parts
+  pub are_parts : parts_of doc ≡ Ok parts
+  pub place : parts.body ≡ v.body_at
 
-is-viewed : (doc : List Item) (v : View) → view doc ≡ Ok v → IsViewed doc v
+pub is-viewed : (doc : List Item) (v : View) → view doc ≡ Ok v → IsViewed doc v
 is-viewed doc v h =
     let later = unless (wrong_root doc) (viewed_by doc (parts_of doc)) in
     let named = passes (option_map BadNames (bad_name doc)) later v h in

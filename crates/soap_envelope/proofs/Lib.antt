@@ -16,16 +16,23 @@ pub mod MadeNames
 pub mod MadeParts
 pub mod MadeView
 pub mod LawFacts
-pub mod RenamedItems
+pub mod Bare
+pub mod ResolvedPlaces
+pub mod ResolvedViews
 pub mod Renamed
+pub mod BoundNames
+pub mod InScope
+pub mod BodyNames
 pub mod Declarations
 pub mod Contents
 pub mod Suffixes
 pub mod Worked
 mod WorkedMade
 mod WorkedNames
+mod WorkedResolved
 pub mod WorkedRefusals
 pub mod WorkedPlaces
 pub mod WorkedStructure
-mod WorkedHeaders
-mod WorkedContents
+pub mod WorkedHeaders
+pub mod WorkedContents
+mod WorkedView

@@ -1,16 +1,13 @@
 -- What other prefixes for the same namespaces leave as it is.
-use Rattle.std.proofs.Common.{◌≡◌, ◌+◌, ℕ, Bool, true, false, List, [], ◌∷◌, ◌++◌, ap, drop, length}
-use Rattle.std.proofs.Common.{map, refl, sym, ◌∙◌, Option, Some, None, Result, Ok, Err, codes}
+use Rattle.std.proofs.Common.{◌≡◌, ◌+◌, ℕ, Bool, true, false, List, [], ◌∷◌, ◌++◌, ap, length}
+use Rattle.std.proofs.Common.{map, refl, sym, ◌∙◌, Some, None, codes}
 use Rattle.std.proofs.Common.{if◌then◌else◌}
-use Rattle.std.specs.Prelude.{◌==◌, flat_map, slice_get, not, ◌&&◌}
-use Rattle.std.specs.List.{filter, list_all}
-use Rattle.std.specs.Option.{is_some, option_and_then, option_map, option_or, option_to_list}
+use Rattle.std.specs.Prelude.{◌==◌, not, ◌&&◌}
+use Rattle.std.specs.Option.{is_some, option_or}
 use Rattle.std.specs.Option.{unwrap_or}
 use Rattle.std.specs.Str.{bytes_eq}
 use Rattle.std.proofs.Math.Dec.{eqb-suc-zero}
-use Rattle.std.proofs.Math.Path.{fun_ext}
-use Rattle.std.proofs.lemmas.List.{drop-map, map-append}
-use Rattle.std.proofs.lemmas.Option.{slice_get-map}
+use Rattle.std.proofs.lemmas.List.{map-append}
 use Rattle.std.proofs.lemmas.Slice.Eq.{bytes_eq-Decides}
 use Rattle.nbfx_values.specs.declared.content.ArrayItem.{ArrayItem}
 use Rattle.nbfx_values.specs.declared.content.AttrItem.{AttrItem}
@@ -19,35 +16,18 @@ use Rattle.nbfx_values.specs.declared.content.AttrItem.TheVariants.{Attr as Attr
 use Rattle.nbfx_values.specs.declared.content.Item.{Item}
 use Rattle.nbfx_values.specs.declared.content.Item.TheVariants.{Start, Xmlns, Attr, Text, Comment}
 use Rattle.nbfx_values.specs.declared.content.Item.TheVariants.{Array, Close}
-use Rattle.soap_envelope.specs.declared.blocks.Block.{Block}
-use Rattle.soap_envelope.specs.declared.parts.Parts.{Parts}
-use Rattle.soap_envelope.specs.declared.refusals.SoapFault.{SoapFault}
-use Rattle.soap_envelope.specs.BadNames.{are_good, bad_attribute, bad_in_head, bad_name}
+use Rattle.soap_envelope.specs.BadNames.{are_good, bad_attribute, bad_in_head}
 use Rattle.soap_envelope.specs.BadNames.{first_bad_name, is_good_array}
-use Rattle.soap_envelope.specs.Blocks.{block_of, blocks_among, found, is_soap_attribute}
-use Rattle.soap_envelope.specs.Blocks.{soap_attribute, soap_attribute_of}
-use Rattle.soap_envelope.specs.Characters.{characters_of, has_plain_content, is_passed, is_plain}
-use Rattle.soap_envelope.specs.Characters.{text_of}
-use Rattle.soap_envelope.specs.Children.{children_from, children_of, close_from, close_of, is_start}
-use Rattle.soap_envelope.specs.Headers.{addresses, addresses_among, bad_child, bad_header}
-use Rattle.soap_envelope.specs.Headers.{bad_in_block, counted_at, is_bad_content, only, repeated}
 use Rattle.soap_envelope.specs.Laws.{PrefixesAreFree}
-use Rattle.soap_envelope.specs.declared.refusals.SoapFault.TheVariants.{BadHeader, BadNames}
-use Rattle.soap_envelope.specs.declared.refusals.SoapFault.TheVariants.{RepeatedHeader}
-use Rattle.soap_envelope.specs.Names.{addressing, qualified_name, soap, xml_namespace}
-use Rattle.soap_envelope.specs.Parts.{element_name, is_element, is_some_name, kept_children}
-use Rattle.soap_envelope.specs.Parts.{name_by, parts_among, parts_behind, parts_of, root_scope}
-use Rattle.soap_envelope.specs.Parts.{wrong_name, wrong_root}
-use Rattle.soap_envelope.specs.Renaming.{IsRenaming, headed, headed_by, renamed, renamed_array}
+use Rattle.soap_envelope.specs.Names.{qualified_name, xml_namespace}
+use Rattle.soap_envelope.specs.Renaming.{IsRenaming, renamed, renamed_array}
 use Rattle.soap_envelope.specs.Renaming.{renamed_item, renamed_part}
-use Rattle.soap_envelope.proofs.RenamedItems.{characters-by, children-same, close-same, passed-by}
-use Rattle.soap_envelope.proofs.RenamedItems.{plain-by, start-by, text-by}
+use Rattle.soap_envelope.specs.Resolved.{Arrays, Attribute, Element, attributes_on, resolved_from}
+use Rattle.soap_envelope.specs.Resolved.{resolved_item, scope_behind}
 use Rattle.soap_envelope.specs.Scopes.{Declaration, Scope, around, attribute_uri, declaration}
 use Rattle.soap_envelope.specs.Scopes.{declared, declared_on, element_uri, is_bound, undeclared_uri}
-use Rattle.soap_envelope.specs.Scopes.{uri_in, uri_of, within}
-use Rattle.soap_envelope.specs.View.{View, blocks_of, fault_among, header_children, header_fault}
-use Rattle.soap_envelope.specs.View.{header_scope, reply_address_at, text_item, texts_at, texts_in}
-use Rattle.soap_envelope.specs.View.{texts_of, unless, view, viewed, viewed_by}
+use Rattle.soap_envelope.specs.Scopes.{uri_in, uri_of}
+use Rattle.soap_envelope.proofs.ResolvedViews.{names_are_all}
 
 module _ (f : List ℕ → List ℕ) (r : IsRenaming f) where
   abbrev layer : List Declaration → List Declaration
@@ -205,294 +185,59 @@ module _ (f : List ℕ → List ℕ) (r : IsRenaming f) where
   names scope at (Text v ∷ xs) = names scope (at + 1) xs
   names scope at (Comment v ∷ xs) = names scope (at + 1) xs
 
-  attribute-same : (scope : Scope) (name : List ℕ) (at : ℕ) (xs : List Item)
-      → soap_attribute (scopes scope) name at (renamed f xs) ≡ soap_attribute scope name at xs
-  attribute-same scope name at [] = refl
-  attribute-same scope name at (Xmlns p u ∷ xs) = attribute-same scope name (at + 1) xs
-  attribute-same scope name at (Attr p l v ∷ xs) =
-      rw (of-attribute scope p)
-      (ap (λ o. if is_soap_attribute scope name p l then Some (found at v) else o)
-      (attribute-same scope name (at + 1) xs))
-  attribute-same scope name at (Start p l ∷ xs) = refl
-  attribute-same scope name at (Text v ∷ xs) = refl
-  attribute-same scope name at (Comment v ∷ xs) = refl
-  attribute-same scope name at (Array a ∷ xs) = refl
-  attribute-same scope name at (Close ∷ xs) = refl
+  parts-say : (scope : Scope) (xs : List AttrItem)
+      → attributes_on (scopes scope) (map (renamed_part f) xs) ≡ attributes_on scope xs
+  parts-say scope [] = refl
+  parts-say scope (DeclaresOn p u ∷ xs) = parts-say scope xs
+  parts-say scope (AttrOn p l v ∷ xs) =
+      ap (λ (u : List ℕ). (qualified_name u l, v)
+      ∷ attributes_on (scopes scope) (map (renamed_part f) xs)) (of-attribute scope p)
+      ∙ ap (λ attributes. (qualified_name (attribute_uri scope p) l, v) ∷ attributes)
+      (parts-say scope xs)
 
-  -- what is seen at a place
-  module _ (items : List Item) where
-    there : (at : ℕ)
-        → slice_get (renamed f items) at ≡ option_map (renamed_item f) (slice_get items at)
-    there at = slice_get-map (renamed_item f) items at
+  says : (scope : Scope) (x : Item) (xs : List Item)
+      → resolved_item (scopes scope) (renamed_item f x) (renamed f xs) ≡ resolved_item scope x xs
+  says scope (Start p l) xs =
+      ap (λ ds. Element (qualified_name (element_uri (ds ∷ scopes scope) (f p)) l)) (declares xs)
+      ∙ ap (λ (u : List ℕ). Element (qualified_name u l)) (of-element (declared xs ∷ scope) p)
+  says scope (Xmlns p u) xs = refl
+  says scope (Attr p l v) xs =
+      ap (λ (u : List ℕ). Attribute (qualified_name u l) v) (of-attribute scope p)
+  says scope (Text v) xs = refl
+  says scope (Comment v) xs = refl
+  says scope (Array a) xs =
+      ap (λ ds. Arrays (qualified_name (element_uri (ds ∷ scopes scope) (f a.prefix)) a.local)
+      (attributes_on (ds ∷ scopes scope) (map (renamed_part f) a.attrs)) a.kind a.values)
+      (declares-on a.attrs)
+      ∙ ap (λ (u : List ℕ). Arrays (qualified_name u a.local)
+      (attributes_on (scopes (declared_on a.attrs ∷ scope)) (map (renamed_part f) a.attrs)) a.kind
+      a.values) (of-element (declared_on a.attrs ∷ scope) a.prefix)
+      ∙ ap (λ attributes. Arrays
+      (qualified_name (element_uri (declared_on a.attrs ∷ scope) a.prefix) a.local) attributes
+      a.kind a.values) (parts-say (declared_on a.attrs ∷ scope) a.attrs)
+  says scope Close xs = refl
 
-    from : (at : ℕ) → drop at (renamed f items) ≡ renamed f (drop at items)
-    from at = drop-map (renamed_item f) at items
+  behind : (scope : Scope) (x : Item) (xs : List Item)
+      → scope_behind (scopes scope) (renamed_item f x) (renamed f xs)
+      ≡ scopes (scope_behind scope x xs)
+  behind scope (Start p l) xs = ap (λ ds. ds ∷ scopes scope) (declares xs)
+  behind scope (Xmlns p u) xs = refl
+  behind scope (Attr p l v) xs = refl
+  behind scope (Text v) xs = refl
+  behind scope (Comment v) xs = refl
+  behind scope (Array a) xs = refl
+  behind scope Close xs = around-same scope
 
-    inside : (at : ℕ) (outer : Scope)
-        → within (renamed f items) at (scopes outer) ≡ scopes (within items at outer)
-    inside at outer =
-        ap (λ ds. ds ∷ scopes outer) (ap declared (from (at + 1)) ∙ declares (drop (at + 1) items))
-
-    children : (at : ℕ) → children_of (renamed f items) at ≡ children_of items at
-    children at =
-        ap (children_from (Some 0) (at + 1)) (from (at + 1))
-        ∙ children-same f (Some 0) (at + 1) (drop (at + 1) items)
-
-    closes : (at : ℕ) → close_of (renamed f items) at ≡ close_of items at
-    closes at =
-        ap (close_from 0 (at + 1)) (from (at + 1)) ∙ close-same f 0 (at + 1) (drop (at + 1) items)
-
-    name-by : (scope : Scope) (o : Option Item)
-        → name_by (scopes scope) (option_map (renamed_item f) o) ≡ name_by scope o
-    name-by scope None = refl
-    name-by scope (Some (Start p l)) =
-        ap (λ (u : List ℕ). Some (qualified_name u l)) (of-element scope p)
-    name-by scope (Some (Xmlns p u)) = refl
-    name-by scope (Some (Attr p l v)) = refl
-    name-by scope (Some (Text v)) = refl
-    name-by scope (Some (Comment v)) = refl
-    name-by scope (Some (Array a)) = refl
-    name-by scope (Some Close) = refl
-
-    name-same : (outer : Scope) (at : ℕ)
-        → element_name (renamed f items) (scopes outer) at ≡ element_name items outer at
-    name-same outer at =
-        ap (λ scope. name_by scope (slice_get (renamed f items) at)) (inside at outer)
-        ∙ ap (name_by (scopes (within items at outer))) (there at)
-        ∙ name-by (within items at outer) (slice_get items at)
-
-    kept-same : (at : ℕ) → kept_children (renamed f items) at ≡ kept_children items at
-    kept-same at =
-        ap (λ p. filter p (children_of (renamed f items) at))
-        (fun_ext (λ (child : ℕ). ap not
-        (ap is_passed (there child) ∙ passed-by f (slice_get items child))))
-        ∙ ap (filter (λ (child : ℕ). not (is_passed (slice_get items child)))) (children at)
-
-    plain-same : (at : ℕ) → has_plain_content (renamed f items) at ≡ has_plain_content items at
-    plain-same at =
-        ap (λ p. list_all p (children_of (renamed f items) at))
-        (fun_ext (λ (child : ℕ). ap is_plain (there child) ∙ plain-by f (slice_get items child)))
-        ∙ ap (list_all (λ (child : ℕ). is_plain (slice_get items child))) (children at)
-
-    text-same : (at : ℕ) → text_of (renamed f items) at ≡ text_of items at
-    text-same at =
-        ap (λ p. flat_map p (children_of (renamed f items) at))
-        (fun_ext (λ (child : ℕ). ap characters_of (there child)
-        ∙ characters-by f (slice_get items child)))
-        ∙ ap (flat_map (λ (child : ℕ). characters_of (slice_get items child))) (children at)
-
-    texts-same : (at : ℕ) → texts_of (renamed f items) at ≡ texts_of items at
-    texts-same at =
-        ap (λ p. flat_map p (children_of (renamed f items) at))
-        (fun_ext (λ (child : ℕ). ap option_to_list
-        (ap text_item (there child) ∙ text-by f (slice_get items child))))
-        ∙ ap (flat_map (texts_in items)) (children at)
-
-    attributes-same : (outer : Scope) (name : List ℕ) (at : ℕ)
-        → soap_attribute_of (renamed f items) (scopes outer) name at
-        ≡ soap_attribute_of items outer name at
-    attributes-same outer name at =
-        ap (λ scope. soap_attribute scope name (at + 1) (drop (at + 1) (renamed f items)))
-        (inside at outer)
-        ∙ ap (soap_attribute (scopes (within items at outer)) name (at + 1)) (from (at + 1))
-        ∙ attribute-same (within items at outer) name (at + 1) (drop (at + 1) items)
-
-    element-same : (outer : Scope) (u l : List ℕ) (at : ℕ)
-        → is_element (renamed f items) (scopes outer) u l at ≡ is_element items outer u l at
-    element-same outer u l at = ap (is_some_name u l) (name-same outer at)
-
-    block-same : (outer : Scope) (at : ℕ)
-        → block_of (renamed f items) (scopes outer) at ≡ block_of items outer at
-    block-same outer at =
-        rw (
-          name-same outer at,
-          attributes-same outer (codes "mustUnderstand") at,
-          attributes-same outer (codes "role") at,
-          closes at,
-        ) refl
-
-    addresses-same : (outer : Scope) (at : ℕ)
-        → addresses (renamed f items) (scopes outer) at ≡ addresses items outer at
-    addresses-same outer at =
-        ap (λ scope. addresses_among (renamed f items) scope (children_of (renamed f items) at))
-        (inside at outer)
-        ∙ ap (λ p. filter p (children_of (renamed f items) at))
-        (fun_ext (λ (child : ℕ). ap (λ b. b && has_plain_content (renamed f items) child)
-        (element-same (within items at outer) addressing (codes "Address") child)
-        ∙ ap (λ b. is_element items (within items at outer) addressing (codes "Address") child && b)
-        (plain-same child)))
-        ∙ ap (addresses_among items (within items at outer)) (children at)
-
-    content-same : (outer : Scope) (b : Block)
-        → is_bad_content (renamed f items) (scopes outer) b ≡ is_bad_content items outer b
-    content-same outer b = rw (plain-same b.from, addresses-same outer b.from) refl
-
-    bad-same : (outer : Scope) (b : Block)
-        → bad_in_block (renamed f items) (scopes outer) b ≡ bad_in_block items outer b
-    bad-same outer b =
-        rw (
-          content-same outer b,
-          attributes-same outer (codes "mustUnderstand") b.from,
-          attributes-same outer (codes "role") b.from,
-        ) refl
-
-    -- what is seen of Header
-    blocks-same : (outer : Scope) (places : List ℕ)
-        → blocks_among (renamed f items) (scopes outer) places ≡ blocks_among items outer places
-    blocks-same outer places =
-        ap (λ p. map (block_of (renamed f items) (scopes outer)) (filter p places))
-        (fun_ext (λ (child : ℕ). ap is_start (there child) ∙ start-by f (slice_get items child)))
-        ∙ ap (λ b. map b (filter (λ (child : ℕ). is_start (slice_get items child)) places))
-        (fun_ext (block-same outer))
-
-    bad-child-same : (outer : Scope) (at : ℕ)
-        → bad_child (renamed f items) (scopes outer) at ≡ bad_child items outer at
-    bad-child-same outer at =
-        ap (λ b. if b then bad_in_block (renamed f items) (scopes outer)
-        (block_of (renamed f items) (scopes outer) at) else Some at)
-        (ap is_start (there at) ∙ start-by f (slice_get items at))
-        ∙ ap (λ o. if is_start (slice_get items at) then o else Some at)
-        (bad-same outer (block_of (renamed f items) (scopes outer) at)
-        ∙ ap (bad_in_block items outer) (block-same outer at))
-
-    bad-header-same : (outer : Scope) (places : List ℕ)
-        → bad_header (renamed f items) (scopes outer) places ≡ bad_header items outer places
-    bad-header-same outer [] = refl
-    bad-header-same outer (at ∷ places) =
-        rw (bad-child-same outer at)
-        (ap (option_or (bad_child items outer at)) (bad-header-same outer places))
-
-    root-same : root_scope (renamed f items) ≡ scopes (root_scope items)
-    root-same = inside 0 []
-
-    header-same : (header : Option ℕ)
-        → header_scope (renamed f items) header ≡ scopes (header_scope items header)
-    header-same None = root-same
-    header-same (Some at) =
-        ap (within (renamed f items) at) root-same ∙ inside at (root_scope items)
-
-    header-children-same : (header : Option ℕ)
-        → header_children (renamed f items) header ≡ header_children items header
-    header-children-same None = refl
-    header-children-same (Some at) = kept-same at
-
-    header-blocks-same : (header : Option ℕ)
-        → blocks_of (renamed f items) header ≡ blocks_of items header
-    header-blocks-same header =
-        ap (λ scope. blocks_among (renamed f items) scope
-        (header_children (renamed f items) header))
-        (header-same header)
-        ∙ blocks-same (header_scope items header) (header_children (renamed f items) header)
-        ∙ ap (blocks_among items (header_scope items header)) (header-children-same header)
-
-    fault-same : (header : Option ℕ)
-        → header_fault (renamed f items) header ≡ header_fault items header
-    fault-same header =
-        ap (fault_among (renamed f items) (header_scope (renamed f items) header)
-        (header_children (renamed f items) header)) (header-blocks-same header)
-        ∙ ap (λ places. fault_among (renamed f items) (header_scope (renamed f items) header) places
-        (blocks_of items header)) (header-children-same header)
-        ∙ ap (λ scope. fault_among (renamed f items) scope (header_children items header)
-        (blocks_of items header)) (header-same header)
-        ∙ ap (λ o. option_or (option_map RepeatedHeader (repeated (blocks_of items header)))
-        (option_map BadHeader o))
-        (bad-header-same (header_scope items header) (header_children items header))
-
-    reply-same : (header : Option ℕ) (blocks : List Block)
-        → reply_address_at (renamed f items) (scopes (header_scope items header)) blocks
-        ≡ reply_address_at items (header_scope items header) blocks
-    reply-same header blocks =
-        ap (λ g. option_and_then g (counted_at (codes "ReplyTo") blocks))
-        (fun_ext (λ (at : ℕ). ap only (addresses-same (header_scope items header) at)))
-
-    texts-at-same : (at : Option ℕ) → texts_at (renamed f items) at ≡ texts_at items at
-    texts-at-same None = refl
-    texts-at-same (Some at) = texts-same at
-
-    -- the root and its children
-    wrong-same : wrong_root (renamed f items) ≡ wrong_root items
-    wrong-same = ap wrong_name (name-same [] 0)
-
-    behind-same : (root : Scope) (header : Option ℕ) (places : List ℕ)
-        → parts_behind (renamed f items) (scopes root) header places
-        ≡ parts_behind items root header places
-    behind-same root header [] = refl
-    behind-same root header (at ∷ []) = rw (element-same root soap (codes "Body") at) refl
-    behind-same root header (at ∷ next ∷ more) =
-        rw (element-same root soap (codes "Body") at) refl
-
-    among-same : (root : Scope) (places : List ℕ)
-        → parts_among (renamed f items) (scopes root) places ≡ parts_among items root places
-    among-same root [] = refl
-    among-same root (at ∷ more) =
-        rw (
-          element-same root soap (codes "Header") at,
-          behind-same root (Some at) more,
-          behind-same root None (at ∷ more),
-        ) refl
-
-    parts-same : parts_of (renamed f items) ≡ parts_of items
-    parts-same =
-        ap (λ root. parts_among (renamed f items) root (kept_children (renamed f items) 0))
-        root-same
-        ∙ among-same (root_scope items) (kept_children (renamed f items) 0)
-        ∙ ap (parts_among items (root_scope items)) (kept-same 0)
-
-    -- the view, but for Body
-    viewed-same : (parts : Parts)
-        → headed (viewed (renamed f items) parts) ≡ headed (viewed items parts)
-    viewed-same parts =
-        let seen : List Block → View =
-        (λ bs. record (headed (viewed items parts)) {
-          blocks = bs;
-          action = option_map (text_of (renamed f items)) (counted_at (codes "Action") bs);
-          reply_address = option_map (text_of (renamed f items))
-              (reply_address_at (renamed f items) (header_scope (renamed f items) parts.header) bs);
-          message_id = texts_at (renamed f items) (counted_at (codes "MessageID") bs);
-        }) in
-        let bs = blocks_of items parts.header in
-        let h = header_scope items parts.header in
-        ap seen (header-blocks-same parts.header)
-        ∙ ap (λ scope. record (seen bs) {
-          reply_address = option_map (text_of (renamed f items))
-              (reply_address_at (renamed f items) scope bs);
-        }) (header-same parts.header)
-        ∙ ap (λ at. record (seen bs) { reply_address = option_map (text_of (renamed f items)) at })
-        (reply-same parts.header bs)
-        ∙ ap (λ (t : ℕ → List ℕ). record (seen bs) {
-          action = option_map t (counted_at (codes "Action") bs);
-          reply_address = option_map t (reply_address_at items h bs);
-        }) (fun_ext text-same)
-        ∙ ap (λ m. record (headed (viewed items parts)) { message_id = m })
-        (texts-at-same (counted_at (codes "MessageID") bs))
-
-    headed-unless : (o : Option SoapFault) (a b : Result View SoapFault)
-        → headed_by a ≡ headed_by b → headed_by (unless o a) ≡ headed_by (unless o b)
-    headed-unless None a b h = h
-    headed-unless (Some fault) a b h = refl
-
-    by-same : (parts : Result Parts SoapFault)
-        → headed_by (viewed_by (renamed f items) parts) ≡ headed_by (viewed_by items parts)
-    by-same (Err fault) = refl
-    by-same (Ok parts) =
-        ap (λ o. headed_by (unless o (Ok (viewed (renamed f items) parts))))
-        (fault-same parts.header)
-        ∙ headed-unless (header_fault items parts.header) (Ok (viewed (renamed f items) parts))
-        (Ok (viewed items parts)) (ap (λ (v : View). Ok v) (viewed-same parts))
-
-    view-same : headed_by (view (renamed f items)) ≡ headed_by (view items)
-    view-same =
-        let other = viewed_by (renamed f items) (parts_of (renamed f items)) in
-        let mine = viewed_by items (parts_of items) in
-        let tails : headed_by other ≡ headed_by mine =
-        ap (λ p. headed_by (viewed_by (renamed f items) p)) parts-same ∙ by-same (parts_of items) in
-        ap (λ o. headed_by (unless (option_map BadNames o)
-        (unless (wrong_root (renamed f items)) other)))
-        (names [] 0 items)
-        ∙ headed-unless (option_map BadNames (bad_name items))
-        (unless (wrong_root (renamed f items)) other) (unless (wrong_root items) mine)
-        (ap (λ o. headed_by (unless o other)) wrong-same
-        ∙ headed-unless (wrong_root items) other mine tails)
+  all-says : (scope : Scope) (xs : List Item)
+      → resolved_from (scopes scope) (renamed f xs) ≡ resolved_from scope xs
+  all-says scope [] = refl
+  all-says scope (x ∷ xs) =
+      ap (λ s. s ∷ resolved_from (scope_behind (scopes scope) (renamed_item f x) (renamed f xs))
+      (renamed f xs)) (says scope x xs)
+      ∙ ap (λ outer. resolved_item scope x xs ∷ resolved_from outer (renamed f xs))
+      (behind scope x xs)
+      ∙ ap (λ l. resolved_item scope x xs ∷ l) (all-says (scope_behind scope x xs) xs)
 
 pub prefixes_are_free : PrefixesAreFree
-prefixes_are_free f items r = view-same f r items
+prefixes_are_free f items r =
+    names_are_all (renamed f items) items (names f r [] 0 items) (all-says f r [] items)

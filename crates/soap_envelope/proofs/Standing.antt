@@ -78,7 +78,7 @@ missing-has (d ∷ needs) own p h k = elim (cases_Bool (bytes_eq d.prefix p)) [
     none None h = refl
     none (Some u) h = absurd cc
 
-missing-lacks : (needs own : List Declaration) (p : List ℕ) → has own p ≡ true
+pub missing-lacks : (needs own : List Declaration) (p : List ℕ) → has own p ≡ true
     → has (missing needs own) p ≡ false
 missing-lacks [] own p h = refl
 missing-lacks (d ∷ needs) own p h = elim (cases_Bool (is_missing own d)) [
@@ -142,12 +142,12 @@ module _ (scope : Scope) where
       parts.1 (rw (append_assoc before (d ∷ []) ds) h))
 
 -- what is declared behind declarations that are put in front
-front-declared : (ds : List Declaration) (rest : List Item)
+pub front-declared : (ds : List Declaration) (rest : List Item)
     → declared (map xmlns_of ds ++ rest) ≡ ds ++ declared rest
 front-declared [] rest = refl
 front-declared (d ∷ ds) rest = ap (λ l. d ∷ l) (front-declared ds rest)
 
-front-declared-on : (ds : List Declaration) (rest : List AttrItem)
+pub front-declared-on : (ds : List Declaration) (rest : List AttrItem)
     → declared_on (map attribute_of ds ++ rest) ≡ ds ++ declared_on rest
 front-declared-on [] rest = refl
 front-declared-on (d ∷ ds) rest = ap (λ l. d ∷ l) (front-declared-on ds rest)
@@ -187,7 +187,7 @@ array-deeper scope other a c h =
     rw (d a.prefix r.0) (on-stands [] (own ∷ scope) (own ∷ other) d [] a.attrs (λ q k. refl) r.1)
 
 module _ (needs : List Declaration) where
-  deep-item : (n : ℕ) (item : Item) (more : List Item)
+  pub deep-item : (n : ℕ) (item : Item) (more : List Item)
       → standing_items needs (suc n) item more ≡ item ∷ []
   deep-item n item more = elim (cases_Bool (suc n == 0)) [
     | inl is ↦ let none : suc n ≡ 0 = eqb-true (suc n) 0 is in absurd (omega arith)
@@ -195,7 +195,7 @@ module _ (needs : List Declaration) where
   ]
 
   -- what an element within a child declares stays, and so do its attributes
-  deep-declared : (n : ℕ) (xs : List Item)
+  pub deep-declared : (n : ℕ) (xs : List Item)
       → declared (self_standing needs (Some (suc n)) xs) ≡ declared xs
   deep-declared n [] = refl
   deep-declared n (Xmlns p u ∷ xs) =

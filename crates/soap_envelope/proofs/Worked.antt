@@ -1,6 +1,6 @@
 -- Worked cases: the view of literal documents.
 use Rattle.std.proofs.Common.{◌≡◌, ℕ, List, [], ◌∷◌, ◌++◌, codes, refl, pos, map, Some, None}
-use Rattle.std.proofs.Common.{Result, Ok, Err, Bool, true, false}
+use Rattle.std.proofs.Common.{Option, Result, Ok, Err, Bool, true, false}
 use Rattle.nbfx_values.specs.declared.content.AttrItem.TheVariants.{Xmlns as DeclaresOn}
 use Rattle.nbfx_values.specs.declared.content.Item.{Item}
 use Rattle.nbfx_values.specs.declared.content.Item.TheVariants.{Start, Xmlns, Attr, Text, Comment}
@@ -15,8 +15,9 @@ use Rattle.soap_envelope.specs.Names.{addressing, qualified_name, role_next, rol
 use Rattle.soap_envelope.specs.Names.{soap, xml_namespace}
 use Rattle.soap_envelope.specs.Qualified.{Name}
 use Rattle.soap_envelope.specs.View.{View, view}
-use Rattle.soap_envelope.proofs.Documents.{a, action, array, attribute, echo, enveloped, identifier}
-use Rattle.soap_envelope.proofs.Documents.{must, role, s, with_blocks, with_body, words, x}
+use Rattle.soap_envelope.proofs.Documents.{a, action, array, attribute, echo, enveloped, identified}
+use Rattle.soap_envelope.proofs.Documents.{identifier, message, must, role, s, with_blocks}
+use Rattle.soap_envelope.proofs.Documents.{with_body, words, x}
 use Rattle.soap_envelope.proofs.OnLiterals.{envelopes_on_literals}
 
 -- an envelope as WCF sends them
@@ -80,6 +81,11 @@ flagged =
     ∷ (block (must (codes "1") ∷ must (codes "TRUE") ∷ []), (true, true) ∷ [])
     ∷ (block (attribute [] (codes "mustUnderstand") (codes "1") ∷ []), (false, true) ∷ [])
     ∷ (block (attribute (codes "a") (codes "mustUnderstand") (codes "1") ∷ []), (false, true) ∷ [])
+    ∷ (block (attribute [] (codes "mustUnderstand") (codes "TRUE") ∷ []), (false, true) ∷ [])
+    ∷ (
+      block (Attr (codes "s") (codes "mustUnderstand") (One (Truth false)) ∷ []),
+      (false, true) ∷ [],
+    )
     ∷ (
       block (Xmlns [] soap ∷ attribute [] (codes "mustUnderstand") (codes "1") ∷ []),
       (false, true)
@@ -91,6 +97,10 @@ flagged =
       (true, true) ∷ [],
     )
     ∷ (block (role [] ∷ []), (false, true) ∷ [])
+    ∷ (block (role (codes " ") ∷ []), (false, false) ∷ [])
+    ∷ (block (attribute (codes "a") (codes "role") (codes "urn:other") ∷ []), (false, true) ∷ [])
+    ∷ (block (attribute [] (codes "role") (codes "urn:other") ∷ []), (false, true) ∷ [])
+    ∷ (block (must (codes "1") ∷ role (codes "urn:other") ∷ []), (true, false) ∷ [])
     ∷ (block (role role_next ∷ []), (false, true) ∷ [])
     ∷ (block (role role_ultimate_receiver ∷ []), (false, true) ∷ [])
     ∷ (
@@ -107,6 +117,7 @@ flagged =
       with_blocks (a (codes "RelatesTo") [] ++ a (codes "RelatesTo") []),
       (false, true) ∷ (false, true) ∷ [],
     )
+    ∷ (with_blocks (a (codes "RelatesTo") (x [])), (false, true) ∷ [])
     ∷ (with_blocks (s (codes "Action") [] ++ action), (false, true) ∷ (true, true) ∷ [])
     ∷ []
 
@@ -120,13 +131,14 @@ flags_of_blocks = refl
 abbrev names : View → List Name
 names v = map (λ (b : Block). b.name) v.blocks
 
-q : List ℕ → List Item → List Item
+abbrev q : List ℕ → List Item → List Item
 q uri inner = Start (codes "q") (codes "x") ∷ Xmlns (codes "q") uri ∷ (inner ++ Close ∷ [])
 
-xml : List Item → List Item
+abbrev xml : List Item → List Item
 xml inner = Start (codes "xml") (codes "x") ∷ (inner ++ Close ∷ [])
 
-names_of_blocks : AllTold names ((
+abbrev pub named : List (List Item × List Name)
+named = (
   with_blocks (q (codes "urn:q") (q (codes "urn:r") [])),
   qualified_name (codes "urn:q") (codes "x") ∷ [],
 )
@@ -145,15 +157,18 @@ names_of_blocks : AllTold names ((
       with_blocks (xml [] ++ xml (Xmlns (codes "xml") (codes "urn:q") ∷ [])),
       qualified_name xml_namespace (codes "x") ∷ qualified_name (codes "urn:q") (codes "x") ∷ [],
     )
-    ∷ [])
-unfolding envelopes_on_literals q xml
+    ∷ []
+
+names_of_blocks : AllTold names named
+unfolding envelopes_on_literals
 names_of_blocks = refl
 
 -- the action: the first that is targeted, its texts joined, nothing trimmed
-acting : List Item → List Item
+abbrev acting : List Item → List Item
 acting inner = with_blocks (a (codes "Action") inner)
 
-actions : AllTold (λ v. v.action) (
+abbrev pub acted : List (List Item × Option (List ℕ))
+acted =
     (with_blocks [], None)
     ∷ (with_body [], None)
     ∷ (acting [], Some [])
@@ -174,16 +189,72 @@ actions : AllTold (λ v. v.action) (
           (codes "urn:echo"),
     )
     ∷ (with_blocks (s (codes "Action") (words (codes "b") ∷ [])), None)
-    ∷ [])
-unfolding envelopes_on_literals acting
+    ∷ []
+
+actions : AllTold (λ v. v.action) acted
+unfolding envelopes_on_literals
 actions = refl
 
+-- the texts of the first MessageID that is targeted, as they stand, and not what is between them
+abbrev elsewhere : List Item → List Item
+elsewhere inner = role (codes "urn:other") ∷ inner
+
+abbrev naming : List Item → List Item
+naming inner = with_blocks (a (codes "MessageID") inner)
+
+abbrev pub identifying : List (List Item × List Item)
+identifying =
+    (with_blocks [], [])
+    ∷ (with_body [], [])
+    ∷ (naming [], [])
+    ∷ (naming (Comment (codes "b") ∷ []), [])
+    ∷ (with_blocks message, identified)
+    ∷ (
+      naming (words (codes "b") ∷ words (codes " c") ∷ []),
+      words (codes "b") ∷ words (codes " c") ∷ [],
+    )
+    ∷ (
+      naming (Comment [] ∷ words (codes "b") ∷ Comment (codes "c") ∷ Text (One (Number (pos 1)))
+          ∷ []),
+      words (codes "b") ∷ Text (One (Number (pos 1))) ∷ [],
+    )
+    ∷ (naming (elsewhere (words (codes "b") ∷ [])), [])
+    ∷ (
+      with_blocks (a (codes "MessageID") (elsewhere (words (codes "b") ∷ [])) ++ message),
+      identified,
+    )
+    ∷ (
+      with_blocks (message ++ a (codes "MessageID") (elsewhere (words (codes "b") ∷ []))),
+      identified,
+    )
+    ∷ (with_blocks (s (codes "MessageID") identified), [])
+    ∷ (with_blocks (a (codes "RelatesTo") identified), [])
+    ∷ []
+
+message_ids : AllTold (λ v. v.message_id) identifying
+unfolding envelopes_on_literals
+message_ids = refl
+
 -- the reply address: the only Address of characters alone
-replying : List Item → List Item
+abbrev replying : List Item → List Item
 replying inner = with_blocks (a (codes "ReplyTo") inner)
 
-reply_addresses : AllTold (λ v. v.reply_address) (
+abbrev pub replied : List (List Item × Option (List ℕ))
+replied =
     (with_blocks [], None)
+    ∷ (replying (a (codes "Address") []), Some [])
+    ∷ (replying (a (codes "Address") (Comment (codes "a") ∷ [])), Some [])
+    ∷ (replying (elsewhere (a (codes "Address") (words (codes "urn:a") ∷ []))), None)
+    ∷ (
+      with_blocks (a (codes "ReplyTo") (elsewhere (a (codes "Address") (words (codes "b") ∷ [])))
+          ++ a (codes "ReplyTo") (a (codes "Address") (words (codes "urn:a") ∷ []))),
+      Some (codes "urn:a"),
+    )
+    ∷ (
+      replying (a (codes "Address") (Text (One (Float 0)) ∷ [])
+          ++ a (codes "Address") (words (codes "urn:a") ∷ [])),
+      Some (codes "urn:a"),
+    )
     ∷ (
       replying (a (codes "Address") (words (codes "urn:") ∷ Comment [] ∷ words (codes "a") ∷ [])),
       Some (codes "urn:a"),
@@ -207,16 +278,53 @@ reply_addresses : AllTold (λ v. v.reply_address) (
           ∷ words (codes "urn:a") ∷ Close ∷ []),
       Some (codes "urn:a"),
     )
-    ∷ [])
-unfolding envelopes_on_literals replying
+    ∷ []
+
+reply_addresses : AllTold (λ v. v.reply_address) replied
+unfolding envelopes_on_literals
 reply_addresses = refl
 
+-- blocks that may stand once are no repetition where one isn't targeted, nor is one of SOAP's
+abbrev pub single : List (List Item × List (Bool × Bool))
+single = (
+  with_blocks (a (codes "To") (elsewhere []) ++ a (codes "To") []),
+  (false, false) ∷ (false, true) ∷ [],
+)
+    ∷ (
+      with_blocks (a (codes "To") [] ++ a (codes "To") (elsewhere [])),
+      (false, true) ∷ (false, false) ∷ [],
+    )
+    ∷ (
+      with_blocks (a (codes "To") (elsewhere []) ++ a (codes "To") (elsewhere [])),
+      (false, false) ∷ (false, false) ∷ [],
+    )
+    ∷ (
+      with_blocks (a (codes "MessageID") (elsewhere []) ++ message),
+      (false, false) ∷ (false, true) ∷ [],
+    )
+    ∷ (
+      with_blocks (a (codes "ReplyTo") (a (codes "Address") [])
+          ++ a (codes "ReplyTo") (elsewhere [])),
+      (false, true) ∷ (false, false) ∷ [],
+    )
+    ∷ (
+      with_blocks (s (codes "To") [] ++ a (codes "To") [] ++ s (codes "To") []),
+      (false, true) ∷ (false, true) ∷ (false, true) ∷ [],
+    )
+    ∷ []
+
+single_blocks : AllTold flags single
+unfolding envelopes_on_literals
+single_blocks = refl
+
 -- what may stand about, and other prefixes for the same namespaces
-passed : AllTold (λ v. v.body) ((
+abbrev pub about : List (List Item × List Item)
+about = (
   enveloped (words (codes " ") ∷ s (codes "Header") [] ++ Comment [] ∷ s (codes "Body") []
       ++ words (0x0D ∷ 0x0A ∷ 0x09 ∷ []) ∷ []),
   [],
 )
+    ∷ (enveloped (words [] ∷ Comment (codes "hi") ∷ s (codes "Body") []), [])
     ∷ (with_blocks (Comment [] ∷ words [] ∷ action ++ words (codes " ") ∷ []), [])
     ∷ (
       Start [] (codes "Envelope") ∷ Xmlns [] soap ∷ Start [] (codes "Body") ∷ words (codes "hi")
@@ -242,7 +350,9 @@ passed : AllTold (λ v. v.body) ((
       with_body (x (Text (One (QName 1 (codes "x"))) ∷ [])),
       x (Text (One (QName 1 (codes "x"))) ∷ []),
     )
-    ∷ [])
+    ∷ []
+
+passed : AllTold (λ v. v.body) about
 unfolding envelopes_on_literals
 passed = refl
 
@@ -256,6 +366,12 @@ declaring inner =
 abbrev pub contents : List (List Item × List Item)
 contents =
     (declaring [], [])
+    ∷ (with_body (attribute [] (codes "id") (codes "b") ∷ x []), x [])
+    ∷ (with_body (Xmlns [] [] ∷ x []), x (Xmlns [] [] ∷ []))
+    ∷ (
+      with_body (Xmlns (codes "ba") [] ∷ Xmlns (codes "b") [] ∷ Xmlns (codes "B") [] ∷ x []),
+      x (Xmlns (codes "B") [] ∷ Xmlns (codes "b") [] ∷ Xmlns (codes "ba") [] ∷ []),
+    )
     ∷ (
       enveloped (s (codes "Header") (Xmlns (codes "q") [] ∷ []) ++ s (codes "Body") (x [] ++ x [])),
       x [] ++ x [],

@@ -102,7 +102,7 @@ item_at items declarations inner at =
 abbrev between : (first end : ℕ) → List ℕ → List ℕ
 between first end others = filter (λ other. nat_lt first other && nat_lt other end) others
 
-abbrev content_at : List Item → ℕ → List Item
+abbrev pub content_at : List Item → ℕ → List Item
 content_at items body =
     flat_map (item_at items (declarations_at items body) (level items body + 1))
     (between (body + length (head (drop (body + 1) items))) (close_by_level items body)

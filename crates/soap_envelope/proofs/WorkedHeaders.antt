@@ -48,11 +48,11 @@ is_soap scope name (Some (Attr prefix local value)) =
     bytes_eq local name && bytes_eq (unwrap_or (uri_of scope prefix) []) soap
 is_soap scope name _ = false
 
-abbrev first_of : List ℕ → Option ℕ
+abbrev pub first_of : List ℕ → Option ℕ
 first_of [] = None
 first_of (at ∷ more) = Some at
 
-abbrev soap_at : List Item → List ℕ → ℕ → Option ℕ
+abbrev pub soap_at : List Item → List ℕ → ℕ → Option ℕ
 soap_at items name at =
     first_of (filter (λ other. is_soap (scope_at items at) name (slice_get items other))
     (attributes_at items at))
@@ -62,20 +62,20 @@ abbrev said : Option Item → Option (List ℕ)
 said (Some (Attr prefix local value)) = value_characters value
 said _ = None
 
-abbrev said_at : List Item → ℕ → Option (List ℕ)
+abbrev pub said_at : List Item → ℕ → Option (List ℕ)
 said_at items at = said (slice_get items at)
 
-abbrev is_among : List (List ℕ) → Option (List ℕ) → Bool
+abbrev pub is_among : List (List ℕ) → Option (List ℕ) → Bool
 is_among texts None = false
 is_among texts (Some text) = list_any (bytes_eq text) texts
 
 -- whether a block is for the ultimate receiver, and counts as addressing's of a local name
-abbrev is_ours : List Item → Option ℕ → Bool
+abbrev pub is_ours : List Item → Option ℕ → Bool
 is_ours items None = true
 is_ours items (Some at) =
     is_among ([] ∷ role_next ∷ role_ultimate_receiver ∷ []) (said_at items at)
 
-abbrev counts : List Item → ℕ → List ℕ → Bool
+abbrev pub counts : List Item → ℕ → List ℕ → Bool
 counts items at local =
     is_named (name_at items at) addressing local && is_ours items (soap_at items (codes "role") at)
 
@@ -84,7 +84,7 @@ abbrev is_worded : List Item → ℕ → Bool
 is_worded items at =
     list_all (λ other. is_plain (slice_get items other)) (children_by_level items at)
 
-abbrev addresses_at : List Item → ℕ → List ℕ
+abbrev pub addresses_at : List Item → ℕ → List ℕ
 addresses_at items at =
     filter (λ other. is_named (name_at items other) addressing (codes "Address")
     && is_worded items other) (children_by_level items at)
@@ -131,7 +131,7 @@ is_bad_in items at (Some child) =
     (is_bad_attribute items child at)
 
 -- the first item that is bad, of a Header that begins at place 3 and has children
-abbrev bad_among : List Item → (children : List ℕ) → Option ℕ
+abbrev pub bad_among : List Item → (children : List ℕ) → Option ℕ
 bad_among items children =
     first_of (filter (λ at. is_bad_in items at (child_around at children)) (places items))
 
@@ -149,9 +149,9 @@ refused : AllAgree (map (λ (r : Row). r.0) bad_headers)
 unfolding envelopes_on_literals
 refused = refl
 
-repeated : AllAgree (map (λ (r : Row). r.0) repetitions)
+with_repetitions : AllAgree (map (λ (r : Row). r.0) repetitions)
 unfolding envelopes_on_literals
-repeated = refl
+with_repetitions = refl
 
 viewed : AllAgree (map (λ r. r.0) flagged)
 unfolding envelopes_on_literals

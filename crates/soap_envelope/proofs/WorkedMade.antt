@@ -158,9 +158,19 @@ none = codes "http://www.w3.org/2003/05/soap-envelope/role/none"
 next : List ℕ
 next = codes "http://www.w3.org/2003/05/soap-envelope/role/next"
 
+-- the blocks of addressing that servers know, and a request with a block more before MessageID
+abbrev five : List Name
+five = map (qualified_name addressing)
+    (codes "Action" ∷ codes "To" ∷ codes "MessageID" ∷ codes "RelatesTo" ∷ codes "ReplyTo" ∷ [])
+
+abbrev request : List Item → List Item
+request block = enveloped (s (codes "Header") (action ++ block ++ message) ++ s (codes "Body") hi)
+
 -- a block that isn't known, that is, that isn't for this node, that need not be; two of one name
 understood : AllUnderstood (
-    ([], with_blocks (secured (role next ∷ []) ++ message), sec ∷ [])
+    (five, request (secured (role next ∷ [])), sec ∷ [])
+    ∷ (five, request (secured (role none ∷ [])), [])
+    ∷ ([], with_blocks (secured (role next ∷ []) ++ message), sec ∷ [])
     ∷ (sec ∷ [], with_blocks (secured (role next ∷ []) ++ message), [])
     ∷ ([], with_blocks (secured (role none ∷ []) ++ message), [])
     ∷ ([], with_blocks (a (codes "Sec") (must (codes "0") ∷ []) ++ message), [])

@@ -55,7 +55,7 @@ first_from items at zero = None
 first_from items at (suc more) =
     cond (is_bad items at (slice_get items at)) (Some at) (first_from items (at + 1) more)
 
-abbrev first_place : List Item → Option ℕ
+abbrev pub first_place : List Item → Option ℕ
 first_place items = first_from items 0 (length items)
 
 abbrev AllAgree : List (List Item) → Type 0

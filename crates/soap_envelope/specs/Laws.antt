@@ -5,11 +5,13 @@ use Rattle.std.specs.Prelude.{codes}
 use Rattle.nbfx_values.specs.Documents.{IsDocument}
 use Rattle.nbfx_values.specs.declared.content.Item.{Item}
 use Rattle.soap_envelope.specs.declared.report.FaultReport.{FaultReport}
+use Rattle.soap_envelope.specs.BadNames.{bad_name}
 use Rattle.soap_envelope.specs.Faults.{fault_action, fault_body, fault_items}
 use Rattle.soap_envelope.specs.Fitting.{fits, names_fit}
 use Rattle.soap_envelope.specs.Headers.{counted_at}
-use Rattle.soap_envelope.specs.Made.{StandsInReplies, made_view}
+use Rattle.soap_envelope.specs.Made.{StandsInReplies, made_view, reply_scope}
 use Rattle.soap_envelope.specs.Making.{AreTexts, IsContent, reply_items, response_action}
+use Rattle.soap_envelope.specs.Resolved.{content_from, content_within, resolved, resolved_from}
 use Rattle.soap_envelope.specs.Renaming.{IsRenaming, headed_by, renamed}
 use Rattle.soap_envelope.specs.View.{View, texts_at, view}
 
@@ -35,6 +37,11 @@ BodiesStand = (doc : List Item) (v : View) (action : List ℕ) (relates : List I
     → view doc ≡ Ok v → AreTexts relates
     → view (reply_items action relates v.body) ≡ Ok (reply_view action relates v.body)
 
+-- It has there the names and values that it has in its document.
+abbrev pub BodiesAreNamed : Type 0
+BodiesAreNamed = (doc : List Item) (v : View) → IsDocument doc → view doc ≡ Ok v
+    → content_from 0 (resolved_from reply_scope v.body) ≡ content_within (resolved doc) v.body_at
+
 -- A fault is an envelope whose Body has one Fault alone.
 abbrev pub FaultsAreViewed : Type 0
 FaultsAreViewed = (report : FaultReport) (relates : List Item) → AreTexts relates
@@ -47,8 +54,15 @@ abbrev pub UnfitNamesAreUnfit : Type 0
 UnfitNamesAreUnfit = (quota : ℕ) (report : FaultReport) (relates : List Item)
     → names_fit quota report.names ≡ false → fits quota (fault_items report relates) ≡ false
 
--- Other prefixes for the same namespaces change nothing of what is seen outside Body, nor why a
--- document has no view.
+-- What is seen outside Body, and why a document has no view, depends on the namespaces that its
+-- prefixes stand for, and on no prefix: two documents whose names are bad at the same item, if at
+-- all, and that have the same names and otherwise the same content, item by item, are seen alike.
+abbrev pub NamesAreAll : Type 0
+NamesAreAll = (items other : List Item) → bad_name items ≡ bad_name other
+    → resolved items ≡ resolved other
+    → headed_by (view items) ≡ headed_by (view other)
+
+-- So are a document and the same with other prefixes for the same namespaces.
 abbrev pub PrefixesAreFree : Type 0
 PrefixesAreFree = (f : List ℕ → List ℕ) (items : List Item) → IsRenaming f
     → headed_by (view (renamed f items)) ≡ headed_by (view items)

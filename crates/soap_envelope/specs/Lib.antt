@@ -17,5 +17,6 @@ pub mod Seen
 pub mod Making
 pub mod Faults
 pub mod Made
+pub mod Resolved
 pub mod Renaming
 pub mod Laws

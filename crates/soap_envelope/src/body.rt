@@ -30,7 +30,8 @@ fn put_all<'d>(
     sorted: &mut BTreeMap<&'d str, &'d str>,
     layer: &[Declared<'d>],
 ) -> Result<(), Memory>
-    ensures { OnOk result (shown sorted.new ≡ spec.put_all (map kept layer.now) (shown sorted.old)) }
+    ensures { OnOk result
+        (shown sorted.new ≡ spec.put_all (map kept layer.now) (shown sorted.old)) }
 {
     for one in layer {
         put(sorted, one)?;
@@ -230,8 +231,8 @@ pub(crate) fn behind_head(items: &[Item]) -> &[Item]
     &[]
 }
 
-// The content of the Body that begins at a place, so that it means the same in any other place, where
-// it fits the quotas.
+// The content of the Body that begins at a place, so that it means the same in any other place,
+// where it fits the quotas.
 pub(crate) fn body_items(
     alloc: Global,
     quotas: &Quotas,

@@ -2,7 +2,7 @@
 //! which a caller has where it calls the function.
 
 ghost use Rattle.std.specs.Prelude.{◌≡◌};
-ghost use Rattle.soap_envelope.specs.Laws.{BodiesStand, FaultsAreViewed, PrefixesAreFree, RelatesAreKept, RepliesAreViewed, UnfitNamesAreUnfit};
+ghost use Rattle.soap_envelope.specs.Laws.{BodiesAreNamed, BodiesStand, FaultsAreViewed, NamesAreAll, PrefixesAreFree, RelatesAreKept, RepliesAreViewed, UnfitNamesAreUnfit};
 ghost use Rattle.soap_envelope.specs.Names.{addressing, anonymous_address, no_address};
 
 use crate::namespaces::{ADDRESSING, ANONYMOUS_ADDRESS, NO_ADDRESS};
@@ -24,9 +24,10 @@ pub fn replies()
 {}
 
 /// The content of a document's Body, which a view has, may be put into any reply: its names are
-/// good there, and the reply's view has the same content.
+/// good there and those that it has in its document, and the reply's view has the same content.
 pub fn bodies()
-    ensures { BodiesStand }
+    ensures stand { BodiesStand }
+    ensures named { BodiesAreNamed }
 {}
 
 /// A fault is an envelope whose Body has one Fault alone, and whose Action is that of its subcode.
@@ -36,9 +37,12 @@ pub fn faults()
     ensures unfit { UnfitNamesAreUnfit }
 {}
 
-/// What is seen of a document doesn't depend on its prefixes: with others, of which no two become
-/// one, it has the same blocks, action, reply address and MessageID, or is refused at the same
-/// place. The content of Body keeps the document's prefixes.
+/// What is seen of a document depends on the namespaces that its prefixes stand for, and on no
+/// prefix: documents with the same names and values, item by item, have the same blocks, action,
+/// reply address and MessageID, or are refused for the same reason at the same item. So are a
+/// document and the same with other prefixes for its namespaces. The content of Body keeps its
+/// prefixes.
 pub fn prefixes()
-    ensures { PrefixesAreFree }
+    ensures names { NamesAreAll }
+    ensures renamed { PrefixesAreFree }
 {}

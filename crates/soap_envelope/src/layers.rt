@@ -60,7 +60,8 @@ fn put_place<'d>(
     at: usize,
 ) -> Result<(), Memory>
     ensures { OnOk result ((q : List ℕ) → place_in q places.new
-        ≡ option_or (place_in q places.old) (if bytes_eq one.now.prefix.now q then Some at else None)) }
+        ≡ option_or (place_in q places.old)
+        (if bytes_eq one.now.prefix.now q then Some at else None)) }
 {
     if !places.contains_key(one.prefix) {
         places.insert(one.prefix, at)?;

@@ -52,8 +52,8 @@ fn content_places(items: &[Item], at: usize) -> (usize, usize)
     (first, first + content_len(content))
 }
 
-// Whether the content of the Body that begins at a place fits the quotas, where its children need no
-// declaration. It is a part of its document, and most documents fit.
+// Whether the content of the Body that begins at a place fits the quotas, where its children need
+// no declaration. It is a part of its document, and most documents fit.
 fn moved_fits(alloc: Global, quotas: &Quotas, doc: &Doc, at: usize) -> Result<bool, Memory>
     ensures { IfOk result (λ fit. fit ≡ fits quotas.now.content
         (self_standing [] (Some 0) (behind_head (drop (at + 1) doc.now)))) }
@@ -65,8 +65,8 @@ fn moved_fits(alloc: Global, quotas: &Quotas, doc: &Doc, at: usize) -> Result<bo
     content_fits(alloc, quotas, &[], content)
 }
 
-// The content of the Body that begins at a place, where its children need no declaration and it fits
-// the quotas.
+// The content of the Body that begins at a place, where its children need no declaration and it
+// fits the quotas.
 fn moved_body(alloc: Global, quotas: &Quotas, doc: Doc, at: usize) -> Result<Option<Items>, Memory>
     requires { needed (within doc at (root_scope doc)) ≡ [] }
     ensures { IfOk result (λ body. body

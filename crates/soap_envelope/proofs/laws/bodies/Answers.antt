@@ -1,5 +1,9 @@
+use Rattle.soap_envelope.proofs.BodyNames.{bodies_are_named}
 use Rattle.soap_envelope.proofs.LawFacts.{bodies_stand}
 use Rattle.soap_envelope.proofs.laws.bodies.Goals as goal
 
-pub returns : goal.returns
-returns c = bodies_stand
+pub returns-clause-stand : goal.returns-clause-stand
+returns-clause-stand c = bodies_stand
+
+pub returns-clause-named : goal.returns-clause-named
+returns-clause-named c = bodies_are_named

@@ -1,5 +1,9 @@
 use Rattle.soap_envelope.proofs.Renamed.{prefixes_are_free}
+use Rattle.soap_envelope.proofs.ResolvedViews.{names_are_all}
 use Rattle.soap_envelope.proofs.laws.prefixes.Goals as goal
 
-pub returns : goal.returns
-returns c = prefixes_are_free
+pub returns-clause-names : goal.returns-clause-names
+returns-clause-names c = names_are_all
+
+pub returns-clause-renamed : goal.returns-clause-renamed
+returns-clause-renamed c = prefixes_are_free

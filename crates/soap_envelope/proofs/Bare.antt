@@ -1,0 +1,152 @@
+-- What of a document is seen without its prefixes.
+use Rattle.std.proofs.Common.{◌≡◌, ◌∙◌, ◌+◌, ℕ, List, [], ◌∷◌, ap, drop, map, refl, Option, Some}
+use Rattle.std.proofs.Common.{None}
+use Rattle.std.proofs.Common.{if◌then◌else◌}
+use Rattle.std.specs.Prelude.{◌==◌, ◌&&◌}
+use Rattle.std.specs.Option.{option_map}
+use Rattle.std.proofs.Math.Path.{fun_ext}
+use Rattle.std.proofs.lemmas.List.{drop-map}
+use Rattle.nbfx_values.specs.declared.content.ArrayItem.{ArrayItem}
+use Rattle.nbfx_values.specs.declared.content.ArrayKind.TheVariants.{Int16}
+use Rattle.nbfx_values.specs.declared.content.Item.{Item}
+use Rattle.nbfx_values.specs.declared.content.Item.TheVariants.{Start, Xmlns, Attr, Text, Comment}
+use Rattle.nbfx_values.specs.declared.content.Item.TheVariants.{Array, Close}
+use Rattle.soap_envelope.specs.Characters.{characters_of, is_passed, is_plain}
+use Rattle.soap_envelope.specs.Children.{children_from, children_of, close_from, close_of, ends_at}
+use Rattle.soap_envelope.specs.Children.{is_child, is_start, open_behind}
+use Rattle.soap_envelope.specs.Scopes.{Scope}
+use Rattle.soap_envelope.specs.View.{text_item}
+use Rattle.soap_envelope.specs.Resolved.{Resolved, Element, Declares, Attribute, Texts, Comments}
+use Rattle.soap_envelope.specs.Resolved.{Arrays, Ends}
+use Rattle.soap_envelope.specs.Resolved.{resolved_from, resolved_item, scope_behind}
+
+-- an item without what its prefixes and the declarations say
+abbrev some_array : ArrayItem
+some_array = record { prefix = []; local = []; attrs = []; kind = Int16; values = [] }
+
+abbrev pub bare : Item → Item
+bare (Start p l) = Start [] l
+bare (Xmlns p u) = Xmlns [] []
+bare (Attr p l v) = Attr [] l v
+bare (Text v) = Text v
+bare (Comment v) = Comment v
+bare (Array a) = Array some_array
+bare Close = Close
+
+abbrev pub bare_of : Resolved → Item
+bare_of (Element name) = Start [] name.local
+bare_of Declares = Xmlns [] []
+bare_of (Attribute name v) = Attr [] name.local v
+bare_of (Texts v) = Text v
+bare_of (Comments v) = Comment v
+bare_of (Arrays name attributes kind values) = Array some_array
+bare_of Ends = Close
+
+one-bare : (scope : Scope) (x : Item) (xs : List Item) → bare_of (resolved_item scope x xs) ≡ bare x
+one-bare scope (Start p l) xs = refl
+one-bare scope (Xmlns p u) xs = refl
+one-bare scope (Attr p l v) xs = refl
+one-bare scope (Text v) xs = refl
+one-bare scope (Comment v) xs = refl
+one-bare scope (Array a) xs = refl
+one-bare scope Close xs = refl
+
+pub all-bare : (scope : Scope) (xs : List Item) → map bare_of (resolved_from scope xs) ≡ map bare xs
+all-bare scope [] = refl
+all-bare scope (x ∷ xs) =
+    rw (one-bare scope x xs) (ap (λ l. bare x ∷ l) (all-bare (scope_behind scope x xs) xs))
+
+-- children by their places
+pub child-same : (item : Item) → is_child (bare item) ≡ is_child item
+child-same (Start p l) = refl
+child-same (Xmlns p u) = refl
+child-same (Attr p l v) = refl
+child-same (Text v) = refl
+child-same (Comment v) = refl
+child-same (Array a) = refl
+child-same Close = refl
+
+pub opens-same : (n : ℕ) (item : Item) → open_behind n (bare item) ≡ open_behind n item
+opens-same n (Start p l) = refl
+opens-same n (Xmlns p u) = refl
+opens-same n (Attr p l v) = refl
+opens-same n (Text v) = refl
+opens-same n (Comment v) = refl
+opens-same n (Array a) = refl
+opens-same n Close = refl
+
+pub children-same : (o : Option ℕ) (at : ℕ) (xs : List Item)
+    → children_from o at (map bare xs) ≡ children_from o at xs
+children-same None at xs = refl
+children-same (Some n) at [] = refl
+children-same (Some n) at (x ∷ xs) =
+    rw (child-same x, opens-same n x)
+    (ap (λ l. if n == 0 && is_child x then at ∷ l else l)
+    (children-same (open_behind n x) (at + 1) xs))
+
+pub close-same : (n at : ℕ) (xs : List Item) → close_from n at (map bare xs) ≡ close_from n at xs
+close-same n at [] = refl
+close-same n at (x ∷ xs) =
+    rw (opens-same n x)
+    (ap (ends_at (open_behind n x) at) (fun_ext (λ k. close-same k (at + 1) xs)))
+
+pub passed-by : (o : Option Item) → is_passed (option_map bare o) ≡ is_passed o
+passed-by None = refl
+passed-by (Some (Start p l)) = refl
+passed-by (Some (Xmlns p u)) = refl
+passed-by (Some (Attr p l v)) = refl
+passed-by (Some (Text v)) = refl
+passed-by (Some (Comment v)) = refl
+passed-by (Some (Array a)) = refl
+passed-by (Some Close) = refl
+
+pub plain-by : (o : Option Item) → is_plain (option_map bare o) ≡ is_plain o
+plain-by None = refl
+plain-by (Some (Start p l)) = refl
+plain-by (Some (Xmlns p u)) = refl
+plain-by (Some (Attr p l v)) = refl
+plain-by (Some (Text v)) = refl
+plain-by (Some (Comment v)) = refl
+plain-by (Some (Array a)) = refl
+plain-by (Some Close) = refl
+
+pub start-by : (o : Option Item) → is_start (option_map bare o) ≡ is_start o
+start-by None = refl
+start-by (Some (Start p l)) = refl
+start-by (Some (Xmlns p u)) = refl
+start-by (Some (Attr p l v)) = refl
+start-by (Some (Text v)) = refl
+start-by (Some (Comment v)) = refl
+start-by (Some (Array a)) = refl
+start-by (Some Close) = refl
+
+pub characters-by : (o : Option Item)
+    → characters_of (option_map bare o) ≡ characters_of o
+characters-by None = refl
+characters-by (Some (Start p l)) = refl
+characters-by (Some (Xmlns p u)) = refl
+characters-by (Some (Attr p l v)) = refl
+characters-by (Some (Text v)) = refl
+characters-by (Some (Comment v)) = refl
+characters-by (Some (Array a)) = refl
+characters-by (Some Close) = refl
+
+pub text-by : (o : Option Item) → text_item (option_map bare o) ≡ text_item o
+text-by None = refl
+text-by (Some (Start p l)) = refl
+text-by (Some (Xmlns p u)) = refl
+text-by (Some (Attr p l v)) = refl
+text-by (Some (Text v)) = refl
+text-by (Some (Comment v)) = refl
+text-by (Some (Array a)) = refl
+text-by (Some Close) = refl
+
+pub children-bare : (xs : List Item) (at : ℕ) → children_of (map bare xs) at ≡ children_of xs at
+children-bare xs at =
+    ap (children_from (Some 0) (at + 1)) (drop-map bare (at + 1) xs)
+    ∙ children-same (Some 0) (at + 1) (drop (at + 1) xs)
+
+pub closes-bare : (xs : List Item) (at : ℕ) → close_of (map bare xs) at ≡ close_of xs at
+closes-bare xs at =
+    ap (close_from 0 (at + 1)) (drop-map bare (at + 1) xs)
+    ∙ close-same 0 (at + 1) (drop (at + 1) xs)

@@ -1,0 +1,282 @@
+-- The content of a view's Body has in any reply the names that it has in its document.
+use Rattle.std.proofs.Common.{◌≡◌, ◌∙◌, ◌∷◌, ◌++◌, ◌+◌, [], ℕ, zero, suc, List, true}
+use Rattle.std.proofs.Common.{Option, None, Some, Ok, add-one, ap, codes, drop}
+use Rattle.std.proofs.Common.{inl, inr, length, map, refl, subst, sym, if◌then◌else◌}
+use Rattle.std.specs.Prelude.{◌==◌, not, slice_get}
+use Rattle.std.specs.List.{list_all}
+use Rattle.std.specs.Option.{is_some, unwrap_or}
+use Rattle.std.proofs.lemmas.Bool.{and_parts, cases_Bool}
+use Rattle.nbfx_values.specs.declared.content.ArrayItem.{ArrayItem}
+use Rattle.nbfx_values.specs.declared.content.AttrItem.{AttrItem}
+use Rattle.nbfx_values.specs.declared.content.AttrItem.TheVariants.{Xmlns as DeclaresOn}
+use Rattle.nbfx_values.specs.declared.content.AttrItem.TheVariants.{Attr as AttrOn}
+use Rattle.nbfx_values.specs.declared.content.Item.{Item}
+use Rattle.nbfx_values.specs.declared.content.Item.TheVariants.{Start, Xmlns, Attr, Text, Comment}
+use Rattle.nbfx_values.specs.declared.content.Item.TheVariants.{Array, Close}
+use Rattle.nbfx_values.specs.declared.position.Position.TheVariants.{Before}
+use Rattle.nbfx_values.proofs.Walks.{document-position}
+use Rattle.soap_envelope.specs.declared.parts.Parts.{Parts}
+use Rattle.soap_envelope.specs.BadNames.{are_good, is_good_array}
+use Rattle.soap_envelope.specs.Body.{array_with, attribute_of, behind_head, missing}
+use Rattle.soap_envelope.specs.Body.{needed, self_standing, xmlns_of}
+use Rattle.soap_envelope.specs.Characters.{is_passed}
+use Rattle.soap_envelope.specs.Children.{children_of, is_start}
+use Rattle.soap_envelope.specs.Laws.{BodiesAreNamed}
+use Rattle.soap_envelope.specs.Made.{reply_scope}
+use Rattle.soap_envelope.specs.Names.{qualified_name, soap}
+use Rattle.soap_envelope.specs.Parts.{is_element, kept_children, parts_among, parts_behind}
+use Rattle.soap_envelope.specs.Parts.{parts_of, root_scope}
+use Rattle.soap_envelope.specs.Resolved.{Arrays, Attribute, Comments, Element, Ends, Resolved}
+use Rattle.soap_envelope.specs.Resolved.{Texts}
+use Rattle.soap_envelope.specs.Resolved.{attributes_on, content_from}
+use Rattle.soap_envelope.specs.Resolved.{resolved_from, resolved_item}
+use Rattle.soap_envelope.specs.Scopes.{Declaration, Scope, around, attribute_uri, declaration}
+use Rattle.soap_envelope.specs.Scopes.{declared, declared_on, element_uri, is_bound, uri_in, within}
+use Rattle.soap_envelope.specs.Seen.{BodyStands}
+use Rattle.soap_envelope.proofs.Apart.{are_apart, in_scope-apart}
+use Rattle.soap_envelope.proofs.BoundNames.{all_bound, bound-all, bound-at, head-gone, names-at}
+use Rattle.soap_envelope.proofs.BoundNames.{starts-apart}
+use Rattle.soap_envelope.proofs.Contents.{view-stands}
+use Rattle.soap_envelope.proofs.GoodNames.{good_attributes, good_head, good_names, head-good}
+use Rattle.soap_envelope.proofs.GoodNames.{names-good, refuted}
+use Rattle.soap_envelope.proofs.InScope.{Means, Reached, means-child, means-deeper, needs-reach}
+use Rattle.soap_envelope.proofs.LawFacts.{is-viewed}
+use Rattle.soap_envelope.proofs.ResolvedPlaces.{Each, children-stand, drop-resolved, inside}
+use Rattle.soap_envelope.proofs.ResolvedPlaces.{scope_to}
+use Rattle.soap_envelope.proofs.ResolvedViews.{each-filter}
+use Rattle.soap_envelope.proofs.Standing.{deep-declared, deep-item, front-declared}
+use Rattle.soap_envelope.proofs.Standing.{front-declared-on}
+
+-- names in a scope where bound prefixes mean the same
+of-element : (scope other : Scope) → Means scope other → (p : List ℕ) → is_bound scope p ≡ true
+    → element_uri other p ≡ element_uri scope p
+of-element scope other m p b = ap (λ o. unwrap_or o []) (m p b)
+
+of-attribute : (scope other : Scope) → Means scope other → (p : List ℕ) → is_bound scope p ≡ true
+    → attribute_uri other p ≡ attribute_uri scope p
+of-attribute scope other m p b =
+    ap (λ (u : List ℕ). if length p == 0 then [] else u) (of-element scope other m p b)
+
+array-attributes : (scope other : Scope) → Means scope other → (before : List Declaration)
+    → (xs : List AttrItem) → are_good scope before xs ≡ true
+    → attributes_on other xs ≡ attributes_on scope xs
+array-attributes scope other m before [] h = refl
+array-attributes scope other m before (DeclaresOn p u ∷ xs) h =
+    let next = before ++ declaration p u ∷ [] in
+    array-attributes scope other m next xs
+    (refuted (is_some (uri_in before p)) (are_good scope next xs) h).1
+array-attributes scope other m before (AttrOn p l v ∷ xs) h =
+    let r = and_parts (is_bound scope p) (are_good scope before xs) h in
+    ap (λ (u : List ℕ). (qualified_name u l, v) ∷ attributes_on other xs)
+    (of-attribute scope other m p r.0)
+    ∙ ap (λ rest. (qualified_name (attribute_uri scope p) l, v) ∷ rest)
+    (array-attributes scope other m before xs r.1)
+
+-- an array by the declarations within it
+abbrev array_by : Scope → ArrayItem → List AttrItem → Resolved
+array_by inner a attributes =
+    Arrays (qualified_name (element_uri inner a.prefix) a.local) (attributes_on inner attributes)
+    a.kind a.values
+
+arrays : (scope other : Scope) (a : ArrayItem) → Means scope other → is_bound scope a.prefix ≡ true
+    → are_good scope [] a.attrs ≡ true → array_by other a a.attrs ≡ array_by scope a a.attrs
+arrays scope other a m b h =
+    ap (λ (u : List ℕ). Arrays (qualified_name u a.local) (attributes_on other a.attrs) a.kind
+    a.values) (of-element scope other m a.prefix b)
+    ∙ ap (λ attributes. Arrays (qualified_name (element_uri scope a.prefix) a.local) attributes
+    a.kind a.values) (array-attributes scope other m [] a.attrs h)
+
+front-on : (scope : Scope) (ds : List Declaration) (xs : List AttrItem)
+    → attributes_on scope (map attribute_of ds ++ xs) ≡ attributes_on scope xs
+front-on scope [] xs = refl
+front-on scope (d ∷ ds) xs = front-on scope ds xs
+
+front-gone : (inner : ℕ) (scope : Scope) (ds : List Declaration) (xs : List Item)
+    → content_from inner (resolved_from scope (map xmlns_of ds ++ xs))
+    ≡ content_from inner (resolved_from scope xs)
+front-gone inner scope [] xs = refl
+front-gone inner scope (d ∷ ds) xs = front-gone inner scope ds xs
+
+head-left : (scope : Scope) (xs : List Item)
+    → content_from 0 (resolved_from scope (behind_head xs))
+    ≡ content_from 0 (resolved_from scope xs)
+head-left scope (Xmlns p u ∷ xs) = head-left scope xs
+head-left scope (Attr p l v ∷ xs) = head-left scope xs
+head-left scope [] = refl
+head-left scope (Start p l ∷ xs) = refl
+head-left scope (Text v ∷ xs) = refl
+head-left scope (Comment v ∷ xs) = refl
+head-left scope (Array a ∷ xs) = refl
+head-left scope (Close ∷ xs) = refl
+
+module _ (needs : List Declaration) (base : Scope)
+    (reach : (p : List ℕ) → is_bound base p ≡ true → Reached needs base p) where
+  array-child : (a : ArrayItem) → is_good_array base a ≡ true → (more : List Item)
+      → resolved_item reply_scope (Array (array_with needs a)) more
+      ≡ resolved_item base (Array a) more
+  array-child a h more =
+      let own = declared_on a.attrs in
+      let front = missing needs own in
+      let r = and_parts (is_bound (own ∷ base) a.prefix) (are_good (own ∷ base) [] a.attrs) h in
+      ap (λ ds. array_by (ds ∷ reply_scope) a (map attribute_of front ++ a.attrs))
+      (front-declared-on front a.attrs)
+      ∙ ap (λ attributes. Arrays
+      (qualified_name (element_uri ((front ++ own) ∷ reply_scope) a.prefix) a.local) attributes
+      a.kind a.values) (front-on ((front ++ own) ∷ reply_scope) front a.attrs)
+      ∙ arrays (own ∷ base) ((front ++ own) ∷ reply_scope) a (means-child needs base reach own) r.0
+      r.1
+
+  array-deep : (scope other : Scope) (a : ArrayItem) → Means scope other
+      → is_good_array scope a ≡ true → (more : List Item)
+      → resolved_item other (Array a) more ≡ resolved_item scope (Array a) more
+  array-deep scope other a m h more =
+      let own = declared_on a.attrs in
+      let r = and_parts (is_bound (own ∷ scope) a.prefix) (are_good (own ∷ scope) [] a.attrs) h in
+      arrays (own ∷ scope) (own ∷ other) a (means-deeper own scope other m) r.0 r.1
+
+  -- around so many elements stands Body, and there the reply
+  abbrev Replaced : ℕ → Scope → Scope → Type 0
+  Replaced zero scope other = (scope ≡ base) × (other ≡ reply_scope)
+  Replaced (suc n) scope other = Means scope other × Replaced n (around scope) (around other)
+
+  same : (inner : ℕ) (scope other : Scope) (xs : List Item) → Replaced inner scope other
+      → good_names scope xs ≡ true → all_bound scope xs ≡ true
+      → content_from inner (resolved_from other (self_standing needs (Some inner) xs))
+      ≡ content_from inner (resolved_from scope xs)
+  same inner scope other [] c g b = refl
+  same zero scope other (Start p l ∷ xs) c g b =
+      let own = declared xs in
+      let front = missing needs own in
+      let rest = self_standing needs (Some 1) xs in
+      let r = and_parts (good_head (own ∷ scope) p xs) (good_names (own ∷ scope) xs) g in
+      let head = and_parts (is_bound (own ∷ scope) p) (good_attributes (own ∷ scope) [] xs) r.0 in
+      let m : Means (own ∷ scope) ((front ++ own) ∷ other) =
+      rw (c.0, c.1) (means-child needs base reach own) in
+      let declares : declared (map xmlns_of front ++ rest) ≡ front ++ own =
+      front-declared front rest ∙ ap (λ l. front ++ l) (deep-declared needs 0 xs) in
+      ap (λ ds. Element (qualified_name (element_uri (ds ∷ other) p) l)
+      ∷ content_from 1 (resolved_from (ds ∷ other) (map xmlns_of front ++ rest))) declares
+      ∙ ap (λ (u : List ℕ). Element (qualified_name u l) ∷ content_from 1
+      (resolved_from ((front ++ own) ∷ other) (map xmlns_of front ++ rest)))
+      (of-element (own ∷ scope) ((front ++ own) ∷ other) m p head.0)
+      ∙ ap (λ items. Element (qualified_name (element_uri (own ∷ scope) p) l) ∷ items)
+      (front-gone 1 ((front ++ own) ∷ other) front rest
+      ∙ same 1 (own ∷ scope) ((front ++ own) ∷ other) xs (m, c) r.1 b)
+  same (suc n) scope other (Start p l ∷ xs) c g b =
+      let own = declared xs in
+      let rest = self_standing needs (Some (suc (suc n))) xs in
+      let r = and_parts (good_head (own ∷ scope) p xs) (good_names (own ∷ scope) xs) g in
+      let head = and_parts (is_bound (own ∷ scope) p) (good_attributes (own ∷ scope) [] xs) r.0 in
+      let m = means-deeper own scope other c.0 in
+      rw (deep-item needs n (Start p l) xs, add-one, deep-declared needs (suc n) xs)
+      (ap (λ (u : List ℕ). Element (qualified_name u l)
+      ∷ content_from (suc (suc n)) (resolved_from (own ∷ other) rest))
+      (of-element (own ∷ scope) (own ∷ other) m p head.0)
+      ∙ ap (λ items. Element (qualified_name (element_uri (own ∷ scope) p) l) ∷ items)
+      (same (suc (suc n)) (own ∷ scope) (own ∷ other) xs (m, c) r.1 b))
+  same zero scope other (Array a ∷ xs) c g b =
+      let r = and_parts (is_good_array scope a) (good_names scope xs) g in
+      let one : resolved_item other (Array (array_with needs a)) xs
+      ≡ resolved_item scope (Array a) xs =
+      rw (c.0, c.1) (array-child a (rw c.0 at r.0) xs) in
+      ap (λ item. item ∷ content_from 0 (resolved_from other (self_standing needs (Some 0) xs))) one
+      ∙ ap (λ items. resolved_item scope (Array a) xs ∷ items) (same zero scope other xs c r.1 b)
+  same (suc n) scope other (Array a ∷ xs) c g b =
+      let r = and_parts (is_good_array scope a) (good_names scope xs) g in
+      rw (deep-item needs n (Array a) xs)
+      (ap (λ item. item
+      ∷ content_from (suc n) (resolved_from other (self_standing needs (Some (suc n)) xs)))
+      (array-deep scope other a c.0 r.0 xs)
+      ∙ ap (λ items. resolved_item scope (Array a) xs ∷ items)
+      (same (suc n) scope other xs c r.1 b))
+  same zero scope other (Close ∷ xs) c g b = refl
+  same (suc n) scope other (Close ∷ xs) c g b =
+      rw (deep-item needs n Close xs)
+      (ap (λ items. Ends ∷ items) (same n (around scope) (around other) xs c.1 g b))
+  same zero scope other (Xmlns p u ∷ xs) c g b = same zero scope other xs c g b
+  same (suc n) scope other (Xmlns p u ∷ xs) c g b =
+      rw (deep-item needs n (Xmlns p u) xs) (same (suc n) scope other xs c g b)
+  same zero scope other (Attr p l v ∷ xs) c g b =
+      same zero scope other xs c g (and_parts (is_bound scope p) (all_bound scope xs) b).1
+  same (suc n) scope other (Attr p l v ∷ xs) c g b =
+      let r = and_parts (is_bound scope p) (all_bound scope xs) b in
+      rw (deep-item needs n (Attr p l v) xs)
+      (ap (λ (u : List ℕ). Attribute (qualified_name u l) v
+      ∷ content_from (suc n) (resolved_from other (self_standing needs (Some (suc n)) xs)))
+      (of-attribute scope other c.0 p r.0)
+      ∙ ap (λ items. Attribute (qualified_name (attribute_uri scope p) l) v ∷ items)
+      (same (suc n) scope other xs c g r.1))
+  same zero scope other (Text v ∷ xs) c g b =
+      ap (λ items. Texts v ∷ items) (same zero scope other xs c g b)
+  same (suc n) scope other (Text v ∷ xs) c g b =
+      rw (deep-item needs n (Text v) xs)
+      (ap (λ items. Texts v ∷ items) (same (suc n) scope other xs c g b))
+  same zero scope other (Comment v ∷ xs) c g b =
+      ap (λ items. Comments v ∷ items) (same zero scope other xs c g b)
+  same (suc n) scope other (Comment v ∷ xs) c g b =
+      rw (deep-item needs n (Comment v) xs)
+      (ap (λ items. Comments v ∷ items) (same (suc n) scope other xs c g b))
+
+-- what holds of each child of the root holds of Body
+module _ (all : List Item) (P : ℕ → Type 0) where
+  behind-each : (root : Scope) (header : Option ℕ) (children : List ℕ) (parts : Parts)
+      → Each P children → parts_behind all root header children ≡ Ok parts → P parts.body
+  behind-each root header [] parts h k = absurd cc
+  behind-each root header (at ∷ []) parts h k =
+      elim (cases_Bool (is_element all root soap (codes "Body") at)) [
+        | inl is ↦
+            let found : Parts = record { header = header; body = at } in
+            let one : found ≡ parts = cc (rw is at k) in
+            subst (λ (p : Parts). P p.body) one h.0
+        | inr other ↦ absurd (cc (rw other at k))
+      ]
+  behind-each root header (at ∷ next ∷ more) parts h k =
+      elim (cases_Bool (is_element all root soap (codes "Body") at))
+      [ inl is ↦ absurd (cc (rw is at k)) | inr other ↦ absurd (cc (rw other at k)) ]
+
+  among-each : (root : Scope) (children : List ℕ) (parts : Parts) → Each P children
+      → parts_among all root children ≡ Ok parts → P parts.body
+  among-each root [] parts h k = absurd cc
+  among-each root (at ∷ more) parts h k =
+      elim (cases_Bool (is_element all root soap (codes "Header") at)) [
+        | inl is ↦ behind-each root (Some at) more parts h.1 (rw is at k)
+        | inr other ↦ behind-each root None (at ∷ more) parts h (rw other at k)
+      ]
+
+body-scope : (doc : List Item) (parts : Parts) → is_start (slice_get doc 0) ≡ true
+    → parts_of doc ≡ Ok parts → scope_to [] parts.body doc ≡ root_scope doc
+body-scope doc parts root h =
+    let P : ℕ → Type 0 = (λ c. scope_to [] c doc ≡ root_scope doc) in
+    among-each doc P (root_scope doc) (kept_children doc 0) parts
+    (each-filter P (λ child. not (is_passed (slice_get doc child))) (children_of doc 0)
+    (children-stand doc 0 [] refl root)) h
+
+pub bodies_are_named : BodiesAreNamed
+bodies_are_named doc v document h =
+    let seen = is-viewed doc v h in
+    let stands : BodyStands doc v = rw h at (view-stands doc) in
+    let root = root_scope doc in
+    let base = within doc v.body_at root in
+    let behind = drop (v.body_at + 1) doc in
+    let at_body : scope_to [] v.body_at doc ≡ root =
+    subst (λ c. scope_to [] c doc ≡ root) seen.place
+    (body-scope doc seen.parts seen.root seen.are_parts) in
+    let here : scope_to [] (v.body_at + 1) doc ≡ base =
+    inside doc v.body_at root at_body stands.starts in
+    let good = names-good [] 0 doc seen.names in
+    let bound = bound-all Before [] doc (document-position doc document) (λ e. absurd cc) good in
+    let good_there : good_names base behind ≡ true =
+    subst (λ scope. good_names scope behind ≡ true) here (names-at [] (v.body_at + 1) doc good) in
+    let bound_there : all_bound base behind ≡ true =
+    subst (λ scope. all_bound scope behind ≡ true) here (bound-at [] (v.body_at + 1) doc bound) in
+    let apart : list_all are_apart base ≡ true =
+    rw add-one
+    (rw (starts-apart [] v.body_at doc good stands.starts, starts-apart [] 0 doc good seen.root)
+    refl) in
+    let reach = needs-reach base apart (in_scope-apart base) in
+    ap (λ body. content_from 0 (resolved_from reply_scope body)) stands.content
+    ∙ same (needed base) base reach 0 base reply_scope (behind_head behind) (refl, refl)
+    (head-good base behind good_there) (head-gone base behind bound_there)
+    ∙ head-left base behind
+    ∙ ap (λ scope. content_from 0 (resolved_from scope behind)) (sym here)
+    ∙ ap (content_from 0) (sym (drop-resolved [] (v.body_at + 1) doc))
