@@ -219,6 +219,8 @@ impl<'s, 'd, 'k, 'o, K: Sink, O: Sink> Listener<Event, Outputs<'k, 'o, K, O>> fo
     ghost heard = { λ first events caller now. IsAlong K.written K.held K.faults K.may_want
         O.written O.held O.faults O.may_want first events caller now };
 
+    ghost may_take_memory = { λ caller. ⊥ };
+
     fn hear(&mut self, event: Event, outputs: &mut Outputs<'k, 'o, K, O>) -> Result<Event, Memory> {
         self.report(&event, outputs.report);
         self.answer(&event, outputs.sink);

@@ -11,7 +11,7 @@ use Rattle.stream_follower.proofs.Written.{begins, closes, goes_by, goes_nowhere
 use Rattle.stream_follower.proofs.Written.{stays_closed, stays_so, steps, stops_last}
 use Rattle.duplex_server.specs.declared.requests.Request.{Request}
 use Rattle.duplex_server.specs.declared.requests.Request.TheVariants.{Ended, Acknowledged}
-use Rattle.duplex_server.specs.Owed.{Answering, Replying, messages_along, messages_behind, replies}
+use Rattle.duplex_server.specs.Owed.{Answering, messages_along, messages_behind, replies}
 use Rattle.duplex_server.specs.Owed.{start}
 use Rattle.duplex_server.specs.Replying.{Answers, HasHeard, replying}
 

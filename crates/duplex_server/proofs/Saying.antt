@@ -1,6 +1,5 @@
 -- What a receiver answers is what a reader of requests says.
-use Rattle.std.proofs.Common.{◌≡◌, ℕ, Option, Some, None, Result, Ok, Err, refl, sym, ap, ◌∙◌}
-use Rattle.std.specs.Prelude.{⊤}
+use Rattle.std.proofs.Common.{◌≡◌, ℕ, Option, Some, None, Result, Ok, Err, refl, ap, ◌∙◌}
 use Rattle.unit_streams.specs.Judging.{Answer, goes_on, completes, offends}
 use Rattle.nbfx_values.specs.declared.refusals.Offence.{Offence}
 use Rattle.stream_loop.specs.Answers.{said as said_by_loop, said_at_end as ends_by_loop}

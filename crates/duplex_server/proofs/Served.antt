@@ -1,8 +1,7 @@
 -- What is known of a connection when its stream is over and what is owed last is written.
-use Rattle.std.proofs.Common.{◌≡◌, ℕ, ◌⊎◌, inl, inr, List, [], ◌++◌, Bool, Option, Some, None}
-use Rattle.std.proofs.Common.{Result, Ok, Err, IsErrOf, map, refl, sym, ap, ◌∙◌, subst}
+use Rattle.std.proofs.Common.{◌≡◌, ℕ, inl, inr, List, Bool, Option, Some, None}
+use Rattle.std.proofs.Common.{Ok, map, refl, sym, ap, ◌∙◌, subst}
 use Rattle.io_edges.specs.Faults.{CountsFaults}
-use Rattle.io_edges.specs.declared.SinkFault.TheVariants as sinks
 use Rattle.io_edges.proofs.Putting.{PutsAll-then}
 use Rattle.unit_streams.specs.Grammar.{Grammar}
 use Rattle.unit_streams.specs.Judging.{events_of}
@@ -18,8 +17,7 @@ use Rattle.stream_follower.specs.Followed.{Follows}
 use Rattle.stream_follower.specs.Writing.{Ends, PutsTo, Wrote}
 use Rattle.stream_follower.proofs.Taking.{follows_as}
 use Rattle.duplex_server.specs.declared.outcome.Inbound.{Inbound}
-use Rattle.duplex_server.specs.declared.outcome.Inbound.TheVariants.{Ended, Offended, ReadFault}
-use Rattle.duplex_server.specs.declared.outcome.Inbound.TheVariants.{Memory}
+use Rattle.duplex_server.specs.declared.outcome.Inbound.TheVariants.{ReadFault}
 use Rattle.duplex_server.specs.declared.outcome.Outcome.{Outcome}
 use Rattle.duplex_server.specs.Owed.{Answering, messages_along, replies, requests_to}
 use Rattle.duplex_server.specs.Requests.{request_for}

@@ -1,21 +1,17 @@
 -- What two tries of an envelope leave.
-use Rattle.std.proofs.Common.{◌≡◌, ℕ, List, ◌++◌, Bool, true, false, Option, Some, None, Result, Ok}
-use Rattle.std.proofs.Common.{Err, IfOk, refl, sym, ap, ◌∙◌, subst}
+use Rattle.std.proofs.Common.{◌≡◌, ℕ, List, ◌++◌, Bool, true, false, Result, Ok}
+use Rattle.std.proofs.Common.{Err, sym, ap, ◌∙◌}
 use Rattle.unit_streams.specs.declared.memory.Memory.{Memory}
 use Rattle.nbfx_values.specs.declared.session.Mode.{Mode}
 use Rattle.string_tables.specs.StringTable.{StringTable}
-use Rattle.nbfx_encoder.specs.declared.faults.EncodeFault.{EncodeFault}
-use Rattle.nbfx_encoder.specs.declared.faults.EncodeFault.TheVariants as encode
-use Rattle.nbfx_encoder.specs.declared.sender.SendFault.TheVariants.{WrongMoment, Refused}
 use Rattle.nbfx_encoder.specs.declared.sender.SendState.{SendState}
-use Rattle.nbfx_encoder.specs.declared.sender.SendState.TheVariants.{Ready, Spent, Closed}
+use Rattle.nbfx_encoder.specs.declared.sender.SendState.TheVariants.{Ready}
 use Rattle.nbfx_encoder.specs.Envelopes.{envelope}
 use Rattle.nbfx_encoder.specs.Placing.{Placed}
-use Rattle.nbfx_encoder.specs.Sending.{RefusesMessage, Sends, behind_message}
+use Rattle.nbfx_encoder.specs.Sending.{behind_message}
 use Rattle.nbfx_encoder.specs.Spelling.{Unfit}
-use Rattle.nbfx_encoder.specs.Standing.{Refuses}
 use Rattle.duplex_server.specs.Owed.{first_fitting, when_ready}
-use Rattle.duplex_server.specs.Spelling.{Appends, Spells, StaysSo, Tries}
+use Rattle.duplex_server.specs.Spelling.{Spells, Tries}
 
 -- where a first try wasn't enough, and there was a second one
 module _ (mode again : Mode) (old mid new : List ℕ) (before between behind : StringTable)

@@ -3,14 +3,13 @@ use Rattle.std.proofs.Common.{◌≡◌, ℕ, List, [], ◌∷◌, ◌++◌, map
 use Rattle.std.specs.Prelude.{⊤, codes}
 use Rattle.std.specs.Char.{encode_utf8}
 use Rattle.unit_streams.specs.Tellers.{report, told_along, state_behind}
-use Rattle.nbfx_values.specs.Limits.{Limits, limits, usual_limits}
+use Rattle.nbfx_values.specs.Limits.{Limits, usual_limits}
 use Rattle.multibyte_ints.specs.Integer.{shortest, shortest_within}
 use Rattle.multibyte_ints.specs.Text.{string_bytes_of}
 use Rattle.soap_envelope.proofs.OnLiterals.{envelopes_on_literals}
 use Rattle.stream_reader.proofs.OnLiterals.{streams_on_literals}
-use Rattle.action_dispatch.specs.Actions.{text_for}
 use Rattle.action_dispatch.specs.Answers.{Serves}
-use Rattle.action_dispatch.specs.Services.{echoed, reply_with}
+use Rattle.action_dispatch.specs.Services.{echoed}
 use Rattle.duplex_server.specs.Owed.{answering, owed}
 
 unfoldable owed_on_literals : ⊤

@@ -19,7 +19,7 @@ pub enum Inbound {
 /// What became of a connection. Counts stand still at the end of their type.
 #[derive(Clone, Copy, Debug, PartialEq, Eq)]
 pub struct Outcome {
-    /// How many documents were answered by the service or refused.
+    /// How many documents were read. Each was answered, unless the writing had ended before.
     pub messages: u64,
     /// How many envelopes with answers were put to the sink without a fault.
     pub answers: u64,

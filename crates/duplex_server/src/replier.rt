@@ -1,6 +1,6 @@
 //! What answers the requests of a connection.
 
-ghost use Rattle.std.specs.Prelude.{◌≡◌, ⊤, [], ℕ, List, IfOk, OnOk};
+ghost use Rattle.std.specs.Prelude.{◌≡◌, ⊤, [], ℕ, List, IfOk, OnErr, OnOk};
 ghost use Rattle.nbfx_values.specs.QuotasOf.{limits_of};
 ghost use Rattle.nbfx_encoder.specs.Sending.{limits_in};
 ghost use Rattle.nmf_records.specs.Writing.{frame_bytes_of};
@@ -10,7 +10,7 @@ ghost use Rattle.action_dispatch.specs.Answers.{RelatesToTexts};
 ghost use Rattle.stream_follower.specs.Writing.{Goes, Wrote};
 ghost use Rattle.duplex_server.specs.declared.requests.Request.{Request as Heard};
 ghost use Rattle.duplex_server.specs.Owed.{answering, behind_reply, opened, payload_of, replies, start, told_reply};
-ghost use Rattle.duplex_server.specs.Replying.{HasHeard, replying};
+ghost use Rattle.duplex_server.specs.Replying.{Answers, HasHeard, replying};
 ghost use Rattle.duplex_server.specs.Serving.{closing_of};
 
 use crate::closing::put_closing;
@@ -178,24 +178,19 @@ impl<'s, 'v, V: Service> Replier<'s, 'v, V> {
         }
     }
 
-    // Sends an answer, unless the writing has ended, and gives back what its document leaves.
+    // Sends an answer, and gives back what its document leaves.
     fn reply<K: Sink>(&mut self, answer: Answer, sink: &mut K) -> Request
-        requires { RelatesToTexts answer }
+        requires texts { RelatesToTexts answer }
+        requires going { self.old.outbound ≡ Outbound.Done }
         ensures goes { let s = replying self.old.sender self.old.answers in
-            self.old.outbound ≡ Outbound.Done
-            → Goes K.written K.held K.faults K.may_want self.new.outbound
+            Goes K.written K.held K.faults K.may_want self.new.outbound
             (told_reply s.mode (payload_of (limits_of self.old.quotas) s answer))
             sink.old sink.new }
         ensures left { let s = replying self.old.sender self.old.answers in
-            self.old.outbound ≡ Outbound.Done → self.new.outbound ≡ Outbound.Done
+            self.new.outbound ≡ Outbound.Done
             → replying self.new.sender self.new.answers
             ≡ behind_reply (payload_of (limits_of self.old.quotas) s answer) s }
-        ensures cut { self.old.outbound ≡ Outbound.Done → (self.new.outbound ≡ Outbound.Done → ⊥)
-            → self.new.answers ≡ self.old.answers }
-        ensures stays { (self.old.outbound ≡ Outbound.Done → ⊥)
-            → self.new.outbound ≡ self.old.outbound }
-        ensures untouched { (self.old.outbound ≡ Outbound.Done → ⊥) → sink.new ≡ sink.old }
-        ensures same { (self.old.outbound ≡ Outbound.Done → ⊥)
+        ensures cut { (self.new.outbound ≡ Outbound.Done → ⊥)
             → self.new.answers ≡ self.old.answers }
         ensures messages { self.new.messages ≡ self.old.messages }
         ensures statics { self.new.statics.now ≡ self.old.statics.now }
@@ -205,10 +200,33 @@ impl<'s, 'v, V: Service> Replier<'s, 'v, V> {
         let Answer::Reply { doc, relates } = answer else {
             return Request::Ended;
         };
-        if self.outbound.is_going() {
-            self.send(&doc, &relates, sink);
-        }
+        self.send(&doc, &relates, sink);
         Request::Received(doc)
+    }
+
+    // Answers a document, and gives back what it leaves. Once the writing has ended nothing would be
+    // sent of an answer: the service isn't asked then, and no memory is taken.
+    fn answer<K: Sink>(&mut self, doc: Doc, sink: &mut K) -> Result<Request, Memory>
+        ensures answers { OnOk result (Answers K.written K.held K.faults K.may_want
+            (answering (V.served self.old.service.now) self.old.statics.now
+            (limits_of self.old.quotas)) (Request.Received doc) self.old.outbound self.new.outbound
+            (replying self.old.sender self.old.answers) (replying self.new.sender self.new.answers)
+            sink.old sink.new) }
+        ensures sender { OnErr result (self.new.sender ≡ self.old.sender) }
+        ensures outbound { OnErr result (self.new.outbound ≡ self.old.outbound) }
+        ensures count { OnErr result (self.new.answers ≡ self.old.answers) }
+        ensures untouched { OnErr result (sink.new ≡ sink.old) }
+        ensures wanted { OnErr result (self.old.outbound ≡ Outbound.Done) }
+        ensures messages { self.new.messages ≡ self.old.messages }
+        ensures statics { self.new.statics.now ≡ self.old.statics.now }
+        ensures quotas { self.new.quotas ≡ self.old.quotas }
+        ensures service { self.new.service.now ≡ self.old.service.now }
+    {
+        if !self.outbound.is_going() {
+            return Ok(Request::Received(doc));
+        }
+        let answer = answer_owned(self.alloc, &self.quotas, self.service, doc)?;
+        Ok(self.reply(answer, sink))
     }
 }
 
@@ -216,6 +234,7 @@ impl<'s, 'v, V: Service, K: Sink> Listener<Request, K> for Replier<'s, 'v, V> {
     ghost use Rattle.nbfx_values.specs.QuotasOf.{limits_of};
     ghost use Rattle.duplex_server.specs.Owed.{Answering, answering};
     ghost use Rattle.duplex_server.specs.Replying.{HasHeard};
+    ghost use Rattle.stream_follower.specs.declared.writing.Outbound.TheVariants.{Done};
 
     ghost Settings = { Answering };
 
@@ -226,6 +245,8 @@ impl<'s, 'v, V: Service, K: Sink> Listener<Request, K> for Replier<'s, 'v, V> {
         (answering (V.served replier.service.now) replier.statics.now (limits_of replier.quotas))
         first requests replier.outbound replier.sender replier.answers replier.messages now };
 
+    ghost may_take_memory = { λ replier. replier.outbound ≡ Done };
+
     fn hear(&mut self, request: Request, sink: &mut K) -> Result<Request, Memory> {
         match request {
             Request::Opened { mode, kind } => {
@@ -233,9 +254,9 @@ impl<'s, 'v, V: Service, K: Sink> Listener<Request, K> for Replier<'s, 'v, V> {
                 Ok(Request::Ended)
             }
             Request::Received(doc) => {
-                let answer = answer_owned(self.alloc, &self.quotas, self.service, doc)?;
+                let spent = self.answer(doc, sink)?;
                 self.messages = self.messages.saturating_add(1);
-                Ok(self.reply(answer, sink))
+                Ok(spent)
             }
             Request::Ended | Request::Acknowledged => Ok(Request::Ended),
         }

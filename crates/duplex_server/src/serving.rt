@@ -125,7 +125,7 @@ fn serve_connection<S: Source, K: Sink, V: Service>(
 /// says so, and where that doesn't fit either nothing is written for it.
 ///
 /// After a failed write, or when out of memory while writing, nothing more is put, and reading goes
-/// on.
+/// on: documents are counted, and the service isn't asked.
 pub fn serve_one<S: Source, K: Sink, V: Service>(
     alloc: Global,
     source: &mut S,

@@ -1,10 +1,10 @@
 -- How many bytes were written of a stream's events: all that is due for them, or first ones of
 -- that.
 use Rattle.std.proofs.Common.{◌≡◌, ℕ, ◌⊎◌, inl, inr, List, [], ◌∷◌, ◌++◌, length, Bool, Option}
-use Rattle.std.proofs.Common.{Some, None, Result, Ok, Err, map, refl, sym, ap, ◌∙◌, subst}
+use Rattle.std.proofs.Common.{Some, Ok, Err, map, refl, sym, ap, ◌∙◌, subst}
 use Rattle.std.proofs.Common.{append_assoc, arith}
 use Rattle.std.proofs.lemmas.List.{append-nil, take_all}
-use Rattle.io_edges.specs.Flow.{Told, GrowsByPrefix, Passes}
+use Rattle.io_edges.specs.Flow.{GrowsByPrefix, Passes}
 use Rattle.io_edges.specs.declared.SinkFault.{SinkFault}
 use Rattle.io_edges.proofs.Putting.{PutsAll-then}
 use Rattle.unit_streams.specs.Grammar.{Grammar}

@@ -1,7 +1,6 @@
 -- What a stream that is followed leaves of the counts of faults, and that some events were heard.
-use Rattle.std.proofs.Common.{◌≡◌, ℕ, inl, inr, List, [], Bool, Option, Result, Ok, Err, refl, sym}
+use Rattle.std.proofs.Common.{◌≡◌, ℕ, inl, inr, List, Bool, Option, Ok, refl}
 use Rattle.io_edges.specs.Faults.{CountsFaults}
-use Rattle.io_edges.specs.declared.SinkFault.TheVariants as sinks
 use Rattle.io_edges.proofs.Putting.{PutsAll-then}
 use Rattle.unit_streams.specs.Grammar.{Grammar}
 use Rattle.unit_streams.specs.Judging.{events_of}

@@ -7,7 +7,7 @@ use Rattle.io_edges.specs.declared.SinkFault.TheVariants as sinks
 use Rattle.io_edges.proofs.Putting.{PutsAll-nothing, PutsAll-then}
 use Rattle.unit_streams.specs.Tellers.{Teller, told_along, state_behind}
 use Rattle.unit_streams.proofs.Telling.{told_append, told_one, state_append, state_one}
-use Rattle.stream_follower.specs.Writing.{Goes, HasStopped, HasWritten, IsCut, IsWriting, PutsTo}
+use Rattle.stream_follower.specs.Writing.{Goes, HasStopped, IsCut, IsWriting, PutsTo}
 use Rattle.stream_follower.specs.Writing.{Writes, Wrote, due_next, outbound_by, outbound_of}
 use Rattle.stream_follower.specs.declared.writing.Outbound.{Outbound}
 use Rattle.stream_follower.specs.declared.writing.Outbound.TheVariants.{Done, WriteFault, Memory}

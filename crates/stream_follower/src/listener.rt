@@ -19,6 +19,10 @@ pub trait Listener<Event, O> {
     /// listener and the output are like these now.
     ghost heard: { O → List Event → Self → O → Type 0 };
 
+    /// Hearing an event may take memory. Where it may not, as after a failed write, each event is
+    /// heard, so the stream is read on.
+    ghost may_take_memory: { Self → Type 0 };
+
     /// Hears an event, and gives an event back whose memory the reading end may use again. An event
     /// for which there is no memory isn't heard.
     fn hear(&mut self, event: Event, output: &mut O) -> Result<Event, Memory>
@@ -26,6 +30,7 @@ pub trait Listener<Event, O> {
             → OnOk result (heard first (events ++ event ∷ []) self.new output.new) }
         ensures unheard { (first : O) (events : List Event) → heard first events self.old output.old
             → OnErr result (heard first events self.new output.new) }
+        ensures wanted { OnErr result (may_take_memory self.old) }
         ensures settings { settings self.new ≡ settings self.old };
 
     /// Writes what the output still holds: the next bytes may be long in coming.

@@ -1,11 +1,11 @@
-use Rattle.std.proofs.Common.{◌≡◌, List, ap, ◌∙◌, map}
+use Rattle.std.proofs.Common.{List, ap, ◌∙◌, map}
 use Rattle.unit_streams.specs.Judging.{events_in, events_of}
 use Rattle.nbfx_values.specs.QuotasOf.{limits_of}
 use Rattle.stream_loop.specs.Edges.{Input, input_at}
 use Rattle.stream_loop.proofs.LoopSteps.{first_pending}
 use Rattle.stream_reader.specs.declared.side.Endpoint.{Endpoint}
 use Rattle.stream_reader.specs.Sides.{endpoint_of}
-use Rattle.stream_reader.specs.Stream.{Settings, StreamEvent, ends, initiators, stream}
+use Rattle.stream_reader.specs.Stream.{Settings, StreamEvent, ends, stream}
 use Rattle.receiver_machine.specs.Standing.{has_good_quotas, settings_of}
 use Rattle.stream_follower.proofs.Taking.{unbegun}
 use Rattle.duplex_server.specs.Owed.{Answering, answering, requests_to}

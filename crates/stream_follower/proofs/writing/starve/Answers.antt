@@ -1,4 +1,4 @@
-use Rattle.stream_follower.proofs.Written.{cut_starved, done_well, stopped_cut}
+use Rattle.stream_follower.proofs.Written.{cut_starved, done_well}
 use Rattle.stream_follower.proofs.writing.starve.Goals as goal
 
 pub returns-in-Done : goal.returns-in-Done

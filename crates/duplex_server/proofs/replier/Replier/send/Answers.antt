@@ -1,4 +1,4 @@
-use Rattle.std.proofs.Common.{◌≡◌, List, [], ℕ, Bool, true, false, Ok, ap, ◌∙◌, sym, subst}
+use Rattle.std.proofs.Common.{List, [], ℕ, ◌∙◌, sym, subst}
 use Rattle.nbfx_values.specs.QuotasOf.{limits_of}
 use Rattle.stream_follower.specs.Writing.{Goes}
 use Rattle.stream_follower.proofs.Written.{cut_goes, cut_stopped, goes_nowhere}

@@ -1,10 +1,8 @@
-use Rattle.std.proofs.Common.{◌≡◌, ap, ◌∙◌, sym, subst}
+use Rattle.std.proofs.Common.{ap, ◌∙◌}
+use Rattle.io_edges.specs.Faults.{one_more}
 use Rattle.nbfx_values.specs.QuotasOf.{limits_of}
-use Rattle.stream_follower.specs.Writing.{Goes}
-use Rattle.action_dispatch.specs.declared.answers.Answer.{Answer}
 use Rattle.duplex_server.specs.declared.requests.Request.TheVariants.{Opened, Received}
-use Rattle.duplex_server.specs.Owed.{Answering, Replying, answering, behind_reply, payload_of}
-use Rattle.duplex_server.specs.Owed.{told_reply}
+use Rattle.duplex_server.specs.Owed.{Answering, answering}
 use Rattle.duplex_server.specs.Replying.{replying}
 use Rattle.duplex_server.proofs.Heard.{hears, hears_quietly}
 use Rattle.duplex_server.proofs.replier.ReplierListenerRequest.hear.Goals as goal
@@ -29,32 +27,20 @@ returns-in-Opened-clause-heard g c = λ first events heard.
       same = λ never. e.answers;
     }) e.messages)
 
-pub returns-in_ok-answer-in-Received-clause-heard :
-    goal.returns-in_ok-answer-in-Received-clause-heard
-unfolding replying
-returns-in_ok-answer-in-Received-clause-heard g c = λ first events heard.
+pub returns-in_ok-spent-in-Received-clause-heard :
+    goal.returns-in_ok-spent-in-Received-clause-heard
+returns-in_ok-spent-in-Received-clause-heard g c = λ first events heard.
     let m = c.args.self.now in
-    let e = c.reply.ensures in
+    let e = c.answer.ensures in
     let x : Answering = answering (g.V.Service.served m.service.now) m.statics.now
     (limits_of m.quotas) in
-    let s : Replying = replying m.sender m.answers in
-    let answered = c.in_ok-answer-in-Received.ensures.answered in
     rw (c.in-Received.is, e.service, e.statics, e.quotas)
     (hears g.K.Sink.written g.K.Sink.held g.K.Sink.faults g.K.Sink.may_want x first events m.sender
     m.answers m.messages c.args.sink.now (Received c.in-Received.doc) m.outbound
-    c.reply.new.self.outbound c.reply.new.self.sender c.reply.new.self.answers
-    c.reply.new.self.messages c.reply.new.sink heard (record {
-      goes = λ going. subst (λ (a : Answer). Goes g.K.Sink.written g.K.Sink.held
-          g.K.Sink.faults g.K.Sink.may_want c.reply.new.self.outbound
-          (told_reply s.mode (payload_of x.limits s a)) c.args.sink.now c.reply.new.sink)
-          answered (e.goes going);
-      left = λ going done. e.left going done
-          ∙ ap (λ (a : Answer). behind_reply (payload_of x.limits s a) s) answered;
-      cut = e.cut;
-      stays = e.stays;
-      untouched = e.untouched;
-      same = e.same;
-    }) (e.messages ∙ c.saturating_add-self.ensures))
+    c.answer.new.self.outbound c.answer.new.self.sender c.answer.new.self.answers
+    c.saturating_add-self.result c.answer.new.sink heard
+    c.in_ok-spent-in-Received.ensures.answers
+    (c.saturating_add-self.ensures ∙ ap one_more e.messages))
 
 pub returns-in-Ended-clause-heard : goal.returns-in-Ended-clause-heard
 returns-in-Ended-clause-heard g c = λ first events heard.

@@ -1,5 +1,4 @@
 use Rattle.std.proofs.Common.{refl}
-use Rattle.duplex_server.specs.Replying.{replying}
 use Rattle.duplex_server.proofs.Heard.{hears_on}
 use Rattle.duplex_server.proofs.replier.ReplierListenerRequest.pause.Goals as goal
 
