@@ -92,7 +92,7 @@ module _ {Z U E R S : Type 0} (g : Grammar Z U E R) (t : Teller S E R) where
         writes_counted = e.writes_counted;
       }
 
-  -- and so of a sink, from one that gathers and has gathered nothing yet
+  -- and so of a sink, from one that gathers
   module _ {K : Type 0} (written : K → Option (List ℕ)) (held : K → List ℕ) (faults : K → ℕ)
       (i i' : Input) (state : S) (ending : Ending R) where
     abbrev Ends : (o o' : Output) → Type 0
@@ -101,15 +101,26 @@ module _ {Z U E R S : Type 0} (g : Grammar Z U E R) (t : Teller S E R) where
     abbrev with_held : K → List ℕ → Output
     with_held sink h = record { written = written sink; held = h; faults = faults sink }
 
+    -- and has gathered these bytes
+    pub ends_behind : (front : List ℕ) (first sink last result : K) (gathered h : List ℕ)
+        → sink ≡ first → gathered ≡ front → result ≡ last
+        → Ends (with_held sink (held sink ++ gathered)) (with_held last h)
+        → Ends (with_held first (held first ++ front)) (output_at written held faults result)
+    ends_behind front first sink last result gathered h same is taken e =
+        let one = subst (λ (l : List ℕ). Ends (with_held sink (held sink ++ l)) (with_held last h))
+        is e in
+        let two = subst (λ (s : K). Ends (with_held s (held s ++ front)) (with_held last h)) same
+        one in
+        subst (λ (s : K). Ends (with_held first (held first ++ front)) (with_held s (held s)))
+        (sym taken) (ends_so i i' (written first) (written last) (faults first) (faults last)
+        (held first ++ front) h (held last) state ending two)
+
+    -- or nothing yet
     pub ends_under : (first sink last result : K) (gathered h : List ℕ) → sink ≡ first
         → gathered ≡ [] → result ≡ last → Ends (with_held sink (held sink ++ gathered))
         (with_held last h)
         → Ends (output_at written held faults first) (output_at written held faults result)
     ends_under first sink last result gathered h same none taken e =
-        let plain : held sink ++ gathered ≡ held sink =
-        ap (λ l. held sink ++ l) none ∙ append-nil (held sink) in
-        let one = subst (λ (l : List ℕ). Ends (with_held sink l) (with_held last h)) plain e in
-        let two = subst (λ (s : K). Ends (with_held s (held s)) (with_held last h)) same one in
-        subst (λ (s : K). Ends (with_held first (held first)) (with_held s (held s))) (sym taken)
-        (ends_so i i' (written first) (written last) (faults first) (faults last) (held first) h
-        (held last) state ending two)
+        subst (λ (l : List ℕ). Ends (with_held first l) (output_at written held faults result))
+        (append-nil (held first)) (ends_behind [] first sink last result gathered h same none taken
+        e)

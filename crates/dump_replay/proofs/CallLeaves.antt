@@ -1,8 +1,6 @@
 -- What the command that calls a peer leaves, whatever it did.
-use Rattle.std.proofs.Common.{◌≡◌, ℕ, ◌⊎◌, inl, inr, List, Option, Err, refl, sym, ap, subst, arith}
+use Rattle.std.proofs.Common.{◌≡◌, ℕ, inl, inr, List, Err, refl, sym, ap, subst, arith}
 use Rattle.std.specs.Prelude.{◌++◌, length}
-use Rattle.io_edges.specs.Faults.{Rose}
-use Rattle.io_edges.specs.Store.{Store}
 use Rattle.nbfx_values.specs.Limits.{Limits}
 use Rattle.nbfx_values.specs.declared.content.Item.{Item}
 use Rattle.string_tables.specs.StaticStrings.{Entry}
@@ -10,34 +8,28 @@ use Rattle.stream_loop.specs.Edges.{Input, Output}
 use Rattle.io_edges.specs.Wires.{Network}
 use Rattle.connection_server.specs.Served.{SinkState}
 use Rattle.client.specs.Sent.{Sending, sending}
+use Rattle.session_calls.specs.Statuses.{status_of}
 use Rattle.session_calls.specs.Tags.{sent_line}
-use Rattle.session_calls.specs.declared.called.Called.{Called}
 use Rattle.command_words.specs.Tasks.{Opening}
 use Rattle.dump_replay.specs.Calling.{CalledOrNot, CalledPlace, TookNone, UnreadSecond}
-use Rattle.dump_replay.specs.Calling.{ending_of_list, output_of}
-use Rattle.dump_replay.specs.Outside.{Outside, SeenShelf, seen}
+use Rattle.dump_replay.specs.Calling.{ending_of_list, output_of, status_of_documents}
+use Rattle.dump_replay.specs.Building.{status_of_building}
+use Rattle.dump_replay.specs.Outside.{SeenShelf, seen}
 use Rattle.dump_replay.specs.Running.{CountsWire}
 use Rattle.dump_replay.specs.Working.{Leaves}
-use Rattle.dump_replay.proofs.CallEnds.{called_four, called_out, called_status, called_three}
-use Rattle.dump_replay.proofs.CallEnds.{called_two, called_wire, called_writes, list_eight}
-use Rattle.dump_replay.proofs.CallEnds.{list_four, list_three, second_four, second_status}
-use Rattle.dump_replay.proofs.CallEnds.{second_three, second_two}
-use Rattle.dump_replay.proofs.Works.{build_status, build_two}
+use Rattle.dump_replay.proofs.CallEnds.{called_cause, called_out, called_wire, called_writes}
+use Rattle.dump_replay.proofs.CallEnds.{list_cause, report_rose, second_cause}
+use Rattle.dump_replay.proofs.Causes.{leaves_by, wires_by}
 
 -- a file that isn't read leaves input and output
 pub second_leaves : (Says : List ℕ → Type 0) (Untouched : Type 0) (name : List ℕ)
     (s s' : SeenShelf) (i : Input) (o : Output) {R K : Type 0} (n n' : Network R K) (status : ℕ)
     → UnreadSecond Says Untouched name s s' status → Leaves (seen s i o n) (seen s' i o n') status
 second_leaves Says Untouched name s s' i o n n' status h =
-    subst (Leaves (seen s i o n) (seen s' i o n')) (sym h.status_is) (record {
-      is_status = second_status h.fault;
-      not_two = second_two h.fault;
-      asked_once = inl refl;
-      read_fault = λ three. inr (h.rose (second_three h.fault three));
-      write_fault = λ four. absurd (second_four h.fault four);
-      reads = omega arith;
-      writes = omega arith;
-    })
+    subst (Leaves (seen s i o n) (seen s' i o n')) (sym h.status_is)
+    (leaves_by (seen s i o n) (seen s' i o n') (status_of_documents h.fault)
+    (second_cause h.fault) (λ failed. inr (h.rose failed)) (λ none. absurd none) (inl refl)
+    (omega arith) (omega arith))
 
 module _ (Says : List ℕ → Type 0) (limits : Limits) (i i' : Input) (o o' : Output) (status : ℕ)
     {R K : Type 0} (reader : R → Input) (writer : K → SinkState) (opening : Opening)
@@ -54,7 +46,8 @@ module _ (Says : List ℕ → Type 0) (limits : Limits) (i i' : Input) (o o' : O
       status h.status_is h.calls
   calls_wire (inr h) = subst (λ (status : ℕ). CountsWire n.faults n'.faults n.end_faults
       n'.end_faults status) (sym h.status_is) (record {
-        rose = λ eight. absurd (list_eight h.fault eight);
+        rose = λ eight. absurd (wires_by (status_of_building (ending_of_list h.fault))
+            (list_cause h.fault) eight);
         same = λ not. ap (λ (w : Network R K). w.faults) h.same;
         grows = let e = ap (λ (w : Network R K). w.faults) h.same in omega (arith, e);
       })
@@ -75,29 +68,21 @@ module _ (Says : List ℕ → Type 0) (limits : Limits) (i i' : Input) (o o' : O
         let x : Sending = sending limits statics opening.mode opening.kind (h.first ++ second) in
         let line : ℕ → List ℕ = sent_line (length h.first) (length second) in
         let to : K → Output = λ k. output_of (writer k) in
-        subst (Leaves (seen s i o n) (seen s' i' o' n')) (sym h.status_is) (record {
-          is_status = called_status h.called;
-          not_two = called_two h.called;
-          asked_once = h.taken.asked_once;
-          read_fault = λ three. absurd (called_three h.called three);
-          write_fault = λ four. called_four reader to x opening.via line n
-              n' o o' h.called h.calls four;
-          reads = h.taken.counted.grows;
-          writes = called_writes reader to x opening.via line n n' o o'
-              h.called h.calls;
-        })
+        subst (Leaves (seen s i o n) (seen s' i' o' n')) (sym h.status_is)
+        (leaves_by (seen s i o n) (seen s' i' o' n') (status_of h.called) (called_cause h.called)
+        (λ none. absurd none)
+        (report_rose reader to x opening.via line n n' o o' h.called h.calls)
+        h.taken.asked_once h.taken.counted.grows
+        (called_writes reader to x opening.via line n n' o o' h.called h.calls))
 
     none_leaves : TookNone Says limits i i' o o' status (n' ≡ n)
         → Leaves (seen s i o n) (seen s' i' o' n') status
-    none_leaves h = subst (Leaves (seen s i o n) (seen s' i' o' n')) (sym h.status_is) (record {
-      is_status = build_status s s' i i' o o' n n' (ending_of_list h.fault);
-      not_two = build_two s s' i i' o o' n n' (ending_of_list h.fault);
-      asked_once = h.taken.asked_once;
-      read_fault = λ three. inl (h.taken.counted.rose (ap Err (list_three h.fault three)));
-      write_fault = λ four. absurd (list_four h.fault four);
-      reads = h.taken.counted.grows;
-      writes = let e = ap (λ (v : Output). v.faults) h.unwritten in omega (arith, e);
-    })
+    none_leaves h =
+        let written = ap (λ (v : Output). v.faults) h.unwritten in
+        subst (Leaves (seen s i o n) (seen s' i' o' n')) (sym h.status_is)
+        (leaves_by (seen s i o n) (seen s' i' o' n') (status_of_building (ending_of_list h.fault))
+        (list_cause h.fault) (λ failed. inl (h.taken.counted.rose (ap Err failed)))
+        (λ none. absurd none) h.taken.asked_once h.taken.counted.grows (omega (arith, written)))
 
     pub calls_leaves : Left → Leaves (seen s i o n) (seen s' i' o' n') status
     calls_leaves (inl h) = placed_leaves h

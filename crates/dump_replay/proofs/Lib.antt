@@ -12,5 +12,11 @@ pub mod CallLeaves
 -- the notes (specs/Noting), what any task leaves (specs/Working), and the statuses of a run that
 -- reads nothing (specs/Running)
 pub mod Noting
+pub mod Causes
 pub mod Works
 pub mod RunSteps
+-- the status where nothing of the outside fails (specs/Complete, Order)
+pub mod CompleteFiles
+pub mod CompleteCalls
+pub mod Complete
+pub mod Order

@@ -28,14 +28,14 @@ use Rattle.dump_replay.specs.Running.{IsJudged, is_session_too_long, status_of}
 use Rattle.session_report.proofs.Sessions.{closed_outcome, outcome_of, unoffended}
 
 -- how a session has ended gives the status
-status_closing : (parts : Parts) → status_of None (outcome_of parts) ≡ closing_status parts
+pub status_closing : (parts : Parts) → status_of None (outcome_of parts) ≡ closing_status parts
 status_closing (conversation mode kind via carried) = refl
 status_closing (answer carried) = refl
 status_closing lone_ack = refl
 status_closing (broken_off carried text) = refl
 status_closing (turned_down text) = refl
 
-zero_parts : (parts : Parts) → status_of None (outcome_of parts) ≡ 0
+pub zero_parts : (parts : Parts) → status_of None (outcome_of parts) ≡ 0
     → ends_by_fault parts ≡ false
 zero_parts (conversation mode kind via carried) e = refl
 zero_parts (answer carried) e = refl
@@ -61,7 +61,7 @@ offence_status_is o end n e =
       | inr f ↦ inr (f, rw f at e)
     ]
 
-no_offence : (o : Offence) (end : Outcome) (n : ℕ) → status_of (Some o) end ≡ n
+pub no_offence : (o : Offence) (end : Outcome) (n : ℕ) → status_of (Some o) end ≡ n
     → (10 ≡ n → ⊥) → (1 ≡ n → ⊥) → ⊥
 no_offence o end n e ten one =
     elim (offence_status_is o end n e) [

@@ -1,8 +1,8 @@
 -- What any task leaves, by what it does.
 use Rattle.std.proofs.Common.{◌≡◌, ℕ, ◌⊎◌, inl, inr, List, Option, Some, None, Result, Ok, Err}
-use Rattle.std.proofs.Common.{refl, sym, ap, ◌∙◌, subst, arith}
+use Rattle.std.proofs.Common.{refl, sym, ap, subst, arith}
 use Rattle.std.proofs.lemmas.Bool.{cases_Bool}
-use Rattle.io_edges.specs.Faults.{Rose, one_more}
+use Rattle.io_edges.specs.Faults.{CountsFaults, Rose, one_more}
 use Rattle.nbfx_values.specs.Limits.{Limits}
 use Rattle.nbfx_values.specs.declared.content.Item.{Item}
 use Rattle.nbfx_values.specs.declared.refusals.Offence.{Offence}
@@ -34,68 +34,84 @@ use Rattle.dump_replay.specs.Answering.{status_of_replay}
 use Rattle.dump_replay.specs.Building.{Builds, status_of_building}
 use Rattle.dump_replay.specs.Outside.{Outside, SeenShelf, seen}
 use Rattle.dump_replay.specs.Reporting.{IsReportStatus, Reports}
-use Rattle.dump_replay.specs.Running.{IsStatus, is_session_too_long, offence_status, status_of_file}
+use Rattle.dump_replay.specs.Running.{IsJudged, is_session_too_long, offence_status}
+use Rattle.dump_replay.specs.Running.{status_of_file}
 use Rattle.dump_replay.specs.Serving.{AnsweredAll, status_of_stop}
 use Rattle.dump_replay.specs.Working.{Leaves}
-use Rattle.dump_replay.proofs.BuildEndings.{build_four, build_three}
+use Rattle.dump_replay.proofs.Causes.{Cause, judged, leaves_by, refused, starved, unfit}
+use Rattle.dump_replay.proofs.Causes.{unread, unwritten, unwired}
 
--- the status of a report is one of a run
-report_status : (n : ℕ) → IsReportStatus n → IsStatus n
-report_status n (inl judged) = inl judged
-report_status n (inr (inl three)) = inr (inr (inl three))
-report_status n (inr (inr (inl four))) = inr (inr (inr (inl four)))
-report_status n (inr (inr (inr five))) = inr (inr (inr (inr (inl five))))
+-- ---- what causes a status
 
--- and not that of other words
-never_two : (n : ℕ) → IsReportStatus n → n ≡ 2 → ⊥
-never_two n (inl (inl h)) e = omega (arith, h, e)
-never_two n (inl (inr (inl h))) e = omega (arith, h, e)
-never_two n (inl (inr (inr (inl h)))) e = omega (arith, h, e)
-never_two n (inl (inr (inr (inr h)))) e = omega (arith, h, e)
-never_two n (inr (inl h)) e = omega (arith, h, e)
-never_two n (inr (inr (inl h))) e = omega (arith, h, e)
-never_two n (inr (inr (inr h))) e = omega (arith, h, e)
-
-pub never_eight : (n : ℕ) → IsReportStatus n → n ≡ 8 → ⊥
-never_eight n (inl (inl h)) e = omega (arith, h, e)
-never_eight n (inl (inr (inl h))) e = omega (arith, h, e)
-never_eight n (inl (inr (inr (inl h)))) e = omega (arith, h, e)
-never_eight n (inl (inr (inr (inr h)))) e = omega (arith, h, e)
-never_eight n (inr (inl h)) e = omega (arith, h, e)
-never_eight n (inr (inr (inl h))) e = omega (arith, h, e)
-never_eight n (inr (inr (inr h))) e = omega (arith, h, e)
+-- of a stream that is reported
+report_cause : (n : ℕ) → IsReportStatus n → Cause (n ≡ 3) (n ≡ 4) ⊥ n
+report_cause n (inl h) = judged h
+report_cause n (inr (inl three)) = unread three three
+report_cause n (inr (inr (inl four))) = unwritten four four
+report_cause n (inr (inr (inr five))) = starved five
 
 -- of a file that isn't read
-file_status : {K : Type 0} (fault : FileFault K) → IsStatus (status_of_file fault)
-file_status faults.Missing = inr (inr (inr (inr (inr (inl refl)))))
-file_status (faults.Bad row kind) = inr (inr (inr (inr (inr (inl refl)))))
-file_status faults.Failed = inr (inr (inl refl))
-file_status faults.Memory = inr (inr (inr (inr (inl refl))))
+file_cause : {K : Type 0} (fault : FileFault K)
+    → Cause (fault ≡ faults.Failed) ⊥ ⊥ (status_of_file fault)
+file_cause faults.Missing = refused refl
+file_cause (faults.Bad row kind) = refused refl
+file_cause faults.Failed = unread refl refl
+file_cause faults.Memory = starved refl
 
-file_two : {K : Type 0} (fault : FileFault K) → status_of_file fault ≡ 2 → ⊥
-file_two faults.Missing s = cc
-file_two (faults.Bad row kind) s = cc
-file_two faults.Failed s = cc
-file_two faults.Memory s = cc
+-- of a session that is written
+build_cause : (e : Ending InputFault)
+    → Cause (e ≡ endings.ReadFault) (e ≡ endings.WriteFault) ⊥ (status_of_building e)
+build_cause (endings.Judged None) = judged (inl refl)
+build_cause (endings.Judged (Some (Line n kind))) = refused refl
+build_cause (endings.Judged (Some (Unfit number why))) = unfit refl
+build_cause (endings.Judged (Some TooLong)) = judged (inr (inr (inr refl)))
+build_cause endings.ReadFault = unread refl refl
+build_cause endings.WriteFault = unwritten refl refl
+build_cause endings.Memory = starved refl
 
-pub file_three : {K : Type 0} (fault : FileFault K) → status_of_file fault ≡ 3
-    → fault ≡ faults.Failed
-file_three faults.Missing s = cc
-file_three (faults.Bad row kind) s = cc
-file_three faults.Failed s = refl
-file_three faults.Memory s = cc
+-- of a stream that is answered
+offence_judged : (o : Offence) → IsJudged (offence_status o)
+offence_judged o = elim (cases_Bool (is_session_too_long o.reason)) [
+  | inl long ↦ inr (inr (inr (rw long refl)))
+  | inr other ↦ inr (inl (rw other refl))
+]
 
-file_four : {K : Type 0} (fault : FileFault K) → status_of_file fault ≡ 4 → ⊥
-file_four faults.Missing s = cc
-file_four (faults.Bad row kind) s = cc
-file_four faults.Failed s = cc
-file_four faults.Memory s = cc
+replay_cause : (inbound : Inbound) (outbound : Outbound)
+    → Cause (inbound ≡ inbounds.ReadFault) (outbound ≡ outbounds.WriteFault) ⊥
+    (status_of_replay inbound outbound)
+replay_cause inbounds.Ended outbounds.Done = judged (inl refl)
+replay_cause (inbounds.Offended r) outbounds.Done = judged (offence_judged r)
+replay_cause inbounds.ReadFault outbounds.Done = unread refl refl
+replay_cause inbounds.Memory outbounds.Done = starved refl
+replay_cause inbounds.Ended outbounds.WriteFault = unwritten refl refl
+replay_cause (inbounds.Offended r) outbounds.WriteFault = unwritten refl refl
+replay_cause inbounds.ReadFault outbounds.WriteFault = unwritten refl refl
+replay_cause inbounds.Memory outbounds.WriteFault = starved refl
+replay_cause inbound outbounds.Memory = starved refl
 
-pub file_eight : {K : Type 0} (fault : FileFault K) → status_of_file fault ≡ 8 → ⊥
-file_eight faults.Missing s = cc
-file_eight (faults.Bad row kind) s = cc
-file_eight faults.Failed s = cc
-file_eight faults.Memory s = cc
+-- of connections that are answered
+stop_cause : (stop : Result (Unit {0}) ServeFault)
+    → Cause ⊥ (stop ≡ Err stops.Output) (stop ≡ Err stops.Wire) (status_of_stop stop)
+stop_cause (Ok v) = judged (inl refl)
+stop_cause (Err stops.Wire) = unwired refl refl
+stop_cause (Err stops.Output) = unwritten refl refl
+stop_cause (Err stops.Memory) = starved refl
+
+-- of a session that is made
+summary_cause : (summary : Summary) → Cause ⊥ (summary ≡ summaries.WriteFault) ⊥ (status_of summary)
+summary_cause summaries.Written = judged (inl refl)
+summary_cause (summaries.TooLong r) = judged (inr (inr (inr refl)))
+summary_cause summaries.WriteFault = unwritten refl refl
+summary_cause summaries.Memory = starved refl
+
+-- ---- what is left
+
+-- an input that was asked at its end once at most, and not before a failed read
+asked_once : (asks asks' : ℕ) (failed : Type 0)
+    → (asks' ≡ asks) ⊎ ((asks' ≡ one_more asks) × (failed → ⊥))
+    → (asks' ≡ asks) ⊎ (asks' ≡ one_more asks)
+asked_once asks asks' failed (inl none) = inl none
+asked_once asks asks' failed (inr one) = inr one.0
 
 -- a file that isn't read leaves input and output
 pub file_leaves : {X : Type 0} (fault : FileFault X) (s s' : SeenShelf) (i : Input) (o : Output)
@@ -103,15 +119,9 @@ pub file_leaves : {X : Type 0} (fault : FileFault X) (s s' : SeenShelf) (i : Inp
     → (fault ≡ faults.Failed → Rose s.faults s'.faults)
     → Leaves (seen s i o w) (seen s' i o w') n
 file_leaves fault s s' i o w w' n is rose =
-    subst (Leaves (seen s i o w) (seen s' i o w')) (sym is) (record {
-      is_status = file_status fault;
-      not_two = file_two fault;
-      asked_once = inl refl;
-      read_fault = λ three. inr (rose (file_three fault three));
-      write_fault = λ four. absurd (file_four fault four);
-      reads = omega arith;
-      writes = omega arith;
-    })
+    subst (Leaves (seen s i o w) (seen s' i o w')) (sym is)
+    (leaves_by (seen s i o w) (seen s' i o w') (status_of_file fault) (file_cause fault)
+    (λ failed. inr (rose failed)) (λ none. absurd none) (inl refl) (omega arith) (omega arith))
 
 module _ (s s' : SeenShelf) (i i' : Input) (o o' : Output) {R K : Type 0} (w w' : Network R K)
   where
@@ -121,156 +131,22 @@ module _ (s s' : SeenShelf) (i i' : Input) (o o' : Output) {R K : Type 0} (w w' 
     abbrev new : Outside R K
     new = seen s' i' o' w'
 
-    -- ---- a report
-
-    report_once : (n : ℕ) → (i'.empty_takes ≡ i.empty_takes)
-        ⊎ ((i'.empty_takes ≡ one_more i.empty_takes) × (n ≡ 3 → ⊥))
-        → (i'.empty_takes ≡ i.empty_takes) ⊎ (i'.empty_takes ≡ one_more i.empty_takes)
-    report_once n (inl none) = inl none
-    report_once n (inr one) = inr one.0
-
     pub report_leaves : (d : Detail) (x : Settings) (n : ℕ) → Reports d x i i' o o' n
         → Leaves old new n
-    report_leaves d x n r = record {
-      is_status = report_status n r.is_status;
-      not_two = never_two n r.is_status;
-      asked_once = report_once n r.asked_once;
-      read_fault = λ three. inl (r.reads_counted.rose three);
-      write_fault = r.writes_counted.rose;
-      reads = r.reads_counted.grows;
-      writes = r.writes_counted.grows;
-    }
-
-    -- ---- a session
-
-    pub build_status : (e : Ending InputFault) → IsStatus (status_of_building e)
-    build_status (endings.Judged None) = inl (inl refl)
-    build_status (endings.Judged (Some (Line n kind))) = inr (inr (inr (inr (inr (inl refl)))))
-    build_status (endings.Judged (Some (Unfit number why))) = inr
-        (inr (inr (inr (inr (inr (inl refl))))))
-    build_status (endings.Judged (Some TooLong)) = inl (inr (inr (inr refl)))
-    build_status endings.ReadFault = inr (inr (inl refl))
-    build_status endings.WriteFault = inr (inr (inr (inl refl)))
-    build_status endings.Memory = inr (inr (inr (inr (inl refl))))
-
-    pub build_two : (e : Ending InputFault) → status_of_building e ≡ 2 → ⊥
-    build_two (endings.Judged None) s = cc
-    build_two (endings.Judged (Some (Line n kind))) s = cc
-    build_two (endings.Judged (Some (Unfit number why))) s = cc
-    build_two (endings.Judged (Some TooLong)) s = cc
-    build_two endings.ReadFault s = cc
-    build_two endings.WriteFault s = cc
-    build_two endings.Memory s = cc
-
-    pub build_eight : (e : Ending InputFault) → status_of_building e ≡ 8 → ⊥
-    build_eight (endings.Judged None) s = cc
-    build_eight (endings.Judged (Some (Line n kind))) s = cc
-    build_eight (endings.Judged (Some (Unfit number why))) s = cc
-    build_eight (endings.Judged (Some TooLong)) s = cc
-    build_eight endings.ReadFault s = cc
-    build_eight endings.WriteFault s = cc
-    build_eight endings.Memory s = cc
+    report_leaves d x n r =
+        leaves_by old new n (report_cause n r.is_status) (λ three. inl (r.reads_counted.rose three))
+        r.writes_counted.rose
+        (asked_once i.empty_takes i'.empty_takes (n ≡ 3) r.asked_once) r.reads_counted.grows
+        r.writes_counted.grows
 
     module _ (opening : Opening) (statics : List Entry) (limits : Limits) (e : Ending InputFault)
         (h : Builds opening statics limits i i' o o' e) where
-      build_once : (i'.empty_takes ≡ i.empty_takes)
-          ⊎ ((i'.empty_takes ≡ one_more i.empty_takes) × (e ≡ endings.ReadFault → ⊥))
-          → (i'.empty_takes ≡ i.empty_takes) ⊎ (i'.empty_takes ≡ one_more i.empty_takes)
-      build_once (inl none) = inl none
-      build_once (inr one) = inr one.0
-
-      leaves_so : Leaves old new (status_of_building e)
-      leaves_so = record {
-        is_status = build_status e;
-        not_two = build_two e;
-        asked_once = build_once h.asks_once;
-        read_fault = λ three. inl (h.reads_counted.rose (build_three e three));
-        write_fault = λ four. h.writes_counted.rose (build_four e four);
-        reads = h.reads_counted.grows;
-        writes = h.writes_counted.grows;
-      }
-
       pub build_leaves : (n : ℕ) → n ≡ status_of_building e → Leaves old new n
-      build_leaves n is = subst (Leaves old new) (sym is) leaves_so
-
-    -- ---- answers
-
-    offence_is : (o : Offence) → (offence_status o ≡ 10) ⊎ (offence_status o ≡ 1)
-    offence_is o = elim (cases_Bool (is_session_too_long o.reason)) [
-      | inl t ↦ inl (rw t refl)
-      | inr f ↦ inr (rw f refl)
-    ]
-
-    -- an offence has no other status than these
-    offence_other : (o : Offence) (n : ℕ) → (10 ≡ n → ⊥) → (1 ≡ n → ⊥) → offence_status o ≡ n → ⊥
-    offence_other o n ten one s = elim (offence_is o) [
-      | inl t ↦ ten (sym t ∙ s)
-      | inr f ↦ one (sym f ∙ s)
-    ]
-
-    replay_status : (inbound : Inbound) (outbound : Outbound)
-        → IsStatus (status_of_replay inbound outbound)
-    replay_status inbounds.Ended outbounds.Done = inl (inl refl)
-    replay_status (inbounds.Offended r) outbounds.Done = elim (offence_is r) [
-      | inl t ↦ inl (inr (inr (inr t)))
-      | inr f ↦ inl (inr (inl f))
-    ]
-    replay_status inbounds.ReadFault outbounds.Done = inr (inr (inl refl))
-    replay_status inbounds.Memory outbounds.Done = inr (inr (inr (inr (inl refl))))
-    replay_status inbounds.Ended outbounds.WriteFault = inr (inr (inr (inl refl)))
-    replay_status (inbounds.Offended r) outbounds.WriteFault = inr (inr (inr (inl refl)))
-    replay_status inbounds.ReadFault outbounds.WriteFault = inr (inr (inr (inl refl)))
-    replay_status inbounds.Memory outbounds.WriteFault = inr (inr (inr (inr (inl refl))))
-    replay_status inbound outbounds.Memory = inr (inr (inr (inr (inl refl))))
-
-    replay_two : (inbound : Inbound) (outbound : Outbound)
-        → status_of_replay inbound outbound ≡ 2 → ⊥
-    replay_two inbounds.Ended outbounds.Done s = cc
-    replay_two (inbounds.Offended r) outbounds.Done s =
-        offence_other r 2 (λ e. cc) (λ e. cc) s
-    replay_two inbounds.ReadFault outbounds.Done s = cc
-    replay_two inbounds.Memory outbounds.Done s = cc
-    replay_two inbounds.Ended outbounds.WriteFault s = cc
-    replay_two (inbounds.Offended r) outbounds.WriteFault s = cc
-    replay_two inbounds.ReadFault outbounds.WriteFault s = cc
-    replay_two inbounds.Memory outbounds.WriteFault s = cc
-    replay_two inbound outbounds.Memory s = cc
-
-    pub replay_eight : (inbound : Inbound) (outbound : Outbound)
-        → status_of_replay inbound outbound ≡ 8 → ⊥
-    replay_eight inbounds.Ended outbounds.Done s = cc
-    replay_eight (inbounds.Offended r) outbounds.Done s =
-        offence_other r 8 (λ e. cc) (λ e. cc) s
-    replay_eight inbounds.ReadFault outbounds.Done s = cc
-    replay_eight inbounds.Memory outbounds.Done s = cc
-    replay_eight inbounds.Ended outbounds.WriteFault s = cc
-    replay_eight (inbounds.Offended r) outbounds.WriteFault s = cc
-    replay_eight inbounds.ReadFault outbounds.WriteFault s = cc
-    replay_eight inbounds.Memory outbounds.WriteFault s = cc
-    replay_eight inbound outbounds.Memory s = cc
-
-    replay_three : (inbound : Inbound) (outbound : Outbound)
-        → status_of_replay inbound outbound ≡ 3 → inbound ≡ inbounds.ReadFault
-    replay_three inbounds.Ended outbounds.Done s = cc
-    replay_three (inbounds.Offended r) outbounds.Done s =
-        absurd (offence_other r 3 (λ e. cc) (λ e. cc) s)
-    replay_three inbounds.ReadFault outbounds.Done s = refl
-    replay_three inbounds.Memory outbounds.Done s = cc
-    replay_three inbounds.Ended outbounds.WriteFault s = cc
-    replay_three (inbounds.Offended r) outbounds.WriteFault s = cc
-    replay_three inbounds.ReadFault outbounds.WriteFault s = cc
-    replay_three inbounds.Memory outbounds.WriteFault s = cc
-    replay_three inbound outbounds.Memory s = cc
-
-    replay_four : (inbound : Inbound) (outbound : Outbound)
-        → status_of_replay inbound outbound ≡ 4 → outbound ≡ outbounds.WriteFault
-    replay_four inbounds.Ended outbounds.Done s = cc
-    replay_four (inbounds.Offended r) outbounds.Done s =
-        absurd (offence_other r 4 (λ e. cc) (λ e. cc) s)
-    replay_four inbounds.ReadFault outbounds.Done s = cc
-    replay_four inbounds.Memory outbounds.Done s = cc
-    replay_four inbound outbounds.WriteFault s = refl
-    replay_four inbound outbounds.Memory s = cc
+      build_leaves n is = subst (Leaves old new) (sym is)
+          (leaves_by old new (status_of_building e) (build_cause e)
+          (λ failed. inl (h.reads_counted.rose failed)) h.writes_counted.rose
+          (asked_once i.empty_takes i'.empty_takes (e ≡ endings.ReadFault) h.asks_once)
+          h.reads_counted.grows h.writes_counted.grows)
 
     module _ (x : Answering) (endpoint : Option (List ℕ)) (outbound : Outbound) where
       replay_once : (inbound : Inbound) → Replays x endpoint i i' o o' inbound outbound
@@ -286,107 +162,32 @@ module _ (s s' : SeenShelf) (i i' : Input) (o o' : Output) {R K : Type 0} (w w' 
       replay_once inbounds.ReadFault h = inl h.follows.unasked
       replay_once inbounds.Memory h = inl h.follows.unasked
 
-      replayed_so : (inbound : Inbound) → Replays x endpoint i i' o o' inbound outbound
-          → Leaves old new (status_of_replay inbound outbound)
-      replayed_so inbound h = record {
-        is_status = replay_status inbound outbound;
-        not_two = replay_two inbound outbound;
-        asked_once = replay_once inbound h;
-        read_fault = λ three. inl (h.reads_counted.rose (replay_three inbound outbound three));
-        write_fault = λ four. h.writes_counted.rose (replay_four inbound outbound four);
-        reads = h.reads_counted.grows;
-        writes = h.writes_counted.grows;
-      }
-
       pub replay_leaves : (n : ℕ) (inbound : Inbound) → n ≡ status_of_replay inbound outbound
           → Replays x endpoint i i' o o' inbound outbound → Leaves old new n
-      replay_leaves n inbound is h = subst (Leaves old new) (sym is) (replayed_so inbound h)
+      replay_leaves n inbound is h = subst (Leaves old new) (sym is)
+          (leaves_by old new (status_of_replay inbound outbound) (replay_cause inbound outbound)
+          (λ failed. inl (h.reads_counted.rose failed)) h.writes_counted.rose
+          (replay_once inbound h) h.reads_counted.grows h.writes_counted.grows)
 
-    -- ---- connections
-
-    stop_status : (stop : Result (Unit {0}) ServeFault) → IsStatus (status_of_stop stop)
-    stop_status (Ok v) = inl (inl refl)
-    stop_status (Err stops.Wire) = inr (inr (inr (inr (inr (inr (inr refl))))))
-    stop_status (Err stops.Output) = inr (inr (inr (inl refl)))
-    stop_status (Err stops.Memory) = inr (inr (inr (inr (inl refl))))
-
-    stop_two : (stop : Result (Unit {0}) ServeFault) → status_of_stop stop ≡ 2 → ⊥
-    stop_two (Ok v) s = cc
-    stop_two (Err stops.Wire) s = cc
-    stop_two (Err stops.Output) s = cc
-    stop_two (Err stops.Memory) s = cc
-
-    pub stop_three : (stop : Result (Unit {0}) ServeFault) → status_of_stop stop ≡ 3 → ⊥
-    stop_three (Ok v) s = cc
-    stop_three (Err stops.Wire) s = cc
-    stop_three (Err stops.Output) s = cc
-    stop_three (Err stops.Memory) s = cc
-
-    stop_four : (stop : Result (Unit {0}) ServeFault) → status_of_stop stop ≡ 4
-        → stop ≡ Err stops.Output
-    stop_four (Ok v) s = cc
-    stop_four (Err stops.Wire) s = cc
-    stop_four (Err stops.Output) s = refl
-    stop_four (Err stops.Memory) s = cc
+    -- what doesn't read the input
+    unread_leaves : (same : i' ≡ i) {writes wires : Type 0} (n status : ℕ)
+        → Cause ⊥ writes wires status → n ≡ status → CountsFaults o.faults o'.faults writes
+        → Leaves old new n
+    unread_leaves same n status cause is counted =
+        let read = ap (λ (v : Input). v.faults) same in
+        subst (Leaves old new) (sym is) (leaves_by old new status cause (λ none. absurd none)
+        counted.rose (inl (ap (λ (v : Input). v.empty_takes) same)) (omega (arith, read))
+        counted.grows)
 
     module _ (Says : List ℕ → Type 0) (reader : R → Input) (writer : K → SinkState)
         (connections : ℕ) (serving : Serving) (statics : List Entry) (limits : Limits) (n : ℕ)
         (h : AnsweredAll Says reader writer connections serving statics limits old new n) where
       pub serve_leaves : Leaves old new n
-      serve_leaves = subst (Leaves old new) (sym h.status_is) (record {
-        is_status = stop_status h.stop;
-        not_two = stop_two h.stop;
-        asked_once = inl (ap (λ (v : Input). v.empty_takes) h.unread);
-        read_fault = λ three. absurd (stop_three h.stop three);
-        write_fault = λ four. h.serves.output_counted.rose (stop_four h.stop four);
-        reads = let e = ap (λ (v : Input). v.faults) h.unread in omega (arith, e);
-        writes = h.serves.output_counted.grows;
-      })
-
-    -- ---- a session that is made
-
-    summary_status : (summary : Summary) → IsStatus (status_of summary)
-    summary_status summaries.Written = inl (inl refl)
-    summary_status (summaries.TooLong r) = inl (inr (inr (inr refl)))
-    summary_status summaries.WriteFault = inr (inr (inr (inl refl)))
-    summary_status summaries.Memory = inr (inr (inr (inr (inl refl))))
-
-    summary_two : (summary : Summary) → status_of summary ≡ 2 → ⊥
-    summary_two summaries.Written s = cc
-    summary_two (summaries.TooLong r) s = cc
-    summary_two summaries.WriteFault s = cc
-    summary_two summaries.Memory s = cc
-
-    summary_three : (summary : Summary) → status_of summary ≡ 3 → ⊥
-    summary_three summaries.Written s = cc
-    summary_three (summaries.TooLong r) s = cc
-    summary_three summaries.WriteFault s = cc
-    summary_three summaries.Memory s = cc
-
-    pub summary_eight : (summary : Summary) → status_of summary ≡ 8 → ⊥
-    summary_eight summaries.Written s = cc
-    summary_eight (summaries.TooLong r) s = cc
-    summary_eight summaries.WriteFault s = cc
-    summary_eight summaries.Memory s = cc
-
-    summary_four : (summary : Summary) → status_of summary ≡ 4 → summary ≡ summaries.WriteFault
-    summary_four summaries.Written s = cc
-    summary_four (summaries.TooLong r) s = cc
-    summary_four summaries.WriteFault s = refl
-    summary_four summaries.Memory s = cc
+      serve_leaves = unread_leaves h.unread n (status_of_stop h.stop) (stop_cause h.stop)
+          h.status_is h.serves.output_counted
 
     module _ (limits : Limits) (statics : List Entry) (made : List (List Item)) (summary : Summary)
         (h : Summarizes limits statics made o o' summary) (same : i' ≡ i) where
-      generated_so : Leaves old new (status_of summary)
-      generated_so = record {
-        is_status = summary_status summary;
-        not_two = summary_two summary;
-        asked_once = inl (ap (λ (v : Input). v.empty_takes) same);
-        read_fault = λ three. absurd (summary_three summary three);
-        write_fault = λ four. h.counted.rose (summary_four summary four);
-        reads = let e = ap (λ (v : Input). v.faults) same in omega (arith, e);
-        writes = h.counted.grows;
-      }
-
       pub generate_leaves : (n : ℕ) → n ≡ status_of summary → Leaves old new n
-      generate_leaves n is = subst (Leaves old new) (sym is) generated_so
+      generate_leaves n is =
+          unread_leaves same n (status_of summary) (summary_cause summary) is h.counted

@@ -11,6 +11,8 @@ pub mod Generating
 pub mod Noting
 pub mod Working
 pub mod Laws
+pub mod Complete
+pub mod Order
 -- cited by private calls
 pub mod Reading
 pub mod Responding

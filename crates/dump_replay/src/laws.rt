@@ -1,8 +1,9 @@
-//! What holds of sessions that are written, by their definitions alone. Each function does nothing:
-//! its contract is a law, which a caller has where it calls the function. What holds of streams
-//! stands in `stream_reader::laws`, and what holds of reports in `session_report::laws`.
+//! What holds of runs, and of sessions that are written, by their definitions alone. Each function
+//! does nothing: its contract is a law, which a caller has where it calls the function. What holds
+//! of streams stands in `stream_reader::laws`, and what holds of reports in `session_report::laws`.
 
 ghost use Rattle.dump_replay.specs.Laws.{BuildsAreComplete, BuiltAreSessions};
+ghost use Rattle.dump_replay.specs.Order.{ZeroInOrder};
 
 /// What is written of lines of documents that aren't refused is a session of just these documents,
 /// for any reader that serves the Via and whose quotas are as great, and that reader's report is
@@ -17,3 +18,12 @@ pub fn built_sessions()
 pub fn complete_builds()
     ensures { BuildsAreComplete }
 {}
+
+/// The status that [`crate::run::run`] ends with where nothing of the outside fails and memory
+/// suffices is 0 exactly where all is in order: the files are read, the stream is closed by a
+/// session without a Fault, the documents are read and fit, as many as their mode takes.
+pub fn complete_runs()
+    ensures { ZeroInOrder }
+{
+    document_lines::laws::fitting_is_accepted();
+}

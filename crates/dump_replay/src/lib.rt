@@ -22,7 +22,8 @@
 //! The definitions are in `specs/`: `Outside` has what is seen of the outside at one moment,
 //! `Statics` what a file of static strings gives, `Running` the statuses, `Noting` the notes,
 //! `Reporting`, `Building`, `Answering`, `Serving`, `Calling` and `Generating` what the commands
-//! leave, by how they ended, `Working` what a run leaves by its words, `Laws` what holds of
+//! leave, by how they ended, `Working` what a run leaves by its words, `Complete` the status where
+//! nothing of the outside fails, `Order` what has to be in order for 0, `Laws` what holds of
 //! sessions that are written.
 #![tactic(auto)]
 

@@ -6,6 +6,7 @@ ghost use Rattle.io_edges.specs.Faults.{Rose, one_more};
 ghost use Rattle.stream_loop.specs.Edges.{input_at, output_at};
 ghost use Rattle.io_edges.specs.Wires.{network_at};
 ghost use Rattle.connection_server.specs.Served.{sink_at};
+ghost use Rattle.dump_replay.specs.Complete.{IsComplete};
 ghost use Rattle.dump_replay.specs.Noting.{Notes};
 ghost use Rattle.dump_replay.specs.Outside.{seen, shelf_at};
 ghost use Rattle.dump_replay.specs.Reading.{status_of_words};
@@ -118,6 +119,19 @@ pub fn run<F: Shelf, I: Source, O: Sink + Send, N: Sink, W: Wire>(
         (input_at W.Reader.left W.Reader.taken W.Reader.faults W.Reader.empty_takes)
         (sink_at W.Writer.written W.Writer.held W.Writer.faults W.Writer.may_want)
         (shelf.new ≡ shelf.old) (wire.new ≡ wire.old)
+        (map string_bytes words.now)
+        (seen (shelf_at F.files F.faults shelf.old)
+        (input_at I.left I.taken I.faults I.empty_takes input)
+        (output_at O.written O.held O.faults output)
+        (network_at W.waiting W.closed W.out W.faults W.end_faults wire.old))
+        (seen (shelf_at F.files F.faults shelf.new)
+        (input_at I.left I.taken I.faults I.empty_takes result.input)
+        (output_at O.written O.held O.faults result.output)
+        (network_at W.waiting W.closed W.out W.faults W.end_faults wire.new)) result.status }
+
+    // Where nothing of the outside fails and memory suffices.
+    ensures complete { IsComplete
+        (input_at W.Reader.left W.Reader.taken W.Reader.faults W.Reader.empty_takes)
         (map string_bytes words.now)
         (seen (shelf_at F.files F.faults shelf.old)
         (input_at I.left I.taken I.faults I.empty_takes input)

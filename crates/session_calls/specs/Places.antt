@@ -24,8 +24,10 @@ pub record AreNew (told : Option (List (List ℕ × List ℕ))) (i : Input) (k :
 -- what is seen of the ends of connections
 module _ {R K : Type 0} (input_of : R → Input) (output_of : K → Output) (x : Sending)
     (via : List ℕ) (line : ℕ → List ℕ) (n n' : Network R K) (o o' : Output) where
-  -- One connection was handed out, its peer was called over it, and it is closed.
+  -- The documents may be sent in one session. One connection was handed out, its peer was called
+  -- over it, and it is closed.
   pub record CallsOne (outcome : CallOutcome) : Type 0 where
+    pub admitted : MayBeSent x.mode x.documents
     pub ends : R × K
     pub left : R × K
     pub handed : Told n.waiting n'.waiting (λ before after. before ≡ ends ∷ after)

@@ -349,6 +349,79 @@ fn what_fails_on_our_side_is_told(rt: HostRuntime) -> Result<(), Fail> {
 }
 
 #[test]
+fn of_several_causes_the_first_counts(rt: HostRuntime) -> Result<(), Fail> {
+    let unfit = Case {
+        lists: [&[X], &[DEEP]],
+        depth: 4,
+        ..ONE
+    };
+    let rows: [Row; 6] = [
+        // A failed end goes before a document that doesn't fit, and before the peer's Fault.
+        (
+            Case {
+                takes: &[1],
+                most: 1,
+                ..unfit
+            },
+            8,
+            Some(&[OPENING, FIRST_X]),
+            "accepted\nsent 1 tags a\n",
+        ),
+        (
+            Case {
+                puts: &[0],
+                peer: b"\x0B\x08\x02hi",
+                ..ONE
+            },
+            8,
+            Some(&[b"\x00\x01\x00"]),
+            "accepted\nfault 5 \"hi\"\nsent 0 tags -\n",
+        ),
+        // That document goes before a failed report, and before the peer's Fault.
+        (
+            Case {
+                reports: &[0],
+                ..unfit
+            },
+            7,
+            Some(&[OPENING, FIRST_X]),
+            "acc",
+        ),
+        (
+            Case {
+                peer: b"\x0B\x08\x02hi",
+                ..unfit
+            },
+            7,
+            Some(&[OPENING, FIRST_X]),
+            "accepted\nfault 5 \"hi\"\nsent 1 tags a\n",
+        ),
+        // A failed report goes before all that the peer says.
+        (
+            Case {
+                reports: &[0],
+                peer: b"\x0B\x08\x02hi",
+                ..ONE
+            },
+            4,
+            Some(&[OPENING, FIRST_X, b"\x07"]),
+            "acc",
+        ),
+        (
+            Case {
+                reports: &[0],
+                session: 1,
+                ..ONE
+            },
+            4,
+            Some(&[OPENING, FIRST_X, b"\x07"]),
+            "acc",
+        ),
+    ];
+    check(&rt, &rows)
+}
+
+#[test]
 fn a_session_of_one_document_has_one(rt: HostRuntime) -> Result<(), Fail> {
     let rows: [Row; 2] = [
         (

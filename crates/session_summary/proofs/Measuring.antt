@@ -18,7 +18,8 @@ use Rattle.stream_loop.proofs.Writing.{counted_with, known_told}
 use Rattle.stream_follower.proofs.Amounts.{all_written}
 use Rattle.session_generator.specs.Generated.{session_of}
 use Rattle.session_summary.specs.Reading.{summary_by}
-use Rattle.session_summary.specs.Summary.{Summarizes, Writes, line_of, summary_line, summary_of}
+use Rattle.session_summary.specs.Summary.{IsWithinQuota, Summarizes, Writes, line_of}
+use Rattle.session_summary.specs.Summary.{summary_line, summary_of}
 use Rattle.session_summary.specs.declared.summary.Summary.TheVariants.{WriteFault}
 
 -- by the session's own numbers
@@ -69,26 +70,30 @@ failed_by (Err sinks.Memory) is = cc
 
 module _ (limits : Limits) (statics : List Entry) (documents : List (List Item)) where
   written_by : (o o' : Output) (line : List ℕ) (answer : Result ⊤ SinkFault)
+      → IsWithinQuota limits statics documents
       → line ≡ summary_of limits statics documents → Wrote line answer o.written o.held o'.written
       → Writes limits statics documents o o' (summary_by answer)
-  written_by o o' line (Ok done) is h =
-      subst (λ (l : List ℕ). Told o.written o'.written (λ w w'. w' ≡ w ++ o.held ++ l)) is h
-  written_by o o' line (Err sinks.Failed) is h =
+  written_by o o' line (Ok done) within is h = (
+    within,
+    subst (λ (l : List ℕ).
+        Told o.written o'.written (λ w w'. w' ≡ w ++ o.held ++ l)) is h,
+  )
+  written_by o o' line (Err sinks.Failed) within is h =
       subst (λ (l : List ℕ). Told o.written o'.written (λ w w'. GrowsByPrefix w w' (o.held ++ l)))
       is h
-  written_by o o' line (Err sinks.Memory) is h =
+  written_by o o' line (Err sinks.Memory) within is h =
       subst (λ (l : List ℕ). Told o.written o'.written (λ w w'. GrowsByPrefix w w' (o.held ++ l)))
       is h
 
   pub summarized : {K : Type 0} (written : K → Option (List ℕ)) (held : K → List ℕ)
       (faults : K → ℕ) (first result : K) (line : List ℕ) (answer : Result ⊤ SinkFault)
-      → line ≡ summary_of limits statics documents
+      → IsWithinQuota limits statics documents → line ≡ summary_of limits statics documents
       → Wrote line answer (written first) (held first) (written result)
       → CountsFaults (faults first) (faults result) (answer ≡ Err sinks.Failed)
       → Summarizes limits statics documents (output_at written held faults first)
       (output_at written held faults result) (summary_by answer)
-  summarized written held faults first result line answer is wrote counted = record {
+  summarized written held faults first result line answer within is wrote counted = record {
     writes = written_by (output_at written held faults first)
-        (output_at written held faults result) line answer is wrote;
+        (output_at written held faults result) line answer within is wrote;
     counted = counted_with _ _ _ _ _ refl counted (failed_by answer) (λ e. ap summary_by e);
   }

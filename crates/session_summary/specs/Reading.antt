@@ -10,7 +10,7 @@ use Rattle.io_edges.specs.declared.SinkFault.TheVariants as sinks
 use Rattle.session_summary.specs.declared.summary.Measured.{Measured}
 use Rattle.session_summary.specs.declared.summary.Summary.{Summary}
 use Rattle.session_summary.specs.declared.summary.Summary.TheVariants.{Written, WriteFault, Memory}
-use Rattle.session_summary.specs.Summary.{summary_line, summary_of}
+use Rattle.session_summary.specs.Summary.{IsWithinQuota, summary_line, summary_of}
 
 -- its line
 abbrev pub line_of : Measured → List ℕ
@@ -18,8 +18,8 @@ line_of m = summary_line m.documents m.bytes m.strings m.used
 
 -- the session of documents measures this, or there is none
 abbrev pub Measures : Limits → List Entry → List (List Item) → Result Measured GenFault → Type 0
-Measures limits statics documents (Ok measured) =
-    line_of measured ≡ summary_of limits statics documents
+Measures limits statics documents (Ok measured) = IsWithinQuota limits statics documents
+    × (line_of measured ≡ summary_of limits statics documents)
 Measures limits statics documents (Err fault) = IsWhyNone limits statics documents fault
 
 -- by the answer of putting the line

@@ -1,6 +1,6 @@
 -- The line of the session of documents, and what is written of it, however that ends. The output
 -- may have held bytes before, which are written before what is put.
-use Rattle.std.specs.Prelude.{◌≡◌, ⊤, ℕ, List, [], ◌∷◌, ◌++◌, length, codes, Result, Ok, Err}
+use Rattle.std.specs.Prelude.{◌≡◌, ⊤, ℕ, List, [], ◌∷◌, ◌++◌, length, codes, None, Result, Ok, Err}
 use Rattle.std.specs.Fmt.{decimal}
 use Rattle.io_edges.specs.Faults.{CountsFaults}
 use Rattle.io_edges.specs.Flow.{GrowsByPrefix, Told}
@@ -11,6 +11,8 @@ use Rattle.string_tables.specs.StaticStrings.{Entry}
 use Rattle.nbfx_encoder.specs.Envelopes.{UnfitAt}
 use Rattle.nbfx_encoder.specs.Placing.{Placed}
 use Rattle.stream_loop.specs.Edges.{Output}
+use Rattle.stream_reader.specs.Judging.{offence}
+use Rattle.stream_reader.specs.Stream.{any_initiators}
 use Rattle.session_report.specs.Report.{line, string_words}
 use Rattle.session_generator.specs.Ends.{IsTooLong}
 use Rattle.session_generator.specs.Generated.{session_of}
@@ -35,10 +37,18 @@ abbrev pub summary_of : Limits → List Entry → List (List Item) → List ℕ
 summary_of limits statics documents =
     line_of (length documents) (session_of limits statics documents)
 
--- the line is written, behind what was held; or it isn't, since the session is longer than the
--- session quota; or, where the writing ended before, first bytes of it are
+-- the session of these documents is within the session quota: its reader refuses nothing of it
+pub record IsWithinQuota (limits : Limits) (statics : List Entry) (documents : List (List Item))
+    : Type 0 where
+  pub session : Placed (List ℕ)
+  pub session_is : session_of limits statics documents ≡ Ok session
+  pub unrefused : offence (any_initiators statics limits) session.0 ≡ None
+
+-- the session is within the session quota, and the line is written, behind what was held; or it
+-- isn't, since the session is longer; or, where the writing ended before, first bytes of it are
 abbrev pub Writes : Limits → List Entry → List (List Item) → (o o' : Output) → Summary → Type 0
-Writes limits statics documents o o' Written = Told o.written o'.written
+Writes limits statics documents o o' Written =
+    IsWithinQuota limits statics documents × Told o.written o'.written
     (λ w w'. w' ≡ w ++ o.held ++ summary_of limits statics documents)
 Writes limits statics documents o o' (TooLong offence) =
     IsTooLong limits statics documents offence × (o' ≡ o)

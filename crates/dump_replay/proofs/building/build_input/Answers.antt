@@ -6,8 +6,9 @@ use Rattle.command_words.specs.Tasks.{Opening}
 use Rattle.stream_loop.specs.Reported.{EndsAs}
 use Rattle.document_lines.specs.Input.{Settings, envelopes_and_end, lines_of_documents}
 use Rattle.document_lines.specs.Standing.{has_good_quotas, settings_of}
-use Rattle.dump_replay.specs.Building.{with_preamble}
-use Rattle.dump_replay.proofs.BuildEndings.{built_under, lines_end_within, unbegun}
+use Rattle.dump_replay.specs.Building.{preamble_of, with_preamble}
+use Rattle.dump_replay.proofs.Beginnings.{ends_behind}
+use Rattle.dump_replay.proofs.BuildEndings.{lines_end_within, unbegun}
 use Rattle.dump_replay.proofs.building.build_input.Goals as goal
 
 pub returns-in_default : goal.returns-in_default
@@ -40,8 +41,9 @@ returns g c =
     let o = output_at g.O.Sink.written g.O.Sink.held g.O.Sink.faults c.args.output in
     let o' = output_at g.O.Sink.written g.O.Sink.held g.O.Sink.faults c.into_sink.result in
     let ending = c.report_stream-ending.result in
-    let beneath = built_under g.O.Sink.written g.O.Sink.held g.O.Sink.faults
-    (settings_of c.new-reader.result) opening i i' ending c.args.output
+    let beneath = ends_behind (lines_of_documents (settings_of c.new-reader.result))
+    envelopes_and_end g.O.Sink.written g.O.Sink.held g.O.Sink.faults i i' tt ending
+    (preamble_of opening) c.args.output
     c.holding-gathered.result.sink c.report_stream-ending.new.output.sink c.into_sink.result
     c.holding-gathered.result.gathered _ c.holding-gathered.ensures.sink
     (c.holding-gathered.ensures.gathered ∙ c.deref.ensures.value ∙ c.in-Ok.ensures.bytes)

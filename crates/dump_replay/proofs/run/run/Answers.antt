@@ -9,11 +9,39 @@ use Rattle.dump_replay.specs.Noting.{Notes}
 use Rattle.dump_replay.specs.Outside.{Outside, SeenShelf, seen, shelf_at}
 use Rattle.dump_replay.specs.Running.{files_of}
 use Rattle.dump_replay.specs.Working.{Works}
+use Rattle.dump_replay.proofs.Complete.{completes}
 use Rattle.dump_replay.proofs.RunSteps.{fetched_first, fetched_more, not_read, possible, same_shelf}
 use Rattle.dump_replay.proofs.RunSteps.{words_two}
 use Rattle.dump_replay.proofs.run.run.Given.{Over}
 use Rattle.dump_replay.proofs.run.run.Goals as goal
 use Rattle.dump_replay.proofs.run.run.Goals.{After-drop-table-inside-3}
+
+module _ (g : Over) where
+  abbrev shelf : g.row.F.Denot → SeenShelf
+  shelf files = shelf_at g.F.Shelf.files g.F.Shelf.faults files
+
+  abbrev at : g.row.I.Denot → Input
+  at input = input_at g.I.Source.left g.I.Source.taken g.I.Source.faults g.I.Source.empty_takes
+      input
+
+  abbrev out : g.row.O.Denot → Output
+  out sink = output_at g.O.Sink.written g.O.Sink.held g.O.Sink.faults sink
+
+  abbrev net : g.row.W.Denot → Network g.row.W-Reader.Denot g.row.W-Writer.Denot
+  net wire = network_at g.W.Wire.waiting g.W.Wire.closed g.W.Wire.out g.W.Wire.faults
+      g.W.Wire.end_faults wire
+
+  abbrev reader : g.row.W-Reader.Denot → Input
+  reader = input_at g.W.Reader.Source.left g.W.Reader.Source.taken g.W.Reader.Source.faults
+      g.W.Reader.Source.empty_takes
+
+  abbrev writer : g.row.W-Writer.Denot → SinkState
+  writer = sink_at g.W.Writer.Sink.written g.W.Writer.Sink.held g.W.Writer.Sink.faults
+      g.W.Writer.Sink.may_want
+
+  abbrev Says : (old new : g.row.N.Denot) → List ℕ → Type 0
+  Says old new text = Notes g.N.Sink.written g.N.Sink.held g.N.Sink.faults g.N.Sink.may_want old
+      new text × (text ≡ [] → new ≡ old)
 
 -- the words aren't read
 pub returns-in-Err-clause-words : goal.returns-in-Err-clause-words
@@ -29,6 +57,17 @@ returns-in-Err-clause-runs g c = inl (
   refl,
 )
 
+pub returns-in-Err-clause-complete : goal.returns-in-Err-clause-complete
+returns-in-Err-clause-complete g c =
+    let same = seen (shelf g c.args.shelf.now) (at g c.args.input) (out g c.args.output)
+    (net g c.args.wire.now) in
+    completes (Says g c.args.notes.now c.note_status.new.notes)
+    ((c.args.input ≡ c.args.input) × (c.args.output ≡ c.args.output)
+    × (c.args.wire.now ≡ c.args.wire.now)) (reader g) (writer g)
+    (c.args.shelf.now ≡ c.args.shelf.now) (c.args.wire.now ≡ c.args.wire.now)
+    (map string_bytes c.args.words.now) same same c.words_status-status.result
+    (returns-in-Err-clause-runs g c)
+
 -- the file isn't read
 pub returns-in-Err-read_statics-clause-runs : goal.returns-in-Err-read_statics-clause-runs
 returns-in-Err-read_statics-clause-runs g c = inr (
@@ -43,6 +82,19 @@ returns-in-Err-read_statics-clause-runs g c = inr (
     untouched = (refl, refl, refl);
   }),
 )
+
+pub returns-in-Err-read_statics-clause-complete : goal.returns-in-Err-read_statics-clause-complete
+returns-in-Err-read_statics-clause-complete g c =
+    completes (Says g c.args.notes.now c.note_file-status.new.notes)
+    ((c.args.input ≡ c.args.input) × (c.args.output ≡ c.args.output)
+    × (c.args.wire.now ≡ c.args.wire.now)) (reader g) (writer g)
+    (c.read_statics.new.shelf ≡ c.args.shelf.now) (c.args.wire.now ≡ c.args.wire.now)
+    (map string_bytes c.args.words.now)
+    (seen (shelf g c.args.shelf.now) (at g c.args.input) (out g c.args.output)
+    (net g c.args.wire.now))
+    (seen (shelf g c.read_statics.new.shelf) (at g c.args.input) (out g c.args.output)
+    (net g c.args.wire.now)) c.note_file-status.result
+    (returns-in-Err-read_statics-clause-runs g c)
 
 pub returns-in-Err-read_statics-clause-fetched : goal.returns-in-Err-read_statics-clause-fetched
 returns-in-Err-read_statics-clause-fetched g c =
@@ -68,45 +120,18 @@ module _ (g : Over) (c : After-drop-table-inside-3 g) where
   same = same_shelf g.F.Shelf.files g.F.Shelf.faults c.args.shelf.now c.read_statics.new.shelf
       c.in-Ok-read_statics.ensures.kept (c.in-Ok-read_statics.ensures.counted.same (λ e. cc))
 
-  abbrev i : Input
-  i = input_at g.I.Source.left g.I.Source.taken g.I.Source.faults g.I.Source.empty_takes
-      c.args.input
-
-  abbrev o : Output
-  o = output_at g.O.Sink.written g.O.Sink.held g.O.Sink.faults c.args.output
-
-  abbrev w : Network g.row.W-Reader.Denot g.row.W-Writer.Denot
-  w = network_at g.W.Wire.waiting g.W.Wire.closed g.W.Wire.out g.W.Wire.faults
-      g.W.Wire.end_faults c.args.wire.now
-
-  abbrev reader : g.row.W-Reader.Denot → Input
-  reader = input_at g.W.Reader.Source.left g.W.Reader.Source.taken g.W.Reader.Source.faults
-      g.W.Reader.Source.empty_takes
-
-  abbrev writer : g.row.W-Writer.Denot → SinkState
-  writer = sink_at g.W.Writer.Sink.written g.W.Writer.Sink.held g.W.Writer.Sink.faults
-      g.W.Writer.Sink.may_want
-
   abbrev new : Outside g.row.W-Reader.Denot g.row.W-Writer.Denot
-  new = seen (shelf_at g.F.Shelf.files g.F.Shelf.faults c.work-status.new.shelf)
-      (input_at g.I.Source.left g.I.Source.taken g.I.Source.faults g.I.Source.empty_takes
-      c.work-status.new.input)
-      (output_at g.O.Sink.written g.O.Sink.held g.O.Sink.faults c.work-status.result.1)
-      (network_at g.W.Wire.waiting g.W.Wire.closed g.W.Wire.out g.W.Wire.faults
-      g.W.Wire.end_faults c.work-status.new.wire)
-
-  abbrev Says : List ℕ → Type 0
-  Says text = Notes g.N.Sink.written g.N.Sink.held g.N.Sink.faults g.N.Sink.may_want
-      c.args.notes.now c.work-status.new.notes text
-      × (text ≡ [] → c.work-status.new.notes ≡ c.args.notes.now)
+  new = seen (shelf g c.work-status.new.shelf) (at g c.work-status.new.input)
+      (out g c.work-status.result.1) (net g c.work-status.new.wire)
 
   abbrev Untouched : Type 0
   Untouched = (c.work-status.new.input ≡ c.args.input) × (c.work-status.result.1 ≡ c.args.output)
       × (c.work-status.new.wire ≡ c.args.wire.now)
 
   abbrev Done : SeenShelf → Type 0
-  Done s = Works Says Untouched reader writer (asked_of c.in-Ok.request).task
-      c.in-Ok-read_statics.table (asked_of c.in-Ok.request).limits (seen s i o w) new
+  Done s = Works (Says g c.args.notes.now c.work-status.new.notes) Untouched (reader g) (writer g)
+      (asked_of c.in-Ok.request).task c.in-Ok-read_statics.table (asked_of c.in-Ok.request).limits
+      (seen s (at g c.args.input) (out g c.args.output) (net g c.args.wire.now)) new
       c.work-status.result.0
 
   own : Done (shelf_at g.F.Shelf.files g.F.Shelf.faults c.read_statics.new.shelf)
@@ -122,6 +147,15 @@ returns-clause-runs g c = inr (
     holds = (subst (Done g c) (same g c) (own g c), c.work-status.ensures.offline);
   }),
 )
+
+pub returns-clause-complete : goal.returns-clause-complete
+returns-clause-complete g c =
+    completes (Says g c.args.notes.now c.work-status.new.notes) (Untouched g c) (reader g)
+    (writer g)
+    (c.work-status.new.shelf ≡ c.args.shelf.now) (c.work-status.new.wire ≡ c.args.wire.now)
+    (map string_bytes c.args.words.now)
+    (seen (shelf g c.args.shelf.now) (at g c.args.input) (out g c.args.output)
+    (net g c.args.wire.now)) (new g c) c.work-status.result.0 (returns-clause-runs g c)
 
 pub returns-clause-fetched : goal.returns-clause-fetched
 returns-clause-fetched g c =

@@ -25,6 +25,7 @@ returns g c =
     let w = c.call_gathered-writer in
     let k = c.close.ensures in
     record {
+      admitted = c.requires.admitted;
       ends = (c.in-Ok.reader, c.in-Ok.writer);
       left = (w.new.source, w.result.1);
       handed = subst (λ after. Told (g.W.Wire.waiting c.args.wire.now) after

@@ -32,6 +32,6 @@ returns g c =
     (sym c.into_sink.ensures) begun in
     rw c.summary_by.ensures (summarized (limits_of c.args.quotas.now) c.args.statics.now
     (documents c.args.seed c.args.count) written held faults c.args.output c.into_sink.result line
-    answer c.in-Ok.ensures (beneath written held (Wrote line answer) first.sink c.args.output
-    last.sink c.into_sink.result first.gathered new.sink new.nothing c.into_sink.ensures w)
+    answer c.in-Ok.ensures.0 c.in-Ok.ensures.1 (beneath written held (Wrote line answer) first.sink
+    c.args.output last.sink c.into_sink.result first.gathered new.sink new.nothing c.into_sink.ensures w)
     counted)

@@ -1,0 +1,283 @@
+-- The status of a run in which nothing of the outside fails (specs/Complete).
+use Rattle.std.proofs.Common.{◌≡◌, ℕ, ◌⊎◌, inl, inr, List, length}
+use Rattle.std.proofs.Common.{Option, Some, Result, Ok, Err, refl, sym, ap, ◌∙◌, subst}
+use Rattle.std.specs.Prelude.{if◌then◌else◌}
+use Rattle.io_edges.specs.Faults.{Rose}
+use Rattle.io_edges.specs.Store.{Store}
+use Rattle.nbfx_values.specs.Limits.{Limits}
+use Rattle.nbfx_values.specs.declared.content.Item.{Item}
+use Rattle.nbfx_values.specs.declared.refusals.Offence.{Offence}
+use Rattle.nbfx_values.specs.declared.refusals.Reason.{Reason}
+use Rattle.nbfx_values.specs.declared.refusals.Reason.TheVariants.{SessionTooLong}
+use Rattle.string_tables.specs.StaticStrings.{Entry}
+use Rattle.shelf_files.specs.Files.{Has, whole}
+use Rattle.stream_loop.specs.Edges.{Input, Output}
+use Rattle.stream_follower.specs.declared.writing.Outbound.{Outbound}
+use Rattle.stream_follower.specs.declared.writing.Outbound.TheVariants as outbounds
+use Rattle.stream_reader.specs.Judging.{offence}
+use Rattle.stream_reader.specs.Stream.{Settings, any_initiators}
+use Rattle.document_lists.specs.Documents.{documents_within}
+use Rattle.document_lists.specs.Files.{Answers}
+use Rattle.document_lists.specs.Taking.{Says}
+use Rattle.action_dispatch.specs.Answers.{Serves}
+use Rattle.duplex_server.specs.declared.outcome.Inbound.{Inbound}
+use Rattle.duplex_server.specs.declared.outcome.Inbound.TheVariants as inbounds
+use Rattle.duplex_server.specs.Owed.{answering}
+use Rattle.duplex_server.specs.Serving.{Judges}
+use Rattle.session_generator.specs.Generated.{session_of}
+use Rattle.session_generator.specs.Documents.{documents}
+use Rattle.session_report.specs.declared.reporter.Outcome.TheVariants.{Ended}
+use Rattle.session_replay.specs.Responding.{reading_actions, served_by}
+use Rattle.session_summary.specs.Summary.{Writes, status_of as status_of_summary}
+use Rattle.session_summary.specs.declared.summary.Summary.{Summary}
+use Rattle.session_summary.specs.declared.summary.Summary.TheVariants as summaries
+use Rattle.client.specs.Sent.{Sending}
+use Rattle.connection_server.specs.declared.stopping.ServeFault.{ServeFault}
+use Rattle.connection_server.specs.declared.stopping.ServeFault.TheVariants as stops
+use Rattle.connection_server.specs.Served.{SinkState}
+use Rattle.session_calls.specs.Statuses.{status_of as status_of_called}
+use Rattle.session_calls.specs.Tags.{sent_line}
+use Rattle.command_words.specs.Requests.{Asked, IsRequest}
+use Rattle.command_words.specs.Tasks.{Opening, Serving, Task, report, build, replay, serve, call}
+use Rattle.command_words.specs.Tasks.{generate}
+use Rattle.command_words.proofs.RequestFacts.{request-one}
+use Rattle.dump_replay.specs.Answering.{IsAskedFor, action_kind_name, status_of_replay}
+use Rattle.dump_replay.specs.Building.{status_of_building}
+use Rattle.dump_replay.specs.Calling.{CalledPlace, IsSecond, TookNone}
+use Rattle.dump_replay.specs.Calling.{ending_of_list, output_of, status_of_documents}
+use Rattle.dump_replay.specs.Complete.{GoesWell, IsComplete, sending_with}
+use Rattle.dump_replay.specs.Complete.{settings_to_answer, status_for, status_of_call}
+use Rattle.dump_replay.specs.Complete.{status_of_made, status_of_stream}
+use Rattle.dump_replay.specs.Complete.{status_of_task, with_actions}
+use Rattle.dump_replay.specs.Complete.{with_lines, with_second}
+use Rattle.dump_replay.specs.Outside.{Outside}
+use Rattle.dump_replay.specs.Running.{WhereAsked, is_session_too_long, offence_status, status_of}
+use Rattle.dump_replay.specs.Serving.{status_of_stop}
+use Rattle.dump_replay.specs.Laws.{input_offence, status_of_input}
+use Rattle.dump_replay.specs.Statics.{reading_statics, table_kind_name}
+use Rattle.dump_replay.specs.Working.{Does, HasNoActions, Runs, Works}
+use Rattle.dump_replay.proofs.BuildLaws.{builds_are_complete}
+use Rattle.dump_replay.proofs.CompleteFiles.{IsOr, actions_read, as_other, by_status, file_read}
+use Rattle.dump_replay.proofs.CompleteFiles.{lines_unread, second_read, second_unread, unread}
+use Rattle.dump_replay.proofs.CompleteCalls.{call_placed}
+
+-- ---- streams
+
+module _ (serves : Serves) (serving : Serving) (statics : List Entry) (limits : Limits)
+    (bytes : List ℕ) where
+  abbrev answered : Settings
+  answered = settings_to_answer serving statics limits
+
+  replayed : (inbound : Inbound) (outbound : Outbound)
+      → Judges (answering serves statics limits) serving.endpoint bytes inbound
+      → (inbound ≡ inbounds.ReadFault → ⊥) → (outbound ≡ outbounds.WriteFault → ⊥)
+      → IsOr (status_of_stream answered bytes) (status_of_replay inbound outbound)
+  replayed inbounds.Ended outbounds.Done judges read written =
+      inl (sym (ap (λ v. status_of v Ended) judges))
+  replayed (inbounds.Offended o) outbounds.Done judges read written =
+      inl (sym (ap (λ v. status_of v Ended) judges))
+  replayed inbounds.ReadFault outbounds.Done judges read written = absurd (read refl)
+  replayed inbounds.Memory outbounds.Done judges read written = inr refl
+  replayed inbound outbounds.WriteFault judges read written = absurd (written refl)
+  replayed inbound outbounds.Memory judges read written = inr refl
+
+stopped : (stop : Result (Unit {0}) ServeFault) → (stop ≡ Err stops.Wire → ⊥)
+    → (stop ≡ Err stops.Output → ⊥) → IsOr 0 (status_of_stop stop)
+stopped (Ok _) wire output = inl refl
+stopped (Err stops.Wire) wire output = absurd (wire refl)
+stopped (Err stops.Output) wire output = absurd (output refl)
+stopped (Err stops.Memory) wire output = inr refl
+
+-- a session that is made is too long by its last reason alone
+long_status : (o : Offence) → o.reason ≡ SessionTooLong → 10 ≡ offence_status o
+long_status o is = sym (ap (λ (r : Reason). if is_session_too_long r then 10 else 1) is)
+
+summed_up : (limits : Limits) (statics : List Entry) (made : List (List Item)) (o o' : Output)
+    (summary : Summary) → Writes limits statics made o o' summary
+    → (summary ≡ summaries.WriteFault → ⊥)
+    → IsOr (status_of_made (any_initiators statics limits) (session_of limits statics made))
+    (status_of_summary summary)
+summed_up limits statics made o o' summaries.Written w written =
+    let x = any_initiators statics limits in
+    inl (sym (ap (status_of_made x) w.0.session_is ∙ ap (λ v. status_of v Ended) w.0.unrefused))
+summed_up limits statics made o o' (summaries.TooLong offence) w written =
+    let x = any_initiators statics limits in
+    inl (long_status offence w.0.reason_is ∙ sym (ap (status_of_made x) w.0.session_is
+    ∙ ap (λ v. status_of v Ended) w.0.offence_is))
+summed_up limits statics made o o' summaries.WriteFault w written = absurd (written refl)
+summed_up limits statics made o o' summaries.Memory w written = inr refl
+
+-- ---- all tasks
+
+module _ (Says : List ℕ → Type 0) (Untouched : Type 0) {R K : Type 0} (reader : R → Input)
+    (writer : K → SinkState) (old new : Outside R K) (status : ℕ) (store : Store)
+    (input peer : List ℕ) where
+  -- a file of actions isn't read
+  no_actions : (serving : Serving) (next : ℕ) → old.shelf.files ≡ Some store
+      → (Rose old.shelf.faults new.shelf.faults → ⊥)
+      → HasNoActions Says Untouched serving old.shelf new.shelf status
+      → IsOr (with_actions store serving.actions next) status
+  no_actions serving next files fetched h =
+      as_other (with_actions store (Some h.0) next) (with_actions store serving.actions next) status
+      (ap (λ named. with_actions store named next) (sym h.1))
+      (unread reading_actions store h.0 (λ texts. next) Says Untouched action_kind_name old.shelf
+      new.shelf status files fetched h.2)
+
+  module _ (statics : List Entry) (limits : Limits) where
+    abbrev Left : Task → Type 0
+    Left task = Works Says Untouched reader writer task statics limits old new status
+
+    abbrev Well : Task → Type 0
+    Well task = GoesWell reader old new task store input peer
+
+    abbrev Ends : Task → Type 0
+    Ends task = IsOr (status_of_task store input peer task statics limits) status
+
+    replay_ends : (serving : Serving) → Well (replay serving) → Left (replay serving)
+        → Ends (replay serving)
+    replay_ends serving well (inl h) =
+        let next = status_of_stream (settings_to_answer serving statics limits) input in
+        actions_read store next serving.actions h.responder status
+        (subst (λ (f : Option Store). IsAskedFor f serving.actions h.responder) well.files
+        h.asked_for)
+        (by_status next status (status_of_replay h.inbound h.outbound) h.status_is
+        (replayed (served_by h.responder) serving statics limits input h.inbound h.outbound
+        (h.replays.judged input well.given)
+        (λ fault. well.read (h.replays.reads_counted.rose fault))
+        (λ fault. well.written (h.replays.writes_counted.rose fault))))
+    replay_ends serving well (inr h) = no_actions serving
+        (status_of_stream (settings_to_answer serving statics limits) input) well.files
+        well.fetched h
+
+    serve_ends : (listen : List ℕ) (connections : ℕ) (serving : Serving)
+        → Well (serve listen connections serving) → Left (serve listen connections serving)
+        → Ends (serve listen connections serving)
+    serve_ends listen connections serving well (inl h) =
+        actions_read store 0 serving.actions h.responder status
+        (subst (λ (f : Option Store). IsAskedFor f serving.actions h.responder) well.files
+        h.asked_for)
+        (by_status 0 status (status_of_stop h.stop) h.status_is
+        (stopped h.stop (λ fault. well.connected (h.serves.wire_counted.rose fault))
+        (λ fault. well.written (h.serves.output_counted.rose fault))))
+    serve_ends listen connections serving well (inr h) =
+        no_actions serving 0 well.files well.fetched h
+
+    module _ (connect : List ℕ) (opening : Opening) (named : Option (List ℕ))
+        (well : Well (call connect opening named)) (second : List (List Item)) where
+      abbrev sends : List (List Item) → Sending
+      sends first = sending_with opening statics limits first second
+
+      abbrev after : List (List Item) → ℕ
+      after first = status_of_call (sends first) peer
+
+      abbrev lines : ℕ
+      lines = with_lines (documents_within limits.session input) after
+
+      placed_ends : CalledPlace Says limits old.input new.input old.output new.output status reader
+          writer opening statics second old.wire new.wire → IsOr lines status
+      placed_ends h =
+          as_other (after h.first) lines status
+          (sym (ap (λ r. with_lines r after) (h.taken.says input well.given)))
+          (by_status (after h.first) status (status_of_called h.called) h.status_is
+          (call_placed reader (λ (k : K). output_of (writer k)) (sends h.first) opening.via
+          (sent_line (length h.first) (length second)) old.wire new.wire old.output new.output peer
+          well.written well.connected well.called h.called h.calls))
+
+      none_ends : {Same : Type 0} → TookNone Says limits old.input new.input old.output new.output
+          status Same → IsOr lines status
+      none_ends h = by_status lines status (status_of_building (ending_of_list h.fault)) h.status_is
+          (lines_unread (documents_within limits.session input) after h.fault
+          (h.taken.says input well.given)
+          (λ fault. well.read (h.taken.counted.rose (ap Err fault))))
+
+    call_ends : (connect : List ℕ) (opening : Opening) (named : Option (List ℕ))
+        → Well (call connect opening named) → Left (call connect opening named)
+        → Ends (call connect opening named)
+    call_ends connect opening named well (inl h) =
+        second_read store (λ second. lines connect opening named well second) named h.second status
+        (subst (λ (f : Option Store). IsSecond f named h.second) well.files h.read)
+        (elim h.does [
+          | inl placed ↦ placed_ends connect opening named well h.second placed
+          | inr none ↦ none_ends connect opening named well h.second none
+        ])
+    call_ends connect opening named well (inr h) =
+        let next : List (List Item) → ℕ = λ second. lines connect opening named well second in
+        as_other (with_second store (Some h.0) next) (with_second store named next) status
+        (ap (λ v. with_second store v next) (sym h.1))
+        (by_status (with_second store (Some h.0) next) status (status_of_documents h.2.fault)
+        h.2.status_is (second_unread store next h.0 h.2.fault
+        (subst (λ (f : Option Store). Answers f h.0 (Err h.2.fault)) well.files h.2.answers)
+        (λ failed. well.fetched (h.2.rose failed))))
+
+    task_ends : (task : Task) → Well task → Left task → Ends task
+    task_ends (report detail origin) well h =
+        elim (h.0.complete input well.given) [
+          | inl is ↦ inl is
+          | inr (inl three) ↦ absurd (well.read (h.0.reads_counted.rose three))
+          | inr (inr (inl four)) ↦ absurd (well.written (h.0.writes_counted.rose four))
+          | inr (inr (inr five)) ↦ inr five
+        ]
+    task_ends (build opening) well h =
+        by_status (status_of_input (input_offence opening statics limits input)) status
+        (status_of_building h.ending) h.status_is
+        (elim (builds_are_complete opening statics limits old.input new.input old.output new.output
+        h.ending h.builds input well.given well.read well.written) [
+          | inl built ↦ inl built.status_is
+          | inr five ↦ inr five
+        ])
+    task_ends (replay serving) well h = replay_ends serving well h
+    task_ends (serve listen connections serving) well h =
+        serve_ends listen connections serving well h
+    task_ends (call connect opening second) well h = call_ends connect opening second well h
+    task_ends (generate seed count) well h =
+        by_status _ status (status_of_summary h.0.summary) h.0.status_is
+        (summed_up limits statics (documents seed count) old.output new.output h.0.summary
+        h.0.summarizes.writes (λ fault. well.written (h.0.summarizes.counted.rose fault)))
+
+  -- ---- and of any words
+
+  module _ (Unasked Offline : Type 0) (words : List (List ℕ)) where
+    abbrev After : Asked → Type 0
+    After asked = Does Says Untouched reader writer Offline asked old new status
+
+    does_end : (asked : Asked) → GoesWell reader old new asked.task store input peer → After asked
+        → IsOr (status_for store input peer asked) status
+    does_end asked well (inl h) =
+        unread reading_statics store asked.statics (λ statics. status_of_task store input peer
+        asked.task statics asked.limits) Says Untouched table_kind_name old.shelf new.shelf status
+        well.files well.fetched h
+    does_end asked well (inr h) =
+        file_read reading_statics store asked.statics (λ statics. status_of_task store input peer
+        asked.task statics asked.limits) h.entries status
+        (subst (λ (f : Option Store). Has reading_statics f asked.statics (whole h.entries))
+        well.files h.has)
+        (task_ends h.entries asked.limits asked.task well h.holds.0)
+
+    asked_ends : (asked : Asked) → IsRequest words asked
+        → GoesWell reader old new asked.task store input peer
+        → Runs Says Untouched reader writer Unasked Offline words old new status
+        → IsOr (status_for store input peer asked) status
+    asked_ends asked is well (inl (inl two, says, same, unasked)) = absurd (two.1 asked is)
+    asked_ends asked is well (inl (inr five, says, same, unasked)) = inr five
+    asked_ends asked is well (inr (other, is_other, does)) =
+        does_end asked well (subst After (request-one words other asked is_other is) does)
+
+-- a run that leaves this is complete
+module _ (Says : List ℕ → Type 0) (Untouched : Type 0) {R K : Type 0} (reader : R → Input)
+    (writer : K → SinkState) (Unasked Offline : Type 0) (words : List (List ℕ))
+    (old new : Outside R K) (status : ℕ) where
+  unasked_ends : WhereAsked words (λ asked. ⊥)
+      → Runs Says Untouched reader writer Unasked Offline words old new status
+      → (status ≡ 2) ⊎ (status ≡ 5)
+  unasked_ends none (inl (inl two, says, same, unasked)) = inl two.0
+  unasked_ends none (inl (inr five, says, same, unasked)) = inr five
+  unasked_ends none (inr (asked, is, does)) = absurd (none asked is)
+
+  pub completes : Runs Says Untouched reader writer Unasked Offline words old new status
+      → IsComplete reader words old new status
+  completes runs = record {
+    refused = λ none. unasked_ends none runs;
+    determined = λ asked store input peer is well.
+        asked_ends Says Untouched reader writer old new status store input peer Unasked Offline
+        words asked is well runs;
+  }

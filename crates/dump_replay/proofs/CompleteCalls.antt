@@ -1,0 +1,233 @@
+-- The status of a call in which nothing of the outside fails, by what the peer sends
+-- (specs/Complete).
+use Rattle.std.proofs.Common.{◌≡◌, ℕ, ◌⊎◌, inl, inr, List, [], ◌∷◌, length, Bool, true, false}
+use Rattle.std.proofs.Common.{Option, Some, None, refl, sym, ap, ◌∙◌}
+use Rattle.std.proofs.lemmas.Bool.{eqb-true}
+use Rattle.std.specs.Prelude.{◌==◌, ◌||◌, if◌then◌else◌}
+use Rattle.io_edges.specs.Faults.{Rose}
+use Rattle.io_edges.specs.Flow.{Told}
+use Rattle.io_edges.specs.Wires.{Fresh, Network}
+use Rattle.nbfx_values.specs.declared.content.Item.{Item}
+use Rattle.nbfx_values.specs.declared.refusals.Reason.{Reason}
+use Rattle.nbfx_values.specs.declared.refusals.Reason.TheVariants.{SessionTooLong}
+use Rattle.nbfx_values.specs.declared.session.Mode.{Mode}
+use Rattle.nbfx_values.specs.declared.session.Mode.TheVariants.{Duplex, Simplex, Singleton}
+use Rattle.stream_loop.specs.Edges.{Input, Output}
+use Rattle.stream_follower.specs.declared.writing.Outbound.{Outbound}
+use Rattle.stream_follower.specs.declared.writing.Outbound.TheVariants as outbounds
+use Rattle.session_ends.specs.Sent.{MayBeSent}
+use Rattle.session_generator.specs.Documents.{documents}
+use Rattle.session_report.specs.declared.reporter.Outcome.{Outcome}
+use Rattle.session_report.specs.declared.reporter.Outcome.TheVariants.{Open, Ended, Faulted}
+use Rattle.session_report.specs.Report.{outcome}
+use Rattle.client.specs.declared.caller.Ack.{Ack}
+use Rattle.client.specs.declared.caller.Ack.TheVariants.{Awaited, Read}
+use Rattle.client.specs.declared.outcome.CallOutcome.{CallOutcome}
+use Rattle.client.specs.declared.outcome.ClientIn.{ClientIn}
+use Rattle.client.specs.declared.outcome.ClientIn.TheVariants as heard
+use Rattle.client.specs.declared.outcome.ClientOut.{ClientOut}
+use Rattle.client.specs.declared.outcome.ClientOut.TheVariants as out
+use Rattle.client.specs.Called.{IsAckOf, Judges as JudgesPeer, WritesCall, ack_along, answers_to}
+use Rattle.client.specs.Called.{heard_of}
+use Rattle.client.specs.Sent.{Sending, envelopes}
+use Rattle.session_calls.specs.Places.{CallsOne, CallsPlace}
+use Rattle.session_calls.specs.Statuses.{fails, fails_in, fails_out, fails_report, inbound_status}
+use Rattle.session_calls.specs.Statuses.{is_starved_in, is_starved_out, is_starved_report}
+use Rattle.session_calls.specs.Statuses.{is_unfit, outcome_status, reason_status, wants_memory}
+use Rattle.session_calls.specs.Statuses.{status_of as status_of_called}
+use Rattle.session_calls.specs.declared.called.Called.{Called}
+use Rattle.session_calls.specs.declared.called.Called.TheVariants.{WrongCount, Starved, Unconnected}
+use Rattle.session_calls.specs.declared.called.Called.TheVariants.{Closed}
+use Rattle.command_words.specs.Tasks.{report}
+use Rattle.command_words.specs.declared.task.Detail.TheVariants.{Whole}
+use Rattle.dump_replay.specs.Complete.{AnswersCall}
+use Rattle.dump_replay.specs.Complete.{status_of_call}
+use Rattle.dump_replay.specs.Complete.{status_of_report}
+use Rattle.dump_replay.specs.Complete.{unless_unfit, with_count}
+use Rattle.dump_replay.specs.Running.{is_session_too_long, status_of}
+use Rattle.dump_replay.proofs.CallEnds.{one_rose}
+use Rattle.dump_replay.proofs.CompleteFiles.{IsOr, as_other}
+
+-- ---- a call
+
+both_false : (a b : Bool) → (a || b) ≡ false → (a ≡ false) × (b ≡ false)
+both_false true b is = cc
+both_false false b is = (refl, is)
+
+neither : (a b : Bool) → a ≡ false → b ≡ false → (a || b) ≡ false
+neither true b first second = first
+neither false b first second = second
+
+or_true : (a : Bool) → (a || true) ≡ true
+or_true true = refl
+or_true false = refl
+
+-- the first that holds, where nothing fails
+first_status : (wants fails unfit reports : Bool) (n : ℕ) → fails ≡ false → reports ≡ false
+    → ((wants ≡ false) × ((if wants then 5 else if fails then 8 else if unfit then 7
+    else if reports then 4 else n) ≡ (if unfit then 7 else n)))
+    ⊎ ((if wants then 5 else if fails then 8 else if unfit then 7 else if reports then 4
+    else n) ≡ 5)
+first_status true fails unfit reports n fails_not reports_not = inr refl
+first_status false true unfit reports n fails_not reports_not = cc
+first_status false false true reports n fails_not reports_not = inl (refl, refl)
+first_status false false false true n fails_not reports_not = cc
+first_status false false false false n fails_not reports_not = inl (refl, refl)
+
+in_well : (v : ClientIn) → (v ≡ heard.ReadFault → ⊥) → fails_in v ≡ false
+in_well heard.Ended well = refl
+in_well (heard.Offended o) well = refl
+in_well heard.PeerFault well = refl
+in_well heard.ReadFault well = absurd (well refl)
+in_well heard.Memory well = refl
+
+out_well : (v : ClientOut) → (v ≡ out.WriteFault → ⊥) → fails_out v ≡ false
+out_well out.Done well = refl
+out_well (out.Unfit number fault) well = refl
+out_well out.WriteFault well = absurd (well refl)
+out_well out.Memory well = refl
+
+report_well : (v : Outbound) → (v ≡ outbounds.WriteFault → ⊥) → fails_report v ≡ false
+report_well outbounds.Done well = refl
+report_well outbounds.WriteFault well = absurd (well refl)
+report_well outbounds.Memory well = refl
+
+reason_same : (r : Reason) → reason_status r ≡ (if is_session_too_long r then 10 else 1)
+reason_same SessionTooLong = refl
+reason_same _ = refl
+
+closing_same : (o : Outcome) → (o ≡ Faulted → ⊥) → 0 ≡ status_of None o
+closing_same Open not = refl
+closing_same Ended not = refl
+closing_same Faulted not = absurd (not refl)
+
+module _ (x : Sending) (peer : List ℕ) where
+  -- by what the peer sends
+  heard_status : (v : ClientIn) → is_starved_in v ≡ false → (v ≡ heard.ReadFault → ⊥)
+      → JudgesPeer x peer v → inbound_status v ≡ status_of_report Whole (answers_to x) peer
+  heard_status heard.Ended fed well judges =
+      closing_same (outcome Whole (answers_to x) peer) judges.1
+      ∙ ap (λ v. status_of v (outcome Whole (answers_to x) peer)) (sym judges.0)
+  heard_status (heard.Offended o) fed well judges =
+      reason_same o.reason
+      ∙ ap (λ v. status_of v (outcome Whole (answers_to x) peer)) (sym judges)
+  heard_status heard.PeerFault fed well judges =
+      ap (status_of None) (sym judges.1)
+      ∙ ap (λ v. status_of v (outcome Whole (answers_to x) peer)) (sym judges.0)
+  heard_status heard.ReadFault fed well judges = absurd (well refl)
+  heard_status heard.Memory fed well judges = cc
+
+  heard_ack : (v : ClientIn) → is_starved_in v ≡ false → (v ≡ heard.ReadFault → ⊥)
+      → (ack : Ack) → IsAckOf x peer v ack → ack ≡ ack_along Awaited (heard_of x peer)
+  heard_ack heard.Ended fed well ack is = is
+  heard_ack (heard.Offended o) fed well ack is = is
+  heard_ack heard.PeerFault fed well ack is = is
+  heard_ack heard.ReadFault fed well ack is = absurd (well refl)
+  heard_ack heard.Memory fed well ack is = cc
+
+  -- by what is sent
+  sent_status : (ack : Ack) (v : ClientOut) → is_starved_out v ≡ false → (v ≡ out.WriteFault → ⊥)
+      → (via held w w' : List ℕ) (sent : ℕ) → WritesCall x via held w w' ack v sent → (n : ℕ)
+      → (if is_unfit v then 7 else n) ≡ unless_unfit ack (envelopes x x.documents) n
+  sent_status Awaited out.Done fed well via held w w' sent writes n = refl
+  sent_status Awaited (out.Unfit number fault) fed well via held w w' sent writes n = absurd writes
+  sent_status Awaited out.WriteFault fed well via held w w' sent writes n = absurd (well refl)
+  sent_status Awaited out.Memory fed well via held w w' sent writes n = cc
+  sent_status Read out.Done fed well via held w w' sent writes n =
+      sym (ap (λ v. unless_unfit Read v n) writes.1.1)
+  sent_status Read (out.Unfit number fault) fed well via held w w' sent writes n =
+      sym (ap (λ v. unless_unfit Read v n) writes.1.1)
+  sent_status Read out.WriteFault fed well via held w w' sent writes n = absurd (well refl)
+  sent_status Read out.Memory fed well via held w w' sent writes n = cc
+
+  called_status : (o : CallOutcome) → (o.inbound ≡ heard.ReadFault → ⊥)
+      → (o.outbound ≡ out.WriteFault → ⊥) → (o.report ≡ outbounds.WriteFault → ⊥)
+      → JudgesPeer x peer o.inbound → (ack : Ack) → IsAckOf x peer o.inbound ack
+      → (via held w w' : List ℕ) → WritesCall x via held w w' ack o.outbound o.sent
+      → IsOr (unless_unfit (ack_along Awaited (heard_of x peer)) (envelopes x x.documents)
+      (status_of_report Whole (answers_to x) peer)) (outcome_status o)
+  called_status o read written reported judges ack is via held w w' writes =
+      elim (first_status (wants_memory o) (fails o) (is_unfit o.outbound) (fails_report o.report)
+      (inbound_status o.inbound)
+      (neither (fails_in o.inbound) (fails_out o.outbound) (in_well o.inbound read)
+      (out_well o.outbound written)) (report_well o.report reported)) [
+        | inl first ↦
+            let both = both_false (is_starved_in o.inbound || is_starved_out o.outbound)
+            (is_starved_report o.report) first.0 in
+            let fed = both_false (is_starved_in o.inbound) (is_starved_out o.outbound) both.0 in
+            inl (first.1
+            ∙ ap (λ (n : ℕ). if is_unfit o.outbound then 7 else n)
+            (heard_status o.inbound fed.0 read judges)
+            ∙ sent_status ack o.outbound fed.1 written via held w w' o.sent writes
+            (status_of_report Whole (answers_to x) peer)
+            ∙ ap (λ (a : Ack). unless_unfit a (envelopes x x.documents)
+            (status_of_report Whole (answers_to x) peer))
+            (heard_ack o.inbound fed.0 read ack is))
+        | inr five ↦ inr five
+      ]
+
+-- as many documents as one session takes
+admitted : (mode : Mode) (sent : List (List Item)) (next : ℕ) → MayBeSent mode sent
+    → next ≡ with_count mode sent next
+admitted Duplex sent next may = refl
+admitted Simplex sent next may = refl
+admitted Singleton sent next may =
+    sym (ap (λ (n : ℕ). if n == 1 then next else 6) may)
+
+not_admitted : (mode : Mode) (sent : List (List Item)) (next : ℕ) → (MayBeSent mode sent → ⊥)
+    → 6 ≡ with_count mode sent next
+not_admitted Duplex sent next not = absurd (not tt)
+not_admitted Simplex sent next not = absurd (not tt)
+not_admitted Singleton sent next not = by (length sent == 1) refl where
+  by : (one : Bool) → (length sent == 1) ≡ one → 6 ≡ (if one then next else 6)
+  by true is = absurd (not (eqb-true (length sent) 1 is))
+  by false is = refl
+
+-- the connection that is handed out is the next
+next_is : {X : Type 0} (before : Option (List X)) (after : Option (List X)) (one other : X)
+    (more : List X) → before ≡ Some (other ∷ more)
+    → Told before after (λ before after. before ≡ one ∷ after) → one ≡ other
+next_is None after one other more is told = cc
+next_is (Some l) None one other more is told = absurd told
+next_is (Some l) (Some l') one other more is told = cc
+
+-- and tells what is written to it
+written_told : (closed : Option (List (List ℕ × List ℕ))) (told : List (List ℕ × List ℕ))
+    (written : Option (List ℕ)) → closed ≡ Some told → Fresh closed written → written ≡ Some []
+written_told None told written is fresh = cc
+written_told (Some l) told written is fresh = fresh
+
+module _ {R K : Type 0} (reader : R → Input) (to : K → Output) (x : Sending)
+    (via : List ℕ) (line : ℕ → List ℕ) (n n' : Network R K) (o o' : Output) (peer : List ℕ)
+    (written : Rose o.faults o'.faults → ⊥) (connected : Rose n.faults n'.faults → ⊥)
+    (well : AnswersCall reader n n' peer) where
+  -- no end of the connection failed
+  ends_well : (outcome : CallOutcome) → CallsOne reader to x via line n n' o o' outcome
+      → fails outcome ≡ true → ⊥
+  ends_well outcome h failed = well.ends_well (one_rose reader to x via line n n' o o' outcome h
+      failed)
+
+  call_closed : (outcome : CallOutcome) → CallsOne reader to x via line n n' o o' outcome
+      → IsOr (status_of_call x peer) (outcome_status outcome)
+  call_closed outcome h =
+      let same = next_is n.waiting n'.waiting h.ends well.ends well.more well.waiting h.handed in
+      let left : (reader h.ends.0).left ≡ Some peer =
+      ap (λ (ends : R × K). (reader ends.0).left) same ∙ well.sends in
+      let told = written_told n.closed well.closed (to h.ends.1).written well.told
+      h.begins.nothing_written in
+      let s = h.calls.sent peer [] left told in
+      as_other _ (status_of_call x peer) (outcome_status outcome)
+      (admitted x.mode x.documents _ h.admitted)
+      (called_status x peer outcome
+      (λ fault. ends_well outcome h (ap (λ v. fails_in v || fails_out outcome.outbound) fault))
+      (λ fault. ends_well outcome h (ap (λ v. fails_in outcome.inbound || fails_out v) fault
+      ∙ or_true (fails_in outcome.inbound)))
+      (λ fault. written (h.calls.reports_counted.rose fault))
+      (h.calls.judged peer left) s.2 s.3 via (to h.ends.1).held [] s.0 s.4)
+
+  pub call_placed : (called : Called) → CallsPlace reader to x via line n n' o o' called
+      → IsOr (status_of_call x peer) (status_of_called called)
+  call_placed WrongCount h = inl (not_admitted x.mode x.documents _ h.0)
+  call_placed Starved h = inr refl
+  call_placed Unconnected h = absurd (connected (h.counted.rose tt))
+  call_placed (Closed outcome) h = call_closed outcome h

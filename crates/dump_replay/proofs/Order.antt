@@ -1,0 +1,385 @@
+-- A run ends with 0 exactly where all is in order (specs/Order).
+use Rattle.std.proofs.Common.{◌≡◌, ℕ, ◌+◌, ◌<◌, List, [], ◌∷◌, ◌++◌, length, map}
+use Rattle.std.proofs.Common.{Bool, true, false, Option, Some, None, Result, Ok, Err, refl, sym, ap}
+use Rattle.std.proofs.Common.{◌∙◌, subst, arith}
+use Rattle.std.proofs.lemmas.Bool.{eqb-true, leb-false}
+use Rattle.std.proofs.lemmas.List.{append-nil}
+use Rattle.std.specs.Prelude.{◌==◌, if◌then◌else◌, nat_le}
+use Rattle.std.specs.FinMap as finite
+use Rattle.io_edges.specs.Store.{Store}
+use Rattle.unit_streams.specs.Judging.{History, events, offence as offence_by}
+use Rattle.unit_streams.specs.Units.{IsAccepted}
+use Rattle.unit_streams.proofs.Accepted.{accepted_or_offended, leads_length}
+use Rattle.nbfx_values.specs.Limits.{IsGood, Limits}
+use Rattle.nbfx_values.specs.declared.content.Item.{Item}
+use Rattle.nbfx_values.specs.declared.refusals.Offence.{Offence}
+use Rattle.nbfx_values.specs.declared.session.Kind.{Kind}
+use Rattle.nbfx_values.specs.declared.session.Mode.{Mode}
+use Rattle.nbfx_values.specs.declared.session.Mode.TheVariants.{Duplex, Simplex, Singleton}
+use Rattle.nbfx_encoder.specs.Envelopes.{UnfitAt}
+use Rattle.nbfx_encoder.specs.Placing.{Placed}
+use Rattle.string_tables.specs.StaticStrings.{Entry}
+use Rattle.shelf_files.specs.Files.{ShelfFile, bad, file_in, missing, whole}
+use Rattle.line_notation.specs.Lines.{cut}
+use Rattle.line_notation.specs.Standing.{documents_of}
+use Rattle.document_lines.specs.Input.{Settings as LineSettings, lines_of_documents}
+use Rattle.document_lines.specs.Laws.{Explains, FittingIsAccepted, IsWritten, MayBeBuilt}
+use Rattle.document_lines.specs.declared.InputFault.{InputFault}
+use Rattle.document_lines.specs.declared.InputFault.TheVariants.{Line, Unfit, TooLong}
+use Rattle.document_lines.proofs.Lines.{readable}
+use Rattle.document_lines.proofs.Written.{written}
+use Rattle.document_lists.specs.Documents.{documents_within}
+use Rattle.document_lists.specs.Files.{read_of}
+use Rattle.stream_reader.specs.Judging.{offence}
+use Rattle.stream_reader.specs.Sessions.{HasParts, IsClosed, Parts, conversation, answer}
+use Rattle.stream_reader.specs.Sessions.{lone_ack, broken_off, turned_down, message_events}
+use Rattle.stream_reader.specs.Sessions.{session_events}
+use Rattle.stream_reader.specs.Stream.{Settings, StreamEvent, any_initiators, receivers}
+use Rattle.stream_reader.specs.Stream.{ended}
+use Rattle.stream_reader.proofs.Closed.{closed_or_refused}
+use Rattle.stream_reader.proofs.SessionEnds.{sessions_are_told}
+use Rattle.session_ends.specs.Sent.{MayBeSent}
+use Rattle.session_generator.specs.Documents.{documents}
+use Rattle.session_generator.specs.Generated.{session_of}
+use Rattle.session_report.specs.declared.reading.Event.{Event}
+use Rattle.session_report.specs.declared.reading.Event.TheVariants as said
+use Rattle.session_report.specs.declared.reporter.Outcome.TheVariants.{Ended}
+use Rattle.session_report.specs.Report.{outcome}
+use Rattle.session_report.specs.Saying.{event_for}
+use Rattle.session_report.proofs.Sessions.{closed_outcome, unoffended}
+use Rattle.session_replay.specs.Responding.{reading_actions}
+use Rattle.session_summary.specs.Summary.{IsWithinQuota}
+use Rattle.client.specs.declared.caller.Ack.{Ack}
+use Rattle.client.specs.declared.caller.Ack.TheVariants.{Awaited, Read}
+use Rattle.client.specs.Called.{ack_after, ack_along, answers_to, heard_of}
+use Rattle.client.specs.Sent.{Sending, envelopes}
+use Rattle.command_words.specs.Tasks.{Opening, Task, report, build, replay, serve, call}
+use Rattle.command_words.specs.Tasks.{generate}
+use Rattle.command_words.specs.declared.task.Detail.{Detail}
+use Rattle.command_words.specs.declared.task.Detail.TheVariants.{Whole}
+use Rattle.dump_replay.specs.Building.{settings_for_building}
+use Rattle.dump_replay.specs.Calling.{IsSecond}
+use Rattle.dump_replay.specs.Complete.{sending_with, settings_to_answer}
+use Rattle.dump_replay.specs.Complete.{status_of_call, status_of_made, status_of_report}
+use Rattle.dump_replay.specs.Complete.{status_of_stream, status_of_task, unless_unfit, with_actions}
+use Rattle.dump_replay.specs.Complete.{with_count, with_documents, with_file, with_lines}
+use Rattle.dump_replay.specs.Complete.{with_second}
+use Rattle.dump_replay.specs.Laws.{input_offence, status_of_input}
+use Rattle.dump_replay.specs.Order.{HasActions, IsCallInOrder, IsTaskInOrder}
+use Rattle.dump_replay.specs.Order.{ZeroInOrder}
+use Rattle.dump_replay.specs.Reporting.{IsEnded, ends_by_fault}
+use Rattle.dump_replay.specs.Running.{status_of}
+use Rattle.dump_replay.specs.Statics.{reading_statics, settings_for}
+use Rattle.dump_replay.proofs.Statuses.{no_offence, status_closing, zero_parts}
+
+-- ---- files and lists
+
+module _ {X K : Type 0} (next : X → ℕ) where
+  zero_file : (file : ShelfFile X K) → with_file file next ≡ 0
+      → (says : X) × (file ≡ whole says) × (next says ≡ 0)
+  zero_file (whole says) is = (says, refl, is)
+  zero_file (bad row kind) is = cc
+  zero_file missing is = cc
+
+  file_zero : (file : ShelfFile X K) (says : X) → file ≡ whole says → next says ≡ 0
+      → with_file file next ≡ 0
+  file_zero file says is zero_next = ap (λ f. with_file f next) is ∙ zero_next
+
+module _ (store : Store) (next : ℕ) where
+  zero_actions : (named : Option (List ℕ)) → with_actions store named next ≡ 0
+      → HasActions store named × (next ≡ 0)
+  zero_actions None is = (tt, is)
+  zero_actions (Some name) is =
+      let h = zero_file (λ texts. next) (file_in reading_actions store name) is in
+      ((h.0, h.1), h.2)
+
+  actions_zero : (named : Option (List ℕ)) → HasActions store named → next ≡ 0
+      → with_actions store named next ≡ 0
+  actions_zero None has is = is
+  actions_zero (Some name) has is =
+      file_zero (λ texts. next) (file_in reading_actions store name) has.0 has.1 is
+
+module _ (next : List (List Item) → ℕ) where
+  zero_documents : (read : Option (Result (List (List Item)) InputFault))
+      → with_documents read next ≡ 0
+      → (docs : List (List Item)) × (read ≡ Some (Ok docs)) × (next docs ≡ 0)
+  zero_documents (Some (Ok docs)) is = (docs, refl, is)
+  zero_documents (Some (Err fault)) is = cc
+  zero_documents None is = cc
+
+  zero_lines : (read : Result (List (List Item)) InputFault) → with_lines read next ≡ 0
+      → (docs : List (List Item)) × (read ≡ Ok docs) × (next docs ≡ 0)
+  zero_lines (Ok docs) is = (docs, refl, is)
+  zero_lines (Err (Line n kind)) is = cc
+  zero_lines (Err (Unfit number why)) is = cc
+  zero_lines (Err TooLong) is = cc
+
+  module _ (store : Store) where
+    zero_second : (named : Option (List ℕ)) → with_second store named next ≡ 0
+        → (docs : List (List Item)) × IsSecond (Some store) named docs × (next docs ≡ 0)
+    zero_second None is = ([], refl, is)
+    zero_second (Some name) is = zero_documents (read_of (finite.get store name)) is
+
+    second_zero : (named : Option (List ℕ)) (docs : List (List Item))
+        → IsSecond (Some store) named docs → next docs ≡ 0 → with_second store named next ≡ 0
+    second_zero None docs are is = sym (ap next are) ∙ is
+    second_zero (Some name) docs are is = ap (λ read. with_documents read next) are ∙ is
+
+-- ---- streams
+
+module _ (d : Detail) (x : Settings) (good : IsGood x.limits) (bytes : List ℕ) where
+  zero_report : status_of_report d x bytes ≡ 0 → IsEnded x bytes
+  zero_report is = by (offence x bytes) refl is where
+    by : (judged : Option Offence) → offence x bytes ≡ judged
+        → status_of judged (outcome d x bytes) ≡ 0 → IsEnded x bytes
+    by None none is =
+        let c = unoffended d x good bytes (outcome d x bytes) (none, refl) in
+        (c.0, zero_parts c.0.parts (subst (λ v. status_of None v ≡ 0) c.1 is))
+    by (Some o) some is = absurd (no_offence o (outcome d x bytes) 0 is (λ e. cc) (λ e. cc))
+
+  report_zero : IsEnded x bytes → status_of_report d x bytes ≡ 0
+  report_zero h =
+      ap (λ v. status_of v (outcome d x bytes)) ((closed_or_refused x good bytes).1 h.0)
+      ∙ ap (status_of None) (closed_outcome d x good bytes h.0)
+      ∙ status_closing h.0.parts
+      ∙ ap (λ b. if b then 9 else 0) h.1
+
+module _ (x : Settings) (good : IsGood x.limits) (bytes : List ℕ) where
+  unrefused : status_of_stream x bytes ≡ 0 → offence x bytes ≡ None
+  unrefused is = by (offence x bytes) refl is where
+    by : (judged : Option Offence) → offence x bytes ≡ judged → status_of judged Ended ≡ 0
+        → offence x bytes ≡ None
+    by None none is = none
+    by (Some o) some is = absurd (no_offence o Ended 0 is (λ e. cc) (λ e. cc))
+
+  zero_stream : status_of_stream x bytes ≡ 0 → IsClosed x bytes
+  zero_stream is = (closed_or_refused x good bytes).0 (unrefused is)
+
+  stream_zero : IsClosed x bytes → status_of_stream x bytes ≡ 0
+  stream_zero closed = ap (λ v. status_of v Ended) ((closed_or_refused x good bytes).1 closed)
+
+-- ---- lines that are written
+
+module _ (x : LineSettings) (bytes : List ℕ) (none : offence_by (lines_of_documents x) bytes ≡ None)
+  where
+    accepted_so : IsAccepted (lines_of_documents x) bytes
+    accepted_so = (accepted_or_offended (lines_of_documents x) (readable x) bytes).0 none
+
+    shorter : (most n : ℕ)
+        → ◌≡◌ {A = Option InputFault} (if nat_le most n then Some TooLong else None) None → n < most
+    shorter most n none = by (nat_le most n) refl none where
+      by : (b : Bool) → nat_le most n ≡ b
+          → ◌≡◌ {A = Option InputFault} (if b then Some TooLong else None) None → n < most
+      by true is e = cc
+      by false is e = leb-false most n is
+
+    short : length bytes < x.limits.session
+    short =
+        let h = accepted_so in
+        let all = leads_length (lines_of_documents x) (readable x) h.units
+        (lines_of_documents x).start 0 bytes h.situation h.rest h.lead in
+        shorter x.limits.session (length bytes)
+        (h.rest_short (length bytes) (omega (arith, all)) (omega arith))
+
+    w : IsWritten x bytes
+    w = written x bytes
+
+    why : Explains x bytes w.lines w.more w.envelopes.1 None
+    why = subst (Explains x bytes w.lines w.more w.envelopes.1) none w.why
+
+    may_be_built : MayBeBuilt x bytes
+    may_be_built = record {
+      lines = w.lines;
+      documents = documents_of w.lines;
+      sent = w.envelopes;
+      lines_are = ap (λ (l : List (List ℕ)). (l, (cut bytes).1)) all_lines
+          ∙ ap (λ (l : List ℕ). (w.lines, l)) why.1;
+      documents_are = why.2;
+      all_fit = w.all_fit;
+      count = why.3;
+      short = short;
+    } where
+      all_lines : (cut bytes).0 ≡ w.lines
+      all_lines = w.lines_are ∙ ap (λ (l : List (List ℕ)). w.lines ++ l) why.0
+          ∙ append-nil w.lines
+
+zero_input : (refusal : Option InputFault) → status_of_input refusal ≡ 0 → refusal ≡ None
+zero_input None is = refl
+zero_input (Some (Line n kind)) is = cc
+zero_input (Some (Unfit number why)) is = cc
+zero_input (Some TooLong) is = cc
+
+-- ---- a session that is made
+
+module _ (limits : Limits) (statics : List Entry) (good : IsGood limits)
+    (made : List (List Item)) where
+  zero_made : status_of_made (any_initiators statics limits) (session_of limits statics made) ≡ 0
+      → IsWithinQuota limits statics made
+  zero_made is = by (session_of limits statics made) refl is where
+    by : (session : Result (Placed (List ℕ)) UnfitAt) → session_of limits statics made ≡ session
+        → status_of_made (any_initiators statics limits) session ≡ 0
+        → IsWithinQuota limits statics made
+    by (Ok session) made_so is = record {
+      session = session;
+      session_is = made_so;
+      unrefused = unrefused (any_initiators statics limits) good session.0 is;
+    }
+    by (Err unfit) made_so is = cc
+
+  made_zero : IsWithinQuota limits statics made
+      → status_of_made (any_initiators statics limits) (session_of limits statics made) ≡ 0
+  made_zero h = ap (status_of_made (any_initiators statics limits)) h.session_is
+      ∙ ap (λ v. status_of v Ended) h.unrefused
+
+-- ---- a call
+
+-- an Ack that was read stays so
+read_after : (event : Event) → ack_after Read event ≡ Read
+read_after said.Accepted = refl
+read_after _ = refl
+
+stays_read : (heard : List Event) → ack_along Read heard ≡ Read
+unfolding ack_along
+stays_read [] = refl
+stays_read (event ∷ heard) = ap (λ ack. ack_along ack heard) (read_after event)
+    ∙ stays_read heard
+
+module _ (x : Settings) (mode : Mode) (kind : Kind) where
+  -- a receiver's session that ends without a Fault begins with its Ack
+  begins_by_ack : (parts : Parts) (bytes : List ℕ) → HasParts x (receivers mode kind) parts bytes
+      → ends_by_fault parts ≡ false
+      → ack_along Awaited (map event_for (session_events parts (length bytes))) ≡ Read
+  unfolding ack_along
+  begins_by_ack (conversation mode kind via carried) bytes has well = absurd has
+  begins_by_ack (answer carried) bytes has well =
+      stays_read (map event_for (message_events 0 [] carried ++ ended (length bytes) ∷ []))
+  begins_by_ack lone_ack bytes has well = refl
+  begins_by_ack (broken_off carried text) bytes has well = cc
+  begins_by_ack (turned_down text) bytes has well = cc
+
+module _ (x : Sending) (good : IsGood x.limits) (peer : List ℕ) where
+  abbrev g : Settings
+  g = answers_to x
+
+  ended_is_heard : IsEnded g peer → ack_along Awaited (heard_of x peer) ≡ Read
+  unfolding events
+  ended_is_heard h =
+      let c = h.0 in
+      ap (λ (all : List ℕ). ack_along Awaited (heard_of x all)) c.joined
+      ∙ ap (λ (v : History StreamEvent Offence). ack_along Awaited (map event_for v.events))
+      (sessions_are_told g good c.parts c.session c.rest c.is_session c.may_follow)
+      ∙ begins_by_ack g x.mode x.kind c.parts c.session c.is_session.0 h.1
+
+  abbrev judged : ℕ
+  judged = status_of_report Whole g peer
+
+  zero_sent : (ack : Ack) → ack_along Awaited (heard_of x peer) ≡ ack
+      → (sent : Result (Placed (List ℕ)) UnfitAt) → unless_unfit ack sent judged ≡ 0
+      → ((all : Placed (List ℕ)) × (sent ≡ Ok all)) × IsEnded g peer
+  zero_sent Awaited ack_is sent is =
+      let read = ended_is_heard (zero_report Whole g good peer is) in cc
+  zero_sent Read ack_is (Ok all) is = ((all, refl), zero_report Whole g good peer is)
+  zero_sent Read ack_is (Err unfit) is = cc
+
+  sent_zero : (ack : Ack) (sent : Result (Placed (List ℕ)) UnfitAt) (all : Placed (List ℕ))
+      → sent ≡ Ok all → judged ≡ 0 → unless_unfit ack sent judged ≡ 0
+  sent_zero Awaited sent all fit is = is
+  sent_zero Read sent all fit is = ap (λ v. unless_unfit Read v judged) fit ∙ is
+
+zero_count : (mode : Mode) (sent : List (List Item)) (next : ℕ) → with_count mode sent next ≡ 0
+    → MayBeSent mode sent × (next ≡ 0)
+zero_count Duplex sent next is = (tt, is)
+zero_count Simplex sent next is = (tt, is)
+zero_count Singleton sent next is = by (length sent == 1) refl is where
+  by : (one : Bool) → (length sent == 1) ≡ one → (if one then next else 6) ≡ 0
+      → (length sent ≡ 1) × (next ≡ 0)
+  by true one is = (eqb-true (length sent) 1 one, is)
+  by false one is = cc
+
+count_zero : (mode : Mode) (sent : List (List Item)) (next : ℕ) → MayBeSent mode sent
+    → next ≡ 0 → with_count mode sent next ≡ 0
+count_zero Duplex sent next may is = is
+count_zero Simplex sent next may is = is
+count_zero Singleton sent next may is = ap (λ (n : ℕ). if n == 1 then next else 6) may ∙ is
+
+module _ (store : Store) (input peer : List ℕ) (statics : List Entry) (limits : Limits)
+    (good : IsGood limits) where
+  module _ (opening : Opening) (named : Option (List ℕ)) where
+    abbrev sends : (first second : List (List Item)) → Sending
+    sends first second = sending_with opening statics limits first second
+
+    abbrev after : (second first : List (List Item)) → ℕ
+    after second first = status_of_call (sends first second) peer
+
+    abbrev lines : List (List Item) → ℕ
+    lines second = with_lines (documents_within limits.session input) (after second)
+
+    zero_call : with_second store named lines ≡ 0
+        → IsCallInOrder store input peer opening named statics limits
+    zero_call is =
+        let two = zero_second lines store named is in
+        let one = zero_lines (after two.0) (documents_within limits.session input) two.2 in
+        let x = sends one.0 two.0 in
+        let count = zero_count opening.mode (one.0 ++ two.0) _ one.2 in
+        let fits = zero_sent x good peer (ack_along Awaited (heard_of x peer)) refl
+        (envelopes x (one.0 ++ two.0)) count.1 in record {
+          first = one.0;
+          second = two.0;
+          first_is = one.1;
+          second_is = two.1;
+          admitted = count.0;
+          sent = fits.0.0;
+          all_fit = fits.0.1;
+          ended = fits.1;
+        }
+
+    call_zero : IsCallInOrder store input peer opening named statics limits
+        → with_second store named lines ≡ 0
+    call_zero h =
+        let x = sends h.first h.second in
+        second_zero lines store named h.second h.second_is
+        (ap (λ read. with_lines read (after h.second)) h.first_is
+        ∙ count_zero opening.mode (h.first ++ h.second) _ h.admitted
+        (sent_zero x good peer (ack_along Awaited (heard_of x peer))
+        (envelopes x (h.first ++ h.second)) h.sent h.all_fit
+        (report_zero Whole (answers_to x) good peer h.ended)))
+
+  zero_task : (task : Task) → status_of_task store input peer task statics limits ≡ 0
+      → IsTaskInOrder store input peer task statics limits
+  zero_task (report detail origin) is =
+      zero_report detail (settings_for origin statics limits) good input is
+  zero_task (build opening) is = may_be_built (settings_for_building opening statics limits) input
+      (zero_input (input_offence opening statics limits input) is)
+  zero_task (replay serving) is =
+      let h = zero_actions store _ serving.actions is in
+      (h.0, zero_stream (settings_to_answer serving statics limits) good input h.1)
+  zero_task (serve listen connections serving) is =
+      let h = zero_actions store 0 serving.actions is in h.0
+  zero_task (call connect opening second) is = zero_call opening second is
+  zero_task (generate seed count) is = zero_made limits statics good (documents seed count) is
+
+  task_zero : FittingIsAccepted → (task : Task)
+      → IsTaskInOrder store input peer task statics limits
+      → status_of_task store input peer task statics limits ≡ 0
+  task_zero fitting (report detail origin) h =
+      report_zero detail (settings_for origin statics limits) good input h
+  task_zero fitting (build opening) h =
+      ap status_of_input (fitting (settings_for_building opening statics limits) input h)
+  task_zero fitting (replay serving) h = actions_zero store _ serving.actions h.0
+      (stream_zero (settings_to_answer serving statics limits) good input h.1)
+  task_zero fitting (serve listen connections serving) h =
+      actions_zero store 0 serving.actions h refl
+  task_zero fitting (call connect opening second) h = call_zero opening second h
+  task_zero fitting (generate seed count) h =
+      made_zero limits statics good (documents seed count) h
+
+pub zero_in_order : FittingIsAccepted → ZeroInOrder
+zero_in_order fitting store input peer asked good = (
+  (λ is.
+      let h = zero_file (λ statics. status_of_task store input peer asked.task statics asked.limits)
+      (file_in reading_statics store asked.statics) is in
+      (h.0, h.1, zero_task store input peer h.0 asked.limits good asked.task h.2)),
+  (λ h. file_zero (λ statics. status_of_task store input peer asked.task statics asked.limits)
+      (file_in reading_statics store asked.statics) h.0 h.1
+      (task_zero store input peer h.0 asked.limits good fitting asked.task h.2)),
+)

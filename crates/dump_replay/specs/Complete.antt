@@ -1,0 +1,183 @@
+-- The status of a run in which no I/O error occurs and memory suffices: it is determined by what
+-- the words ask for, the files on the shelf, the input, and what the peer of a call sends.
+use Rattle.std.specs.Prelude.{◌≡◌, ⊤, ℕ, ◌⊎◌, List, [], ◌∷◌, ◌++◌, length, ◌==◌, if◌then◌else◌}
+use Rattle.std.specs.Prelude.{Option, Some, None, Result, Ok, Err}
+use Rattle.std.specs.FinMap as finite
+use Rattle.io_edges.specs.Faults.{Rose}
+use Rattle.io_edges.specs.Store.{Store}
+use Rattle.io_edges.specs.Wires.{Network}
+use Rattle.shelf_files.specs.Files.{ShelfFile, bad, file_in, missing, whole}
+use Rattle.nbfx_values.specs.Limits.{Limits}
+use Rattle.nbfx_values.specs.declared.content.Item.{Item}
+use Rattle.nbfx_values.specs.declared.session.Mode.{Mode}
+use Rattle.nbfx_values.specs.declared.session.Mode.TheVariants.{Singleton}
+use Rattle.string_tables.specs.StaticStrings.{Entry}
+use Rattle.nbfx_encoder.specs.Envelopes.{UnfitAt}
+use Rattle.nbfx_encoder.specs.Placing.{Placed}
+use Rattle.stream_loop.specs.Edges.{Input}
+use Rattle.document_lines.specs.declared.InputFault.{InputFault}
+use Rattle.document_lists.specs.Documents.{documents_within}
+use Rattle.document_lists.specs.Files.{read_of}
+use Rattle.stream_reader.specs.Judging.{offence}
+use Rattle.stream_reader.specs.Stream.{Settings, any_initiators, initiators}
+use Rattle.session_report.specs.declared.reporter.Outcome.TheVariants.{Ended}
+use Rattle.session_report.specs.Report.{outcome}
+use Rattle.session_replay.specs.Responding.{reading_actions}
+use Rattle.session_generator.specs.Documents.{documents}
+use Rattle.session_generator.specs.Generated.{session_of}
+use Rattle.client.specs.declared.caller.Ack.{Ack}
+use Rattle.client.specs.declared.caller.Ack.TheVariants.{Awaited, Read}
+use Rattle.client.specs.Called.{ack_along, answers_to, heard_of}
+use Rattle.client.specs.Sent.{Sending, envelopes, sending}
+use Rattle.command_words.specs.Requests.{Asked, IsRequest}
+use Rattle.command_words.specs.Tasks.{Opening, Serving, Task, report, build, replay, serve, call}
+use Rattle.command_words.specs.Tasks.{generate}
+use Rattle.command_words.specs.declared.task.Detail.{Detail}
+use Rattle.command_words.specs.declared.task.Detail.TheVariants.{Whole}
+use Rattle.dump_replay.specs.Building.{status_of_input_fault}
+use Rattle.dump_replay.specs.Laws.{input_offence, status_of_input}
+use Rattle.dump_replay.specs.Outside.{Outside}
+use Rattle.dump_replay.specs.Running.{WhereAsked, status_of}
+use Rattle.dump_replay.specs.Statics.{reading_statics, settings_for}
+
+-- ---- files and lines
+
+-- a run goes on with what a file says, and ends with 6 where there is no such file
+abbrev pub with_file : {X K : Type 0} → ShelfFile X K → (X → ℕ) → ℕ
+with_file (whole says) next = next says
+with_file (bad row kind) next = 6
+with_file missing next = 6
+
+-- it goes on where the file of actions is read, if one is named
+abbrev pub with_actions : Store → Option (List ℕ) → (next : ℕ) → ℕ
+with_actions store None next = next
+with_actions store (Some name) next =
+    with_file (file_in reading_actions store name) (λ texts. next)
+
+-- it goes on with the documents of a file
+abbrev pub with_documents : Option (Result (List (List Item)) InputFault)
+    → (List (List Item) → ℕ) → ℕ
+with_documents (Some (Ok read)) next = next read
+with_documents (Some (Err fault)) next = 6
+with_documents None next = 6
+
+-- and with those of the second list, which is empty where none is named
+abbrev pub with_second : Store → Option (List ℕ) → (List (List Item) → ℕ) → ℕ
+with_second store None next = next []
+with_second store (Some name) next = with_documents (read_of (finite.get store name)) next
+
+-- and with those of the input
+abbrev pub with_lines : Result (List (List Item)) InputFault → (List (List Item) → ℕ) → ℕ
+with_lines (Ok read) next = next read
+with_lines (Err fault) next = status_of_input_fault fault
+
+-- ---- streams
+
+-- of a stream, by what is shown of it
+abbrev pub status_of_report : Detail → Settings → List ℕ → ℕ
+status_of_report detail x bytes = status_of (offence x bytes) (outcome detail x bytes)
+
+-- of an initiator's stream, which no Fault ends
+abbrev pub status_of_stream : Settings → List ℕ → ℕ
+status_of_stream x bytes = status_of (offence x bytes) Ended
+
+-- an initiator's stream, to the Via that is served alone or to any
+abbrev pub settings_to_answer : Serving → List Entry → Limits → Settings
+settings_to_answer serving statics limits =
+    record { side = initiators serving.endpoint; statics = statics; limits = limits }
+
+-- of the session that is made, all of whose documents fit
+abbrev pub status_of_made : Settings → Result (Placed (List ℕ)) UnfitAt → ℕ
+status_of_made x (Ok session) = status_of_stream x session.0
+status_of_made x (Err unfit) = 7
+
+-- ---- a call
+
+-- documents are sent behind the Ack alone, and then a document that doesn't fit goes before
+-- anything else
+abbrev pub unless_unfit : Ack → Result (Placed (List ℕ)) UnfitAt → (next : ℕ) → ℕ
+unless_unfit Awaited sent next = next
+unless_unfit Read (Ok sent) next = next
+unless_unfit Read (Err unfit) next = 7
+
+-- where so many documents may be sent in one session
+abbrev pub with_count : Mode → List (List Item) → (next : ℕ) → ℕ
+with_count Singleton sent next = if length sent == 1 then next else 6
+with_count mode sent next = next
+
+-- of a call with documents, by what the peer sends
+abbrev pub status_of_call : Sending → (peer : List ℕ) → ℕ
+status_of_call x peer = with_count x.mode x.documents
+    (unless_unfit (ack_along Awaited (heard_of x peer)) (envelopes x x.documents)
+    (status_of_report Whole (answers_to x) peer))
+
+-- what is sent in a call
+abbrev pub sending_with : Opening → List Entry → Limits → (first second : List (List Item))
+    → Sending
+sending_with opening statics limits first second =
+    sending limits statics opening.mode opening.kind (first ++ second)
+
+-- ---- all tasks
+
+module _ (store : Store) (input peer : List ℕ) where
+  abbrev pub status_of_task : Task → List Entry → Limits → ℕ
+  status_of_task (report detail origin) statics limits =
+      status_of_report detail (settings_for origin statics limits) input
+  status_of_task (build opening) statics limits =
+      status_of_input (input_offence opening statics limits input)
+  status_of_task (replay serving) statics limits = with_actions store serving.actions
+      (status_of_stream (settings_to_answer serving statics limits) input)
+  status_of_task (serve listen connections serving) statics limits =
+      with_actions store serving.actions 0
+  status_of_task (call connect opening second) statics limits =
+      with_second store second (λ behind. with_lines (documents_within limits.session input)
+      (λ first. status_of_call (sending_with opening statics limits first behind) peer))
+  status_of_task (generate seed count) statics limits =
+      status_of_made (any_initiators statics limits)
+      (session_of limits statics (documents seed count))
+
+  -- the status of a run that is asked for this
+  abbrev pub status_for : Asked → ℕ
+  status_for asked = with_file (file_in reading_statics store asked.statics)
+      (λ statics. status_of_task asked.task statics asked.limits)
+
+-- ---- where nothing of the outside fails
+
+-- A wire's next connection has a peer that sends these bytes, and no call of an end of a connection
+-- fails. The wire tells what moves over its connections.
+pub record AnswersCall {R K : Type 0} (reader : R → Input) (n n' : Network R K) (peer : List ℕ)
+    : Type 0 where
+  pub ends : R × K
+  pub more : List (R × K)
+  pub waiting : n.waiting ≡ Some (ends ∷ more)
+  pub sends : (reader ends.0).left ≡ Some peer
+  pub closed : List (List ℕ × List ℕ)
+  pub told : n.closed ≡ Some closed
+  pub ends_well : Rose n.end_faults n'.end_faults → ⊥
+
+-- a call's peer sends these bytes
+abbrev pub WherePeer : {R K : Type 0} → Task → (R → Input) → (n n' : Network R K) → (peer : List ℕ)
+    → Type 0
+WherePeer (call connect opening second) reader n n' peer = AnswersCall reader n n' peer
+WherePeer task reader n n' peer = ⊤
+
+-- The shelf holds these files, the input gives these bytes, and no count of I/O errors rose. The
+-- ends of a server's connections may have failed.
+pub record GoesWell {R K : Type 0} (reader : R → Input) (old new : Outside R K) (task : Task)
+    (store : Store) (input peer : List ℕ) : Type 0 where
+  pub files : old.shelf.files ≡ Some store
+  pub given : old.input.left ≡ Some input
+  pub fetched : Rose old.shelf.faults new.shelf.faults → ⊥
+  pub read : Rose old.input.faults new.input.faults → ⊥
+  pub written : Rose old.output.faults new.output.faults → ⊥
+  pub connected : Rose old.wire.faults new.wire.faults → ⊥
+  pub called : WherePeer task reader old.wire new.wire peer
+
+-- A run whose words are no request ends with 2, and one in which nothing of the outside fails with
+-- the status of what its words ask for; or with 5, out of memory.
+pub record IsComplete {R K : Type 0} (reader : R → Input) (words : List (List ℕ))
+    (old new : Outside R K) (status : ℕ) : Type 0 where
+  pub refused : WhereAsked words (λ asked. ⊥) → (status ≡ 2) ⊎ (status ≡ 5)
+  pub determined : (asked : Asked) (store : Store) (input peer : List ℕ) → IsRequest words asked
+      → GoesWell reader old new asked.task store input peer
+      → (status ≡ status_for store input peer asked) ⊎ (status ≡ 5)

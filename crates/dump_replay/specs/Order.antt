@@ -1,0 +1,74 @@
+-- What has to be in order for a run to end with 0: the files on the shelf, the input, and what the
+-- peer of a call sends.
+use Rattle.std.specs.Prelude.{◌≡◌, ◌↔◌, ⊤, ℕ, List, ◌++◌, Option, Some, None, Ok}
+use Rattle.io_edges.specs.Store.{Store}
+use Rattle.shelf_files.specs.Files.{file_in, whole}
+use Rattle.nbfx_values.specs.Limits.{IsGood, Limits}
+use Rattle.nbfx_values.specs.declared.content.Item.{Item}
+use Rattle.string_tables.specs.StaticStrings.{Entry}
+use Rattle.nbfx_encoder.specs.Placing.{Placed}
+use Rattle.action_dispatch.specs.Actions.{Texts}
+use Rattle.document_lines.specs.Laws.{MayBeBuilt}
+use Rattle.document_lists.specs.Documents.{documents_within}
+use Rattle.stream_reader.specs.Sessions.{IsClosed}
+use Rattle.session_ends.specs.Sent.{MayBeSent}
+use Rattle.session_replay.specs.Responding.{reading_actions}
+use Rattle.session_generator.specs.Documents.{documents}
+use Rattle.session_summary.specs.Summary.{IsWithinQuota}
+use Rattle.client.specs.Called.{answers_to}
+use Rattle.client.specs.Sent.{envelopes}
+use Rattle.command_words.specs.Requests.{Asked}
+use Rattle.command_words.specs.Tasks.{Opening, Task, report, build, replay, serve, call, generate}
+use Rattle.dump_replay.specs.Building.{settings_for_building}
+use Rattle.dump_replay.specs.Calling.{IsSecond}
+use Rattle.dump_replay.specs.Complete.{sending_with, settings_to_answer, status_for}
+use Rattle.dump_replay.specs.Reporting.{IsEnded}
+use Rattle.dump_replay.specs.Statics.{reading_statics, settings_for}
+
+module _ (store : Store) where
+  -- the file of actions is read, if one is named
+  abbrev pub HasActions : Option (List ℕ) → Type 0
+  HasActions None = ⊤
+  HasActions (Some name) = (texts : Texts) × (file_in reading_actions store name ≡ whole texts)
+
+  module _ (input peer : List ℕ) where
+    -- the documents of both lists are read, may be sent in one session and fit, and the peer ends
+    -- its session without a Fault
+    pub record IsCallInOrder (opening : Opening) (named : Option (List ℕ)) (statics : List Entry)
+        (limits : Limits) : Type 0 where
+      pub first : List (List Item)
+      pub second : List (List Item)
+      pub first_is : documents_within limits.session input ≡ Ok first
+      pub second_is : IsSecond (Some store) named second
+      pub admitted : MayBeSent opening.mode (first ++ second)
+      pub sent : Placed (List ℕ)
+      pub all_fit : envelopes (sending_with opening statics limits first second) (first ++ second)
+          ≡ Ok sent
+      pub ended : IsEnded (answers_to (sending_with opening statics limits first second)) peer
+
+    -- by the task, with these static strings: a session closes a stream that is reported, without a
+    -- Fault; lines that are written are those of documents that fit, fewer bytes than the session
+    -- quota; a session closes a stream that is answered; one that is made is within its quota
+    abbrev pub IsTaskInOrder : Task → List Entry → Limits → Type 0
+    IsTaskInOrder (report detail origin) statics limits =
+        IsEnded (settings_for origin statics limits) input
+    IsTaskInOrder (build opening) statics limits =
+        MayBeBuilt (settings_for_building opening statics limits) input
+    IsTaskInOrder (replay serving) statics limits = HasActions serving.actions
+        × IsClosed (settings_to_answer serving statics limits) input
+    IsTaskInOrder (serve listen connections serving) statics limits = HasActions serving.actions
+    IsTaskInOrder (call connect opening second) statics limits =
+        IsCallInOrder opening second statics limits
+    IsTaskInOrder (generate seed count) statics limits =
+        IsWithinQuota limits statics (documents seed count)
+
+    -- the file of static strings is read too
+    abbrev pub IsInOrder : Asked → Type 0
+    IsInOrder asked = (statics : List Entry)
+        × (file_in reading_statics store asked.statics ≡ whole statics)
+        × IsTaskInOrder asked.task statics asked.limits
+
+-- The status that is determined is 0 exactly where all is in order.
+abbrev pub ZeroInOrder : Type 0
+ZeroInOrder = (store : Store) (input peer : List ℕ) (asked : Asked) → IsGood asked.limits
+    → (status_for store input peer asked ≡ 0) ↔ IsInOrder store input peer asked
