@@ -1,0 +1,131 @@
+"""Runs of the program in which one allocation fails, or one write.
+
+What lets it fail is a library that is loaded before the C library. It also counts what was asked
+for, and what wasn't given back.
+"""
+
+import os
+import subprocess
+
+from sockets import PROGRAM, SECONDS
+
+# More than any run asks for.
+AMPLE = 1_000_000
+OUT_OF_MEMORY = (5, b"out of memory\n")
+# Fails the call with a number, from 1, of all that ask for memory, and writes at the end how many
+# did, and how many more gave memory than gave it back. Fails the write of the output with a number,
+# if there is one, and writes how many there were; reads at most so many bytes at a time.
+SHIM = r"""
+#define _GNU_SOURCE
+#include <dlfcn.h>
+#include <fcntl.h>
+#include <stdio.h>
+#include <errno.h>
+#include <stdlib.h>
+#include <unistd.h>
+static long calls, wanted, live, writes;
+__attribute__((destructor)) static void tell(void) {
+    long told = calls, kept = live, put = writes;
+    int file = open(getenv("ALLOCATIONS"), O_WRONLY | O_CREAT | O_TRUNC, 0600);
+    dprintf(file, "%ld %ld %ld", told, kept, put);
+}
+static long told_by(const char *name) {
+    const char *text = getenv(name);
+    return text ? atol(text) : 0;
+}
+ssize_t write(int file, const void *bytes, size_t n) {
+    static ssize_t (*next)(int, const void *, size_t);
+    if (!next) next = dlsym(RTLD_NEXT, "write");
+    if (file == 1 && ++writes == told_by("FAIL_WRITE")) {
+        errno = EIO;
+        return -1;
+    }
+    return next(file, bytes, n);
+}
+ssize_t read(int file, void *bytes, size_t n) {
+    static ssize_t (*next)(int, void *, size_t);
+    size_t most = told_by("MOST_READ");
+    if (!next) next = dlsym(RTLD_NEXT, "read");
+    return next(file, bytes, file == 0 && most && most < n ? most : n);
+}
+static int fails(void) {
+    if (!wanted) wanted = atol(getenv("FAIL_ALLOCATION"));
+    return ++calls == wanted;
+}
+static void *given(void *p) {
+    if (p) live++;
+    return p;
+}
+void *malloc(size_t n) {
+    static void *(*next)(size_t);
+    if (!next) next = dlsym(RTLD_NEXT, "malloc");
+    return fails() ? 0 : given(next(n));
+}
+void *realloc(void *p, size_t n) {
+    static void *(*next)(void *, size_t);
+    if (!next) next = dlsym(RTLD_NEXT, "realloc");
+    if (fails()) return 0;
+    return p ? next(p, n) : given(next(p, n));
+}
+void *aligned_alloc(size_t a, size_t n) {
+    static void *(*next)(size_t, size_t);
+    if (!next) next = dlsym(RTLD_NEXT, "aligned_alloc");
+    return fails() ? 0 : given(next(a, n));
+}
+int posix_memalign(void **p, size_t a, size_t n) {
+    static int (*next)(void **, size_t, size_t);
+    if (!next) next = dlsym(RTLD_NEXT, "posix_memalign");
+    if (fails()) return 12;
+    int failed = next(p, a, n);
+    if (!failed) live++;
+    return failed;
+}
+void free(void *p) {
+    static void (*next)(void *);
+    if (!next) next = dlsym(RTLD_NEXT, "free");
+    if (p) live--;
+    next(p);
+}
+"""
+
+
+class Shim:
+    """The library, built in a folder, and what it counted in the last run."""
+
+    def __init__(self, folder):
+        source = os.path.join(folder, "shim.c")
+        self.library = os.path.join(folder, "shim.so")
+        with open(source, "w") as file:
+            file.write(SHIM)
+        words = ["cc", "-shared", "-fPIC", "-O1", "-o", self.library, source, "-ldl"]
+        subprocess.run(words, check=True)
+
+    def told(self, number, more={}):
+        """The environment of a run in which this allocation fails."""
+        counts = self.library + ".calls"
+        if os.path.exists(counts):
+            os.remove(counts)
+        return {
+            "LD_PRELOAD": self.library,
+            "FAIL_ALLOCATION": str(number),
+            "ALLOCATIONS": counts,
+            **more,
+        }
+
+    def ended(self, words, stream, number, more={}):
+        """The status, output and note of a run in which this allocation fails."""
+        how = {"input": stream, "capture_output": True, "timeout": SECONDS}
+        try:
+            ran = subprocess.run([PROGRAM] + words, env=self.told(number, more), **how)
+        except subprocess.TimeoutExpired:
+            return "hangs", b"", b""
+        return ran.returncode, ran.stdout, ran.stderr
+
+    def counts(self):
+        """How many allocations the last run asked for, how many were still there at its end, and
+        how many writes there were. A run that was killed counts nothing."""
+        try:
+            with open(self.library + ".calls") as file:
+                return [int(number) for number in file.read().split()]
+        except FileNotFoundError:
+            return [0, 0, 0]

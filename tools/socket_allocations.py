@@ -1,0 +1,237 @@
+"""`serve` and `call` over this machine's sockets, with each allocation failing in turn."""
+
+import functools
+import os
+import re
+import select
+import socket
+import subprocess
+import tempfile
+
+from allocations import AMPLE, OUT_OF_MEMORY
+from sockets import HOST, PROGRAM, SECONDS, VIA
+from sockets import connected, documents, free_port, place, read_all, run
+
+INTO_FULL_DEVICE = (4, b"", b"write fault\n")
+OUTPUT_AND_MEMORY = (5, b"", b"out of memory\n")
+LINE = re.compile(rb"connection \d+ messages \d+ answers \d+ in (ended|memory) out (done|memory)\n")
+SENT = re.compile(rb"sent (\d+) tags (a*b*|-)\n\Z")
+
+
+def wait_to_end(started):
+    """The status, the output and the note of a program, which is killed where it doesn't end."""
+    try:
+        output, note = started.communicate(timeout=SECONDS)
+    except subprocess.TimeoutExpired:
+        started.kill()
+        output, note = started.communicate()
+        return "hangs", output, note
+    return started.returncode, output or b"", note
+
+
+def started_with(environment, words, stdin=subprocess.DEVNULL, output=subprocess.PIPE):
+    ends = {"stdin": stdin, "stdout": output, "stderr": subprocess.PIPE}
+    return subprocess.Popen([PROGRAM] + words, env=environment, **ends)
+
+
+def asked(started, port, stream):
+    """What the server answers to a client that sends this."""
+    connection = connected(started, port)
+    if connection is None:
+        return b""
+    with connection:
+        return exchanged(connection, stream)
+
+
+def exchanged(connection, stream):
+    """What a peer sends to whom sends this and no more."""
+    try:
+        connection.sendall(stream)
+        connection.shutdown(socket.SHUT_WR)
+    except OSError:
+        pass
+    return read_all(connection)
+
+
+def serve(shim, words, streams, number):
+    """How `serve` of a connection for each stream ends, and what answers each of them."""
+    port = free_port()
+    words = ["serve", *words, "--listen", place(port), "--connections", str(len(streams))]
+    started = started_with(shim.told(number), words)
+    answers = [asked(started, port, stream) for stream in streams]
+    return *wait_to_end(started), answers
+
+
+def call(shim, words, lines, replies, number, output=subprocess.PIPE):
+    """How `call` with these lines ends, and what it sends to a service that replies so."""
+    with socket.create_server((HOST, 0)) as server, tempfile.TemporaryFile() as stdin:
+        stdin.write(lines)
+        stdin.seek(0)
+        words = ["call", *words, "--connect", place(server.getsockname()[1])]
+        started = started_with(shim.told(number), words, stdin, output)
+        received = replied(server, started, replies)
+        return *wait_to_end(started), received
+
+
+def replied(server, started, replies):
+    """What one client sends, which gets these replies. Without a connection it is nothing."""
+    end = os.pidfd_open(started.pid)
+    try:
+        select.select([server, end], [], [], SECONDS)
+    finally:
+        os.close(end)
+    if not select.select([server], [], [], 0)[0]:
+        return b""
+    connection, _ = server.accept()
+    with connection:
+        connection.settimeout(SECONDS)
+        return exchanged(connection, replies)
+
+
+def may_serve(whole, ended):
+    """Whether a server that wanted memory once may end so, where it else ends as the first does.
+
+    Either the line of one connection at most says that there was no memory, and its client got
+    first bytes of the answer; or the server stopped, after the lines of connections that were
+    answered in full.
+    """
+    status, output, note, answers = ended
+    _, all_lines, _, right = whole
+    lines, due = output.splitlines(True), all_lines.splitlines(True)
+    if any(not full.startswith(answer) for full, answer in zip(right, answers)):
+        return False
+    if (status, note) == OUT_OF_MEMORY:
+        return due[:len(lines)] == lines and answers[:len(lines)] == right[:len(lines)]
+    other = [at for at, line in enumerate(due) if lines[at:at + 1] != [line]]
+    well = [at for at in range(len(due)) if at not in other]
+    return (
+        (status, note, len(lines)) == (0, b"", len(due))
+        and len(other) <= 1
+        and all(LINE.fullmatch(lines[at]) and b" memory" in lines[at] for at in other)
+        and all(answers[at] == right[at] for at in well)
+    )
+
+
+def call_into_full_device(shim, words, lines, replies, number):
+    """The same where the standard output is full."""
+    with open("/dev/full", "wb") as full:
+        return call(shim, words, lines, replies, number, full)
+
+
+def may_call(fronts):
+    """The same of a call, whose session has these fronts: the opening, each envelope, and End.
+
+    It has status 5 and the first bytes of the report. Where it says how many documents were sent,
+    the service received just these.
+    """
+    def may_end(whole, ended):
+        status, output, note, received = ended
+        sent, all_sent = SENT.search(output), SENT.search(whole[1])
+        report = output[:sent.start()] if sent else output
+        if (status, note) != OUT_OF_MEMORY or not whole[1][:all_sent.start()].startswith(report):
+            return False
+        if not sent:
+            return fronts[-1].startswith(received)
+        count = int(sent[1])
+        due = [fronts[count]] + [b""] * (count == 0) + fronts[-1:] * (sent[1] == all_sent[1])
+        return sent[2] == (all_sent[2][:count] or b"-") and received in due
+    return may_end
+
+
+def fronts_of(statics, words, lines):
+    """The fronts of a session of these documents: the opening, each envelope, and End."""
+    words = ["build"] + statics + words
+    built = [run(words, b"".join(lines[:count]))[1] for count in range(len(lines) + 1)]
+    # In singleton mode no session is without a document, and what is built of it has no End.
+    return [session.removesuffix(b"\x07") for session in built] + built[-1:]
+
+
+def file_of(folder, name, content):
+    path = os.path.join(folder, name)
+    with open(path, "wb") as file:
+        file.write(content)
+    return path
+
+
+def document_of(statics, stream):
+    """The lines of the one document of a session."""
+    return documents(run(["dump"] + statics, stream)[1])
+
+
+def two_of(statics, stream):
+    """The lines of that document, and of another one that brings a longer name."""
+    one = document_of(statics, stream)
+    return [one, one.replace(b'start "" "x"', b'start "" "aNameOfMoreThanSixteen"')]
+
+
+def server_plans(shim, folder, statics, two):
+    # One allocation fails, so that one of two connections is answered in full.
+    streams = fronts_of(statics, ["--via=" + VIA], two)[-1:] * 2
+    texts = file_of(folder, "texts.csv", b"action,text\nurn:echo,aTextOfMoreThanSixteenBytes\n")
+    for name, words in (("the echo", []), ("texts", ["--actions=" + texts])):
+        yield "serve with " + name, functools.partial(serve, shim, statics + words, streams)
+
+
+def call_plans(shim, folder, statics, two):
+    for mode, encoding, given, more in (
+        ("duplex", 8, two, []),
+        ("simplex", 8, two, []),
+        ("singleton", 7, two[:1], []),
+        ("duplex", 8, two[:1], two[1:]),
+    ):
+        words = ["--via=" + VIA, "--mode=" + mode, "--encoding=%d" % encoding]
+        fronts = fronts_of(statics, words, given + more)
+        replies = run(["replay"] + statics, fronts[-1])[1]
+        words += ["--second=" + file_of(folder, "second", it) for it in more]
+        call_so = (shim, statics + words, b"".join(given), replies)
+        name = "call in %s mode, %d documents and %d" % (mode, len(given), len(more))
+        yield name, functools.partial(call, *call_so), may_call(fronts)
+    # Want of memory goes before a failed write.
+    yield (
+        "call into a full device",
+        functools.partial(call_into_full_device, *call_so),
+        lambda _, ended: ended[:3] == OUTPUT_AND_MEMORY and fronts[-1].startswith(ended[3]),
+    )
+
+
+def plans(shim, folder, statics, stream):
+    """The name of each kind of run, a run in which the allocation with a number fails, and whether
+    it may end so, beside one with ample memory. The stream is a session of a call."""
+    two = two_of(statics, stream)
+    for name, serving in server_plans(shim, folder, statics, two):
+        yield name, serving, may_serve
+    yield from call_plans(shim, folder, statics, two)
+
+
+def many(shim, statics, stream):
+    """The name of a run of many connections, and of one of many documents, how it ends, and how
+    many allocations it leaves."""
+    ended = serve(shim, statics, [stream] * 40, AMPLE)
+    yield "serve of 40 connections", ended, shim.counts()[1]
+    lines, words = document_of(statics, stream) * 60, ["--via=" + VIA]
+    replies = run(["replay"] + statics, run(["build"] + statics + words, lines)[1])[1]
+    ended = call(shim, statics + words, lines, replies, AMPLE)
+    yield "call of 60 documents", ended, shim.counts()[1]
+
+
+def tried(shim, name, run_failing, may_end):
+    """How many runs there were, how many ended for want of memory, and how many wrongly.
+
+    The allocation that fails is each in turn, until a run asks for fewer: that ends as with ample
+    memory, whose run may ask for some more or fewer, by the pieces in which bytes come.
+    """
+    whole = run_failing(AMPLE)
+    if whole[0] and whole[:3] != INTO_FULL_DEVICE:
+        raise SystemExit("%s: with ample memory %r" % (name, whole))
+    runs = wanting = wrong = 0
+    failed = True
+    while failed:
+        runs += 1
+        ended = run_failing(runs)
+        asked_for, live, _ = shim.counts()
+        failed = runs <= asked_for
+        wanting += ended != whole
+        if not (ended == whole or failed and may_end(whole, ended)) or live:
+            wrong += 1
+            print("%s, allocation %d of %d: %r, %d live" % (name, runs, asked_for, ended, live))
+    return runs, wanting, wrong

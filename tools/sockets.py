@@ -1,0 +1,108 @@
+"""What the scripts that go over this machine's sockets share."""
+
+import os
+import random
+import socket
+import subprocess
+import time
+
+ROOT = os.path.dirname(os.path.dirname(os.path.realpath(__file__)))
+PROGRAM = os.path.join(ROOT, "crates", "nettcp", "out", "nettcp")
+STATICS = ["--static", os.path.join(ROOT, "samples", "mc-nbfs.csv")]
+SAMPLES = os.path.join(ROOT, "samples")
+VIA = "net.tcp://h/e"
+HOST = "127.0.0.1"
+# How long a run may take, and a peer that is waited for.
+SECONDS = 20
+# How often it is looked whether a server listens.
+MOMENT = 0.002
+
+
+def free_port():
+    """A port that nobody has, of those that the system doesn't give to clients by itself."""
+    while True:
+        port = random.randrange(20_000, 32_000)
+        try:
+            socket.create_server((HOST, port)).close()
+        except OSError:
+            continue
+        return port
+
+
+def place(port):
+    return "%s:%d" % (HOST, port)
+
+
+def listens(port):
+    """Whether somebody of this machine listens at this port."""
+    for table in ("/proc/net/tcp", "/proc/net/tcp6"):
+        if os.path.exists(table):
+            with open(table) as rows:
+                places = [row.split() for row in list(rows)[1:]]
+            if any(row[1].endswith(":%04X" % port) and row[3] == "0A" for row in places):
+                return True
+    return False
+
+
+def wait_for(started, port):
+    """Whether the server listens, found out without a connection, which would count as one. Else it
+    ended, or takes too long."""
+    until = time.monotonic() + SECONDS
+    while not listens(port):
+        if started.poll() is not None or time.monotonic() > until:
+            return False
+        time.sleep(MOMENT)
+    return True
+
+
+def connected(started, port):
+    """A connection to a server that may only be about to listen, or None where it ended before."""
+    until = time.monotonic() + SECONDS
+    while time.monotonic() < until:
+        try:
+            connection = socket.create_connection((HOST, port), timeout=SECONDS)
+        except ConnectionRefusedError:
+            if started.poll() is not None:
+                return None
+            time.sleep(MOMENT)
+        else:
+            connection.setsockopt(socket.IPPROTO_TCP, socket.TCP_NODELAY, 1)
+            return connection
+    return None
+
+
+def pieces(connection):
+    """What a peer sends until it ends or breaks off."""
+    try:
+        while piece := connection.recv(262144):
+            yield piece
+    except OSError:
+        pass
+
+
+def read_all(connection):
+    return b"".join(pieces(connection))
+
+
+def serving(port, connections, words=(), **how):
+    """`serve` of so many connections at this port, just started."""
+    words = ["--listen", place(port), "--connections", str(connections), *words]
+    how = {"stdin": subprocess.DEVNULL, "stdout": subprocess.PIPE, **how}
+    return subprocess.Popen([PROGRAM, "serve", *STATICS, *words], **how)
+
+
+def run(words, stream=b"", output=subprocess.PIPE):
+    """The status, the output and the note of the program, or None where it doesn't end."""
+    how = {"input": stream, "stdout": output, "stderr": subprocess.PIPE, "timeout": SECONDS}
+    try:
+        ran = subprocess.run([PROGRAM] + words, **how)
+    except subprocess.TimeoutExpired:
+        return None
+    return ran.returncode, ran.stdout or b"", ran.stderr
+
+
+def documents(dumped):
+    """The lines of the documents of a session, out of what `dump` prints of it."""
+    others = (b"open", b"accepted", b"message", b"ended")
+    lines = dumped.splitlines(True)
+    return b"".join(line for line in lines if line.split()[0] not in others)
