@@ -7,7 +7,7 @@ use Rattle.std.proofs.lemmas.Bool.{cases_lt}
 use Rattle.std.proofs.lemmas.List.{take_all, take-append-le}
 use Rattle.io_edges.specs.Faults.{CountsFaults, Rose}
 use Rattle.io_edges.specs.Flow.{Told, GrowsByPrefix, Passes}
-use Rattle.io_edges.specs.Puts.{PutsAll}
+use Rattle.io_edges.specs.Puts.{PutsAll, PutsSome}
 use Rattle.io_edges.specs.declared.SinkFault.{SinkFault}
 use Rattle.io_edges.specs.declared.SinkFault.TheVariants.{Failed, Memory}
 
@@ -194,3 +194,79 @@ pub flush_refused : (result : Result (Unit {0}) SinkFault) {w w1 : Option (List 
     → OnErr result (Told w w1 (λ w w'. GrowsByPrefix w w' h))
 flush_refused (Ok u) p = tt
 flush_refused (Err fault) p = rw append-nil at p.refused
+
+counted_for : (f f1 : ℕ) {P Q : Type 0} → CountsFaults f f1 P → (Q → P) → (P → Q)
+    → CountsFaults f f1 Q
+counted_for f f1 h to back = record {
+  rose = λ q. h.rose (to q);
+  same = λ no. h.same (λ p. no (back p));
+  grows = h.grows;
+}
+
+-- the fault of a failed call, whatever it answers else
+error_of : {A : Type 0} (fault other : SinkFault) (a : Result A SinkFault) → a ≡ Err fault
+    → a ≡ Err other → fault ≡ other
+error_of fault other a is also = cc
+
+-- a put in parts is one of the bytes that it took, or of none
+pub some_taken : {bytes : List ℕ} {n : ℕ} {w w1 : Option (List ℕ)} {h h1 : List ℕ} {f f1 : ℕ}
+    {m m1 : Bool} → PutsSome bytes (Ok n) w w1 h h1 f f1 m m1
+    → PutsAll (take n bytes) (Ok tt) w w1 h h1 f f1 m m1
+some_taken {f = f} {f1 = f1} p = record {
+  written = p.written;
+  refused = tt;
+  dropped = tt;
+  counted = counted_for f f1 p.counted (λ e. cc) (λ e. cc);
+  wanted = λ e. cc;
+  settled = p.settled;
+}
+
+pub none_taken : {bytes : List ℕ} {fault : SinkFault} {w w1 : Option (List ℕ)} {h h1 : List ℕ}
+    {f f1 : ℕ} {m m1 : Bool} → PutsSome bytes (Err fault) w w1 h h1 f f1 m m1
+    → PutsAll [] (Err fault) w w1 h h1 f f1 m m1
+none_taken {fault = fault} {f = f} {f1 = f1} p = record {
+  written = tt;
+  refused = rw append-nil p.refused;
+  dropped = p.dropped;
+  counted = counted_for f f1 p.counted (λ e. ap Err (error_of fault Failed (Err fault) refl e))
+      (λ e. ap Err (error_of fault Failed (Err fault) refl e));
+  wanted = λ e. p.wanted (ap Err (error_of fault Memory (Err fault) refl e));
+  settled = p.settled;
+}
+
+some_of : {bytes : List ℕ} {n : ℕ} {w w1 : Option (List ℕ)} {h h1 : List ℕ} {f f1 : ℕ}
+    {m m1 : Bool} → PutsAll (take n bytes) (Ok tt) w w1 h h1 f f1 m m1
+    → PutsSome bytes (Ok n) w w1 h h1 f f1 m m1
+some_of {f = f} {f1 = f1} p = record {
+  written = p.written;
+  refused = tt;
+  dropped = tt;
+  counted = counted_for f f1 p.counted (λ e. cc) (λ e. cc);
+  wanted = λ e. cc;
+  settled = p.settled;
+}
+
+pub none_of : {bytes : List ℕ} {fault : SinkFault} {w w1 : Option (List ℕ)} {h h1 : List ℕ}
+    {f f1 : ℕ} {m m1 : Bool} → PutsAll [] (Err fault) w w1 h h1 f f1 m m1
+    → PutsSome bytes (Err fault) w w1 h h1 f f1 m m1
+none_of {fault = fault} {f = f} {f1 = f1} p = record {
+  written = tt;
+  refused = rw append-nil at p.refused;
+  dropped = p.dropped;
+  counted = counted_for f f1 p.counted (λ e. ap Err (error_of fault Failed (Err fault) refl e))
+      (λ e. ap Err (error_of fault Failed (Err fault) refl e));
+  wanted = λ e. p.wanted (ap Err (error_of fault Memory (Err fault) refl e));
+  settled = p.settled;
+}
+
+-- a put in parts behind what stood in a room, in which nothing stands then
+pub some_behind : {bytes : List ℕ} (h room : List ℕ) (result : Result ℕ SinkFault)
+    {w w1 w2 : Option (List ℕ)} {h1 h2 : List ℕ} {f f1 f2 : ℕ} {m m1 m2 : Bool}
+    → PutsAll [] (Ok tt) w w1 (h ++ room) (h1 ++ []) f f1 m m1
+    → PutsSome bytes result w1 w2 h1 h2 f1 f2 m1 m2
+    → PutsSome bytes result w w2 (h ++ room) (h2 ++ []) f f2 m m2
+some_behind {bytes = bytes} h room (Ok n) before p =
+    some_of (PutsAll-then {a = []} {b = take n bytes} (Ok tt) before
+    (beside_no_room (some_taken p)))
+some_behind h room (Err fault) before p =
+    none_of (PutsAll-then {a = []} {b = []} (Err fault) before (beside_no_room (none_taken p)))

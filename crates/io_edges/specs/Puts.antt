@@ -1,6 +1,6 @@
 -- What is put to a sink, in one call or in several.
-use Rattle.std.specs.Prelude.{◌≡◌, ℕ, List, [], ◌++◌, Bool, true, Option, Result, OnOk, OnErr}
-use Rattle.std.specs.Prelude.{IsErrOf}
+use Rattle.std.specs.Prelude.{◌≡◌, ℕ, List, [], ◌++◌, take, Bool, true, Option, Result, IfOk}
+use Rattle.std.specs.Prelude.{OnOk, OnErr, IsErrOf}
 use Rattle.io_edges.specs.Faults.{CountsFaults}
 use Rattle.io_edges.specs.Flow.{Told, GrowsByPrefix, Passes}
 use Rattle.io_edges.specs.declared.SinkFault.{SinkFault}
@@ -29,4 +29,21 @@ abbrev pub Adds : {S : Type 0} → (S → Option (List ℕ)) → (S → List ℕ
     → S → S → (room room' : List ℕ) → List ℕ → Result (Unit {0}) SinkFault → Type 0
 Adds written held faults may_want old new room room' bytes result =
     PutsAll bytes result (written old) (written new) (held old ++ room) (held new ++ room')
+    (faults old) (faults new) (may_want old) (may_want new)
+
+-- first bytes of these were put as one put of them puts them; or none, and the call failed
+pub record PutsSome (bytes : List ℕ) (result : Result ℕ SinkFault) (w w' : Option (List ℕ))
+    (h h' : List ℕ) (f f' : ℕ) (m m' : Bool) : Type 0 where
+  pub written : IfOk result (λ n. Told w w' (λ w w'. Passes w w' h h' (take n bytes)))
+  pub refused : OnErr result (Told w w' (λ w w'. GrowsByPrefix w w' h))
+  pub dropped : OnErr result (h' ≡ [])
+  pub counted : CountsFaults f f' (IsErrOf result Failed)
+  pub wanted : IsErrOf result Memory → m ≡ true
+  pub settled : m' ≡ m
+
+-- the same of bytes that were added behind those in a room
+abbrev pub AddsSome : {S : Type 0} → (S → Option (List ℕ)) → (S → List ℕ) → (S → ℕ) → (S → Bool)
+    → S → S → (room room' : List ℕ) → List ℕ → Result ℕ SinkFault → Type 0
+AddsSome written held faults may_want old new room room' bytes result =
+    PutsSome bytes result (written old) (written new) (held old ++ room) (held new ++ room')
     (faults old) (faults new) (may_want old) (may_want new)

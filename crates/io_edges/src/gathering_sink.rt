@@ -1,7 +1,7 @@
 //! A sink that gathers what is put to it, and puts it on by few calls.
 
-ghost use Rattle.std.specs.Prelude.{◌≡◌, ◌≤◌, ◌+◌, ◌++◌, [], length, take, vec_len, IfOk, IsOk, OnErr};
-ghost use Rattle.io_edges.specs.Puts.{Adds};
+ghost use Rattle.std.specs.Prelude.{◌≡◌, ◌≤◌, ◌<◌, ◌+◌, ◌++◌, [], length, take, vec_len, IfOk, IsOk, OnErr};
+ghost use Rattle.io_edges.specs.Puts.{Adds, AddsSome};
 
 use crate::{Sink, SinkFault};
 use std::alloc::{AllocError, Global};
@@ -67,6 +67,30 @@ fn gather_anew<K: Sink>(
         return Ok(());
     }
     sink.put(bytes)
+}
+
+// The same, with first bytes of the others, where all are too many for the room.
+#[inline(never)]
+fn gather_some<K: Sink>(
+    bytes: &[u8],
+    room: &mut [u8],
+    used: &mut usize,
+    sink: &mut K,
+) -> Result<usize, SinkFault>
+    requires { used.old ≤ length room.old }
+    ensures within { IfOk result (λ n. n ≤ length bytes.now) }
+    ensures some { IfOk result (λ n. 0 < length bytes.now → 0 < n) }
+    ensures adds { AddsSome K.written K.held K.faults K.may_want sink.old sink.new
+        (take used.old room.old) (take used.new room.new) bytes.now result }
+    ensures used { used.new ≤ length room.new }
+    ensures room { length room.new ≡ length room.old }
+{
+    put_gathered(room, used, sink)?;
+    if bytes.len() <= room.len() {
+        keep(bytes, room, used);
+        return Ok(bytes.len());
+    }
+    sink.put_some(bytes)
 }
 
 /// A sink that buffers what is put to it, and puts it to the inner sink when the buffer has no
@@ -147,6 +171,20 @@ impl<K: Sink> Sink for GatheringSink<K> {
             return Ok(());
         }
         gather_anew(bytes, &mut self.room, &mut self.used, &mut self.sink)
+    }
+
+    fn put_some(&mut self, bytes: &[u8]) -> Result<usize, SinkFault>
+        ensures within { IfOk result (λ n. n ≤ length bytes.now) }
+        ensures some { IfOk result (λ n. 0 < length bytes.now → 0 < n) }
+        ensures adds { AddsSome K.written K.held K.faults K.may_want self.old.sink self.new.sink
+            self.old.gathered self.new.gathered bytes.now result }
+        ensures room { self.new.room ≡ self.old.room }
+    {
+        if bytes.len() <= self.room.len() - self.used {
+            keep(bytes, &mut self.room, &mut self.used);
+            return Ok(bytes.len());
+        }
+        gather_some(bytes, &mut self.room, &mut self.used, &mut self.sink)
     }
 
     fn flush(&mut self) -> Result<(), SinkFault>

@@ -133,6 +133,22 @@ pub trait Sink {
         ensures wanted { IsErrOf result SinkFault.Memory → may_want self.old ≡ true }
         ensures settled { may_want self.new ≡ may_want self.old };
 
+    /// Takes first bytes of the piece, after what is held: at least one, where there is one. Answers
+    /// how many. A refusal takes none of them. It may have written the first bytes of what is held,
+    /// and drops the others.
+    fn put_some(&mut self, bytes: &[u8]) -> Result<usize, SinkFault>
+        ensures within { IfOk result (λ n. n ≤ length bytes.now) }
+        ensures some { IfOk result (λ n. 0 < length bytes.now → 0 < n) }
+        ensures written { IfOk result (λ n. Told (written self.old) (written self.new)
+            (λ w w'. Passes w w' (held self.old) (held self.new) (take n bytes.now))) }
+        ensures refused { OnErr result (Told (written self.old) (written self.new)
+            (λ w w'. GrowsByPrefix w w' (held self.old))) }
+        ensures dropped { OnErr result (held self.new ≡ []) }
+        ensures counted { CountsFaults (faults self.old) (faults self.new)
+            (IsErrOf result SinkFault.Failed) }
+        ensures wanted { IsErrOf result SinkFault.Memory → may_want self.old ≡ true }
+        ensures settled { may_want self.new ≡ may_want self.old };
+
     /// Writes what is held. A refusal may have written the first bytes of it, and drops the others.
     fn flush(&mut self) -> Result<(), SinkFault>
         ensures written { OnOk result (Told (written self.old) (written self.new)

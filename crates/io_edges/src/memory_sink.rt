@@ -1,6 +1,6 @@
 //! A sink in memory, whose calls fail as planned.
 
-ghost use Rattle.std.specs.Prelude.{◌≡◌, ◌<◌, ◌^◌, ◌++◌, [], take, true, false, Some, OnOk, IsOk, IsErrOf};
+ghost use Rattle.std.specs.Prelude.{◌≡◌, ◌<◌, ◌≤◌, ◌^◌, ◌++◌, [], length, take, true, false, Some, OnOk, OnErr, IfOk, IsOk, IsErrOf};
 ghost use Rattle.io_edges.specs.Plan.{is_due, counted, after_call};
 ghost use Rattle.io_edges.specs.InMemory.{new_sink};
 
@@ -27,7 +27,8 @@ impl Model for MemorySink {
 
 impl MemorySink {
     /// The puts whose numbers, from 0, are in `failing` fail. Each of them writes the first `kept`
-    /// bytes of its piece, or all where it is shorter. A put that wants memory writes nothing.
+    /// bytes of its piece, or all where it is shorter. A put that wants memory writes nothing. Of
+    /// puts in parts, the last one before a failing one writes these first bytes.
     pub fn new(alloc: Global, failing: Vec<u64>, kept: usize) -> MemorySink
         ensures { result ≡ new_sink failing.items kept }
     {
@@ -91,6 +92,41 @@ impl Sink for MemorySink {
             return Err(SinkFault::Failed);
         }
         Ok(())
+    }
+
+    // A call that is to fail first takes the bytes that it keeps, once, and fails at the next try.
+    fn put_some(&mut self, bytes: &[u8]) -> Result<usize, SinkFault>
+        ensures within { IfOk result (λ n. n ≤ length bytes.now) }
+        ensures some { IfOk result (λ n. 0 < length bytes.now → 0 < n) }
+        ensures written { IfOk result
+            (λ n. self.new.written ≡ self.old.written ++ take n bytes.now) }
+        ensures refused { OnErr result (self.new.written ≡ self.old.written) }
+        ensures failed { IsErrOf result SinkFault.Failed
+            → (is_due self.old.plan ≡ true) × (self.new.plan ≡ after_call self.old.plan) }
+        ensures passed { (IsErrOf result SinkFault.Failed → ⊥)
+            → self.new.plan.faults ≡ self.old.plan.faults }
+        ensures faults { self.old.plan.faults < 2 ^ 64 }
+    {
+        let is_due = self.plan.is_due();
+        let most = if is_due {
+            self.kept.min(bytes.len())
+        } else {
+            bytes.len()
+        };
+        if is_due && most == 0 {
+            self.plan.count(true);
+            return Err(SinkFault::Failed);
+        }
+        if self.bytes.extend_from_slice(&bytes[..most]).is_err() {
+            self.plan.count(false);
+            return Err(SinkFault::Memory);
+        }
+        if is_due {
+            self.kept = 0;
+        } else {
+            self.plan.count(false);
+        }
+        Ok(most)
     }
 
     // Nothing is held, so there is nothing to do.

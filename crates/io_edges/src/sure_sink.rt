@@ -1,6 +1,6 @@
 //! A sink in memory that never fails by the outside.
 
-ghost use Rattle.std.specs.Prelude.{◌≡◌, [], ◌++◌, true, Some, OnOk, IsOk, IsOkUnless, OnErr};
+ghost use Rattle.std.specs.Prelude.{◌≡◌, [], ◌++◌, true, length, Some, OnOk, IfOk, IsOk, IsOkUnless, OnErr};
 
 use crate::{Sink, SinkFault};
 use std::alloc::Global;
@@ -55,6 +55,18 @@ impl Sink for SureSink {
     {
         match self.bytes.extend_from_slice(bytes) {
             Ok(()) => Ok(()),
+            Err(_) => Err(SinkFault::Memory),
+        }
+    }
+
+    fn put_some(&mut self, bytes: &[u8]) -> Result<usize, SinkFault>
+        ensures written { OnOk result (self.new ≡ self.old ++ bytes.now) }
+        ensures all { IfOk result (λ n. n ≡ length bytes.now) }
+        ensures memory { IsOkUnless result SinkFault.Memory }
+        ensures unchanged { OnErr result (self.new ≡ self.old) }
+    {
+        match self.bytes.extend_from_slice(bytes) {
+            Ok(()) => Ok(bytes.len()),
             Err(_) => Err(SinkFault::Memory),
         }
     }

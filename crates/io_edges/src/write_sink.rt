@@ -1,6 +1,6 @@
 //! A sink over a writer of std.
 
-ghost use Rattle.std.specs.Prelude.{◌≡◌, ◌↔◌, [], true, false, None, OnOk, IsOk, OnErr, IsErr, IsOkUnless};
+ghost use Rattle.std.specs.Prelude.{◌≡◌, ◌↔◌, ◌≤◌, ◌<◌, [], length, take, true, false, None, OnOk, IfOk, IsOk, OnErr, IsErr, IsOkUnless};
 ghost use Rattle.std.specs.Io.KnownBytes.{Appends, Keeps};
 ghost use Rattle.io_edges.specs.Faults.{CountsOne};
 ghost use Rattle.io_edges.specs.Adapters.{writer_of, write_faults, AppendsPrefix};
@@ -8,8 +8,8 @@ ghost use Rattle.io_edges.specs.Adapters.{writer_of, write_faults, AppendsPrefix
 use crate::{Failed, Sink, SinkFault};
 use std::io::Write;
 
-/// A sink over a writer. A put writes until the whole piece is taken, and a flush flushes the
-/// writer. A write that fails, one that was interrupted too, one that takes nothing and a flush
+/// A sink over a writer. A put writes until the whole piece is taken, a put in parts is one write,
+/// and a flush flushes the writer. A write that fails, one that was interrupted too, one that takes nothing and a flush
 /// that fails each count as a fault and end the call.
 #[derive(Debug, Drop)]
 pub struct WriteSink<W> {
@@ -76,6 +76,27 @@ impl<W: Write> Sink for WriteSink<W> {
     {
         let done = write_whole(&mut self.writer, bytes).is_ok();
         self.answer(done)
+    }
+
+    fn put_some(&mut self, bytes: &[u8]) -> Result<usize, SinkFault>
+        ensures within { IfOk result (λ n. n ≤ length bytes.now) }
+        ensures some { IfOk result (λ n. 0 < length bytes.now → 0 < n) }
+        ensures written { IfOk result (λ n. Appends
+            (W.contents (writer_of self.old)) (W.contents (writer_of self.new)) (take n bytes.now)) }
+        ensures refused { OnErr result (Appends
+            (W.contents (writer_of self.old)) (W.contents (writer_of self.new)) []) }
+        ensures no_want { IsOkUnless result SinkFault.Failed }
+        ensures counted { CountsOne (write_faults self.old) (write_faults self.new) (IsErr result) }
+    {
+        let n = match self.writer.write(bytes) {
+            Ok(n) => n,
+            Err(_) => 0,
+        };
+        let done = n > 0 || bytes.is_empty();
+        match self.answer(done) {
+            Ok(()) => Ok(n),
+            Err(fault) => Err(fault),
+        }
     }
 
     // The sink holds nothing, but its writer may.

@@ -53,6 +53,6 @@ module _ {K : Type 0} (written : K → Option (List ℕ)) (held : K → List ℕ
   writes_counted t outbounds.Done closing first events Left now h =
       counts_as _ _ _ _ (λ e. cc) (λ e. cc) h.puts.counted
   writes_counted t outbounds.WriteFault closing first events Left now h =
-      ends_counted outbounds.WriteFault _ h.cut.bytes first h.mid now h.puts h.cut.ends
+      h.counted
   writes_counted t outbounds.Memory closing first events Left now h =
-      ends_counted outbounds.Memory _ h.cut.bytes first h.mid now h.puts h.cut.ends
+      h.counted

@@ -1,12 +1,16 @@
 -- What is written of one event more, of none, and of a closing.
-use Rattle.std.proofs.Common.{◌≡◌, ℕ, ◌⊎◌, inl, inr, List, [], ◌∷◌, ◌++◌, Bool, Option, Result, Ok}
-use Rattle.std.proofs.Common.{Err, refl, sym, ap, ◌∙◌, subst, append_assoc}
+use Rattle.std.proofs.Common.{◌≡◌, ℕ, ◌⊎◌, inl, inr, List, [], ◌∷◌, ◌++◌, Bool, true, Option, Some}
+use Rattle.std.proofs.Common.{Result, Ok, Err, refl, sym, ap, ◌∙◌, subst, append_assoc}
 use Rattle.std.proofs.lemmas.List.{append-nil}
 use Rattle.io_edges.specs.declared.SinkFault.{SinkFault}
 use Rattle.io_edges.specs.declared.SinkFault.TheVariants as sinks
 use Rattle.io_edges.proofs.Putting.{PutsAll-nothing, PutsAll-then}
+use Rattle.io_edges.specs.Flow.{GrowsByPrefix}
 use Rattle.unit_streams.specs.Tellers.{Teller, told_along, state_behind}
 use Rattle.unit_streams.proofs.Telling.{told_append, told_one, state_append, state_one}
+use Rattle.stream_loop.proofs.Writing.{grown_within, known_told, told_as}
+use Rattle.stream_follower.proofs.Counts.{ends_counted}
+use Rattle.stream_follower.proofs.Grown.{all_written, cut_behind, cut_grew, ends_empty, ends_grew}
 use Rattle.stream_follower.specs.Writing.{Goes, HasStopped, IsCut, IsWriting, PutsTo}
 use Rattle.stream_follower.specs.Writing.{Writes, Wrote, due_next, outbound_by, outbound_of}
 use Rattle.stream_follower.specs.declared.writing.Outbound.{Outbound}
@@ -17,6 +21,11 @@ pub outbound_cases : (o : Outbound) → (o ≡ Done) ⊎ (o ≡ Done → ⊥)
 outbound_cases Done = inl refl
 outbound_cases WriteFault = inr (λ e. cc)
 outbound_cases Memory = inr (λ e. cc)
+
+-- the sink is out of memory
+pub out_of_memory : (fault : SinkFault) → outbound_of fault ≡ Memory → fault ≡ sinks.Memory
+out_of_memory sinks.Failed is = cc
+out_of_memory sinks.Memory is = refl
 
 module _ {K : Type 0} (written : K → Option (List ℕ)) (held : K → List ℕ) (faults : K → ℕ)
     (may_want : K → Bool) where
@@ -81,6 +90,14 @@ module _ {K : Type 0} (written : K → Option (List ℕ)) (held : K → List ℕ
   goes_by (Ok u) bytes old new puts = puts
   goes_by (Err fault) bytes old new puts = goes_of fault bytes old new puts
 
+  -- a sink that is out of memory says that it may be
+  pub wanted_by : (answer : Result (Unit {0}) SinkFault) (bytes : List ℕ) (old new : K)
+      → PutsTo written held faults may_want old new bytes answer → outbound_by answer ≡ Memory
+      → may_want old ≡ true
+  wanted_by (Ok u) bytes old new puts is = cc
+  wanted_by (Err sinks.Failed) bytes old new puts is = cc
+  wanted_by (Err sinks.Memory) bytes old new puts is = puts.wanted refl
+
   pub done_well : (answer : Result (Unit {0}) SinkFault) (o : Outbound) (bytes : List ℕ)
       (old new : K)
       → o ≡ outbound_by answer → o ≡ Done
@@ -98,12 +115,99 @@ module _ {K : Type 0} (written : K → Option (List ℕ)) (held : K → List ℕ
   stopped_cut (Err fault) o next old new is never puts =
       rw is (cut_of fault next [] old new puts (inl refl))
 
+  -- one more follows
+  more_follow : {E : Type 0} (rest : List E) (e : E) → rest ++ e ∷ [] ≡ [] → ⊥
+  more_follow [] e none = cc
+  more_follow (one ∷ rest) e none = cc
+
   module _ {S E R : Type 0} (t : Teller S E R) (first : K) where
     abbrev told : List E → List ℕ
     told events = told_along t t.start events
 
     abbrev left_by : List E → S
     left_by events = state_behind t t.start events
+
+    abbrev next_of : (done : List E) → (closing : List ℕ) → (rest : List E) → List ℕ
+    next_of done closing rest =
+        due_next written held faults may_want t (left_by done) closing rest
+
+    -- what is due for the first events was put, and the writing ended so at what was due next
+    stopped_at : (o : Outbound) (closing : List ℕ) (events done rest : List E)
+        (Left : S → Type 0) (mid now : K) → events ≡ done ++ rest
+        → Puts' first mid (told done) (Ok tt) → Cut' o (next_of done closing rest) mid now
+        → Left (left_by done) → (rest ≡ [] → o ≡ Memory → may_want first ≡ true)
+        → HasStopped written held faults may_want t o closing first events Left now
+    stopped_at o closing events done rest Left mid now joined puts cut left wanted = record {
+      done = done;
+      rest = rest;
+      joined = joined;
+      left = left;
+      grown = known_told (λ w w'. GrowsByPrefix w w' (held first
+          ++ (told done ++ next_of done closing rest))) (written first) (written now)
+          (cut_behind written held faults may_want (next_of done closing rest) (told done) first
+          now cut.bytes cut.front (ends_grew written held faults may_want o first mid now
+          (told done) cut.bytes puts cut.ends));
+      whole = λ plain. known_told (λ w w'. GrowsByPrefix (w ++ held first ++ told done) w'
+          (next_of done closing rest)) (written first) (written now) (whole plain);
+      emptied = ends_empty written held faults may_want o mid now cut.bytes cut.ends;
+      counted = ends_counted written held faults may_want o (told done) cut.bytes first mid now
+          puts cut.ends;
+      wanted = wanted;
+    } where
+      whole : ((k : K) → held k ≡ []) → (w : List ℕ) → written first ≡ Some w
+          → (w' : List ℕ) × (written now ≡ Some w')
+          × GrowsByPrefix (w ++ held first ++ told done) w' (next_of done closing rest)
+      whole plain w is =
+          let k = all_written written held faults may_want first mid (told done) puts (plain mid)
+          w is in
+          let l = cut_grew written held faults may_want o (next_of done closing rest) mid now cut
+          k.0 k.1 in (
+            l.0,
+            l.1,
+            subst (λ before. GrowsByPrefix before l.0 (next_of done closing rest)) k.2
+                (subst (λ h. GrowsByPrefix k.0 l.0 (h ++ next_of done closing rest)) (plain mid)
+                l.2),
+          )
+
+    -- where more may follow, that is due next
+    module _ (o : Outbound) (closing closing' : List ℕ) (events rest' : List E)
+        (Left : S → Type 0) (now : K)
+        (h : HasStopped written held faults may_want t o closing first events Left now) where
+      abbrev due : List ℕ
+      due = next_of h.done closing h.rest
+
+      abbrev due' : List ℕ
+      due' = next_of h.done closing' rest'
+
+      all_due : (more : List ℕ) → due' ≡ due ++ more
+          → (held first ++ (told h.done ++ due)) ++ more ≡ held first ++ (told h.done ++ due')
+      all_due more is = append_assoc (held first) (told h.done ++ due) more
+          ∙ ap (λ l. held first ++ l) (append_assoc (told h.done) due more
+          ∙ ap (λ l. told h.done ++ l) (sym is))
+
+      stopped_so : (events' : List E) (Still : S → Type 0) → events' ≡ h.done ++ rest'
+          → (more : List ℕ) → due' ≡ due ++ more → ((s : S) → Left s → Still s)
+          → (rest' ≡ [] → o ≡ Memory → may_want first ≡ true)
+          → HasStopped written held faults may_want t o closing' first events' Still now
+      stopped_so events' Still joined more is still wanted = record {
+        done = h.done;
+        rest = rest';
+        joined = joined;
+        left = still _ h.left;
+        grown = told_as (λ w w'. GrowsByPrefix w w' (held first ++ (told h.done ++ due)))
+            (λ w w'. GrowsByPrefix w w' (held first ++ (told h.done ++ due'))) (written first)
+            (written now) h.grown (λ w w' g. subst (GrowsByPrefix w w') (all_due more is)
+            (grown_within w w' (held first ++ (told h.done ++ due)) more g));
+        whole = λ plain. told_as
+            (λ w w'. GrowsByPrefix (w ++ held first ++ told h.done) w' due)
+            (λ w w'. GrowsByPrefix (w ++ held first ++ told h.done) w' due')
+            (written first) (written now) (h.whole plain)
+            (λ w w' g. subst (GrowsByPrefix (w ++ held first ++ told h.done) w') (sym is)
+            (grown_within (w ++ held first ++ told h.done) w' due more g));
+        emptied = h.emptied;
+        counted = h.counted;
+        wanted = wanted;
+      }
 
     -- before the first event
     pub begins : IsWriting written held faults may_want t first [] t.start first
@@ -117,6 +221,10 @@ module _ {K : Type 0} (written : K → Option (List ℕ)) (held : K → List ℕ
           ap (λ z. told events ++ t.told z e) so_far.state_is
           ∙ ap (λ l. told events ++ l) (sym (told_one t e (left_by events)))
           ∙ sym (told_append t events (e ∷ []) t.start)
+
+      -- what the sink said before
+      first_wants : may_want old ≡ true → may_want first ≡ true
+      first_wants wants = sym so_far.puts.settled ∙ wants
 
       state_more : (e : E) → t.next s e ≡ left_by (events ++ e ∷ [])
       state_more e =
@@ -137,29 +245,18 @@ module _ {K : Type 0} (written : K → Option (List ℕ)) (held : K → List ℕ
       pub stops : (o : Outbound) (e : E) (Left : S → Type 0) (new : K)
           → IsCut written held faults may_want o (t.told s e) old new → Left s
           → HasStopped written held faults may_want t o [] first (events ++ e ∷ []) Left new
-      stops o e Left new cut left = record {
-        done = events;
-        rest = e ∷ [];
-        joined = refl;
-        mid = old;
-        puts = so_far.puts;
-        cut = subst (λ z. Cut' o (t.told z e) old new) so_far.state_is cut;
-        left = subst Left so_far.state_is left;
-      }
+      stops o e Left new cut left =
+          stopped_at o [] (events ++ e ∷ []) events (e ∷ []) Left old new refl so_far.puts
+          (subst (λ z. Cut' o (t.told z e) old new) so_far.state_is cut)
+          (subst Left so_far.state_is left) (λ none is. cc)
 
       -- or before the next one
       pub stops_between : (o : Outbound) (Left : S → Type 0) (new : K)
-          → IsCut written held faults may_want o [] old new → Left s
-          → HasStopped written held faults may_want t o [] first events Left new
-      stops_between o Left new cut left = record {
-        done = events;
-        rest = [];
-        joined = sym (append-nil events);
-        mid = old;
-        puts = so_far.puts;
-        cut = cut;
-        left = subst Left so_far.state_is left;
-      }
+          → IsCut written held faults may_want o [] old new → (o ≡ Memory → may_want old ≡ true)
+          → Left s → HasStopped written held faults may_want t o [] first events Left new
+      stops_between o Left new cut wanted left =
+          stopped_at o [] events events [] Left old new (sym (append-nil events)) so_far.puts cut
+          (subst Left so_far.state_is left) (λ none is. first_wants (wanted is))
 
       -- however it goes at an event
       pub steps : (o : Outbound) (e : E) (s' : S) (Left : S → Type 0) (new : K)
@@ -173,15 +270,16 @@ module _ {K : Type 0} (written : K → Option (List ℕ)) (held : K → List ℕ
 
       -- or at none
       pub pauses : (o : Outbound) (Left : S → Type 0) (new : K)
-          → Goes written held faults may_want o [] old new → Left s
-          → Writes written held faults may_want t o first events s Left new
-      pauses Done Left new goes left = record {
+          → Goes written held faults may_want o [] old new → (o ≡ Memory → may_want old ≡ true)
+          → Left s → Writes written held faults may_want t o first events s Left new
+      pauses Done Left new goes wanted left = record {
         puts = subst (λ l. Puts' first new l (Ok tt)) (append-nil (told events))
             (PutsAll-then _ so_far.puts goes);
         state_is = so_far.state_is;
       }
-      pauses WriteFault Left new goes left = stops_between WriteFault Left new goes left
-      pauses Memory Left new goes left = stops_between Memory Left new goes left
+      pauses WriteFault Left new goes wanted left =
+          stops_between WriteFault Left new goes wanted left
+      pauses Memory Left new goes wanted left = stops_between Memory Left new goes wanted left
 
       -- a closing is put, and then what is held is written
       pub closes : (closing : List ℕ) (Left : S → Type 0) (mid new : K)
@@ -194,23 +292,20 @@ module _ {K : Type 0} (written : K → Option (List ℕ)) (held : K → List ℕ
         all_left = subst Left so_far.state_is left
 
         -- what is held isn't written
-        cut : (fault : SinkFault) → Puts' mid new [] (Err fault)
-            → Cut' (outbound_of fault) closing old new
-        cut fault failed = cut_of fault closing closing old new
-            (subst (λ l. Puts' old new l (Err fault)) (append-nil closing)
-            (PutsAll-then _ puts failed)) (inr refl)
+        all_failed : (fault : SinkFault) → Puts' mid new [] (Err fault)
+            → Puts' old new closing (Err fault)
+        all_failed fault failed =
+            subst (λ l. Puts' old new l (Err fault)) (append-nil closing)
+            (PutsAll-then _ puts failed)
 
-        stopped : (o : Outbound) → Cut' o closing old new
-            → HasStopped written held faults may_want t o closing first events Left new
-        stopped o cut = record {
-          done = events;
-          rest = [];
-          joined = sym (append-nil events);
-          mid = old;
-          puts = so_far.puts;
-          cut = cut;
-          left = all_left;
-        }
+        stopped : (fault : SinkFault) → Puts' old new closing (Err fault)
+            → HasStopped written held faults may_want t (outbound_of fault) closing first events
+            Left new
+        stopped fault failed =
+            stopped_at (outbound_of fault) closing events events [] Left old new
+            (sym (append-nil events)) so_far.puts
+            (cut_of fault closing closing old new failed (inr refl)) all_left
+            (λ none is. first_wants (wanted_by (Err fault) closing old new failed is))
 
         by : (answer : Result (Unit {0}) SinkFault) → Puts' mid new [] answer
             → Wrote written held faults may_want t (outbound_by answer) closing first events Left
@@ -221,59 +316,45 @@ module _ {K : Type 0} (written : K → Option (List ℕ)) (held : K → List ℕ
           left = all_left;
           emptied = emptied;
         }
-        by (Err sinks.Failed) failed = stopped WriteFault (cut sinks.Failed failed)
-        by (Err sinks.Memory) failed = stopped Memory (cut sinks.Memory failed)
+        by (Err sinks.Failed) failed =
+            stopped sinks.Failed (all_failed sinks.Failed failed)
+        by (Err sinks.Memory) failed =
+            stopped sinks.Memory (all_failed sinks.Memory failed)
 
       -- or the writing ends at the closing
       pub stops_last : (o : Outbound) (closing : List ℕ) (Left : S → Type 0) (new : K)
-          → (o ≡ Done → ⊥) → Goes written held faults may_want o closing old new → Left s
+          → (o ≡ Done → ⊥) → Goes written held faults may_want o closing old new
+          → (o ≡ Memory → may_want old ≡ true) → Left s
           → Wrote written held faults may_want t o closing first events Left new
-      stops_last o closing Left new never goes left = by o never goes where
-        stopped : (o : Outbound) → Cut' o closing old new
+      stops_last o closing Left new never goes wanted left = by o never goes wanted where
+        stopped : (o : Outbound) → Cut' o closing old new → (o ≡ Memory → may_want old ≡ true)
             → HasStopped written held faults may_want t o closing first events Left new
-        stopped o cut = record {
-          done = events;
-          rest = [];
-          joined = sym (append-nil events);
-          mid = old;
-          puts = so_far.puts;
-          cut = cut;
-          left = subst Left so_far.state_is left;
-        }
+        stopped o cut wanted =
+            stopped_at o closing events events [] Left old new (sym (append-nil events))
+            so_far.puts cut (subst Left so_far.state_is left)
+            (λ none is. first_wants (wanted is))
 
         by : (o : Outbound) → (o ≡ Done → ⊥) → Goes written held faults may_want o closing old new
+            → (o ≡ Memory → may_want old ≡ true)
             → Wrote written held faults may_want t o closing first events Left new
-        by Done never goes = absurd (never refl)
-        by WriteFault never goes = stopped WriteFault goes
-        by Memory never goes = stopped Memory goes
+        by Done never goes wanted = absurd (never refl)
+        by WriteFault never goes wanted = stopped WriteFault goes wanted
+        by Memory never goes wanted = stopped Memory goes wanted
 
     -- where the writing has ended, an event more changes nothing
     module _ (events : List E) (now : K) where
       pub stays : (o : Outbound) (e : E) (Left Still : S → Type 0) → ((s : S) → Left s → Still s)
           → HasStopped written held faults may_want t o [] first events Left now
           → HasStopped written held faults may_want t o [] first (events ++ e ∷ []) Still now
-      stays o e Left Still still h = record {
-        done = h.done;
-        rest = h.rest ++ e ∷ [];
-        joined = ap (λ l. l ++ e ∷ []) h.joined ∙ append_assoc h.done h.rest (e ∷ []);
-        mid = h.mid;
-        puts = h.puts;
-        cut = later h.rest h.cut;
-        left = still _ h.left;
-      } where
-        later : (rest : List E) → Cut' o (due_next written held faults may_want t
-            (left_by h.done) [] rest) h.mid now
-            → Cut' o (due_next written held faults may_want t (left_by h.done) []
-            (rest ++ e ∷ [])) h.mid now
-        later [] cut = record {
-          bytes = cut.bytes;
-          front = inl (none cut.bytes cut.front);
-          ends = cut.ends;
-        } where
-          none : (bytes : List ℕ) → (bytes ≡ []) ⊎ (bytes ≡ []) → bytes ≡ []
-          none bytes (inl e) = e
-          none bytes (inr e) = e
-        later (one ∷ rest) cut = cut
+      stays o e Left Still still h =
+          let m = later h.rest in
+          stopped_so o [] [] events (h.rest ++ e ∷ []) Left now h (events ++ e ∷ []) Still
+          (ap (λ l. l ++ e ∷ []) h.joined ∙ append_assoc h.done h.rest (e ∷ [])) m.0 m.1 still
+          (λ none is. absurd (more_follow h.rest e none)) where
+            later : (rest : List E) → (more : List ℕ)
+                × (next_of h.done [] (rest ++ e ∷ []) ≡ next_of h.done [] rest ++ more)
+            later [] = (t.told (left_by h.done) e, refl)
+            later (one ∷ rest) = ([], sym (append-nil (t.told (left_by h.done) one)))
 
       pub stays_so : (o : Outbound) (e : E) (s s' : S) (Left Still : S → Type 0) → (o ≡ Done → ⊥)
           → ((s : S) → Left s → Still s)
@@ -291,28 +372,14 @@ module _ {K : Type 0} (written : K → Option (List ℕ)) (held : K → List ℕ
         stopped : (o : Outbound)
             → HasStopped written held faults may_want t o [] first events Left now
             → HasStopped written held faults may_want t o closing first events Left now
-        stopped o h = record {
-          done = h.done;
-          rest = h.rest;
-          joined = h.joined;
-          mid = h.mid;
-          puts = h.puts;
-          cut = later h.rest h.cut;
-          left = h.left;
-        } where
-          later : (rest : List E) → Cut' o (due_next written held faults may_want t
-              (left_by h.done) [] rest) h.mid now
-              → Cut' o (due_next written held faults may_want t (left_by h.done) closing rest)
-              h.mid now
-          later [] cut = record {
-            bytes = cut.bytes;
-            front = inl (none cut.bytes cut.front);
-            ends = cut.ends;
-          } where
-            none : (bytes : List ℕ) → (bytes ≡ []) ⊎ (bytes ≡ []) → bytes ≡ []
-            none bytes (inl e) = e
-            none bytes (inr e) = e
-          later (one ∷ rest) cut = cut
+        stopped o h =
+            let m = later h.rest in
+            stopped_so o [] closing events h.rest Left now h events Left h.joined m.0 m.1
+            (λ s left. left) h.wanted where
+              later : (rest : List E) → (more : List ℕ)
+                  × (next_of h.done closing rest ≡ next_of h.done [] rest ++ more)
+              later [] = (closing, refl)
+              later (one ∷ rest) = ([], sym (append-nil (t.told (left_by h.done) one)))
 
         by : (o : Outbound) → (o ≡ Done → ⊥)
             → Writes written held faults may_want t o first events s Left now

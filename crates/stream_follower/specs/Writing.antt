@@ -1,5 +1,8 @@
 -- What has become of the writing of an end that answers a stream.
-use Rattle.std.specs.Prelude.{◌≡◌, ⊤, ℕ, ◌⊎◌, List, [], ◌∷◌, ◌++◌, Bool, Option, Result, Ok, Err}
+use Rattle.std.specs.Prelude.{◌≡◌, ⊤, ℕ, ◌<◌, ◌≤◌, ◌⊎◌, List, [], ◌∷◌, ◌++◌, length, take, Bool}
+use Rattle.std.specs.Prelude.{true, Option, Result, Ok, Err}
+use Rattle.io_edges.specs.Faults.{CountsFaults}
+use Rattle.io_edges.specs.Flow.{Told, GrowsByPrefix}
 use Rattle.io_edges.specs.Puts.{Puts}
 use Rattle.io_edges.specs.declared.SinkFault.{SinkFault}
 use Rattle.io_edges.specs.declared.SinkFault.TheVariants as sinks
@@ -24,8 +27,7 @@ module _ {K : Type 0} (written : K → Option (List ℕ)) (held : K → List ℕ
   PutsTo old new bytes answer = Puts written held faults may_want old new bytes answer
 
   -- The writing ended so where these bytes were put: the sink failed at them, or there was no
-  -- memory
-  -- for them. Then none were put, and what the sink held is written.
+  -- memory for them. Then none were put, and what the sink held is written.
   abbrev pub Ends : Outbound → K → K → List ℕ → Type 0
   Ends Done old new bytes = ⊥
   Ends WriteFault old new bytes = PutsTo old new bytes (Err sinks.Failed)
@@ -37,6 +39,21 @@ module _ {K : Type 0} (written : K → Option (List ℕ)) (held : K → List ℕ
     pub bytes : List ℕ
     pub front : (bytes ≡ []) ⊎ (bytes ≡ next)
     pub ends : Ends outbound old new bytes
+
+  -- sinks of this type hold nothing back: what is put to one is written
+  abbrev pub HoldNothing : Type 0
+  HoldNothing = (sink : K) → held sink ≡ []
+
+  -- The first n of these bytes were put, a part at a time, and then it stood so: all were put, or
+  -- the next put failed, and took none.
+  pub record PutsParts (bytes : List ℕ) (old new : K) (n : ℕ) (outbound : Outbound) : Type 0 where
+    pub answer : Result ⊤ SinkFault
+    pub outbound_is : outbound ≡ outbound_by answer
+    pub puts : PutsTo old new (take n bytes) answer
+    pub exact : HoldNothing → Told (written old) (written new) (λ w w'. w' ≡ w ++ take n bytes)
+    pub within : n ≤ length bytes
+    pub all : outbound ≡ Done → n ≡ length bytes
+    pub short : (outbound ≡ Done → ⊥) → n < length bytes
 
   -- the bytes that were due next were put, or the writing ended so
   abbrev pub Goes : Outbound → (next : List ℕ) → K → K → Type 0
@@ -56,17 +73,24 @@ module _ {K : Type 0} (written : K → Option (List ℕ)) (held : K → List ℕ
       pub puts : PutsTo first now (told_along t t.start events) (Ok tt)
       pub state_is : state ≡ state_behind t t.start events
 
-    -- What is due for the first events was put, and left such a state; and the writing ended so at
-    -- what was due next.
+    -- The writing ended so at what was due behind the first events, which left such a state. First
+    -- bytes are written of what is due for these and of what was due next. Where sinks hold nothing
+    -- back, all that is due for the first events is. Behind the last event only the sink runs out
+    -- of memory.
     pub record HasStopped (outbound : Outbound) (closing : List ℕ) (first : K) (events : List E)
         (Left : S → Type 0) (now : K) : Type 0 where
       pub done : List E
       pub rest : List E
       pub joined : events ≡ done ++ rest
-      pub mid : K
-      pub puts : PutsTo first mid (told_along t t.start done) (Ok tt)
-      pub cut : IsCut outbound (due_next (state_behind t t.start done) closing rest) mid now
       pub left : Left (state_behind t t.start done)
+      pub grown : Told (written first) (written now) (λ w w'. GrowsByPrefix w w' (held first
+          ++ (told_along t t.start done ++ due_next (state_behind t t.start done) closing rest)))
+      pub whole : HoldNothing → Told (written first) (written now) (λ w w'.
+          GrowsByPrefix (w ++ held first ++ told_along t t.start done) w'
+          (due_next (state_behind t t.start done) closing rest))
+      pub emptied : held now ≡ []
+      pub counted : CountsFaults (faults first) (faults now) (outbound ≡ WriteFault)
+      pub wanted : rest ≡ [] → outbound ≡ Memory → may_want first ≡ true
 
     -- what was written of events, by what has become of the writing
     abbrev pub Writes : Outbound → (first : K) → List E → (state : S) → (Left : S → Type 0) → K

@@ -15,9 +15,11 @@
 //!
 //! For listeners that write of the events what a `Teller` (`unit_streams`) says, [`Outbound`] is
 //! what has become of the writing, and [`put_bytes`], [`flush`] and [`starve`] are the steps of it.
+//! A listener that gathers what is due writes it by [`put_parts`], which says how many bytes left
+//! before a write failed.
 //!
-//! `specs/Followed` says what was read and heard, and `specs/Writing` what was written;
-//! `specs/Hearing` is for private calls.
+//! `specs/Followed` says what was read and heard, and `specs/Writing` and `specs/Gathering` what
+//! was written; `specs/Hearing` is for private calls.
 #![tactic(auto)]
 
 mod following;
@@ -27,4 +29,4 @@ mod writing;
 
 pub use following::{Ending, follow_stream};
 pub use listener::Listener;
-pub use writing::{Outbound, flush, put_bytes, starve};
+pub use writing::{Outbound, flush, put_bytes, put_parts, starve};

@@ -2,7 +2,8 @@
 
 ghost use Rattle.std.specs.Prelude.{◌≡◌, ⊤, Result, List, ℕ, [], true, false};
 ghost use Rattle.io_edges.specs.declared.SinkFault.{SinkFault as Fault};
-ghost use Rattle.stream_follower.specs.Writing.{Goes, IsCut, PutsTo, outbound_by, outbound_of};
+ghost use Rattle.stream_follower.specs.Writing.{Goes, IsCut, PutsParts, PutsTo};
+ghost use Rattle.stream_follower.specs.Writing.{outbound_by, outbound_of};
 
 use io_edges::{Sink, SinkFault};
 
@@ -38,7 +39,8 @@ fn outbound_of(fault: SinkFault) -> Outbound
 
 /// Puts bytes, where there are some.
 pub fn put_bytes<K: Sink>(bytes: &[u8], sink: &mut K) -> Outbound
-    ensures { Goes K.written K.held K.faults K.may_want result bytes.now sink.old sink.new }
+    ensures goes { Goes K.written K.held K.faults K.may_want result bytes.now sink.old sink.new }
+    ensures wanted { result ≡ Outbound.Memory → K.may_want sink.old ≡ true }
 {
     if bytes.is_empty() {
         return Outbound::Done;
@@ -47,6 +49,22 @@ pub fn put_bytes<K: Sink>(bytes: &[u8], sink: &mut K) -> Outbound
         Ok(()) => Outbound::Done,
         Err(fault) => outbound_of(fault),
     }
+}
+
+/// Puts bytes, a part at a time. Answers how many were put, and how the writing stands: all were,
+/// or a put failed at the others.
+pub fn put_parts<K: Sink>(bytes: &[u8], sink: &mut K) -> (usize, Outbound)
+    ensures { PutsParts K.written K.held K.faults K.may_want bytes.now sink.old sink.new result.0
+        result.1 }
+{
+    let mut at = 0;
+    while at < bytes.len() {
+        match sink.put_some(&bytes[at..]) {
+            Ok(n) => at += n,
+            Err(fault) => return (at, outbound_of(fault)),
+        }
+    }
+    (at, Outbound::Done)
 }
 
 /// Writes what the sink holds.

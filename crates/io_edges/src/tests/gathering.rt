@@ -119,3 +119,30 @@ fn a_flush_reaches_the_writer(rt: HostRuntime) -> Result<(), Fail> {
     assert_eq!(rt; writer.bytes.as_slice(), b"abc".as_slice());
     Ok(())
 }
+
+// The second put of the inner sink is to fail, and keeps one byte before.
+#[test]
+fn parts_are_gathered_or_put_on(rt: HostRuntime) -> Result<(), Fail> {
+    let mut sink = gathering(rt.alloc(), 4, 1)?;
+    assert_eq!(rt; sink.put_some(b"abc"), Ok(3));
+    assert_eq!(rt; sink.sink().bytes(), b"".as_slice());
+    assert_eq!(rt; sink.put_some(b"defgh"), Ok(1));
+    assert_eq!(rt; sink.sink().bytes(), b"abcd".as_slice());
+    assert_eq!(rt; sink.put_some(b"efgh"), Ok(4));
+    assert_eq!(rt; sink.flush(), Err(SinkFault::Failed));
+    assert_eq!(rt; sink.into_sink().bytes(), b"abcd".as_slice());
+    Ok(())
+}
+
+#[test]
+fn a_part_is_one_write(rt: HostRuntime) -> Result<(), Fail> {
+    let writer = Flaky::new(Vec::new(rt.alloc()), 2, Some(2), Fault::MovesNothing);
+    let mut sink = WriteSink::new(writer);
+    assert_eq!(rt; sink.put_some(b"abc"), Ok(2));
+    assert_eq!(rt; sink.put_some(b"c"), Ok(1));
+    assert_eq!(rt; sink.put_some(b"d"), Err(SinkFault::Failed));
+    assert_eq!(rt; sink.put_some(b"d"), Ok(1));
+    assert_eq!(rt; sink.faults(), 1);
+    assert_eq!(rt; sink.into_writer().bytes.as_slice(), b"abcd".as_slice());
+    Ok(())
+}

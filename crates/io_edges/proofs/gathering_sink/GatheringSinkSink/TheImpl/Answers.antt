@@ -10,3 +10,15 @@ flush-tells g c = record {
   wanted = c.ensures.adds.wanted;
   settled = c.ensures.adds.settled;
 }
+
+pub put_some-tells : goal.put_some-tells
+put_some-tells g c = record {
+  within = c.ensures.within;
+  some = c.ensures.some;
+  written = c.ensures.adds.written;
+  refused = c.ensures.adds.refused;
+  dropped = c.ensures.adds.dropped;
+  counted = c.ensures.adds.counted;
+  wanted = c.ensures.adds.wanted;
+  settled = c.ensures.adds.settled;
+}

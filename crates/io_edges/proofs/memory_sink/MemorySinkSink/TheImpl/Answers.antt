@@ -16,3 +16,19 @@ put-tells c = record {
   wanted = λ _. refl;
   settled = refl;
 }
+
+pub put_some-tells : goal.put_some-tells
+put_some-tells c = record {
+  within = c.ensures.within;
+  some = c.ensures.some;
+  written = search rules;
+  refused = search rules;
+  dropped = search rules;
+  counted = record {
+    rose = grind (arith, common_steps);
+    same = grind (arith, common_steps);
+    grows = grind (arith, common_steps);
+  };
+  wanted = λ _. refl;
+  settled = refl;
+}
