@@ -1,6 +1,6 @@
--- a connection by what is seen of its sink
-pub mod Seeing
--- what is known of a connection, and where there was no memory to begin with
+-- which answers are written of a connection
+pub mod Answered
+-- what is known of a connection
 pub mod Meeting
 -- one more connection behind others
 pub mod Turns

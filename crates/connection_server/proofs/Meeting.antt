@@ -1,33 +1,25 @@
 -- What is known of a connection that was served.
-use Rattle.std.proofs.Common.{◌≡◌, ℕ, inl, inr, ◌<◌, ◌-◌, ◌^◌, List, [], ◌++◌, Option, Some, map}
-use Rattle.std.proofs.Common.{refl, subst, arith}
+use Rattle.std.proofs.Common.{◌≡◌, ℕ, inl, inr, ◌<◌, ◌-◌, ◌^◌, List, [], ◌++◌, Bool, Option, Some}
+use Rattle.std.proofs.Common.{map, refl, subst, arith}
 use Rattle.io_edges.specs.Faults.{Rose}
 use Rattle.io_edges.specs.Wires.{added_up}
-use Rattle.io_edges.proofs.Putting.{PutsAll-nothing}
-use Rattle.unit_streams.specs.Judging.{events_in, events_of}
-use Rattle.unit_streams.specs.Tellers.{state_behind, told_along}
-use Rattle.nbfx_values.specs.Limits.{IsGood}
 use Rattle.stream_loop.specs.Edges.{Input}
-use Rattle.stream_loop.proofs.LoopSteps.{first_pending}
-use Rattle.stream_loop.proofs.Writing.{counted_none, told_some}
-use Rattle.stream_reader.specs.Stream.{StreamEvent, ends, stream}
+use Rattle.stream_loop.proofs.Writing.{told_some}
+use Rattle.stream_reader.specs.Stream.{StreamEvent, stream}
 use Rattle.stream_follower.specs.declared.following.Ending.{Ending}
 use Rattle.stream_follower.specs.declared.following.Ending.TheVariants as endings
 use Rattle.stream_follower.specs.Followed.{Follows}
 use Rattle.stream_follower.proofs.Amounts.{wrote_grew}
 use Rattle.stream_follower.proofs.Counts.{heard_some}
-use Rattle.stream_follower.proofs.Taking.{unbegun}
-use Rattle.duplex_server.specs.declared.outcome.Inbound.TheVariants as inbounds
-use Rattle.stream_follower.specs.declared.writing.Outbound.TheVariants as outbounds
-use Rattle.duplex_server.specs.Owed.{Answering, messages_along, replies, requests_to}
+use Rattle.stream_follower.proofs.Taking.{follows_as}
+use Rattle.duplex_server.specs.declared.outcome.Outcome.{Outcome}
+use Rattle.duplex_server.specs.Owed.{Answering, replies, requests_to}
 use Rattle.duplex_server.specs.Requests.{request_for}
 use Rattle.duplex_server.specs.Serving.{HasServed, Serves, closing_of, ending_of}
 use Rattle.duplex_server.proofs.Judged.{judges, owes}
-use Rattle.duplex_server.proofs.Streams.{ends_within}
-use Rattle.connection_server.specs.Served.{AreNew, Connection, IsServed, SinkState, moved}
-use Rattle.connection_server.specs.Served.{told_pair}
-use Rattle.connection_server.proofs.Seeing.{faults_in, held_in, may_want_in, serves_empties}
-use Rattle.connection_server.proofs.Seeing.{written_in}
+use Rattle.connection_server.specs.Served.{AreNew, Connection, Ends, HasAnswered, HoldNothing}
+use Rattle.connection_server.specs.Served.{IsServed, ends_at, moved, told_pair}
+use Rattle.connection_server.proofs.Answered.{answers_so, serves_empties}
 
 -- a count with two others is greater where one of these is above 0, or at its last value
 pub rose_by_reads : (count a b : ℕ) → Rose 0 a → Rose count (added_up count a b)
@@ -54,85 +46,81 @@ both_told : (t w : List ℕ) (taken written : Option (List ℕ)) → taken ≡ S
     → written ≡ Some w → told_pair (t, w) ≡ (taken, written)
 both_told t w taken written is its = rw (is, its) refl
 
-module _ (x : Answering) (endpoint : Option (List ℕ)) where
-  -- what was taken is told where it was told before
-  took : (Heard : List StreamEvent → Type 0) (i i' : Input) (ending : Ending _)
-      → Follows (stream (requests_to x endpoint)) Heard i i' ending
-      → (t : List ℕ) → i.taken ≡ Some t → (t' : List ℕ) × (i'.taken ≡ Some t')
-  took Heard i i' (endings.Judged judged) h t is =
-      let k = told_some (λ t t'. t' ≡ t ++ h.bytes) i.taken i'.taken t is h.took in (k.0, k.1)
-  took Heard i i' endings.ReadFault h t is =
-      let k = told_some (λ t t'. t' ≡ t ++ h.bytes) i.taken i'.taken t is h.took in (k.0, k.1)
-  took Heard i i' endings.Memory h t is =
-      let k = told_some (λ t t'. t' ≡ t ++ h.before ++ h.piece) i.taken i'.taken t is h.took in
-      (k.0, k.1)
+-- the ends of a connection when it was handed out and when it was closed, by what is seen of them
+abbrev pub met : {R K : Type 0} → (seen : R × K → Ends) → (ends ends' : R × K) → Outcome
+    → Connection
+met seen ends ends' outcome =
+    record { handed = seen ends; closed = seen ends'; outcome = outcome }
 
-  module _ (c : Connection) (h : Serves written_in held_in faults_in may_want_in x endpoint
-      c.handed.input c.closed.input c.handed.sink c.closed.sink c.outcome) where
-    pub is_served : (told : Option (List (List ℕ × List ℕ))) → AreNew told c.handed
-        → IsServed x endpoint told c
-    is_served told new = record {
-      begins = new;
-      judged = λ bytes left. judges written_in held_in faults_in may_want_in x endpoint
-          c.handed.input c.closed.input c.handed.sink c.closed.sink bytes left c.outcome h;
-      written = λ bytes w left before. owes written_in held_in faults_in may_want_in x endpoint
-          c.handed.input c.closed.input c.handed.sink c.closed.sink bytes left c.outcome h w before;
-      served = h;
-      read_fault = λ count failed. rose_by_reads count c.closed.input.faults c.closed.sink.faults
-          (subst (λ (n : ℕ). Rose n c.closed.input.faults) new.unread
-          (h.reads_counted.rose failed));
-      write_fault = λ count failed. rose_by_writes count c.closed.input.faults
-          c.closed.sink.faults (subst (λ (n : ℕ). Rose n c.closed.sink.faults) new.unwritten
-          (h.writes_counted.rose failed));
-      nothing_held = serves_empties written_in held_in faults_in may_want_in x endpoint
-          c.handed.input c.closed.input c.handed.sink c.closed.sink c.outcome h;
-    }
+module _ (x : Answering) (endpoint : Option (List ℕ)) {R K : Type 0}
+    (left taken : R → Option (List ℕ)) (reads empty_takes : R → ℕ)
+    (written : K → Option (List ℕ)) (held : K → List ℕ) (writes : K → ℕ) (may_want : K → Bool)
+  where
+    abbrev ends_of : R × K → Ends
+    ends_of = ends_at left taken reads empty_takes written held writes
 
-    -- what was taken and written is told, where the ends told it at first
-    pub pair_told : c.handed.input.taken ≡ Some [] → c.handed.sink.written ≡ Some []
-        → (pair : List ℕ × List ℕ) × (told_pair pair ≡ moved c)
-    pair_told taken written =
-        let Served : List StreamEvent → Type 0 =
-        HasServed written_in held_in faults_in may_want_in x c.outcome c.handed.sink c.closed.sink
-        in
-        let s = heard_some (stream (requests_to x endpoint)) Served c.handed.input c.closed.input
-        (ending_of c.outcome.inbound) h.follows in
-        let t = took Served c.handed.input c.closed.input (ending_of c.outcome.inbound) h.follows
-        [] taken in
-        let w = wrote_grew written_in held_in faults_in may_want_in (replies x) c.outcome.outbound
-        (closing_of (ending_of c.outcome.inbound)) c.handed.sink (map request_for s.0)
-        (λ s. c.outcome.answers ≡ s.answers) c.closed.sink s.1.wrote [] written in
-        ((t.0, w.0), both_told t.0 w.0 c.closed.input.taken c.closed.sink.written t.1 w.1)
+    -- what was taken is told where it was told before
+    took : (Heard : List StreamEvent → Type 0) (i i' : Input) (ending : Ending _)
+        → Follows (stream (requests_to x endpoint)) Heard i i' ending
+        → (t : List ℕ) → i.taken ≡ Some t → (t' : List ℕ) × (i'.taken ≡ Some t')
+    took Heard i i' (endings.Judged judged) h t is =
+        let k = told_some (λ t t'. t' ≡ t ++ h.bytes) i.taken i'.taken t is h.took in (k.0, k.1)
+    took Heard i i' endings.ReadFault h t is =
+        let k = told_some (λ t t'. t' ≡ t ++ h.bytes) i.taken i'.taken t is h.took in (k.0, k.1)
+    took Heard i i' endings.Memory h t is =
+        let k = told_some (λ t t'. t' ≡ t ++ h.before ++ h.piece) i.taken i'.taken t is h.took in
+        (k.0, k.1)
 
-  -- there was no memory to begin with
-  pub unbegun_so : (i : Input) (sink : SinkState) → IsGood x.limits → sink.held ≡ []
-      → Serves written_in held_in faults_in may_want_in x endpoint i i sink sink (record {
-        messages = 0;
-        answers = 0;
-        inbound = inbounds.Memory;
-        outbound = outbounds.Memory;
-      })
-  unfolding events_of events_in messages_along told_along state_behind
-  unbegun_so i sink good none = record {
-    follows = unbegun (stream (requests_to x endpoint)) _ i
-        (first_pending (stream (requests_to x endpoint)) ends x.limits.session
-        (ends_within (requests_to x endpoint) good))
-        (record {
-          counted = refl;
-          wrote = record {
-            done = [];
-            rest = [];
-            joined = refl;
-            mid = sink;
-            puts = PutsAll-nothing _ _ _ _;
-            cut = record {
-              bytes = [];
-              front = inl refl;
-              ends = inr (PutsAll-nothing _ _ _ _, refl, none);
-            };
-            left = refl;
-          };
-        });
-    reads_counted = counted_none _ _ _ refl (λ e. cc);
-    writes_counted = counted_none _ _ _ refl (λ e. cc);
-  }
+    -- a connection that was served
+    module _ (ends ends' : R × K) (outcome : Outcome)
+        (h : Serves written held writes may_want x endpoint (ends_of ends).input
+        (ends_of ends').input ends.1 ends'.1 outcome) where
+      abbrev now_met : Connection
+      now_met = met ends_of ends ends' outcome
+
+      abbrev Served : List StreamEvent → Type 0
+      Served = HasServed written held writes may_want x outcome ends.1 ends'.1
+
+      answered : (events : List StreamEvent) → Served events
+          → HasAnswered x (HoldNothing ends_of) now_met events
+      answered events s = record {
+        counted = s.counted;
+        answers = answers_so written held writes may_want x ends.1 ends'.1 outcome.answers
+            (closing_of (ending_of outcome.inbound)) (map request_for events)
+            (HoldNothing ends_of) (λ plain k. plain (ends.0, k)) outcome.outbound s.wrote;
+      }
+
+      pub is_served : (told : Option (List (List ℕ × List ℕ))) → AreNew told (ends_of ends)
+          → IsServed x endpoint (HoldNothing ends_of) told now_met
+      is_served told new = record {
+        begins = new;
+        judged = λ bytes left. judges written held writes may_want x endpoint
+            (ends_of ends).input (ends_of ends').input ends.1 ends'.1 bytes left outcome h;
+        written = λ bytes w left before. owes written held writes may_want x endpoint
+            (ends_of ends).input (ends_of ends').input ends.1 ends'.1 bytes left outcome h w before;
+        follows = follows_as (stream (requests_to x endpoint)) Served
+            (HasAnswered x (HoldNothing ends_of) now_met) (ends_of ends).input (ends_of ends').input
+            (ending_of outcome.inbound) answered h.follows;
+        reads_counted = h.reads_counted;
+        writes_counted = h.writes_counted;
+        read_fault = λ count failed. rose_by_reads count (reads ends'.0) (writes ends'.1)
+            (subst (λ (n : ℕ). Rose n (reads ends'.0)) new.unread (h.reads_counted.rose failed));
+        write_fault = λ count failed. rose_by_writes count (reads ends'.0) (writes ends'.1)
+            (subst (λ (n : ℕ). Rose n (writes ends'.1)) new.unwritten
+            (h.writes_counted.rose failed));
+        nothing_held = serves_empties written held writes may_want x endpoint (ends_of ends).input
+            (ends_of ends').input ends.1 ends'.1 outcome h;
+      }
+
+      -- what was taken and written is told, where the ends told it at first
+      pub pair_told : taken ends.0 ≡ Some [] → written ends.1 ≡ Some []
+          → (pair : List ℕ × List ℕ) × (told_pair pair ≡ moved now_met)
+      pair_told was_taken was_written =
+          let s = heard_some (stream (requests_to x endpoint)) Served (ends_of ends).input
+          (ends_of ends').input (ending_of outcome.inbound) h.follows in
+          let t = took Served (ends_of ends).input (ends_of ends').input
+          (ending_of outcome.inbound) h.follows [] was_taken in
+          let w = wrote_grew written held writes may_want (replies x) outcome.outbound
+          (closing_of (ending_of outcome.inbound)) ends.1 (map request_for s.0)
+          (λ s. outcome.answers ≡ s.answers) ends'.1 s.1.wrote [] was_written in
+          ((t.0, w.0), both_told t.0 w.0 (taken ends'.0) (written ends'.1) t.1 w.1)

@@ -6,7 +6,7 @@ use Rattle.io_edges.specs.Flow.{Told, GrowsByPrefix}
 use Rattle.io_edges.specs.declared.SinkFault.{SinkFault}
 use Rattle.stream_loop.proofs.Writing.{known_told, told_some}
 use Rattle.stream_follower.specs.Writing.{PutsTo}
-use Rattle.stream_follower.proofs.Amounts.{all_written, cut_written}
+use Rattle.stream_follower.proofs.Grown.{all_written, cut_written}
 use Rattle.duplex_server.specs.declared.outcome.Outcome.{Outcome}
 use Rattle.connection_server.specs.Lines.{connection_line, lines_from}
 use Rattle.connection_server.specs.Served.{CutsLast, WritesAll, held_behind}

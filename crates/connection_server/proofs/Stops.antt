@@ -18,7 +18,6 @@ use Rattle.connection_server.specs.Served.{Connection, CutsLast, Ends, ServesAll
 use Rattle.connection_server.specs.Served.{WritesLines, held_behind, stop_by}
 use Rattle.connection_server.specs.Along.{HasLines, IsAlong, ServesOne}
 use Rattle.connection_server.proofs.Reporting.{cut_lines, more_lines, no_lines}
-use Rattle.connection_server.proofs.Seeing.{no_rest}
 use Rattle.connection_server.proofs.Turns.{each_more, each_none}
 
 abbrev outcomes_of : List Connection → List Outcome
@@ -35,6 +34,11 @@ length-outcomes connections = length-map connections (λ (c : Connection). c.out
 some_served : (connections : List Connection) (c : Connection) → connections ++ c ∷ [] ≡ [] → ⊥
 some_served [] c e = cc
 some_served (d ∷ connections) c e = cc
+
+-- where nothing stands in two lists, none stands in the first
+no_rest : (a b : List ℕ) → a ++ b ≡ [] → a ≡ []
+no_rest [] b e = refl
+no_rest (n ∷ a) b e = cc
 
 -- want of memory for the last line
 told_cut : (held : List ℕ) (outcomes : List Outcome) (u v : Option (List ℕ))

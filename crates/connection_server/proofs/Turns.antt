@@ -8,11 +8,11 @@ use Rattle.io_edges.specs.Wires.{Fresh, Network, added_up}
 use Rattle.duplex_server.specs.declared.outcome.Outcome.{Outcome}
 use Rattle.duplex_server.specs.Owed.{Answering}
 use Rattle.duplex_server.specs.Serving.{Serves}
-use Rattle.connection_server.specs.Served.{AreNew, Connection, Ends, IsServed, ServesEach}
-use Rattle.connection_server.specs.Served.{ends_at, faults_along, moved, told_pair, with_faults}
+use Rattle.connection_server.specs.Served.{AreNew, Connection, Ends, HoldNothing, IsServed}
+use Rattle.connection_server.specs.Served.{ServesEach, ends_at, faults_along, moved, told_pair}
+use Rattle.connection_server.specs.Served.{with_faults}
 use Rattle.connection_server.specs.Along.{ServesOne}
-use Rattle.connection_server.proofs.Meeting.{is_served, pair_told}
-use Rattle.connection_server.proofs.Seeing.{faults_in, held_in, may_want_in, written_in}
+use Rattle.connection_server.proofs.Meeting.{is_served, met, pair_told}
 
 -- what the ends of ended connections left
 abbrev Pairs : Type 0
@@ -107,7 +107,7 @@ module _ (x : Answering) (endpoint : Option (List ℕ)) {R K : Type 0} (seen : R
   unfolding faults_along
   each_none n = record {
     handed = hands_none seen n.waiting;
-    served = All-nil (IsServed x endpoint n.closed);
+    served = All-nil (IsServed x endpoint (HoldNothing seen) n.closed);
     closed = leaves_none n.closed;
     end_faults = refl;
     out = refl;
@@ -120,16 +120,19 @@ module _ (x : Answering) (endpoint : Option (List ℕ)) {R K : Type 0} (seen : R
         → ServesEach x endpoint seen (connections ++ c ∷ []) n n'
     each_more c one = record {
       handed = hands_more seen connections c n.waiting mid.waiting n'.waiting h.handed one.handed;
-      served = All-push (IsServed x endpoint n.closed) connections c h.served (record {
-        begins = new_before n.closed mid.closed (Leaves connections) c.handed h.closed
-            one.served.begins;
-        judged = one.served.judged;
-        written = one.served.written;
-        served = one.served.served;
-        read_fault = one.served.read_fault;
-        write_fault = one.served.write_fault;
-        nothing_held = one.served.nothing_held;
-      });
+      served = All-push (IsServed x endpoint (HoldNothing seen) n.closed) connections c h.served
+          (record {
+            begins = new_before n.closed mid.closed (Leaves connections) c.handed h.closed
+                one.served.begins;
+            judged = one.served.judged;
+            written = one.served.written;
+            follows = one.served.follows;
+            reads_counted = one.served.reads_counted;
+            writes_counted = one.served.writes_counted;
+            read_fault = one.served.read_fault;
+            write_fault = one.served.write_fault;
+            nothing_held = one.served.nothing_held;
+          });
       closed = leaves_more connections c n.closed mid.closed n'.closed h.closed one.closed;
       end_faults = one.end_faults ∙ ap (λ (count : ℕ). with_faults count c) h.end_faults
           ∙ sym (faults_along-push n.end_faults connections c);
@@ -141,20 +144,8 @@ module _ (x : Answering) (endpoint : Option (List ℕ)) {R K : Type 0}
     (left taken : R → Option (List ℕ)) (reads empty_takes : R → ℕ)
     (written : K → Option (List ℕ)) (held : K → List ℕ) (writes : K → ℕ) (may_want : K → Bool)
   where
-    abbrev pub ends_of : R × K → Ends
-    ends_of = ends_at left taken reads empty_takes written held writes may_want
-
-    abbrev Serves' : (ends ends' : R × K) → Outcome → Type 0
-    Serves' ends ends' outcome = Serves written_in held_in faults_in may_want_in x endpoint
-        (ends_of ends).input (ends_of ends').input (ends_of ends).sink (ends_of ends').sink
-        outcome
-
-    abbrev pub met : (ends ends' : R × K) → Outcome → Connection
-    met ends ends' outcome = record {
-      handed = ends_of ends;
-      closed = ends_of ends';
-      outcome = outcome;
-    }
+    abbrev seen_of : R × K → Ends
+    seen_of = ends_at left taken reads empty_takes written held writes
 
     -- what closing adds
     abbrev Closes : (ends : R × K) → Pairs → Pairs → Type 0
@@ -172,18 +163,22 @@ module _ (x : Answering) (endpoint : Option (List ℕ)) {R K : Type 0}
         ap (λ (p : Option (List ℕ) × Option (List ℕ)). p.1) is in
         rw (← t, ← w) at closes
 
-    leaves_one : (ends ends' : R × K) (outcome : Outcome) → Serves' ends ends' outcome
-        → (u v : Option Pairs) → Fresh u (taken ends.0) → Fresh u (written ends.1)
-        → Told u v (Closes ends') → Told u v (LeavesOne (met ends ends' outcome))
-    leaves_one ends ends' outcome h None v t w closes = tt
-    leaves_one ends ends' outcome h (Some u) None t w closes = absurd closes
-    leaves_one ends ends' outcome h (Some u) (Some v) t w closes =
-        let p = pair_told x endpoint (met ends ends' outcome) h t w in
-        (p.0, pair_closed (taken ends'.0) (written ends'.1) p.0 u v p.1 closes, p.1)
+    module _ (ends ends' : R × K) (outcome : Outcome)
+        (h : Serves written held writes may_want x endpoint (seen_of ends).input
+        (seen_of ends').input ends.1 ends'.1 outcome) where
+      abbrev one_met : Connection
+      one_met = met seen_of ends ends' outcome
 
-    module _ (n mid n' : Network R K) (ends ends' : R × K) (outcome : Outcome)
-        (h : Serves' ends ends' outcome) where
-      pub serves_one : Told n.waiting mid.waiting (λ w w'. w ≡ ends ∷ w')
+      leaves_one : (u v : Option Pairs) → Fresh u (taken ends.0) → Fresh u (written ends.1)
+          → Told u v (Closes ends') → Told u v (LeavesOne one_met)
+      leaves_one None v t w closes = tt
+      leaves_one (Some u) None t w closes = absurd closes
+      leaves_one (Some u) (Some v) t w closes =
+          let p = pair_told x endpoint left taken reads empty_takes written held writes may_want
+          ends ends' outcome h t w in
+          (p.0, pair_closed (taken ends'.0) (written ends'.1) p.0 u v p.1 closes, p.1)
+
+      pub serves_one : (n mid n' : Network R K) → Told n.waiting mid.waiting (λ w w'. w ≡ ends ∷ w')
           → mid.out ≡ n.out + 1
           → (reads ends.0 ≡ 0) × Fresh n.closed (taken ends.0)
           → (writes ends.1 ≡ 0) × Fresh n.closed (written ends.1) × (held ends.1 ≡ [])
@@ -193,28 +188,30 @@ module _ (x : Answering) (endpoint : Option (List ℕ)) {R K : Type 0}
           → n'.waiting ≡ mid.waiting
           → n'.end_faults ≡ added_up mid.end_faults (reads ends'.0) (writes ends'.1)
           → n'.faults ≡ mid.faults
-          → ServesOne x endpoint ends_of n n' (met ends ends' outcome)
-      serves_one handed out reader writer still ended closes back waiting counted kept = record {
-        handed = subst (λ (w : Option (List (R × K))). Told n.waiting w
-            (HandsOne ends_of (met ends ends' outcome))) (sym waiting)
-            (handed_so n.waiting mid.waiting handed);
-        served = is_served x endpoint (met ends ends' outcome) h n.closed (record {
-          unread = reader.0;
-          nothing_taken = reader.1;
-          unwritten = writer.0;
-          nothing_written = writer.1;
-          nothing_held = writer.2;
-        });
-        closed = leaves_one ends ends' outcome h n.closed n'.closed reader.1 writer.1
-            (subst (λ (w : Option Pairs). Told w n'.closed (Closes ends')) ended.0 closes);
-        end_faults = counted ∙ ap (λ (k : ℕ). added_up k (reads ends'.0) (writes ends'.1))
-            ended.1;
-        out = omega (arith, out, back);
-        faults = kept ∙ still;
-      }
+          → ServesOne x endpoint seen_of n n' one_met
+      serves_one n mid n' handed out reader writer still ended closes back waiting counted kept =
+          record {
+            handed = subst (λ (w : Option (List (R × K))). Told n.waiting w
+                (HandsOne seen_of one_met)) (sym waiting)
+                (handed_so n.waiting mid.waiting handed);
+            served = is_served x endpoint left taken reads empty_takes written held writes may_want
+                ends ends' outcome h n.closed (record {
+                  unread = reader.0;
+                  nothing_taken = reader.1;
+                  unwritten = writer.0;
+                  nothing_written = writer.1;
+                  nothing_held = writer.2;
+                });
+            closed = leaves_one n.closed n'.closed reader.1 writer.1
+                (subst (λ (w : Option Pairs). Told w n'.closed (Closes ends')) ended.0 closes);
+            end_faults = counted ∙ ap (λ (k : ℕ). added_up k (reads ends'.0) (writes ends'.1))
+                ended.1;
+            out = omega (arith, out, back);
+            faults = kept ∙ still;
+          }
         where
           handed_so : (u v : Option (List (R × K))) → Told u v (λ w w'. w ≡ ends ∷ w')
-              → Told u v (HandsOne ends_of (met ends ends' outcome))
+              → Told u v (HandsOne seen_of one_met)
           handed_so None v p = tt
           handed_so (Some u) None p = absurd p
           handed_so (Some u) (Some v) p = (ends, p, refl)

@@ -7,7 +7,7 @@ use Rattle.io_edges.specs.declared.Failed.{Failed}
 use Rattle.duplex_server.specs.declared.outcome.Outcome.{Outcome}
 use Rattle.duplex_server.specs.Owed.{Answering}
 use Rattle.io_edges.specs.Wires.{Network}
-use Rattle.connection_server.specs.Served.{Connection, Ends, IsServed, ServesEach}
+use Rattle.connection_server.specs.Served.{Connection, Ends, HoldNothing, IsServed, ServesEach}
 use Rattle.connection_server.specs.Served.{WritesAll, held_behind, moved, told_pair, with_faults}
 
 module _ (x : Answering) (endpoint : Option (List ℕ)) {R K : Type 0} (seen : R × K → Ends)
@@ -16,7 +16,7 @@ module _ (x : Answering) (endpoint : Option (List ℕ)) {R K : Type 0} (seen : R
   pub record ServesOne (c : Connection) : Type 0 where
     pub handed : Told n.waiting n'.waiting (λ before after. (ends : R × K)
         × (before ≡ ends ∷ after) × (seen ends ≡ c.handed))
-    pub served : IsServed x endpoint n.closed c
+    pub served : IsServed x endpoint (HoldNothing seen) n.closed c
     pub closed : Told n.closed n'.closed (λ before after. (pair : List ℕ × List ℕ)
         × (after ≡ before ++ pair ∷ []) × (told_pair pair ≡ moved c))
     pub end_faults : n'.end_faults ≡ with_faults n.end_faults c

@@ -1,53 +1,48 @@
 -- What was read and written where connections are served one after the other: on each of them, and
 -- what is left of the wire that gave them and of the output of their lines.
-use Rattle.std.specs.Prelude.{◌≡◌, ◌⊎◌, ⊤, ℕ, ◌<◌, ◌≤◌, List, [], ◌∷◌, ◌++◌, length, map, All, Bool}
+use Rattle.std.specs.Prelude.{◌≡◌, ◌⊎◌, ⊤, ℕ, ◌<◌, ◌≤◌, List, [], ◌∷◌, ◌++◌, length, map, All}
 use Rattle.std.specs.Prelude.{Option, Some, Result, Ok, Err}
 use Rattle.io_edges.specs.Faults.{CountsFaults, Rose}
 use Rattle.io_edges.specs.Flow.{Told, GrowsByPrefix}
 use Rattle.io_edges.specs.Wires.{Fresh, Network, added_up}
 use Rattle.io_edges.specs.declared.SinkFault.{SinkFault}
 use Rattle.io_edges.specs.declared.SinkFault.TheVariants as sinks
-use Rattle.stream_loop.specs.Edges.{Input, Output, input_at}
-use Rattle.stream_follower.specs.declared.writing.Outbound.TheVariants.{WriteFault}
+use Rattle.unit_streams.specs.Tellers.{state_behind, told_along}
+use Rattle.stream_loop.specs.Edges.{Input, Output, input_at, output_at}
+use Rattle.stream_reader.specs.Stream.{StreamEvent, stream}
+use Rattle.stream_follower.specs.declared.writing.Outbound.{Outbound}
+use Rattle.stream_follower.specs.declared.writing.Outbound.TheVariants.{Done, WriteFault, Memory}
+use Rattle.stream_follower.specs.Followed.{Follows}
 use Rattle.duplex_server.specs.declared.outcome.Inbound.TheVariants.{ReadFault}
 use Rattle.duplex_server.specs.declared.outcome.Outcome.{Outcome}
-use Rattle.duplex_server.specs.Owed.{Answering, owed}
-use Rattle.duplex_server.specs.Serving.{Judges, Serves, WritesOwed}
+use Rattle.duplex_server.specs.declared.requests.Request.{Request}
+use Rattle.duplex_server.specs.Owed.{Answering, Replying, messages_along, owed, owed_for, replies}
+use Rattle.duplex_server.specs.Owed.{requests_to, start}
+use Rattle.duplex_server.specs.Requests.{request_for}
+use Rattle.duplex_server.specs.Serving.{Judges, WritesOwed, closing_of, ending_of}
 use Rattle.connection_server.specs.declared.stopping.ServeFault.{ServeFault}
 use Rattle.connection_server.specs.declared.stopping.ServeFault.TheVariants as stops
 use Rattle.connection_server.specs.Lines.{connection_line, lines_from}
 
 -- ---- what is seen at one moment
 
--- of a sink: what is written, where that is told, what is held back, how many calls met a fault,
--- and whether a call may want memory
-pub record SinkState : Type 0 where
-  pub written : Option (List ℕ)
-  pub held : List ℕ
-  pub faults : ℕ
-  pub may_want : Bool
-
-abbrev pub sink_at : {K : Type 0} → (written : K → Option (List ℕ)) → (held : K → List ℕ)
-    → (faults : K → ℕ) → (may_want : K → Bool) → K → SinkState
-sink_at written held faults may_want sink = record {
-  written = written sink;
-  held = held sink;
-  faults = faults sink;
-  may_want = may_want sink;
-}
-
 -- of the ends of a connection: the source and the sink
 pub record Ends : Type 0 where
   pub input : Input
-  pub sink : SinkState
+  pub sink : Output
 
 abbrev pub ends_at : {R K : Type 0} → (left taken : R → Option (List ℕ))
     → (reads empty_takes : R → ℕ) → (written : K → Option (List ℕ)) → (held : K → List ℕ)
-    → (writes : K → ℕ) → (may_want : K → Bool) → R × K → Ends
-ends_at left taken reads empty_takes written held writes may_want ends = record {
+    → (writes : K → ℕ) → R × K → Ends
+ends_at left taken reads empty_takes written held writes ends = record {
   input = input_at left taken reads empty_takes ends.0;
-  sink = sink_at written held writes may_want ends.1;
+  sink = output_at written held writes ends.1;
 }
+
+-- sinks of this type hold nothing back: what is put to one is written
+module _ {R K : Type 0} (seen : R × K → Ends) where
+  abbrev pub HoldNothing : Type 0
+  HoldNothing = (ends : R × K) → (seen ends).sink.held ≡ []
 
 -- ---- a connection
 
@@ -77,7 +72,59 @@ pub record AreNew (told : Option (List (List ℕ × List ℕ))) (ends : Ends) : 
   pub nothing_written : Fresh told ends.sink.written
   pub nothing_held : ends.sink.held ≡ []
 
-module _ (x : Answering) (endpoint : Option (List ℕ)) where
+-- ---- its answers
+
+module _ (x : Answering) where
+  -- what is due for requests
+  abbrev pub due_for : List Request → List ℕ
+  due_for requests = told_along (replies x) (start x.statics) requests
+
+  -- what the requests leave of the outgoing direction
+  abbrev pub left_by : List Request → Replying
+  left_by requests = state_behind (replies x) (start x.statics) requests
+
+  -- What is due next, where requests come and then a closing: an envelope, an Ack, an End or a
+  -- Fault record, or nothing.
+  abbrev pub due_next : Replying → (closing : List ℕ) → List Request → List ℕ
+  due_next s closing [] = closing
+  due_next s closing (request ∷ requests) = owed_for x s request
+
+  module _ (held : List ℕ) (written written' : Option (List ℕ)) (answers : ℕ)
+      (closing : List ℕ) (requests : List Request) where
+    -- all that is due for requests and a closing is written, and all answers count
+    pub record AnswersAll : Type 0 where
+      pub counted : answers ≡ (left_by requests).answers
+      pub wrote : Told written written' (λ w w'. w' ≡ w ++ held ++ (due_for requests ++ closing))
+
+    -- The writing ended at what was due behind the first of the requests, of which all answers
+    -- count. Where the sink holds nothing back, what is due for these is written whole, and of what
+    -- was due next the first bytes, or none: so the answers that count are written, and at most one
+    -- more, whole or in part.
+    pub record AnswersFirst (holds_nothing : Type 0) : Type 0 where
+      pub done : List Request
+      pub rest : List Request
+      pub joined : requests ≡ done ++ rest
+      pub counted : answers ≡ (left_by done).answers
+      pub wrote : Told written written' (λ w w'. GrowsByPrefix w w'
+          (held ++ (due_for done ++ due_next (left_by done) closing rest)))
+      pub whole : holds_nothing → Told written written' (λ w w'.
+          GrowsByPrefix (w ++ held ++ due_for done) w' (due_next (left_by done) closing rest))
+
+    -- by what became of the writing
+    abbrev pub AnswersBy : (holds_nothing : Type 0) → Outbound → Type 0
+    AnswersBy holds_nothing Done = AnswersAll
+    AnswersBy holds_nothing WriteFault = AnswersFirst holds_nothing
+    AnswersBy holds_nothing Memory = AnswersFirst holds_nothing
+
+-- the events of a connection's requests were answered, and its documents counted
+pub record HasAnswered (x : Answering) (holds_nothing : Type 0) (c : Connection)
+    (events : List StreamEvent) : Type 0 where
+  pub counted : c.outcome.messages ≡ messages_along 0 (map request_for events)
+  pub answers : AnswersBy x c.handed.sink.held c.handed.sink.written c.closed.sink.written
+      c.outcome.answers (closing_of (ending_of c.outcome.inbound)) (map request_for events)
+      holds_nothing c.outcome.outbound
+
+module _ (x : Answering) (endpoint : Option (List ℕ)) (holds_nothing : Type 0) where
   -- What is known of a connection that was served, to the Via that is served alone or to any. Of
   -- all that its initiator sends, where the source tells that: how it is judged, and what is
   -- written of it. Whatever is told: what was read, which events were answered, and what failed.
@@ -91,9 +138,12 @@ module _ (x : Answering) (endpoint : Option (List ℕ)) where
         → (w' : List ℕ) × (c.closed.sink.written ≡ Some w')
         × WritesOwed (owed x endpoint bytes) c.handed.sink.held w w' c.outcome.inbound
         c.outcome.outbound
-    pub served : Serves (λ (s : SinkState). s.written) (λ (s : SinkState). s.held)
-        (λ (s : SinkState). s.faults) (λ (s : SinkState). s.may_want) x endpoint
-        c.handed.input c.closed.input c.handed.sink c.closed.sink c.outcome
+    pub follows : Follows (stream (requests_to x endpoint)) (HasAnswered x holds_nothing c)
+        c.handed.input c.closed.input (ending_of c.outcome.inbound)
+    pub reads_counted : CountsFaults c.handed.input.faults c.closed.input.faults
+        (c.outcome.inbound ≡ ReadFault)
+    pub writes_counted : CountsFaults c.handed.sink.faults c.closed.sink.faults
+        (c.outcome.outbound ≡ WriteFault)
     pub read_fault : (count : ℕ) → c.outcome.inbound ≡ ReadFault
         → Rose count (with_faults count c)
     pub write_fault : (count : ℕ) → c.outcome.outbound ≡ WriteFault
@@ -113,7 +163,7 @@ module _ (x : Answering) (endpoint : Option (List ℕ)) {R K : Type 0} (seen : R
     pub handed : Told n.waiting n'.waiting (λ before after. (ends : List (R × K))
         × (before ≡ ends ++ after)
         × (map seen ends ≡ map (λ (c : Connection). c.handed) connections))
-    pub served : All (IsServed x endpoint n.closed) connections
+    pub served : All (IsServed x endpoint (HoldNothing seen) n.closed) connections
     pub closed : Told n.closed n'.closed (λ before after. (pairs : List (List ℕ × List ℕ))
         × (after ≡ before ++ pairs) × (map told_pair pairs ≡ map moved connections))
     pub end_faults : n'.end_faults ≡ faults_along n.end_faults connections

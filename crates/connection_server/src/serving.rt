@@ -29,7 +29,7 @@ fn serve_each<W: Wire, O: Sink, V: Service>(
     ensures { ServesAll (answering (V.served server.now.service.now) server.now.statics.now
         (limits_of server.now.quotas.now)) (endpoint_of server.now.endpoint.now)
         (ends_at W.Reader.left W.Reader.taken W.Reader.faults W.Reader.empty_takes
-        W.Writer.written W.Writer.held W.Writer.faults W.Writer.may_want) connections
+        W.Writer.written W.Writer.held W.Writer.faults) connections
         (network_at W.waiting W.closed W.out W.faults W.end_faults wire.old)
         (network_at W.waiting W.closed W.out W.faults W.end_faults wire.new)
         (output_at O.written O.held O.faults output.old)
@@ -72,7 +72,7 @@ pub fn serve_connections<W: Wire, O: Sink, V: Service>(
     ensures served { ServesAll (answering (V.served server.now.service.now) server.now.statics.now
         (limits_of server.now.quotas.now)) (endpoint_of server.now.endpoint.now)
         (ends_at W.Reader.left W.Reader.taken W.Reader.faults W.Reader.empty_takes
-        W.Writer.written W.Writer.held W.Writer.faults W.Writer.may_want) connections
+        W.Writer.written W.Writer.held W.Writer.faults) connections
         (network_at W.waiting W.closed W.out W.faults W.end_faults wire.old)
         (network_at W.waiting W.closed W.out W.faults W.end_faults wire.new)
         (output_at O.written O.held O.faults output)

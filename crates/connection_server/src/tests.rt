@@ -106,15 +106,22 @@ const RESET: Peer = Peer {
 
 // Takes the Preamble Ack and three bytes more.
 const DEAF: Peer = Peer {
-    most: 23,
-    puts: &[1],
-    kept: 3,
+    puts: &[0],
+    kept: 4,
     gets: &[b"\x0B\x06\x44\x02"],
-    line: "messages 2 answers 1 in ended out write-fault",
+    line: "messages 2 answers 0 in ended out write-fault",
     ..CALLER
 };
 
-const PEERS: [Peer; 7] = [CALLER, SLOW, SHORT, SILENT, ODD, RESET, DEAF];
+// Takes an answer too, and three bytes of the next.
+const DEAFENED: Peer = Peer {
+    kept: 74,
+    gets: &[b"\x0B", FIRST_ANSWER, ANSWER, NEXT_ANSWER],
+    line: "messages 2 answers 1 in ended out write-fault",
+    ..DEAF
+};
+
+const PEERS: [Peer; 8] = [CALLER, SLOW, SHORT, SILENT, ODD, RESET, DEAF, DEAFENED];
 
 // A service that has no memory for any request.
 #[derive(Clone, Copy)]

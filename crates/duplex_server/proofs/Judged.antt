@@ -13,16 +13,17 @@ use Rattle.stream_follower.specs.declared.writing.Outbound.{Outbound}
 use Rattle.stream_follower.specs.declared.writing.Outbound.TheVariants as outbounds
 use Rattle.stream_follower.specs.Followed.{AreFirst, Breaks, Decides, Follows, IsWhole, Starves}
 use Rattle.stream_follower.specs.Writing.{Wrote}
+use Rattle.stream_follower.proofs.Amounts.{first_told, whole_told, wrote_grew}
 use Rattle.stream_follower.proofs.Bringing.{first_of_open}
+use Rattle.stream_follower.proofs.Grown.{AllWritten, Grew, all_written, grew_more}
+use Rattle.receiver_machine.specs.Owed.{closing_bytes}
 use Rattle.duplex_server.specs.declared.outcome.Inbound.{Inbound}
 use Rattle.duplex_server.specs.declared.outcome.Inbound.TheVariants.{Ended, Offended, ReadFault}
 use Rattle.duplex_server.specs.declared.outcome.Inbound.TheVariants.{Memory}
 use Rattle.duplex_server.specs.declared.outcome.Outcome.{Outcome}
-use Rattle.duplex_server.specs.Owed.{Answering, closing_bytes, owed, replies, requests_to, start}
+use Rattle.duplex_server.specs.Owed.{Answering, owed, replies, requests_to, start}
 use Rattle.duplex_server.specs.Requests.{request_for}
 use Rattle.duplex_server.specs.Serving.{HasServed, Judges, Serves, WritesOwed, ending_of}
-use Rattle.duplex_server.proofs.OwedFacts.{AllWritten, Grew, all_written, first_told, grew_more}
-use Rattle.duplex_server.proofs.OwedFacts.{whole_told, wrote_grew}
 
 module _ {K : Type 0} (written : K → Option (List ℕ)) (held : K → List ℕ) (faults : K → ℕ)
     (may_want : K → Bool) (x : Answering) (endpoint : Option (List ℕ)) (i i' : Input)

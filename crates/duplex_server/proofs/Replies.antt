@@ -1,23 +1,26 @@
 -- What is left of the outgoing direction, by its sending half.
-use Rattle.std.proofs.Common.{◌≡◌, ℕ, List, [], true, false, Option, Ok}
+use Rattle.std.proofs.Common.{◌≡◌, ℕ, List, [], ◌++◌, true, false, Option, None, Ok}
 use Rattle.std.proofs.Common.{refl, sym, ap, ◌∙◌}
 use Rattle.io_edges.specs.Faults.{one_more}
 use Rattle.nbfx_values.specs.Limits.{Limits}
 use Rattle.nbfx_values.specs.declared.content.Item.{Item}
 use Rattle.nbfx_values.specs.declared.session.Kind.{Kind}
 use Rattle.nbfx_values.specs.declared.session.Mode.{Mode}
+use Rattle.string_tables.specs.StaticStrings.{Entry}
 use Rattle.string_tables.specs.StringTable.{StringTable}
 use Rattle.nbfx_encoder.specs.declared.sender.SendState.{SendState}
 use Rattle.nbfx_encoder.specs.declared.sender.Sender.{Sender}
+use Rattle.nbfx_encoder.specs.declared.sender.Side.TheVariants.{Receiver}
 use Rattle.nbfx_encoder.specs.Envelopes.{envelope}
 use Rattle.nbfx_encoder.specs.Placing.{Placed}
-use Rattle.nbfx_encoder.specs.Sending.{behind_message, kind_in, limits_in, mode_in, names_in}
-use Rattle.nbfx_encoder.specs.Sending.{state_in}
+use Rattle.nbfx_encoder.specs.Sending.{behind_message, first_state, kind_in, limits_in, mode_in}
+use Rattle.nbfx_encoder.specs.Sending.{names_in, state_in}
 use Rattle.nbfx_encoder.specs.Spelling.{encoded}
-use Rattle.action_dispatch.specs.declared.answers.Answer.TheVariants.{Reply}
+use Rattle.action_dispatch.specs.declared.answers.Answer.{Answer}
+use Rattle.action_dispatch.specs.declared.answers.Answer.TheVariants.{Reply, Nothing}
 use Rattle.action_dispatch.specs.Refusals.{unfit_fault}
-use Rattle.duplex_server.specs.Owed.{Replying, behind_reply, first_fitting, payload_of, told_reply}
-use Rattle.duplex_server.specs.Owed.{when_ready}
+use Rattle.duplex_server.specs.Owed.{Replying, behind_reply, first_fitting, no_strings, opened}
+use Rattle.duplex_server.specs.Owed.{payload_of, told_reply, when_ready}
 use Rattle.duplex_server.specs.Replying.{replying}
 use Rattle.duplex_server.specs.Spelling.{Spells}
 
@@ -34,6 +37,13 @@ pub replying_is : (sender : Sender) (mode : Mode) (kind : Kind) (moment : SendSt
     }
 unfolding replying
 replying_is sender mode kind moment table answers m k s t = rw (m, k, s, t) refl
+
+-- there is none where nothing is answered
+pub none_due : (limits : Limits) (s : Replying) (answer : Answer)
+    → ((document relates : List Item) → answer ≡ Reply document relates → ⊥)
+    → payload_of limits s answer ≡ None
+none_due limits s (Reply document relates) never = absurd (never document relates refl)
+none_due limits s Nothing never = refl
 
 module _ (limits : Limits) (sender : Sender) (answers : ℕ) (document relates : List Item)
     (limited : limits_in sender ≡ limits) where
@@ -56,24 +66,24 @@ module _ (limits : Limits) (sender : Sender) (answers : ℕ) (document relates :
   unfolding replying
   mode_is = refl
 
-  module _ (new : List ℕ) (sender' : Sender) (same_mode : mode_in sender' ≡ mode_in sender)
+  module _ (old new : List ℕ) (sender' : Sender) (same_mode : mode_in sender' ≡ mode_in sender)
       (same_kind : kind_in sender' ≡ kind_in sender) where
     -- the bytes of it
-    pub told_is : Spells (mode_in sender) [] new (names_in sender) (names_in sender')
+    pub told_is : Spells (mode_in sender) old new (names_in sender) (names_in sender')
         (state_in sender) (state_in sender') spelled (Ok true)
-        → new ≡ told_reply s.mode (payload_of limits s (Reply document relates))
+        → new ≡ old ++ told_reply s.mode (payload_of limits s (Reply document relates))
     told_is h =
-        h.2.written ∙ sym (ap (told_reply s.mode) (payload_is ∙ h.1)
-        ∙ ap (λ m. envelope m h.0.0) mode_is)
+        h.2.written ∙ ap (λ l. old ++ l) (sym (ap (told_reply s.mode) (payload_is ∙ h.1)
+        ∙ ap (λ m. envelope m h.0.0) mode_is))
 
-    pub nothing_told : Spells (mode_in sender) [] new (names_in sender) (names_in sender')
+    pub nothing_told : Spells (mode_in sender) old new (names_in sender) (names_in sender')
         (state_in sender) (state_in sender') spelled (Ok false)
         → told_reply s.mode (payload_of limits s (Reply document relates)) ≡ []
     nothing_told h = ap (told_reply s.mode) (payload_is ∙ h.0)
 
     -- what it leaves
     pub left_is : (answers' : ℕ) → answers' ≡ one_more answers
-        → Spells (mode_in sender) [] new (names_in sender) (names_in sender')
+        → Spells (mode_in sender) old new (names_in sender) (names_in sender')
         (state_in sender) (state_in sender') spelled (Ok true)
         → replying sender' answers'
         ≡ behind_reply (payload_of limits s (Reply document relates)) s
@@ -91,7 +101,7 @@ module _ (limits : Limits) (sender : Sender) (answers : ℕ) (document relates :
         }) counted
         ∙ sym (ap (λ p. behind_reply p s) (payload_is ∙ h.1))
 
-    pub left_so : Spells (mode_in sender) [] new (names_in sender) (names_in sender')
+    pub left_so : Spells (mode_in sender) old new (names_in sender) (names_in sender')
         (state_in sender) (state_in sender') spelled (Ok false)
         → replying sender' answers ≡ behind_reply (payload_of limits s (Reply document relates)) s
     unfolding replying
@@ -99,3 +109,12 @@ module _ (limits : Limits) (sender : Sender) (answers : ℕ) (document relates :
         replying_is sender' (mode_in sender) (kind_in sender) (state_in sender) (names_in sender)
         answers same_mode same_kind h.1.moment_is h.1.table
         ∙ sym (ap (λ p. behind_reply p s) (payload_is ∙ h.0))
+
+-- behind the preamble
+pub opened_is : (mode : Mode) (kind : Kind) (statics : List Entry) (sender' sender : Sender)
+    (answers : ℕ) → mode_in sender' ≡ mode → kind_in sender' ≡ kind
+    → state_in sender' ≡ first_state mode Receiver → names_in sender' ≡ no_strings statics
+    → replying sender' answers ≡ opened statics mode kind (replying sender answers)
+unfolding replying
+opened_is mode kind statics sender' sender answers m k s t =
+    replying_is sender' mode kind (first_state mode Receiver) (no_strings statics) answers m k s t

@@ -1,20 +1,15 @@
 -- What is known of a connection when its stream is over and what is owed last is written.
-use Rattle.std.proofs.Common.{◌≡◌, ℕ, inl, inr, List, Bool, Option, Some, None}
-use Rattle.std.proofs.Common.{Ok, map, refl, sym, ap, ◌∙◌, subst}
+use Rattle.std.proofs.Common.{◌≡◌, ℕ, List, Bool, Option, Some, None, map, refl, sym, ap, ◌∙◌}
+use Rattle.std.proofs.Common.{subst}
 use Rattle.io_edges.specs.Faults.{CountsFaults}
-use Rattle.io_edges.proofs.Putting.{PutsAll-then}
-use Rattle.unit_streams.specs.Grammar.{Grammar}
-use Rattle.unit_streams.specs.Judging.{events_of}
-use Rattle.unit_streams.specs.Tellers.{Teller}
 use Rattle.nbfx_values.specs.declared.refusals.Offence.{Offence}
 use Rattle.stream_loop.specs.Edges.{Input}
 use Rattle.stream_reader.specs.Stream.{Settings, StreamEvent, stream}
 use Rattle.stream_follower.specs.declared.following.Ending.{Ending}
 use Rattle.stream_follower.specs.declared.following.Ending.TheVariants as endings
-use Rattle.stream_follower.specs.declared.writing.Outbound.{Outbound}
-use Rattle.stream_follower.specs.declared.writing.Outbound.TheVariants as outbounds
 use Rattle.stream_follower.specs.Followed.{Follows}
-use Rattle.stream_follower.specs.Writing.{Ends, PutsTo, Wrote}
+use Rattle.stream_follower.specs.Writing.{Wrote}
+use Rattle.stream_follower.proofs.Counts.{heard_some, writes_counted}
 use Rattle.stream_follower.proofs.Taking.{follows_as}
 use Rattle.duplex_server.specs.declared.outcome.Inbound.{Inbound}
 use Rattle.duplex_server.specs.declared.outcome.Inbound.TheVariants.{ReadFault}
@@ -41,49 +36,6 @@ reads_counted f f' ending h = record {
   same = λ never. h.same (λ is. never (ap inbound_of is));
   grows = h.grows;
 }
-
--- some events were heard, however that ends
-pub heard_some : {Z U E R : Type 0} (g : Grammar Z U E R) (Heard : List E → Type 0) (i i' : Input)
-    (ending : Ending R) → Follows g Heard i i' ending → (events : List E) × Heard events
-heard_some g Heard i i' (endings.Judged judged) h = (h.events, h.heard)
-heard_some g Heard i i' endings.ReadFault h = (events_of g h.bytes, h.heard)
-heard_some g Heard i i' endings.Memory h = (h.events, h.heard)
-
--- counts of calls that failed so where others failed
-counts_as : (f f' : ℕ) (A B : Type 0) → (A → B) → (B → A) → CountsFaults f f' A → CountsFaults f f'
-    B
-counts_as f f' A B to back h = record {
-  rose = λ b. h.rose (back b);
-  same = λ never. h.same (λ a. never (to a));
-  grows = h.grows;
-}
-
-module _ {K : Type 0} (written : K → Option (List ℕ)) (held : K → List ℕ) (faults : K → ℕ)
-    (may_want : K → Bool) where
-  abbrev Counts : Outbound → K → K → Type 0
-  Counts o old new = CountsFaults (faults old) (faults new) (o ≡ outbounds.WriteFault)
-
-  ends_counted : (o : Outbound) (before bytes : List ℕ) (first mid now : K)
-      → PutsTo written held faults may_want first mid before (Ok tt)
-      → Ends written held faults may_want o mid now bytes → Counts o first now
-  ends_counted outbounds.Done before bytes first mid now puts ends = absurd ends
-  ends_counted outbounds.WriteFault before bytes first mid now puts ends =
-      counts_as _ _ _ _ (λ e. refl) (λ e. refl) (PutsAll-then _ puts ends).counted
-  ends_counted outbounds.Memory before bytes first mid now puts (inl ends) =
-      counts_as _ _ _ _ (λ e. cc) (λ e. cc) (PutsAll-then _ puts ends).counted
-  ends_counted outbounds.Memory before bytes first mid now puts (inr ends) =
-      counts_as _ _ _ _ (λ e. cc) (λ e. cc) (PutsAll-then _ puts ends.0).counted
-
-  pub writes_counted : {S E R : Type 0} (t : Teller S E R) (o : Outbound) (closing : List ℕ)
-      (first : K) (events : List E) (Left : S → Type 0) (now : K)
-      → Wrote written held faults may_want t o closing first events Left now
-      → CountsFaults (faults first) (faults now) (o ≡ outbounds.WriteFault)
-  writes_counted t outbounds.Done closing first events Left now h =
-      counts_as _ _ _ _ (λ e. cc) (λ e. cc) h.puts.counted
-  writes_counted t outbounds.WriteFault closing first events Left now h =
-      ends_counted outbounds.WriteFault _ h.cut.bytes first h.mid now h.puts h.cut.ends
-  writes_counted t outbounds.Memory closing first events Left now h =
-      ends_counted outbounds.Memory _ h.cut.bytes first h.mid now h.puts h.cut.ends
 
 -- the same settings
 pub followed_as : (x y : Settings) → x ≡ y → (Heard : List StreamEvent → Type 0) (i i' : Input)

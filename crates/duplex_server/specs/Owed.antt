@@ -13,7 +13,7 @@ use Rattle.nbfx_values.specs.declared.session.Mode.{Mode}
 use Rattle.nbfx_values.specs.declared.session.Mode.TheVariants.{Simplex}
 use Rattle.string_tables.specs.StaticStrings.{Entry}
 use Rattle.string_tables.specs.StringTable.{StringTable}
-use Rattle.nmf_records.specs.declared.frame.Frame.TheVariants.{PreambleAck, End}
+use Rattle.nmf_records.specs.declared.frame.Frame.TheVariants.{PreambleAck}
 use Rattle.nmf_records.specs.Writing.{frame_bytes_of}
 use Rattle.nbfx_encoder.specs.declared.sender.SendState.{SendState}
 use Rattle.nbfx_encoder.specs.declared.sender.SendState.TheVariants.{Ready, Spent}
@@ -24,7 +24,7 @@ use Rattle.nbfx_encoder.specs.Sending.{behind_message, first_state}
 use Rattle.nbfx_encoder.specs.Spelling.{Unfit, encoded}
 use Rattle.stream_loop.specs.Answers.{written_by}
 use Rattle.stream_reader.specs.Stream.{Settings, StreamEvent, initiators, stream}
-use Rattle.receiver_machine.specs.Owed.{fault_record}
+use Rattle.receiver_machine.specs.Owed.{closing_bytes}
 use Rattle.action_dispatch.specs.declared.answers.Answer.{Answer}
 use Rattle.action_dispatch.specs.declared.answers.Answer.TheVariants.{Reply, Nothing}
 use Rattle.action_dispatch.specs.Answers.{Serves, answered}
@@ -109,11 +109,6 @@ behind_reply (Some payload) s = record s {
   table = payload.1;
   answers = one_more s.answers;
 }
-
--- what ends a session: an End, or what says why the stream is refused, where there is a text for it
-abbrev pub closing_bytes : Option Offence → List ℕ
-closing_bytes None = frame_bytes_of End []
-closing_bytes (Some offence) = fault_record offence.reason
 
 module _ (x : Answering) where
   -- the payload of the answer to a document

@@ -12,12 +12,13 @@ use Rattle.stream_follower.specs.declared.writing.Outbound.{Outbound}
 use Rattle.stream_follower.specs.declared.writing.Outbound.TheVariants as outbounds
 use Rattle.stream_follower.specs.Followed.{Follows}
 use Rattle.stream_follower.specs.Writing.{Wrote}
+use Rattle.receiver_machine.specs.Owed.{closing_bytes}
 use Rattle.duplex_server.specs.declared.outcome.Inbound.{Inbound}
 use Rattle.duplex_server.specs.declared.outcome.Inbound.TheVariants.{Ended, Offended, ReadFault}
 use Rattle.duplex_server.specs.declared.outcome.Inbound.TheVariants.{Memory}
 use Rattle.duplex_server.specs.declared.outcome.Outcome.{Outcome}
 use Rattle.duplex_server.specs.Requests.{request_for}
-use Rattle.duplex_server.specs.Owed.{Answering, closing_bytes, messages_along, replies, requests_to}
+use Rattle.duplex_server.specs.Owed.{Answering, messages_along, replies, requests_to}
 
 -- how the reading of a connection ended
 abbrev pub inbound_of : Ending Offence → Inbound
@@ -56,7 +57,7 @@ module _ {K : Type 0} (written : K → Option (List ℕ)) (held : K → List ℕ
     (may_want : K → Bool) (x : Answering) where
   -- The events of these requests were answered from when the sink was like the first, and it is
   -- like this now: all that is owed for them was written, and what is owed last, or the writing
-  -- ended at a part of it. The outcome counts the documents, and the answers that were put.
+  -- ended at a part of it. The outcome counts the documents, and the answers that were put whole.
   pub record HasServed (outcome : Outcome) (first now : K) (events : List StreamEvent) : Type 0
     where
       pub counted : outcome.messages ≡ messages_along 0 (map request_for events)

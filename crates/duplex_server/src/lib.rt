@@ -11,7 +11,7 @@
 //! ends the writing and not the reading.
 #![tactic(auto)]
 
-mod closing;
+mod counting;
 mod outcome;
 mod replier;
 mod requests;

@@ -19,9 +19,11 @@ pub enum Inbound {
 /// What became of a connection. Counts stand still at the end of their type.
 #[derive(Clone, Copy, Debug, PartialEq, Eq)]
 pub struct Outcome {
-    /// How many documents were read. Each was answered, unless the writing had ended before.
+    /// How many documents were read. Not each is owed an answer. One for which there was no memory
+    /// isn't counted.
     pub messages: u64,
-    /// How many envelopes with answers were put to the sink without a fault.
+    /// How many answers were put to the sink whole. Where the sink holds nothing back these are
+    /// written, and if the writing ended early, first bytes of what was due next at most.
     pub answers: u64,
     pub inbound: Inbound,
     pub outbound: Outbound,

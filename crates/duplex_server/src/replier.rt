@@ -1,19 +1,18 @@
 //! What answers the requests of a connection.
 
-ghost use Rattle.std.specs.Prelude.{◌≡◌, ⊤, [], ℕ, List, IfOk, OnErr, OnOk};
+ghost use Rattle.std.specs.Prelude.{◌≡◌, ◌≤◌, [], ◌∷◌, ◌++◌, ℕ, List, length, true, OnErr, OnOk};
 ghost use Rattle.nbfx_values.specs.QuotasOf.{limits_of};
+ghost use Rattle.nbfx_values.specs.declared.content.Item.{Item as Part};
+ghost use Rattle.nbfx_encoder.specs.declared.sender.Sender.{Sender as Sending};
 ghost use Rattle.nbfx_encoder.specs.Sending.{limits_in};
-ghost use Rattle.nmf_records.specs.Writing.{frame_bytes_of};
-ghost use Rattle.nmf_records.specs.declared.frame.Frame.TheVariants.{PreambleAck};
 ghost use Rattle.soap_envelope.specs.Making.{AreTexts};
-ghost use Rattle.action_dispatch.specs.Answers.{RelatesToTexts};
+ghost use Rattle.action_dispatch.specs.Answers.{RelatesToTexts, answered};
 ghost use Rattle.stream_follower.specs.Writing.{Goes, Wrote};
 ghost use Rattle.duplex_server.specs.declared.requests.Request.{Request as Heard};
-ghost use Rattle.duplex_server.specs.Owed.{answering, behind_reply, opened, payload_of, replies, start, told_reply};
-ghost use Rattle.duplex_server.specs.Replying.{Answers, HasHeard, replying};
+ghost use Rattle.duplex_server.specs.Owed.{replies, start};
 ghost use Rattle.duplex_server.specs.Serving.{closing_of};
 
-use crate::closing::put_closing;
+use crate::counting::answers_within;
 use crate::requests::Request;
 use crate::spelling::spell_answer;
 use action_dispatch::{Answer, Service, answer_owned};
@@ -21,12 +20,17 @@ use io_edges::Sink;
 use nbfx_encoder::{Sender, Side};
 use nbfx_values::{Doc, Items, Kind, Mode, Offence, Quotas};
 use nmf_records::record_types::PREAMBLE_ACK;
+use receiver_machine::closing_record;
 use static_dictionary::StaticTable;
 use std::alloc::Global;
-use stream_follower::{Ending, Listener, Outbound, flush, put_bytes, starve};
+use stream_follower::{Ending, Listener, Outbound, flush, put_bytes, put_parts, starve};
 use unit_streams::Memory;
 
-/// Answers the requests of a connection, and keeps what has become of the writing.
+/// From so many bytes on what is gathered is written at once.
+const MOST_GATHERED: usize = 65_536;
+
+/// Answers the requests of a connection, and keeps what has become of the writing. Answers are
+/// gathered before they are written, and one counts once it is put whole.
 #[derive(Drop)]
 pub struct Replier<'s, 'v, V> {
     alloc: Global,
@@ -35,15 +39,32 @@ pub struct Replier<'s, 'v, V> {
     service: &'v V,
     // The sending half. Before the preamble it is one that may send nothing.
     sender: Sender<'s>,
-    // The room for an envelope.
-    envelope: Vec<u8>,
+    // What is due and not written yet, and where the answers in it end.
+    gathered: Vec<u8>,
+    ends: Vec<usize>,
     pub(crate) outbound: Outbound,
     pub(crate) messages: u64,
+    // How many answers were put whole.
     pub(crate) answers: u64,
     ghost limited: { limits_in sender ≡ limits_of quotas },
 }
 
+// Puts what is owed last, which takes no memory but the sink's.
+fn put_last<K: Sink>(ending: Ending<Offence>, sink: &mut K) -> Outbound
+    ensures goes { Goes K.written K.held K.faults K.may_want result (closing_of ending)
+        sink.old sink.new }
+    ensures wanted { result ≡ Outbound.Memory → K.may_want sink.old ≡ true }
+{
+    match ending {
+        Ending::Judged(refusal) => put_bytes(closing_record(refusal), sink),
+        Ending::ReadFault | Ending::Memory => Outbound::Done,
+    }
+}
+
 impl<'s, 'v, V: Service> Replier<'s, 'v, V> {
+    ghost use Rattle.duplex_server.specs.Replying.{Answered, GathersOne, HasHeard};
+    ghost use Rattle.duplex_server.specs.Replying.{answering_of, replying};
+
     /// Before the first request.
     pub fn new(alloc: Global, statics: &'s StaticTable, quotas: Quotas, service: &'v V) -> Self
         ensures statics { result.statics.now ≡ statics.now }
@@ -52,6 +73,8 @@ impl<'s, 'v, V: Service> Replier<'s, 'v, V> {
         ensures state { replying result.sender result.answers ≡ start statics.now }
         ensures outbound { result.outbound ≡ Outbound.Done }
         ensures messages { result.messages ≡ 0 }
+        ensures gathered { result.gathered.items ≡ [] }
+        ensures ends { result.ends.items ≡ [] }
     {
         let (kind, mode) = (Kind::Session, Mode::Simplex);
         Replier {
@@ -60,32 +83,91 @@ impl<'s, 'v, V: Service> Replier<'s, 'v, V> {
             quotas,
             service,
             sender: Sender::new(alloc, statics, quotas, kind, mode, Side::Receiver),
-            envelope: Vec::new(alloc),
+            gathered: Vec::new(alloc),
+            ends: Vec::new(alloc),
             outbound: Outbound::Done,
             messages: 0,
             answers: 0,
         }
     }
 
+    // Writes what is gathered, and counts the answers of it that left whole.
+    fn write<K: Sink>(&mut self, sink: &mut K)
+        requires going { self.old.outbound ≡ Outbound.Done }
+        ensures answered { (first : K) (requests : List Heard) (sender : Sending)
+            → Answered K.written K.held K.faults K.may_want
+            (answering_of V.served self.old) first requests sender self.old sink.old
+            → Answered K.written K.held K.faults K.may_want
+            (answering_of V.served self.old) first requests sender self.new sink.new }
+        ensures emptied { self.new.gathered.items ≡ [] }
+        ensures unmarked { self.new.ends.items ≡ [] }
+        ensures sender { self.new.sender ≡ self.old.sender }
+        ensures messages { self.new.messages ≡ self.old.messages }
+        ensures settings { answering_of V.served self.new ≡ answering_of V.served self.old }
+    {
+        let (put, outbound) = put_parts(&self.gathered, sink);
+        self.answers = answers_within(put, &self.ends, self.answers);
+        self.gathered.clear();
+        self.ends.clear();
+        self.outbound = outbound;
+    }
+
+    // Writes what is gathered and what the sink holds.
+    fn write_out<K: Sink>(&mut self, sink: &mut K)
+        requires going { self.old.outbound ≡ Outbound.Done }
+        ensures answered { (first : K) (requests : List Heard) (sender : Sending)
+            → Answered K.written K.held K.faults K.may_want
+            (answering_of V.served self.old) first requests sender self.old sink.old
+            → Answered K.written K.held K.faults K.may_want
+            (answering_of V.served self.old) first requests sender self.new sink.new }
+        ensures sender { self.new.sender ≡ self.old.sender }
+        ensures messages { self.new.messages ≡ self.old.messages }
+        ensures settings { answering_of V.served self.new ≡ answering_of V.served self.old }
+    {
+        self.write(sink);
+        if self.outbound.is_going() {
+            self.outbound = flush(sink);
+        }
+    }
+
+    // Ends the writing, since there was no memory for what is due next. What is gathered is written
+    // before.
+    fn starve<K: Sink>(&mut self, sink: &mut K)
+        requires going { self.old.outbound ≡ Outbound.Done }
+        ensures answered { (first : K) (requests : List Heard) (request : Heard)
+            (before after : Sending)
+            → Answered K.written K.held K.faults K.may_want
+            (answering_of V.served self.old) first requests before self.old sink.old
+            → Answered K.written K.held K.faults K.may_want
+            (answering_of V.served self.old) first (requests ++ request ∷ []) after
+            self.new sink.new }
+        ensures sender { self.new.sender ≡ self.old.sender }
+        ensures messages { self.new.messages ≡ self.old.messages }
+        ensures settings { answering_of V.served self.new ≡ answering_of V.served self.old }
+    {
+        self.write(sink);
+        if self.outbound.is_going() {
+            self.outbound = starve(sink);
+        }
+    }
+
     // Takes the session on, by the mode and the encoding of its preamble, unless the writing has
     // ended.
     fn open<K: Sink>(&mut self, mode: Mode, kind: Kind, sink: &mut K)
-        ensures goes { self.old.outbound ≡ Outbound.Done
-            → Goes K.written K.held K.faults K.may_want self.new.outbound
-            (frame_bytes_of PreambleAck []) sink.old sink.new }
-        ensures left { self.old.outbound ≡ Outbound.Done
-            → replying self.new.sender self.new.answers
-            ≡ opened self.old.statics.now mode kind (replying self.old.sender self.old.answers) }
-        ensures stays { (self.old.outbound ≡ Outbound.Done → ⊥)
-            → self.new.outbound ≡ self.old.outbound }
-        ensures untouched { (self.old.outbound ≡ Outbound.Done → ⊥) → sink.new ≡ sink.old }
-        ensures answers { self.new.answers ≡ self.old.answers }
+        ensures answered { (first : K) (requests : List Heard)
+            → Answered K.written K.held K.faults K.may_want
+            (answering_of V.served self.old) first requests self.old.sender self.old sink.old
+            → Answered K.written K.held K.faults K.may_want
+            (answering_of V.served self.old) first (requests ++ Request.Opened mode kind ∷ [])
+            self.new.sender self.new sink.new }
         ensures messages { self.new.messages ≡ self.old.messages }
-        ensures statics { self.new.statics.now ≡ self.old.statics.now }
-        ensures quotas { self.new.quotas ≡ self.old.quotas }
-        ensures service { self.new.service.now ≡ self.old.service.now }
+        ensures settings { answering_of V.served self.new ≡ answering_of V.served self.old }
     {
         if !self.outbound.is_going() {
+            return;
+        }
+        if self.gathered.push(PREAMBLE_ACK).is_err() {
+            self.starve(sink);
             return;
         }
         self.sender = Sender::new(
@@ -96,106 +178,101 @@ impl<'s, 'v, V: Service> Replier<'s, 'v, V> {
             mode,
             Side::Receiver,
         );
-        self.outbound = put_bytes(&[PREAMBLE_ACK], sink);
     }
 
-    // Sends an answer, or the fault in its place, where either fits and the mode admits one.
+    // Marks the end of an answer that was gathered behind so many bytes. What is gathered is
+    // written once it is much. Where there is no memory for the mark, the answer isn't sent.
+    fn mark<K: Sink>(&mut self, before: usize, sink: &mut K)
+        requires going { self.old.outbound ≡ Outbound.Done }
+        requires behind { before ≤ length self.old.gathered.items }
+        ensures answered { (first : K) (requests : List Heard) (request : Heard)
+            (sender : Sending)
+            → GathersOne K.written K.held K.faults K.may_want
+            (answering_of V.served self.old) first requests request before sender self.old sink.old
+            → Answered K.written K.held K.faults K.may_want
+            (answering_of V.served self.old) first (requests ++ request ∷ []) self.new.sender
+            self.new sink.new }
+        ensures messages { self.new.messages ≡ self.old.messages }
+        ensures settings { answering_of V.served self.new ≡ answering_of V.served self.old }
+    {
+        let end = self.gathered.len();
+        if self.ends.push(end).is_err() {
+            self.gathered.truncate(before);
+            self.starve(sink);
+            return;
+        }
+        if end >= MOST_GATHERED {
+            self.write(sink);
+        }
+    }
+
+    // Gathers an answer, or the fault in its place, where either fits and the mode admits one.
     fn send<K: Sink>(&mut self, doc: &Doc, relates: &Items, sink: &mut K)
         requires texts { AreTexts relates.now }
         requires going { self.old.outbound ≡ Outbound.Done }
-        ensures goes { let s = replying self.old.sender self.old.answers in
-            Goes K.written K.held K.faults K.may_want self.new.outbound
-            (told_reply s.mode (payload_of (limits_of self.old.quotas) s
-            (Answer.Reply doc.now relates.now))) sink.old sink.new }
-        ensures left { let s = replying self.old.sender self.old.answers in
-            self.new.outbound ≡ Outbound.Done
-            → replying self.new.sender self.new.answers
-            ≡ behind_reply (payload_of (limits_of self.old.quotas) s
-            (Answer.Reply doc.now relates.now)) s }
-        ensures cut { (self.new.outbound ≡ Outbound.Done → ⊥)
-            → self.new.answers ≡ self.old.answers }
+        ensures answered { (first : K) (requests : List Heard) (document : List Part)
+            → answered (limits_of self.old.quotas).content (V.served self.old.service.now) document
+            ≡ Answer.Reply doc.now relates.now
+            → Answered K.written K.held K.faults K.may_want
+            (answering_of V.served self.old) first requests self.old.sender self.old sink.old
+            → Answered K.written K.held K.faults K.may_want
+            (answering_of V.served self.old) first (requests ++ Request.Received document ∷ [])
+            self.new.sender self.new sink.new }
         ensures messages { self.new.messages ≡ self.old.messages }
-        ensures statics { self.new.statics.now ≡ self.old.statics.now }
-        ensures quotas { self.new.quotas ≡ self.old.quotas }
-        ensures service { self.new.service.now ≡ self.old.service.now }
+        ensures settings { answering_of V.served self.new ≡ answering_of V.served self.old }
     {
-        self.envelope.clear();
+        let before = self.gathered.len();
         match spell_answer(
             self.alloc,
             &mut self.sender,
             doc,
             relates,
-            &mut self.envelope,
+            &mut self.gathered,
         ) {
-            Ok(true) => {
-                self.outbound = put_bytes(&self.envelope, sink);
-                if self.outbound.is_going() {
-                    self.answers = self.answers.saturating_add(1);
-                }
-            }
+            Ok(true) => self.mark(before, sink),
             Ok(false) => {}
-            Err(Memory) => self.outbound = starve(sink),
+            Err(Memory) => self.starve(sink),
         }
     }
 
-    // Puts what is owed last.
-    fn put_last<K: Sink>(&mut self, ending: Ending<Offence>, sink: &mut K) -> Outbound
-        ensures goes { Goes K.written K.held K.faults K.may_want result (closing_of ending)
-            sink.old sink.new }
-        ensures sender { self.new.sender ≡ self.old.sender }
-        ensures answers { self.new.answers ≡ self.old.answers }
-        ensures messages { self.new.messages ≡ self.old.messages }
-    {
-        let Ending::Judged(refusal) = ending else {
-            return Outbound::Done;
-        };
-        self.envelope.clear();
-        match put_closing(&refusal, &mut self.envelope) {
-            Ok(()) => put_bytes(&self.envelope, sink),
-            Err(Memory) => starve(sink),
-        }
-    }
-
-    /// Puts what is owed last, and writes what the sink holds, unless the writing has ended.
+    /// Writes what is gathered and what is owed last, and what the sink holds, unless the writing
+    /// has ended.
     pub fn close<K: Sink>(&mut self, ending: Ending<Offence>, sink: &mut K)
         ensures closed { (first : K) (requests : List Heard)
             → HasHeard K.written K.held K.faults K.may_want
-            (answering (V.served self.old.service.now) self.old.statics.now
-            (limits_of self.old.quotas)) first requests self.old.outbound self.old.sender
-            self.old.answers self.old.messages sink.old
-            → Wrote K.written K.held K.faults K.may_want (replies
-            (answering (V.served self.old.service.now) self.old.statics.now
-            (limits_of self.old.quotas))) self.new.outbound (closing_of ending) first requests
+            (answering_of V.served self.old) first requests self.old sink.old
+            → Wrote K.written K.held K.faults K.may_want (replies (answering_of V.served self.old))
+            self.new.outbound (closing_of ending) first requests
             (λ s. self.new.answers ≡ s.answers) sink.new }
         ensures messages { self.new.messages ≡ self.old.messages }
     {
         if !self.outbound.is_going() {
             return;
         }
-        self.outbound = self.put_last(ending, sink);
+        self.write(sink);
+        if !self.outbound.is_going() {
+            return;
+        }
+        self.outbound = put_last(ending, sink);
         if self.outbound.is_going() {
             self.outbound = flush(sink);
         }
     }
 
-    // Sends an answer, and gives back what its document leaves.
+    // Gathers an answer, and gives back what its document leaves.
     fn reply<K: Sink>(&mut self, answer: Answer, sink: &mut K) -> Request
         requires texts { RelatesToTexts answer }
         requires going { self.old.outbound ≡ Outbound.Done }
-        ensures goes { let s = replying self.old.sender self.old.answers in
-            Goes K.written K.held K.faults K.may_want self.new.outbound
-            (told_reply s.mode (payload_of (limits_of self.old.quotas) s answer))
-            sink.old sink.new }
-        ensures left { let s = replying self.old.sender self.old.answers in
-            self.new.outbound ≡ Outbound.Done
-            → replying self.new.sender self.new.answers
-            ≡ behind_reply (payload_of (limits_of self.old.quotas) s answer) s }
-        ensures cut { (self.new.outbound ≡ Outbound.Done → ⊥)
-            → self.new.answers ≡ self.old.answers }
+        ensures answered { (first : K) (requests : List Heard) (document : List Part)
+            → answered (limits_of self.old.quotas).content (V.served self.old.service.now) document
+            ≡ answer
+            → Answered K.written K.held K.faults K.may_want
+            (answering_of V.served self.old) first requests self.old.sender self.old sink.old
+            → Answered K.written K.held K.faults K.may_want
+            (answering_of V.served self.old) first (requests ++ Request.Received document ∷ [])
+            self.new.sender self.new sink.new }
         ensures messages { self.new.messages ≡ self.old.messages }
-        ensures statics { self.new.statics.now ≡ self.old.statics.now }
-        ensures quotas { self.new.quotas ≡ self.old.quotas }
-        ensures service { self.new.service.now ≡ self.old.service.now }
+        ensures settings { answering_of V.served self.new ≡ answering_of V.served self.old }
     {
         let Answer::Reply { doc, relates } = answer else {
             return Request::Ended;
@@ -204,23 +281,23 @@ impl<'s, 'v, V: Service> Replier<'s, 'v, V> {
         Request::Received(doc)
     }
 
-    // Answers a document, and gives back what it leaves. Once the writing has ended nothing would be
-    // sent of an answer: the service isn't asked then, and no memory is taken.
+    // Answers a document, and gives back what it leaves. Once the writing has ended nothing would
+    // be sent of an answer: the service isn't asked then, and no memory is taken.
     fn answer<K: Sink>(&mut self, doc: Doc, sink: &mut K) -> Result<Request, Memory>
-        ensures answers { OnOk result (Answers K.written K.held K.faults K.may_want
-            (answering (V.served self.old.service.now) self.old.statics.now
-            (limits_of self.old.quotas)) (Request.Received doc) self.old.outbound self.new.outbound
-            (replying self.old.sender self.old.answers) (replying self.new.sender self.new.answers)
-            sink.old sink.new) }
-        ensures sender { OnErr result (self.new.sender ≡ self.old.sender) }
-        ensures outbound { OnErr result (self.new.outbound ≡ self.old.outbound) }
-        ensures count { OnErr result (self.new.answers ≡ self.old.answers) }
-        ensures untouched { OnErr result (sink.new ≡ sink.old) }
+        ensures answered { (first : K) (requests : List Heard)
+            → Answered K.written K.held K.faults K.may_want
+            (answering_of V.served self.old) first requests self.old.sender self.old sink.old
+            → OnOk result (Answered K.written K.held K.faults K.may_want
+            (answering_of V.served self.old) first (requests ++ Request.Received doc ∷ [])
+            self.new.sender self.new sink.new) }
+        ensures unanswered { (first : K) (requests : List Heard)
+            → Answered K.written K.held K.faults K.may_want
+            (answering_of V.served self.old) first requests self.old.sender self.old sink.old
+            → OnErr result (Answered K.written K.held K.faults K.may_want
+            (answering_of V.served self.old) first requests self.new.sender self.new sink.new) }
         ensures wanted { OnErr result (self.old.outbound ≡ Outbound.Done) }
         ensures messages { self.new.messages ≡ self.old.messages }
-        ensures statics { self.new.statics.now ≡ self.old.statics.now }
-        ensures quotas { self.new.quotas ≡ self.old.quotas }
-        ensures service { self.new.service.now ≡ self.old.service.now }
+        ensures settings { answering_of V.served self.new ≡ answering_of V.served self.old }
     {
         if !self.outbound.is_going() {
             return Ok(Request::Received(doc));
@@ -231,19 +308,16 @@ impl<'s, 'v, V: Service> Replier<'s, 'v, V> {
 }
 
 impl<'s, 'v, V: Service, K: Sink> Listener<Request, K> for Replier<'s, 'v, V> {
-    ghost use Rattle.nbfx_values.specs.QuotasOf.{limits_of};
-    ghost use Rattle.duplex_server.specs.Owed.{Answering, answering};
-    ghost use Rattle.duplex_server.specs.Replying.{HasHeard};
+    ghost use Rattle.duplex_server.specs.Owed.{Answering};
+    ghost use Rattle.duplex_server.specs.Replying.{HasHeard, answering_of};
     ghost use Rattle.stream_follower.specs.declared.writing.Outbound.TheVariants.{Done};
 
     ghost Settings = { Answering };
 
-    ghost settings = { λ replier. answering (V.served replier.service.now) replier.statics.now
-        (limits_of replier.quotas) };
+    ghost settings = { λ replier. answering_of V.served replier };
 
     ghost heard = { λ first requests replier now. HasHeard K.written K.held K.faults K.may_want
-        (answering (V.served replier.service.now) replier.statics.now (limits_of replier.quotas))
-        first requests replier.outbound replier.sender replier.answers replier.messages now };
+        (answering_of V.served replier) first requests replier now };
 
     ghost may_take_memory = { λ replier. replier.outbound ≡ Done };
 
@@ -264,7 +338,7 @@ impl<'s, 'v, V: Service, K: Sink> Listener<Request, K> for Replier<'s, 'v, V> {
 
     fn pause(&mut self, sink: &mut K) {
         if self.outbound.is_going() {
-            self.outbound = flush(sink);
+            self.write_out(sink);
         }
     }
 }

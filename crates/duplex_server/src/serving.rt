@@ -8,7 +8,7 @@ ghost use Rattle.stream_reader.specs.Sides.{endpoint_of};
 ghost use Rattle.stream_reader.specs.Stream.{stream};
 ghost use Rattle.stream_follower.specs.Followed.{Follows};
 ghost use Rattle.duplex_server.specs.Owed.{answering, owed, requests_to};
-ghost use Rattle.duplex_server.specs.Replying.{HasHeard};
+ghost use Rattle.duplex_server.specs.Replying.{HasHeard, answering_of};
 ghost use Rattle.duplex_server.specs.Requests.{request_for};
 ghost use Rattle.duplex_server.specs.Serving.{Judges, Serves, WritesOwed, inbound_of};
 
@@ -57,23 +57,17 @@ fn follow_requests<S: Source, K: Sink, V: Service>(
     requires statics { replier.old.statics.now ≡ statics.now }
     requires quotas { replier.old.quotas ≡ quotas }
     requires fresh { HasHeard K.written K.held K.faults K.may_want
-        (answering (V.served replier.old.service.now) replier.old.statics.now
-        (limits_of replier.old.quotas)) sink.old [] replier.old.outbound replier.old.sender
-        replier.old.answers replier.old.messages sink.old }
+        (answering_of V.served replier.old) sink.old [] replier.old sink.old }
     ensures follows { Follows (stream (requests_to
         (answering (V.served replier.old.service.now) statics.now (limits_of quotas))
         (endpoint_of endpoint.now)))
         (λ events. HasHeard K.written K.held K.faults K.may_want
-        (answering (V.served replier.new.service.now) replier.new.statics.now
-        (limits_of replier.new.quotas)) sink.old (map request_for events) replier.new.outbound
-        replier.new.sender replier.new.answers replier.new.messages sink.new)
+        (answering_of V.served replier.new) sink.old (map request_for events) replier.new sink.new)
         (input_at S.left S.taken S.faults S.empty_takes source.old)
         (input_at S.left S.taken S.faults S.empty_takes source.new) result }
     ensures counted { CountsFaults (S.faults source.old) (S.faults source.new)
         (result ≡ Ending.ReadFault) }
-    ensures settings { answering (V.served replier.new.service.now) replier.new.statics.now
-        (limits_of replier.new.quotas) ≡ answering (V.served replier.old.service.now)
-        replier.old.statics.now (limits_of replier.old.quotas) }
+    ensures settings { answering_of V.served replier.new ≡ answering_of V.served replier.old }
 {
     let Ok(endpoint) = copy_of(alloc, endpoint) else {
         return Ending::Memory;
@@ -120,9 +114,10 @@ fn serve_connection<S: Source, K: Sink, V: Service>(
 }
 
 /// Serves the connection whose bytes the source gives and the sink takes: reads the initiator's
-/// stream, to this endpoint and within the quotas, and writes what is owed for it. The answer to a
-/// document is put before more is taken. An answer that doesn't fit is replaced by a fault that
-/// says so, and where that doesn't fit either nothing is written for it.
+/// stream, to this endpoint and within the quotas, and writes what is owed for it. Answers are
+/// gathered, up to 64 KiB and one answer, and put before more is taken. An answer that doesn't fit
+/// is replaced by a fault that says so, and where that doesn't fit either nothing is written for
+/// it.
 ///
 /// After a failed write, or when out of memory while writing, nothing more is put, and reading goes
 /// on: documents are counted, and the service isn't asked.

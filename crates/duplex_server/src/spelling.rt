@@ -1,7 +1,8 @@
 //! How the envelope of an answer is spelled.
 
-ghost use Rattle.std.specs.Prelude.{◌≡◌, ⊤, IfOk, false};
-ghost use Rattle.nbfx_encoder.specs.Sending.{KeepsSettings, kind_in, limits_in, mode_in, names_in, state_in};
+ghost use Rattle.std.specs.Prelude.{◌≡◌, ⊤, IfOk, OnErr, false};
+ghost use Rattle.nbfx_encoder.specs.Sending.{KeepsSettings, kind_in, limits_in, mode_in, names_in};
+ghost use Rattle.nbfx_encoder.specs.Sending.{state_in};
 ghost use Rattle.nbfx_encoder.specs.Spelling.{encoded};
 ghost use Rattle.soap_envelope.specs.Making.{AreTexts};
 ghost use Rattle.action_dispatch.specs.Refusals.{unfit_fault};
@@ -30,6 +31,7 @@ fn spell_if_fits(sender: &mut Sender<'_>, doc: &Doc, out: &mut Vec<u8>) -> Resul
     ensures tries { Tries (mode_in sender.old) out.old.items out.new.items
         (names_in sender.old) (names_in sender.new) (state_in sender.old) (state_in sender.new)
         (encoded (limits_in sender.old) (kind_in sender.old) (names_in sender.old) doc.now) result }
+    ensures unchanged { OnErr result (out.new.items ≡ out.old.items) }
     ensures kept { KeepsSettings sender.old sender.new }
 {
     match sender.message(doc, out) {
@@ -40,8 +42,8 @@ fn spell_if_fits(sender: &mut Sender<'_>, doc: &Doc, out: &mut Vec<u8>) -> Resul
 }
 
 /// Appends the envelope of an answer, or, where it doesn't fit, of the fault in its place, which
-/// relates to the same texts. Says whether either fits. Where the session admits no answer now,
-/// nothing is appended.
+/// relates to the same texts. Says whether either fits. Where the session admits no answer now, or
+/// when out of memory, nothing is appended.
 pub fn spell_answer(
     alloc: Global,
     sender: &mut Sender<'_>,
@@ -56,6 +58,7 @@ pub fn spell_answer(
         (encoded (limits_in sender.old) (kind_in sender.old) (names_in sender.old) doc.now)
         (encoded (limits_in sender.old) (kind_in sender.old) (names_in sender.old)
         (unfit_fault relates.now)))) result }
+    ensures unchanged { OnErr result (out.new.items ≡ out.old.items) }
     ensures kept { KeepsSettings sender.old sender.new }
 {
     if sender.state() != SendState::Ready {

@@ -1,20 +1,14 @@
-// Connections served over memory.
-ghost use Rattle.std.specs.Prelude.{◌≤◌};
-
+// Connections served over memory. Each kind of session, refusals and faults are in the tests of
+// `connection_server` and `vectors`.
 use super::*;
-use action_dispatch::{EchoService, Service};
+use action_dispatch::EchoService;
 use io_edges::{MemorySink, MemorySource};
-use nbfx_values::{Offence, Place, Quotas, Reason};
+use nbfx_values::Quotas;
 use receiver_machine::Endpoint;
 use static_dictionary::StaticTable;
 use std::alloc::{AllocError, Global};
 use std::process::Abort;
 use std::test::Fail;
-
-mod failures;
-mod refusals;
-mod requests;
-mod unfit;
 
 const STATICS: &[u8] = b"id,string\n0,mustUnderstand\n2,Envelope\n\
 4,http://www.w3.org/2003/05/soap-envelope\n6,http://www.w3.org/2005/08/addressing\n\
@@ -24,9 +18,9 @@ const STATICS: &[u8] = b"id,string\n0,mustUnderstand\n2,Envelope\n\
 // The preamble of a duplex session with strings of its own, its Ack, and its End.
 const DUPLEX: &[u8] = b"\x00\x01\x00\x01\x02\x02\x0Dnet.tcp://h/e\x03\x08\x0C";
 
-const END: &[u8] = b"\x07";
-
 const ACK: &[u8] = b"\x0B";
+
+const END: &[u8] = b"\x07";
 
 // A request up to the content of its Body, and the same of its answer.
 const REQUEST: &[u8] =
@@ -37,25 +31,36 @@ const ANSWER: &[u8] =
     b"\x56\x02\x0B\x01s\x04\x0B\x01a\x06\x56\x08\x44\x0A\x1E\x00\x82\x99\x10urn:echoResponse\
 \x44\x12\xAD\x33\x22\x11\x00\x55\x44\x77\x66\x88\x99\xAA\xBB\xCC\xDD\xEE\xFF\x01\x56\x0E";
 
-// The element x that holds `hi`, named by the first string of the session, and what ends the
-// envelope.
+// The element x that holds `hi`, named by the session's first string and by its second, and what
+// ends the envelope.
 const HI: &[u8] = b"\x42\x01\x99\x02hi\x01\x01";
 
-// What stands before a request and before its answer: of the first that has x, and of later ones.
-const FIRST: &[u8] = b"\x06\x3C\x02\x01x";
+const SECOND_HI: &[u8] = b"\x42\x03\x99\x02hi\x01\x01";
 
-const LATER: &[u8] = b"\x06\x3A\x00";
+// Two requests, the first of which brings the strings y and x, and their answers, the first of
+// which brings x alone.
+const TWO: &[&[u8]] = &[
+    DUPLEX,
+    b"\x06\x3E\x04\x01y\x01x",
+    REQUEST,
+    SECOND_HI,
+    b"\x06\x3A\x00",
+    REQUEST,
+    SECOND_HI,
+    END,
+];
 
-const FIRST_ANSWER: &[u8] = b"\x06\x44\x02\x01x";
+const TWO_ANSWERS: &[&[u8]] = &[
+    ACK,
+    b"\x06\x44\x02\x01x",
+    ANSWER,
+    HI,
+    b"\x06\x42\x00",
+    ANSWER,
+    HI,
+    END,
+];
 
-const LATER_ANSWER: &[u8] = b"\x06\x42\x00";
-
-// Two requests, and their answers.
-const TWO: &[&[u8]] = &[DUPLEX, FIRST, REQUEST, HI, LATER, REQUEST, HI, END];
-
-const TWO_ANSWERS: &[&[u8]] = &[ACK, FIRST_ANSWER, ANSWER, HI, LATER_ANSWER, ANSWER, HI, END];
-
-// Parts in a row.
 fn joined(alloc: Global, parts: &[&[u8]]) -> Result<Vec<u8>, AllocError> {
     let mut bytes = Vec::new(alloc);
     for part in parts {
@@ -64,111 +69,61 @@ fn joined(alloc: Global, parts: &[&[u8]]) -> Result<Vec<u8>, AllocError> {
     Ok(bytes)
 }
 
-// Whether bytes are these parts in a row.
-fn are_joined(bytes: &[u8], parts: &[&[u8]]) -> bool {
-    let mut rest = bytes;
-    for part in parts {
-        match rest.strip_prefix(*part) {
-            Some(more) => rest = more,
-            None => return false,
-        }
-    }
-    rest.is_empty()
-}
-
-// What the fakes give and take: at most so many bytes a take, the takes and the puts that fail, and
-// how many bytes of a piece a put that fails keeps.
-#[derive(Clone, Copy)]
-struct Outside {
-    most: usize,
-    takes: &'static [u64],
-    puts: &'static [u64],
-    kept: usize,
-}
-
-const SURE: Outside = Outside {
-    most: 1_000,
-    takes: &[],
-    puts: &[],
-    kept: 0,
-};
-
-const BYTE_BY_BYTE: Outside = Outside { most: 1, ..SURE };
-
-// What serving a connection leaves.
-#[derive(Drop)]
-struct Left {
-    outcome: Outcome,
-    source: MemorySource,
-    sink: MemorySink,
-}
-
-fn served_by<V: Service>(
-    alloc: Global,
-    quotas: &Quotas,
-    endpoint: &Endpoint,
-    service: &V,
-    outside: Outside,
-    sent: &[&[u8]],
-) -> Result<Left, Fail>
-    requires { 1 ≤ outside.most }
-{
+// Echoes what is sent, and answers what becomes of the connection, and what is written.
+fn echoed(alloc: Global, quotas: &Quotas, sent: &[&[u8]]) -> Result<(Outcome, MemorySink), Fail> {
     let statics = StaticTable::read(alloc, STATICS)?;
-    let takes = outside.takes.to_vec(alloc)?;
-    let puts = outside.puts.to_vec(alloc)?;
-    let mut source = MemorySource::new(joined(alloc, sent)?, outside.most, takes);
-    let mut sink = MemorySink::new(alloc, puts, outside.kept);
+    let mut source = MemorySource::new(joined(alloc, sent)?, 1_000, Vec::new(alloc));
+    let mut sink = MemorySink::new(alloc, Vec::new(alloc), 0);
     let outcome = serve_one(
         alloc,
         &mut source,
         &mut sink,
         &statics,
         quotas,
-        endpoint,
-        service,
+        &Endpoint::Any,
+        &EchoService,
     );
-    Ok(Left {
-        outcome,
-        source,
-        sink,
-    })
-}
-
-// By the service that echoes, under the usual quotas.
-fn echoed(alloc: Global, outside: Outside, sent: &[&[u8]]) -> Result<Left, Fail>
-    requires { 1 ≤ outside.most }
-{
-    let quotas = Quotas::usual();
-    served_by(alloc, &quotas, &Endpoint::Any, &EchoService, outside, sent)
+    Ok((outcome, sink))
 }
 
 // What becomes of a connection that was read and written to its end.
-fn served(messages: u64, answers: u64, inbound: Inbound) -> Outcome {
+fn served(messages: u64, answers: u64) -> Outcome {
     Outcome {
         messages,
         answers,
-        inbound,
+        inbound: Inbound::Ended,
         outbound: Outbound::Done,
     }
 }
 
-fn refused(messages: u64, answers: u64, offset: u64, reason: Reason) -> Outcome {
-    let offence = Offence {
-        place: Place::Frame(offset),
-        reason,
-    };
-    served(messages, answers, Inbound::Offended(offence))
+#[test]
+fn the_two_directions_have_strings_of_their_own(rt: HostRuntime) -> Result<(), Fail> {
+    let (outcome, sink) = echoed(rt.alloc(), &Quotas::usual(), TWO)?;
+    assert_eq!(rt; outcome, served(2, 2));
+    assert_eq!(rt; sink.bytes(), joined(rt.alloc(), TWO_ANSWERS)?.as_slice());
+    Ok(())
 }
 
-// What is sent, what becomes of the connection, and what is written.
-type Row<'a> = (&'a [&'a [u8]], Outcome, &'a [&'a [u8]]);
-
-// Whether the connection is echoed so, be its bytes taken at once or one by one.
-fn expect(rt: &impl Abort, alloc: Global, row: &Row<'_>) -> Result<(), Fail> {
-    for outside in [SURE, BYTE_BY_BYTE] {
-        let left = echoed(alloc, outside, row.0)?;
-        assert_eq!(rt; left.outcome, row.1);
-        assert!(rt; are_joined(left.sink.bytes(), row.2), "at {:?}", row.1);
-    }
+// The payload of the request has 4,091 bytes, which fit; that of its echo has 4,099.
+#[test]
+fn a_fault_goes_in_place_of_an_answer_that_does_not_fit(rt: HostRuntime) -> Result<(), Fail> {
+    let alloc = rt.alloc();
+    let quotas = Quotas::of(4_096, 5, 2_048, 262_144, 2_048, 1 << 48).ok_or("good quotas")?;
+    let text = vec![in alloc; b'a'; 4_032]?;
+    let sent: &[&[u8]] = &[
+        DUPLEX,
+        b"\x06\xFB\x1F\x02\x01x",
+        REQUEST,
+        b"\x42\x01\x9B\xC0\x0F",
+        &text,
+        b"\x01\x01\x07",
+    ];
+    let (outcome, sink) = echoed(alloc, &quotas, sent)?;
+    assert_eq!(rt; outcome, served(1, 1));
+    // After the reason the four elements end that are open, and the session.
+    assert!(rt;
+        sink.bytes()
+            .ends_with(b"The reply does not fit.\x01\x01\x01\x01\x07")
+    );
     Ok(())
 }

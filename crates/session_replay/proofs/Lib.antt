@@ -1,3 +1,3 @@
--- what is known of the output where a session was answered through a sink that gathers, and where
--- there was no memory to begin
+-- what is known of the input and of the output where a session was answered, and where there was no
+-- memory to begin
 pub mod Outcomes

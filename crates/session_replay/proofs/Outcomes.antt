@@ -1,10 +1,8 @@
 -- What is known of a session that was answered, by what is seen of the input and of the output.
-use Rattle.std.proofs.Common.{◌≡◌, ℕ, List, [], ◌++◌, Bool, Option, Some, None, map, refl, sym, ap}
-use Rattle.std.proofs.Common.{◌∙◌, subst}
+use Rattle.std.proofs.Common.{◌≡◌, ℕ, List, [], ◌++◌, Bool, Option, map, refl, sym}
 use Rattle.std.proofs.lemmas.List.{append-nil}
-use Rattle.io_edges.specs.Flow.{Told, GrowsByPrefix}
+use Rattle.io_edges.specs.Flow.{Told}
 use Rattle.unit_streams.specs.Judging.{events_in, events_of}
-use Rattle.unit_streams.specs.Tellers.{told_along}
 use Rattle.nbfx_values.specs.Limits.{IsGood}
 use Rattle.stream_loop.specs.Edges.{Input, Output, output_at}
 use Rattle.stream_loop.proofs.LoopSteps.{first_pending}
@@ -13,6 +11,8 @@ use Rattle.stream_reader.specs.Stream.{StreamEvent, ends, stream}
 use Rattle.stream_follower.specs.declared.writing.Outbound.{Outbound}
 use Rattle.stream_follower.specs.declared.writing.Outbound.TheVariants as outbounds
 use Rattle.stream_follower.specs.Writing.{Wrote}
+use Rattle.stream_follower.proofs.Amounts.{wrote_grew}
+use Rattle.stream_follower.proofs.Grown.{all_written}
 use Rattle.stream_follower.proofs.Taking.{follows_as, unbegun}
 use Rattle.duplex_server.specs.declared.outcome.Inbound.{Inbound}
 use Rattle.duplex_server.specs.declared.outcome.Inbound.TheVariants as inbounds
@@ -21,7 +21,6 @@ use Rattle.duplex_server.specs.Owed.{Answering, replies, requests_to}
 use Rattle.duplex_server.specs.Requests.{request_for}
 use Rattle.duplex_server.specs.Serving.{HasServed, Serves, closing_of, ending_of}
 use Rattle.duplex_server.proofs.Judged.{judges, owes}
-use Rattle.duplex_server.proofs.OwedFacts.{all_written, wrote_grew}
 use Rattle.duplex_server.proofs.Streams.{ends_within}
 use Rattle.session_replay.specs.Replaying.{Replays, WritesEvents, owed_for_events}
 
@@ -67,40 +66,6 @@ module _ (x : Answering) (endpoint : Option (List ℕ)) (i i' : Input) where
       reads_counted = h.reads_counted;
       writes_counted = h.writes_counted;
     }
-
-  -- what is known is of the sink that a gathering one stood over, whatever that one holds at last
-  module _ (inbound : Inbound) (outbound : Outbound) where
-    abbrev Ends : Output → Output → Type 0
-    Ends o o' = Replays x endpoint i i' o o' inbound outbound
-
-    held_so : (o : Output) (w' : Option (List ℕ)) (f' : ℕ) (h other : List ℕ)
-        → Ends o (record { written = w'; held = h; faults = f' })
-        → Ends o (record { written = w'; held = other; faults = f' })
-    held_so o w' f' h other e = record {
-      judged = e.judged;
-      written = e.written;
-      follows = e.follows;
-      reads_counted = e.reads_counted;
-      writes_counted = e.writes_counted;
-    }
-
-    module _ {K : Type 0} (written : K → Option (List ℕ)) (held : K → List ℕ) (faults : K → ℕ)
-      where
-        abbrev with_held : K → List ℕ → Output
-        with_held sink h = record { written = written sink; held = h; faults = faults sink }
-
-        pub replayed_under : (first sink last result : K) (gathered h : List ℕ) → sink ≡ first
-            → gathered ≡ [] → result ≡ last
-            → Ends (with_held sink (held sink ++ gathered)) (with_held last h)
-            → Ends (output_at written held faults first) (output_at written held faults result)
-        replayed_under first sink last result gathered h same none taken e =
-            let plain : held sink ++ gathered ≡ held sink =
-            ap (λ l. held sink ++ l) none ∙ append-nil (held sink) in
-            let one = subst (λ (l : List ℕ). Ends (with_held sink l) (with_held last h)) plain e in
-            let two = subst (λ (s : K). Ends (with_held s (held s)) (with_held last h)) same one in
-            subst (λ (s : K). Ends (with_held first (held first)) (with_held s (held s)))
-            (sym taken) (held_so (with_held first (held first)) (written last) (faults last) h
-            (held last) two)
 
 -- there was no memory to begin with
 pub unbegun_so : (x : Answering) (endpoint : Option (List ℕ)) (i : Input) (o : Output)

@@ -8,7 +8,7 @@ ghost use Rattle.session_replay.specs.Replaying.{Replays};
 
 use action_dispatch::Service;
 use duplex_server::{Inbound, Outbound, serve_one};
-use io_edges::{GatheringSink, Sink, Source, gathering_room};
+use io_edges::{Sink, Source};
 use nbfx_values::Quotas;
 use receiver_machine::Endpoint;
 use static_dictionary::StaticTable;
@@ -31,7 +31,7 @@ pub fn replay_stream<I: Source, O: Sink, V: Service>(
     statics: &StaticTable,
     quotas: &Quotas,
     input: &mut I,
-    output: O,
+    mut output: O,
 ) -> (Replayed, O)
     ensures { Replays (answering (V.served service.now) statics.now (limits_of quotas.now))
         (endpoint_of endpoint.now)
@@ -40,18 +40,10 @@ pub fn replay_stream<I: Source, O: Sink, V: Service>(
         (output_at O.written O.held O.faults output)
         (output_at O.written O.held O.faults result.1) result.0.inbound result.0.outbound }
 {
-    let Ok(room) = gathering_room(alloc) else {
-        let replayed = Replayed {
-            inbound: Inbound::Memory,
-            outbound: Outbound::Memory,
-        };
-        return (replayed, output);
-    };
-    let mut gathered = GatheringSink::new(room, output);
     let outcome = serve_one(
         alloc,
         input,
-        &mut gathered,
+        &mut output,
         statics,
         quotas,
         endpoint,
@@ -61,5 +53,5 @@ pub fn replay_stream<I: Source, O: Sink, V: Service>(
         inbound: outcome.inbound,
         outbound: outcome.outbound,
     };
-    (replayed, gathered.into_sink())
+    (replayed, output)
 }

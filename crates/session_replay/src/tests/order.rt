@@ -28,6 +28,12 @@ impl<'c, K: Sink> Sink for Showing<'c, K> {
         self.sink.put(bytes)
     }
 
+    fn put_some(&mut self, bytes: &[u8]) -> Result<usize, SinkFault> {
+        let n = self.sink.put_some(bytes)?;
+        self.put.set(self.put.get().saturating_add(n));
+        Ok(n)
+    }
+
     fn flush(&mut self) -> Result<(), SinkFault> {
         self.sink.flush()
     }

@@ -3,7 +3,9 @@ use Rattle.nbfx_values.specs.QuotasOf.{limits_of}
 use Rattle.stream_reader.specs.Sides.{endpoint_of}
 use Rattle.duplex_server.specs.Owed.{Answering, answering}
 use Rattle.io_edges.specs.Wires.{Network, network_at}
-use Rattle.connection_server.proofs.Turns.{met, serves_one}
+use Rattle.connection_server.specs.Served.{ends_at}
+use Rattle.connection_server.proofs.Meeting.{met}
+use Rattle.connection_server.proofs.Turns.{serves_one}
 use Rattle.connection_server.proofs.connection.serve_next.Given.{Over}
 use Rattle.connection_server.proofs.connection.serve_next.Goals as goal
 
@@ -23,17 +25,17 @@ returns g c =
     let a = c.in_ok-ends.ensures in
     let found = c.in-Some.is in
     let first = c.in-Some.ends in
-    let served = c.serve_ends-writer in
-    let last : g.row.W-Reader.Denot × g.row.W-Writer.Denot = (served.new.source, served.result.1) in
-    let outcome = served.result.0 in
+    let served = c.serve_one-outcome in
+    let last : g.row.W-Reader.Denot × g.row.W-Writer.Denot = (served.new.source, served.new.sink) in
+    let outcome = served.result in
     let closed = c.close.ensures in (
-      met x endpoint r.left r.taken r.faults r.empty_takes w.written w.held w.faults w.may_want
-          first last outcome,
+      met (ends_at r.left r.taken r.faults r.empty_takes w.written w.held w.faults) first last
+          outcome,
       refl,
       serves_one x endpoint r.left r.taken r.faults r.empty_takes w.written w.held w.faults
-          w.may_want (seen g c.args.wire.now) (seen g c.accept.new.self)
-          (seen g c.close.new.self) first last outcome served.ensures
-          (rw found at a.handed) (rw found at a.out) (rw found at a.reader)
-          (rw found at a.writer) (a.counted.same (λ e. cc)) a.ended closed.closed closed.out
-          closed.waiting closed.counted closed.faults,
+          w.may_want first last outcome served.ensures.served (seen g c.args.wire.now)
+          (seen g c.accept.new.self) (seen g c.close.new.self) (rw found at a.handed)
+          (rw found at a.out) (rw found at a.reader) (rw found at a.writer)
+          (a.counted.same (λ e. cc)) a.ended closed.closed closed.out closed.waiting
+          closed.counted closed.faults,
     )

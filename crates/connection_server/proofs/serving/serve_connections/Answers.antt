@@ -17,7 +17,7 @@ module _ (g : Over) where
   abbrev ends : g.row.W-Reader.Denot × g.row.W-Writer.Denot → Ends
   ends both = ends_at g.W.Reader.Source.left g.W.Reader.Source.taken g.W.Reader.Source.faults
       g.W.Reader.Source.empty_takes g.W.Writer.Sink.written g.W.Writer.Sink.held
-      g.W.Writer.Sink.faults g.W.Writer.Sink.may_want both
+      g.W.Writer.Sink.faults both
 
 pub returns-in_default-clause-served : goal.returns-in_default-clause-served
 returns-in_default-clause-served g c =

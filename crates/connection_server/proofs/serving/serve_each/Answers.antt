@@ -20,7 +20,7 @@ module _ (g : Over) where
   abbrev ends : g.row.W-Reader.Denot × g.row.W-Writer.Denot → Ends
   ends both = ends_at g.W.Reader.Source.left g.W.Reader.Source.taken g.W.Reader.Source.faults
       g.W.Reader.Source.empty_takes g.W.Writer.Sink.written g.W.Writer.Sink.held
-      g.W.Writer.Sink.faults g.W.Writer.Sink.may_want both
+      g.W.Writer.Sink.faults both
 
 pub loop-number-init : goal.loop-number-init
 loop-number-init g c =

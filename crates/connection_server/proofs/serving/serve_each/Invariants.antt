@@ -12,7 +12,7 @@ invariant-loop-number g l =
     let w = g.W.Writer.Sink in
     IsAlong (answering (g.V.Service.served l.fn.server.service.now) l.fn.server.statics.now
     (limits_of l.fn.server.quotas.now)) (endpoint_of l.fn.server.endpoint.now)
-    (ends_at r.left r.taken r.faults r.empty_takes w.written w.held w.faults w.may_want)
+    (ends_at r.left r.taken r.faults r.empty_takes w.written w.held w.faults)
     g.O.Sink.written g.O.Sink.held g.O.Sink.faults
     (network_at g.W.Wire.waiting g.W.Wire.closed g.W.Wire.out g.W.Wire.faults
     g.W.Wire.end_faults l.fn.wire)

@@ -9,7 +9,7 @@ use Rattle.stream_reader.specs.Stream.{Settings, StreamEvent, ends, stream}
 use Rattle.receiver_machine.specs.Standing.{has_good_quotas, settings_of}
 use Rattle.stream_follower.proofs.Taking.{unbegun}
 use Rattle.duplex_server.specs.Owed.{Answering, answering, requests_to}
-use Rattle.duplex_server.specs.Replying.{HasHeard}
+use Rattle.duplex_server.specs.Replying.{HasHeard, answering_of}
 use Rattle.duplex_server.specs.Requests.{request_for}
 use Rattle.duplex_server.proofs.Served.{followed_as}
 use Rattle.duplex_server.proofs.Streams.{ends_within}
@@ -56,7 +56,6 @@ returns-clause-follows g c =
     followed_as (settings_of c.in-Ok-new.reader.receiver) y
     (c.in-Ok-new.ensures.settings ∙ ap to c.in-Ok.ensures)
     (λ (events : List StreamEvent). HasHeard g.K.Sink.written g.K.Sink.held g.K.Sink.faults
-    g.K.Sink.may_want (answering (g.V.Service.served n.service.now) n.statics.now
-    (limits_of n.quotas)) c.args.sink.now (map request_for events) n.outbound n.sender n.answers
-    n.messages c.follow_stream.new.output) (input_of g c.args.source.now)
+    g.K.Sink.may_want (answering_of g.V.Service.served n) c.args.sink.now (map request_for events) n
+    c.follow_stream.new.output) (input_of g c.args.source.now)
     (input_of g c.follow_stream.new.input) c.follow_stream.result c.follow_stream.ensures.follows

@@ -4,10 +4,10 @@ use Rattle.stream_loop.specs.Edges.{Input, input_at}
 use Rattle.stream_reader.specs.Sides.{endpoint_of}
 use Rattle.stream_reader.specs.Stream.{StreamEvent}
 use Rattle.duplex_server.specs.declared.outcome.Outcome.{Outcome}
-use Rattle.duplex_server.specs.Owed.{Answering, answering, start}
-use Rattle.duplex_server.specs.Replying.{HasHeard}
+use Rattle.duplex_server.specs.Owed.{Answering, answering, messages_along, start}
+use Rattle.duplex_server.specs.Replying.{HasHeard, answering_of}
 use Rattle.duplex_server.specs.Requests.{request_for}
-use Rattle.duplex_server.proofs.Heard.{heard_first}
+use Rattle.duplex_server.proofs.Heard.{answered_first}
 use Rattle.duplex_server.proofs.Served.{served, serves}
 use Rattle.duplex_server.proofs.serving.serve_connection.Given.{Over}
 use Rattle.duplex_server.proofs.serving.serve_connection.Goals as goal
@@ -18,12 +18,17 @@ module _ (g : Over) where
       g.S.Source.empty_takes source
 
 pub follow_requests-ending-requires-clause-fresh : goal.follow_requests-ending-requires-clause-fresh
+unfolding messages_along
 follow_requests-ending-requires-clause-fresh g c =
     let r = c.new-replier.result in
     let e = c.new-replier.ensures in
-    rw e.outbound (heard_first g.K.Sink.written g.K.Sink.held g.K.Sink.faults g.K.Sink.may_want
-    (answering (g.V.Service.served r.service.now) r.statics.now (limits_of r.quotas))
-    c.args.sink.now r.sender r.answers r.messages (e.state ∙ ap start (sym e.statics)) e.messages)
+    record {
+      counted = e.messages;
+      answered = rw (e.outbound, e.gathered, e.ends)
+          (answered_first g.K.Sink.written g.K.Sink.held g.K.Sink.faults g.K.Sink.may_want
+          (answering_of g.V.Service.served r) c.args.sink.now r.sender r.answers
+          (e.state ∙ ap start (sym e.statics)));
+    }
 
 pub returns : goal.returns
 returns g c =
@@ -49,8 +54,7 @@ returns g c =
     c.close.new.sink outcome f.result c.inbound_of.ensures (endpoint_of c.args.endpoint.now)
     (input_of g c.args.source.now) (input_of g f.new.source)
     (λ (events : List StreamEvent). HasHeard g.K.Sink.written g.K.Sink.held g.K.Sink.faults
-    g.K.Sink.may_want xn c.args.sink.now (map request_for events) n.outbound n.sender n.answers
-    n.messages f.new.sink) f.ensures.follows
+    g.K.Sink.may_want xn c.args.sink.now (map request_for events) n f.new.sink) f.ensures.follows
     (λ events h. served g.K.Sink.written g.K.Sink.held g.K.Sink.faults g.K.Sink.may_want x
     c.args.sink.now c.close.new.sink outcome f.result c.inbound_of.ensures xn
     (f.ensures.settings ∙ begun) events (c.close.ensures.messages ∙ h.counted)

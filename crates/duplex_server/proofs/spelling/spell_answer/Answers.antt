@@ -1,4 +1,4 @@
-use Rattle.std.proofs.Common.{rules, ◌≡◌, List, ℕ, Result}
+use Rattle.std.proofs.Common.{rules, ◌≡◌, List, ℕ, OnErr, Result, subst}
 use Rattle.nbfx_encoder.specs.declared.sender.SendState.TheVariants.{Ready}
 use Rattle.nbfx_encoder.specs.Placing.{Placed}
 use Rattle.nbfx_encoder.specs.Sending.{kind_in, limits_in, mode_in, names_in, state_in}
@@ -30,3 +30,11 @@ returns-clause-spells c =
     (state_in s1) (state_in s2) (encoded (limits_in s) (kind_in s) (names_in s) c.args.doc.now)
     other again kept.mode same ready first c.spell_if_fits-2.result
     c.spell_if_fits-2.ensures.tries
+
+-- where the first try appended nothing, nor did the second
+pub returns-clause-unchanged : goal.returns-clause-unchanged
+returns-clause-unchanged c =
+    let first = rw c.if-branch.false at c.in_ok-spell_if_fits.ensures.tries in
+    let second = c.spell_if_fits-2 in
+    subst (λ (l : List ℕ). OnErr second.result (second.new.out.items ≡ l)) first.2.written
+    second.ensures.unchanged

@@ -1,31 +1,50 @@
 use Rattle.std.proofs.Common.{refl}
-use Rattle.nbfx_values.specs.QuotasOf.{limits_of}
-use Rattle.duplex_server.specs.Owed.{answering}
+use Rattle.duplex_server.specs.Replying.{answering_of}
 use Rattle.duplex_server.specs.Serving.{closing_of}
-use Rattle.duplex_server.proofs.Heard.{closed_at, closed_well}
+use Rattle.duplex_server.proofs.Heard.{closed_at, closed_before, closed_well}
 use Rattle.duplex_server.proofs.replier.Replier.close.Goals as goal
+
+pub returns-then-not-is_going-clause-closed : goal.returns-then-not-is_going-clause-closed
+returns-then-not-is_going-clause-closed g c = λ first requests heard.
+    let m = c.args.self.now in
+    closed_before g.K.Sink.written g.K.Sink.held g.K.Sink.faults g.K.Sink.may_want
+    (answering_of g.V.Service.served m) first requests m.outbound m.sender m.answers
+    m.gathered.items m.ends.items (closing_of c.args.ending) c.args.sink.now
+    (c.if-not-is_going.ensures.stopped refl) heard.answered
+
+pub returns-then-not-is_going-2-clause-closed : goal.returns-then-not-is_going-2-clause-closed
+returns-then-not-is_going-2-clause-closed g c = λ first requests heard.
+    let m = c.args.self.now in
+    let w = c.write.new.self in
+    closed_before g.K.Sink.written g.K.Sink.held g.K.Sink.faults g.K.Sink.may_want
+    (answering_of g.V.Service.served m) first requests w.outbound m.sender w.answers
+    w.gathered.items w.ends.items (closing_of c.args.ending) c.write.new.sink
+    (c.if-not-is_going-2.ensures.stopped refl)
+    (c.write.ensures.answered first requests m.sender heard.answered)
 
 pub returns-then-is_going-clause-closed : goal.returns-then-is_going-clause-closed
 returns-then-is_going-clause-closed g c = λ first requests heard.
     let m = c.args.self.now in
+    let w = c.write.new.self in
+    let e = c.write.ensures in
     let p = c.put_last-self in
     let f = c.flush-self.ensures.flushed in
-    let done = c.if-is_going.ensures.going refl in
-    rw p.ensures.answers (closed_well g.K.Sink.written g.K.Sink.held g.K.Sink.faults
-    g.K.Sink.may_want
-    (answering (g.V.Service.served m.service.now) m.statics.now (limits_of m.quotas)) first
-    requests m.sender m.answers m.messages c.args.sink.now m.outbound
-    (closing_of c.args.ending) heard f.0 c.flush-self.result p.new.sink
-    c.flush-self.new.sink (c.if-not-is_going.ensures.going refl) (rw done at p.ensures.goes)
-    f.2 f.1 c.flush-self.ensures.emptied)
+    closed_well g.K.Sink.written g.K.Sink.held g.K.Sink.faults g.K.Sink.may_want
+    (answering_of g.V.Service.served m) first requests m.sender w.answers c.write.new.sink
+    (rw (c.if-not-is_going-2.ensures.going refl, e.emptied, e.unmarked) at
+    (e.answered first requests m.sender heard.answered)) (closing_of c.args.ending) f.0
+    c.flush-self.result p.new.sink c.flush-self.new.sink
+    (rw (c.if-is_going.ensures.going refl) at p.ensures.goes) f.2 f.1
+    c.flush-self.ensures.emptied
 
 pub returns-else-is_going-clause-closed : goal.returns-else-is_going-clause-closed
 returns-else-is_going-clause-closed g c = λ first requests heard.
     let m = c.args.self.now in
+    let w = c.write.new.self in
+    let e = c.write.ensures in
     let p = c.put_last-self in
-    rw p.ensures.answers (closed_at g.K.Sink.written g.K.Sink.held g.K.Sink.faults g.K.Sink.may_want
-    (answering (g.V.Service.served m.service.now) m.statics.now (limits_of m.quotas)) first
-    requests m.sender m.answers m.messages c.args.sink.now m.outbound
-    (closing_of c.args.ending) heard p.result p.new.sink
-    (c.if-not-is_going.ensures.going refl) (c.if-is_going.ensures.stopped refl)
-    p.ensures.goes)
+    closed_at g.K.Sink.written g.K.Sink.held g.K.Sink.faults g.K.Sink.may_want
+    (answering_of g.V.Service.served m) first requests m.sender w.answers c.write.new.sink
+    (rw (c.if-not-is_going-2.ensures.going refl, e.emptied, e.unmarked) at
+    (e.answered first requests m.sender heard.answered)) (closing_of c.args.ending) p.result
+    p.new.sink (c.if-is_going.ensures.stopped refl) p.ensures.goes p.ensures.wanted

@@ -1,13 +1,33 @@
-use Rattle.nbfx_encoder.specs.Sending.{first_state}
-use Rattle.nbfx_encoder.specs.declared.sender.Side.TheVariants.{Receiver}
-use Rattle.duplex_server.specs.Owed.{no_strings}
-use Rattle.duplex_server.specs.Replying.{replying}
-use Rattle.duplex_server.proofs.Replies.{replying_is}
+use Rattle.std.proofs.Common.{[], ◌∷◌, refl}
+use Rattle.duplex_server.specs.declared.requests.Request.TheVariants.{Opened}
+use Rattle.duplex_server.specs.Replying.{answering_of}
+use Rattle.duplex_server.proofs.Heard.{gathers_quietly, stopped_more}
+use Rattle.duplex_server.proofs.Replies.{opened_is}
 use Rattle.duplex_server.proofs.replier.Replier.open.Goals as goal
 
-pub returns-clause-left : goal.returns-clause-left
-unfolding replying
-returns-clause-left g c = λ going.
+pub returns-then-not-is_going-clause-answered : goal.returns-then-not-is_going-clause-answered
+returns-then-not-is_going-clause-answered g c = λ first requests h.
+    let m = c.args.self.now in
+    stopped_more g.K.Sink.written g.K.Sink.held g.K.Sink.faults g.K.Sink.may_want
+    (answering_of g.V.Service.served m) first requests m.sender m.answers m.gathered.items
+    m.ends.items c.args.sink.now m.outbound (Opened c.args.mode c.args.kind) m.sender
+    (c.if-not-is_going.ensures.stopped refl) h
+
+pub returns-then-is_err-clause-answered : goal.returns-then-is_err-clause-answered
+returns-then-is_err-clause-answered g c = λ first requests h.
+    let none = rw c.if-is_err.ensures.negation at c.push.ensures.items in
+    c.starve.ensures.answered first requests (Opened c.args.mode c.args.kind)
+    c.args.self.now.sender c.starve.new.self.sender (rw none h)
+
+pub returns-clause-answered : goal.returns-clause-answered
+returns-clause-answered g c = λ first requests h.
+    let m = c.args.self.now in
     let e = c.new.ensures in
-    replying_is c.new.result c.args.mode c.args.kind (first_state c.args.mode Receiver)
-    (no_strings c.args.self.now.statics.now) c.args.self.now.answers e.mode e.kind e.state e.names
+    let going = c.if-not-is_going.ensures.going refl in
+    let pushed = rw c.if-is_err.ensures.negation at c.push.ensures.items in
+    rw (going, pushed) (gathers_quietly g.K.Sink.written g.K.Sink.held g.K.Sink.faults
+    g.K.Sink.may_want (answering_of g.V.Service.served m) first requests m.sender m.answers
+    m.gathered.items m.ends.items c.args.sink.now (rw going at h)
+    (Opened c.args.mode c.args.kind) (0x0B ∷ []) c.new.result refl
+    (opened_is c.args.mode c.args.kind m.statics.now c.new.result m.sender _ e.mode e.kind e.state
+    e.names))

@@ -1,73 +1,61 @@
-use Rattle.std.proofs.Common.{List, [], ℕ, ◌∙◌, sym, subst}
+use Rattle.std.proofs.Common.{◌≡◌, List, [], ◌++◌, ℕ, length, refl, sym, ◌∙◌, subst}
+use Rattle.io_edges.specs.Faults.{one_more}
 use Rattle.nbfx_values.specs.QuotasOf.{limits_of}
-use Rattle.stream_follower.specs.Writing.{Goes}
-use Rattle.stream_follower.proofs.Written.{cut_goes, cut_stopped, goes_nowhere}
+use Rattle.nbfx_values.specs.Limits.{Limits}
+use Rattle.action_dispatch.specs.declared.answers.Answer.{Answer}
+use Rattle.duplex_server.specs.declared.requests.Request.TheVariants.{Received}
+use Rattle.duplex_server.specs.Owed.{Replying, behind_reply, payload_of, told_reply}
+use Rattle.duplex_server.specs.Replying.{answering_of, answers_within, replying}
+use Rattle.duplex_server.proofs.Heard.{gathers_nothing}
 use Rattle.duplex_server.proofs.Replies.{left_is, left_so, nothing_told, told_is}
 use Rattle.duplex_server.proofs.replier.Replier.send.Goals as goal
 
-pub returns-then-is_going-clause-goes : goal.returns-then-is_going-clause-goes
-returns-then-is_going-clause-goes g c =
+pub returns-in-Ok-true-clause-answered : goal.returns-in-Ok-true-clause-answered
+returns-in-Ok-true-clause-answered g c = λ first requests document is h.
     let m = c.args.self.now in
+    let limits : Limits = limits_of m.quotas in
     let kept = c.spell_answer.ensures.kept in
-    let spells = rw c.clear.ensures.items at (rw c.in-Ok-true.field-0-test at
-    c.in-Ok-true.ensures.spells) in
-    let told = told_is (limits_of m.quotas) m.sender m.answers c.args.doc.now c.args.relates.now
-    m.limited c.spell_answer.new.out.items c.spell_answer.new.sender kept.mode kept.kind spells in
-    subst (λ (l : List ℕ). Goes g.K.Sink.written g.K.Sink.held g.K.Sink.faults g.K.Sink.may_want
-    c.put_bytes-self.result l c.args.sink.now c.put_bytes-self.new.sink)
-    (c.deref.ensures.value ∙ told) c.put_bytes-self.ensures
+    let spells = rw c.in-Ok-true.field-0-test at c.in-Ok-true.ensures.spells in
+    let n : ℕ = answers_within (length m.gathered.items) m.ends.items m.answers in
+    let s : Replying = replying m.sender n in
+    let old : List ℕ = m.gathered.items in
+    let new : List ℕ = c.spell_answer.new.out.items in
+    let sender = c.spell_answer.new.sender in
+    c.mark.ensures.answered first requests (Received document) m.sender (record {
+      earlier = old;
+      length_is = sym (c.len-before.ensures ∙ m.gathered.ok.0);
+      answered = h;
+      bytes = subst (λ (a : Answer). new ≡ old ++ told_reply s.mode (payload_of limits s a))
+          (sym is) (told_is limits m.sender n c.args.doc.now c.args.relates.now m.limited old new
+          sender kept.mode kept.kind spells);
+      left = subst (λ (a : Answer). replying sender (one_more n)
+          ≡ behind_reply (payload_of limits s a) s) (sym is)
+          (left_is limits m.sender n c.args.doc.now c.args.relates.now m.limited old new sender
+          kept.mode kept.kind (one_more n) refl spells);
+    })
 
-pub returns-else-is_going-clause-goes : goal.returns-else-is_going-clause-goes
-returns-else-is_going-clause-goes g c =
+pub returns-in-Ok-false-clause-answered : goal.returns-in-Ok-false-clause-answered
+returns-in-Ok-false-clause-answered g c = λ first requests document is h.
     let m = c.args.self.now in
+    let limits : Limits = limits_of m.quotas in
     let kept = c.spell_answer.ensures.kept in
-    let spells = rw c.clear.ensures.items at (rw c.in-Ok-true.field-0-test at
-    c.in-Ok-true.ensures.spells) in
-    let told = told_is (limits_of m.quotas) m.sender m.answers c.args.doc.now c.args.relates.now
-    m.limited c.spell_answer.new.out.items c.spell_answer.new.sender kept.mode kept.kind spells in
-    subst (λ (l : List ℕ). Goes g.K.Sink.written g.K.Sink.held g.K.Sink.faults g.K.Sink.may_want
-    c.put_bytes-self.result l c.args.sink.now c.put_bytes-self.new.sink)
-    (c.deref.ensures.value ∙ told) c.put_bytes-self.ensures
+    let spells = rw c.in-Ok-false.field-0-test at c.in-Ok-false.ensures.spells in
+    let n : ℕ = answers_within (length m.gathered.items) m.ends.items m.answers in
+    let s : Replying = replying m.sender n in
+    let old : List ℕ = m.gathered.items in
+    let new : List ℕ = c.spell_answer.new.out.items in
+    let sender = c.spell_answer.new.sender in
+    rw (c.requires.going, spells.1.written) (gathers_nothing g.K.Sink.written g.K.Sink.held
+    g.K.Sink.faults g.K.Sink.may_want (answering_of g.V.Service.served m) first requests m.sender
+    m.answers old m.ends.items c.args.sink.now (rw c.requires.going at h) (Received document) sender
+    (subst (λ (a : Answer). [] ≡ told_reply s.mode (payload_of limits s a)) (sym is)
+    (sym (nothing_told limits m.sender n c.args.doc.now c.args.relates.now m.limited old new sender
+    kept.mode kept.kind spells)))
+    (subst (λ (a : Answer). replying sender n ≡ behind_reply (payload_of limits s a) s) (sym is)
+    (left_so limits m.sender n c.args.doc.now c.args.relates.now m.limited old new sender kept.mode
+    kept.kind spells)))
 
-pub returns-then-is_going-clause-left : goal.returns-then-is_going-clause-left
-returns-then-is_going-clause-left g c = λ done.
-    let m = c.args.self.now in
-    let kept = c.spell_answer.ensures.kept in
-    let spells = rw c.clear.ensures.items at (rw c.in-Ok-true.field-0-test at
-    c.in-Ok-true.ensures.spells) in
-    left_is (limits_of m.quotas) m.sender m.answers c.args.doc.now c.args.relates.now
-    m.limited c.spell_answer.new.out.items c.spell_answer.new.sender kept.mode kept.kind
-    c.saturating_add-self.result c.saturating_add-self.ensures spells
-
-pub returns-in-Ok-false-clause-goes : goal.returns-in-Ok-false-clause-goes
-returns-in-Ok-false-clause-goes g c =
-    let m = c.args.self.now in
-    let kept = c.spell_answer.ensures.kept in
-    let spells = rw c.clear.ensures.items at (rw c.in-Ok-false.field-0-test at
-    c.in-Ok-false.ensures.spells) in
-    let none = nothing_told (limits_of m.quotas) m.sender m.answers c.args.doc.now
-    c.args.relates.now m.limited c.spell_answer.new.out.items c.spell_answer.new.sender kept.mode
-    kept.kind spells in
-    subst (λ (l : List ℕ). Goes g.K.Sink.written g.K.Sink.held g.K.Sink.faults g.K.Sink.may_want
-    m.outbound l c.args.sink.now c.args.sink.now) (sym none)
-    (rw c.requires.going (goes_nowhere g.K.Sink.written g.K.Sink.held g.K.Sink.faults
-    g.K.Sink.may_want c.args.sink.now))
-
-pub returns-in-Ok-false-clause-left : goal.returns-in-Ok-false-clause-left
-returns-in-Ok-false-clause-left g c = λ going.
-    let m = c.args.self.now in
-    let kept = c.spell_answer.ensures.kept in
-    let spells = rw c.clear.ensures.items at (rw c.in-Ok-false.field-0-test at
-    c.in-Ok-false.ensures.spells) in
-    left_so (limits_of m.quotas) m.sender m.answers c.args.doc.now c.args.relates.now
-    m.limited c.spell_answer.new.out.items c.spell_answer.new.sender kept.mode kept.kind spells
-
-pub returns-in-Err-clause-goes : goal.returns-in-Err-clause-goes
-returns-in-Err-clause-goes g c =
-    cut_goes g.K.Sink.written g.K.Sink.held g.K.Sink.faults g.K.Sink.may_want c.starve-self.result
-    _ c.args.sink.now c.starve-self.new.sink (c.starve-self.ensures _)
-
-pub returns-in-Err-clause-left : goal.returns-in-Err-clause-left
-returns-in-Err-clause-left g c = λ done.
-    absurd (cut_stopped g.K.Sink.written g.K.Sink.held g.K.Sink.faults g.K.Sink.may_want
-    c.starve-self.result [] c.args.sink.now c.starve-self.new.sink (c.starve-self.ensures []) done)
+pub returns-in-Err-clause-answered : goal.returns-in-Err-clause-answered
+returns-in-Err-clause-answered g c = λ first requests document is h.
+    c.starve.ensures.answered first requests (Received document) c.args.self.now.sender
+    c.starve.new.self.sender (rw c.in-Err.ensures.unchanged h)

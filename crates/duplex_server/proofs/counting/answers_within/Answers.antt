@@ -1,0 +1,29 @@
+use Rattle.std.proofs.Common.{◌∙◌, sym, ap, get_or, take, refl}
+use Rattle.std.proofs.lemmas.Bool.{le-leb, lt-leb}
+use Rattle.std.proofs.lemmas.List.{take_more}
+use Rattle.io_edges.specs.Faults.{one_more}
+use Rattle.duplex_server.specs.Replying.{answers_within}
+use Rattle.duplex_server.proofs.Within.{within_in, within_out}
+use Rattle.duplex_server.proofs.counting.answers_within.Goals as goal
+use Rattle.duplex_server.proofs.counting.answers_within.Goals.{then-end-put, else-end-put}
+
+pub loop-end-init : goal.loop-end-init
+unfolding answers_within
+loop-end-init c = refl
+
+pub loop-end-preserved : goal.loop-end-preserved
+loop-end-preserved c =
+    let n = c.args.put in
+    let before = c.args.before in
+    let ends = c.args.ends.now in
+    let i = c.loop-end.end-index in
+    let end = get_or ends i 0 in
+    let more = ap (λ l. answers_within n l before)
+    (sym (take_more ends i 0 c.loop-end-test.true)) in
+    elim c.if-end-put.branch [
+      | then-end-put w ↦ w.answers-is ∙ w.saturating_add-answers.ensures
+          ∙ ap one_more c.loop-end.invariant
+          ∙ sym (within_in n (take i ends) end before (le-leb end n w.if-end-put.true)) ∙ more
+      | else-end-put w ↦ w.answers-is ∙ c.loop-end.invariant
+          ∙ sym (within_out n (take i ends) end before (lt-leb end n w.if-end-put.false)) ∙ more
+    ]
