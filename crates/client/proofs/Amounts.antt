@@ -4,28 +4,27 @@ use Rattle.std.proofs.Common.{Option, Some, Result, Ok, Err, refl, sym, ap, ◌�
 use Rattle.std.proofs.Common.{append_assoc, append-nil, arith}
 use Rattle.std.proofs.Math.Seq.{take-append_seam}
 use Rattle.io_edges.specs.Flow.{GrowsByPrefix}
-use Rattle.io_edges.proofs.Putting.{PutsAll-nothing}
 use Rattle.nbfx_values.specs.declared.content.Item.{Item}
 use Rattle.string_tables.specs.StringTable.{StringTable}
 use Rattle.nmf_records.specs.declared.frame.Frame.TheVariants.{End}
 use Rattle.nmf_records.specs.Writing.{frame_bytes_of}
-use Rattle.nbfx_encoder.specs.Envelopes.{UnfitAt, behind_bytes, envelope, envelope_then}
+use Rattle.nbfx_encoder.specs.Envelopes.{behind_bytes, envelope, envelope_then}
 use Rattle.nbfx_encoder.specs.Envelopes.{envelopes_from}
 use Rattle.nbfx_encoder.specs.Placing.{Placed}
-use Rattle.nbfx_encoder.specs.Refusals.{told}
 use Rattle.nbfx_encoder.specs.Spelling.{Unfit, encoded}
 use Rattle.nbfx_encoder.proofs.LawFacts.{parted, sends_one_more}
 use Rattle.initiator_machine.specs.Opening.{opening_bytes}
 use Rattle.session_ends.specs.Sent.{first_table}
 use Rattle.stream_follower.specs.declared.writing.Outbound.{Outbound}
 use Rattle.stream_follower.specs.declared.writing.Outbound.TheVariants as outbounds
-use Rattle.stream_follower.specs.Writing.{IsCut, PutsTo}
-use Rattle.stream_follower.proofs.Amounts.{AllWritten, Grew, all_written, ends_grew, grew_more}
+use Rattle.stream_loop.proofs.Writing.{told_some}
+use Rattle.stream_follower.specs.Writing.{HoldNothing, IsCut}
+use Rattle.stream_follower.proofs.Grown.{AllWritten, Grew, all_written, cut_grew, grew_more}
 use Rattle.client.specs.declared.caller.Ack.{Ack}
 use Rattle.client.specs.declared.caller.Ack.TheVariants.{Awaited, Read}
 use Rattle.client.specs.declared.outcome.ClientOut.{ClientOut}
 use Rattle.client.specs.declared.outcome.ClientOut.TheVariants as out
-use Rattle.client.specs.Called.{BreaksOpening, Sends, WritesCall}
+use Rattle.client.specs.Called.{BreaksOpening, Sends, WritesCall, WritesFirst, WritesNone}
 use Rattle.client.specs.Sent.{HasBroken, Sending, bytes_of, due_next, due_of, envelopes}
 use Rattle.client.specs.Sent.{sent_behind, sent_by, sent_of}
 
@@ -140,49 +139,59 @@ module _ (x : Sending) where
     -- the writing ended at the opening
     opening_grew : (o : Outbound) → IsCut written held faults may_want o opening first now
         → Grew' opening
-    opening_grew o cut = by cut.bytes cut.front
-        (ends_grew written held faults may_want o first first
-        now [] cut.bytes (PutsAll-nothing _ _ _ _) cut.ends) where
-          by : (bytes : List ℕ) → (bytes ≡ []) ⊎ (bytes ≡ opening) → Grew' bytes → Grew' opening
-          by bytes (inl e) grew = grew_more written held faults may_want first now [] opening
-              (subst Grew' e grew)
-          by bytes (inr e) grew = subst Grew' e grew
+    opening_grew o cut = cut_grew written held faults may_want o opening first now cut
 
     -- or behind envelopes
     broken_grew : (o : Outbound) (sent : ℕ)
         → HasBroken x written held faults may_want opening first o sent now
         → Grew' (sent_by x via)
     broken_grew o sent h =
-        let on = goes_on h.rest h.done h.table h.puts.bytes h.joined h.puts.spelled in
-        by h.cut.bytes h.cut.front on.0 on.1 (ends_grew written held faults may_want o first h.mid
-        now (opening ++ h.puts.bytes) h.cut.bytes h.puts.puts h.cut.ends) where
-          due : List ℕ
-          due = due_next x h.table h.rest
+        let due : List ℕ = due_next x h.table h.rest in
+        let on = goes_on h.rest h.done h.table h.bytes h.joined h.spelled in
+        let same : (opening ++ (h.bytes ++ due)) ++ on.0 ≡ sent_by x via =
+        append_assoc opening (h.bytes ++ due) on.0 ∙ ap (λ l. opening ++ l) (sym on.1) in
+        subst Grew' same (grew_more written held faults may_want first now
+        (opening ++ (h.bytes ++ due)) on.0 (λ w is. told_some (λ w w'. GrowsByPrefix w w'
+        (held first ++ (opening ++ (h.bytes ++ due)))) (written first) (written now) w is h.grown))
 
-          whole : (more : List ℕ) → sent_behind x ≡ (h.puts.bytes ++ due) ++ more
-              → (opening ++ h.puts.bytes) ++ (due ++ more) ≡ sent_by x via
-          whole more is =
-              append_assoc opening h.puts.bytes (due ++ more)
-              ∙ ap (λ l. opening ++ l) (sym (append_assoc h.puts.bytes due more) ∙ sym is)
+    -- where sinks hold nothing back
+    abbrev Plain : Type 0
+    Plain = HoldNothing written held faults may_want
 
-          by : (bytes : List ℕ) → (bytes ≡ []) ⊎ (bytes ≡ due) → (more : List ℕ)
-              → sent_behind x ≡ (h.puts.bytes ++ due) ++ more
-              → Grew' ((opening ++ h.puts.bytes) ++ bytes) → Grew' (sent_by x via)
-          by bytes (inl e) more is grew =
-              subst Grew' (whole more is) (grew_more written held faults may_want first now
-              (opening ++ h.puts.bytes) (due ++ more)
-              (subst Grew' (ap (λ l. (opening ++ h.puts.bytes)
-              ++ l) e ∙ append-nil (opening ++ h.puts.bytes)) grew))
-          by bytes (inr e) more is grew =
-              subst Grew' (append_assoc (opening ++ h.puts.bytes) due more ∙ whole more is)
-              (grew_more written held faults may_want first now ((opening ++ h.puts.bytes) ++ due)
-              more
-              (subst Grew' (ap (λ l. (opening ++ h.puts.bytes) ++ l) e) grew))
+    -- the envelopes of the first documents are written whole then
+    first_written : (o : Outbound) (sent : ℕ)
+        → HasBroken x written held faults may_want opening first o sent now
+        → (w : List ℕ) → written first ≡ Some w → (w' : List ℕ) × (written now ≡ Some w')
+        × WritesFirst x Plain via (held first) w w' sent
+    first_written o sent h w is =
+        let due : List ℕ = due_next x h.table h.rest in
+        let k = told_some (λ w w'. GrowsByPrefix w w'
+        (held first ++ (opening ++ (h.bytes ++ due)))) (written first) (written now) w is h.grown
+        in (
+          k.0,
+          k.1,
+          record {
+            done = h.done;
+            rest = h.rest;
+            joined = h.joined;
+            counted = h.counted;
+            bytes = h.bytes;
+            table = h.table;
+            spelled = h.spelled;
+            within = k.2;
+            grown = λ plain.
+                let l = told_some (λ w w'. GrowsByPrefix (w ++ held first ++ (opening ++ h.bytes))
+                w' due) (written first) (written now) w is (h.whole plain) in
+                let same : l.0 ≡ k.0 = cc (l.1, k.1) in
+                subst (λ v. GrowsByPrefix (w ++ held first ++ (opening ++ h.bytes)) v due) same
+                l.2;
+          },
+        )
 
     -- what is written of a call
     abbrev Writes : Ack → ClientOut → ℕ → Type 0
     Writes ack outbound sent = (w : List ℕ) → written first ≡ Some w → (w' : List ℕ)
-        × (written now ≡ Some w') × WritesCall x via (held first) w w' ack outbound sent
+        × (written now ≡ Some w') × WritesCall x Plain via (held first) w w' ack outbound sent
 
     -- with a fact more, and with two
     with_fact : (A : Type 0) (B : List ℕ → List ℕ → Type 0) → A
@@ -196,6 +205,44 @@ module _ (x : Sending) where
         → (w : List ℕ) → written first ≡ Some w → (w' : List ℕ) × (written now ≡ Some w')
         × (A × C × B w w')
     with_facts A C B a c all w is = let k = all w is in (k.0, k.1, (a, c, k.2))
+
+    -- two facts of what is written now
+    both : (A B : List ℕ → List ℕ → Type 0)
+        → ((w : List ℕ) → written first ≡ Some w → (w' : List ℕ) × (written now ≡ Some w') × A w w')
+        → ((w : List ℕ) → written first ≡ Some w → (w' : List ℕ) × (written now ≡ Some w') × B w w')
+        → (w : List ℕ) → written first ≡ Some w → (w' : List ℕ) × (written now ≡ Some w')
+        × (A w w' × B w w')
+    both A B all also w is =
+        let k = all w is in
+        let l = also w is in
+        let same : l.0 ≡ k.0 = cc (l.1, k.1) in
+        (k.0, k.1, (k.2, subst (B w) same l.2))
+
+    -- the writing failed behind the Ack, at the opening or behind envelopes
+    broken_opening : (o : Outbound) (sent : ℕ)
+        → BreaksOpening written held faults may_want x via o sent first now
+        → (w : List ℕ) → written first ≡ Some w → (w' : List ℕ) × (written now ≡ Some w')
+        × (GrowsByPrefix w w' (held first ++ sent_by x via)
+        × (WritesNone x via (held first) w w' sent
+        ⊎ WritesFirst x Plain via (held first) w w' sent))
+    broken_opening o sent h = both (λ w w'. GrowsByPrefix w w' (held first ++ sent_by x via))
+        (λ w w'. WritesNone x via (held first) w w' sent
+        ⊎ WritesFirst x Plain via (held first) w w' sent)
+        (grew_more written held faults may_want first now opening (sent_behind x)
+        (opening_grew o h.1))
+        (λ w is. let k = opening_grew o h.1 w is in (k.0, k.1, inl (h.0, k.2)))
+
+    broken_behind : (o : Outbound) (sent : ℕ)
+        → HasBroken x written held faults may_want opening first o sent now
+        → (w : List ℕ) → written first ≡ Some w → (w' : List ℕ) × (written now ≡ Some w')
+        × (GrowsByPrefix w w' (held first ++ sent_by x via)
+        × (WritesNone x via (held first) w w' sent
+        ⊎ WritesFirst x Plain via (held first) w w' sent))
+    broken_behind o sent h = both (λ w w'. GrowsByPrefix w w' (held first ++ sent_by x via))
+        (λ w w'. WritesNone x via (held first) w w' sent
+        ⊎ WritesFirst x Plain via (held first) w w' sent)
+        (broken_grew o sent h)
+        (λ w is. let k = first_written o sent h w is in (k.0, k.1, inr k.2))
 
     pub sends_written : (ack : Ack) (outbound : ClientOut) (sent : ℕ)
         → Sends written held faults may_want x via ack outbound sent first now
@@ -222,11 +269,7 @@ module _ (x : Sending) where
         (subst All' (ap (λ l. opening ++ l) (sym same))
         (all_written written held faults may_want first now (opening ++ h.puts.bytes) h.puts.puts
         h.emptied))
-    sends_written Read out.WriteFault sent (inl h) =
-        grew_more written held faults may_want first now opening (sent_behind x)
-        (opening_grew outbounds.WriteFault h.1)
-    sends_written Read out.WriteFault sent (inr h) = broken_grew outbounds.WriteFault sent h
-    sends_written Read out.Memory sent (inl h) =
-        grew_more written held faults may_want first now opening (sent_behind x)
-        (opening_grew outbounds.Memory h.1)
-    sends_written Read out.Memory sent (inr h) = broken_grew outbounds.Memory sent h
+    sends_written Read out.WriteFault sent (inl h) = broken_opening outbounds.WriteFault sent h
+    sends_written Read out.WriteFault sent (inr h) = broken_behind outbounds.WriteFault sent h
+    sends_written Read out.Memory sent (inl h) = broken_opening outbounds.Memory sent h
+    sends_written Read out.Memory sent (inr h) = broken_behind outbounds.Memory sent h

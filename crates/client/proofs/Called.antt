@@ -1,6 +1,6 @@
 -- What is known of a call when the peer's stream is over.
-use Rattle.std.proofs.Common.{◌≡◌, ℕ, ◌⊎◌, inl, inr, List, [], ◌++◌, Bool, Option, Some, None}
-use Rattle.std.proofs.Common.{Result, Ok, Err, map, refl, sym, ap, ◌∙◌, subst}
+use Rattle.std.proofs.Common.{◌≡◌, ℕ, inl, inr, List, [], Bool, Option, Some, None}
+use Rattle.std.proofs.Common.{map, refl, sym, ap, ◌∙◌, subst}
 use Rattle.std.specs.Prelude.{⊤}
 use Rattle.io_edges.specs.Faults.{CountsFaults}
 use Rattle.io_edges.proofs.Putting.{PutsAll-nothing}
@@ -29,11 +29,11 @@ use Rattle.client.specs.declared.outcome.ClientIn.{ClientIn}
 use Rattle.client.specs.declared.outcome.ClientIn.TheVariants.{ReadFault}
 use Rattle.client.specs.declared.outcome.ClientOut.{ClientOut}
 use Rattle.client.specs.declared.outcome.ClientOut.TheVariants as out
-use Rattle.client.specs.Called.{BreaksOpening, Calls, HasCalled, Sends, ack_along, answers_to}
+use Rattle.client.specs.Called.{Calls, HasCalled, Sends, ack_along, answers_to}
 use Rattle.client.specs.Called.{closing_of, ending_of, inbound_by, reached_along}
 use Rattle.client.specs.Calling.{HasFollowed, HasHeard, SendsSo}
 use Rattle.client.specs.Sending.{WritesOut, sending_of}
-use Rattle.client.specs.Sent.{HasBroken, Sending, SendsAll}
+use Rattle.client.specs.Sent.{Sending, SendsAll}
 
 pub ending_again : (ending : Ending Offence) (outcome : Outcome)
     → ending_of (inbound_by ending outcome) ≡ ending
@@ -120,12 +120,10 @@ module _ {K : Type 0} (written : K → Option (List ℕ)) (held : K → List ℕ
       counts_as _ _ _ _ (λ e. cc) (λ e. cc) h.puts.puts.counted
   sends_counted Read out.WriteFault sent first now (inl h) = cut_counted opening first now h.1
   sends_counted Read out.WriteFault sent first now (inr h) =
-      counts_as _ _ _ _ (λ e. refl) (λ e. refl) (ends_counted written held faults may_want
-      outbounds.WriteFault _ h.cut.bytes first h.mid now h.puts.puts h.cut.ends)
+      counts_as _ _ _ _ (λ e. refl) (λ e. refl) h.faults_counted
   sends_counted Read out.Memory sent first now (inl h) = starved_counted opening first now h.1
   sends_counted Read out.Memory sent first now (inr h) =
-      counts_as _ _ _ _ (λ e. cc) (λ e. cc) (ends_counted written held faults may_want
-      outbounds.Memory _ h.cut.bytes first h.mid now h.puts.puts h.cut.ends)
+      counts_as _ _ _ _ (λ e. cc) (λ e. cc) h.faults_counted
 
 -- by the same settings
 pub followed_as : (s t : Settings) → s ≡ t → (Before Heard : List StreamEvent → Type 0)

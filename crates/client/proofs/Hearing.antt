@@ -1,27 +1,27 @@
 -- What a caller has heard when an event more comes, and what was reported when the stream is over.
-use Rattle.std.proofs.Common.{◌≡◌, ℕ, ◌⊎◌, inl, inr, List, [], ◌∷◌, ◌++◌, Bool, Option, Result, Ok}
-use Rattle.std.proofs.Common.{Err, refl, sym, ap, ◌∙◌, subst}
+use Rattle.std.proofs.Common.{◌≡◌, ℕ, List, [], ◌∷◌, ◌++◌, Bool, true, Option}
+use Rattle.std.proofs.Common.{Result, Ok, refl, sym, ap, ◌∙◌, subst}
 use Rattle.std.specs.Prelude.{⊤}
 use Rattle.io_edges.specs.declared.SinkFault.{SinkFault}
-use Rattle.unit_streams.specs.Tellers.{state_behind, told_along}
+use Rattle.unit_streams.specs.Tellers.{state_behind}
 use Rattle.unit_streams.proofs.Telling.{state_append, state_one}
 use Rattle.command_words.specs.declared.task.Detail.TheVariants.{Whole}
 use Rattle.stream_follower.specs.declared.writing.Outbound.{Outbound}
 use Rattle.stream_follower.specs.declared.writing.Outbound.TheVariants as outbounds
 use Rattle.stream_follower.specs.Writing.{Goes, PutsTo, Writes, Wrote, outbound_by}
 use Rattle.stream_follower.proofs.Written.{begins, closes, goes_by, pauses, stays_closed, stays_so}
-use Rattle.stream_follower.proofs.Written.{steps, stops_last}
+use Rattle.stream_follower.proofs.Written.{steps, stops_last, wanted_by}
 use Rattle.session_report.specs.declared.reading.Event.{Event}
 use Rattle.session_report.specs.declared.reading.Event.TheVariants as said
 use Rattle.session_report.specs.declared.reporter.Outcome.{Outcome}
 use Rattle.session_report.specs.declared.reporter.Outcome.TheVariants as reached
-use Rattle.session_report.specs.Saying.{said_by, said_lines, said_outcome}
+use Rattle.session_report.specs.Saying.{said_by, said_outcome}
 use Rattle.client.specs.declared.caller.Ack.{Ack}
 use Rattle.client.specs.declared.caller.Ack.TheVariants.{Awaited, Read}
 use Rattle.client.specs.declared.caller.Caller.{Caller}
 use Rattle.client.specs.declared.outcome.ClientOut.{ClientOut}
-use Rattle.client.specs.Called.{ack_after, ack_along, closing_of, reached_along}
-use Rattle.client.specs.Calling.{HasHeard, IsFresh, Reports, SendsSo, StaysSent}
+use Rattle.client.specs.Called.{ack_after, ack_along, reached_along}
+use Rattle.client.specs.Calling.{HasHeard, IsFresh, Reports, SendsSo}
 use Rattle.client.specs.Sent.{Sending, SendsAll}
 use Rattle.client.specs.Sending.{out_of, sending_of}
 
@@ -72,8 +72,7 @@ module _ {K : Type 0} (written : K → Option (List ℕ)) (held : K → List ℕ
   pub sends_now : (opened : Outbound) (first : K) (outbound outbound' : ClientOut) (sent sent' : ℕ)
       (old new : K) → opened ≡ outbounds.Done
       → ((start : K) (before : List ℕ) → PutsTo written held faults may_want start old before
-      (Ok tt)
-      → SendsAll x written held faults may_want before start outbound' sent' new)
+      (Ok tt) → SendsAll x written held faults may_want before start outbound' sent' new)
       → So opened first Awaited outbound sent old → So opened first Read outbound' sent' new
   sends_now outbounds.Done first outbound outbound' sent sent' old new is sends h =
       λ start before puts. sends start before
@@ -124,7 +123,8 @@ module _ {O : Type 0} (written : O → Option (List ℕ)) (held : O → List ℕ
     reports_on answer report report' new going is puts h =
         rw is (pauses written held faults may_want (said_by Whole) first events outcome old
         (rw going at h) (outbound_by answer) (λ s. ⊤) new
-        (goes_by written held faults may_want answer [] old new puts) tt)
+        (goes_by written held faults may_want answer [] old new puts)
+        (wanted_by written held faults may_want answer [] old new puts) tt)
 
     -- the stream is over
     module _ (report : Outbound) (closing : List ℕ) (h : Writes' report events outcome old) where
@@ -135,10 +135,11 @@ module _ {O : Type 0} (written : O → Option (List ℕ)) (held : O → List ℕ
 
       pub closed_at : (report' : Outbound) (new : O) → report ≡ outbounds.Done
           → (report' ≡ outbounds.Done → ⊥)
-          → Goes written held faults may_want report' closing old new → Wrote' report' closing new
-      closed_at report' new going never goes =
+          → Goes written held faults may_want report' closing old new
+          → (report' ≡ outbounds.Memory → may_want old ≡ true) → Wrote' report' closing new
+      closed_at report' new going never goes wanted =
           stops_last written held faults may_want (said_by Whole) first events outcome old
-          (rw going at h) report' closing (λ s. ⊤) new never goes tt
+          (rw going at h) report' closing (λ s. ⊤) new never goes wanted tt
 
       pub closed_well : (answer : Result ⊤ SinkFault) (report' : Outbound) (mid new : O)
           → report ≡ outbounds.Done → PutsTo written held faults may_want old mid closing (Ok tt)

@@ -1,10 +1,9 @@
 -- What is known of a call where the peer's bytes are known.
-use Rattle.std.proofs.Common.{◌≡◌, ℕ, ◌⊎◌, inl, inr, List, [], ◌++◌, Bool, Option, Some, None, map}
+use Rattle.std.proofs.Common.{◌≡◌, ℕ, List, [], ◌++◌, Bool, Option, Some, None, map}
 use Rattle.std.proofs.Common.{refl, sym, ap, ◌∙◌, subst}
 use Rattle.std.proofs.lemmas.List.{append-nil}
 use Rattle.std.specs.Prelude.{⊤}
 use Rattle.unit_streams.specs.Grammar.{Grammar}
-use Rattle.unit_streams.specs.Judging.{events, events_of, offence}
 use Rattle.unit_streams.specs.Tellers.{report as report_by, state_behind, told_along}
 use Rattle.nbfx_values.specs.declared.refusals.Offence.{Offence}
 use Rattle.command_words.specs.declared.task.Detail.TheVariants.{Whole}
@@ -13,11 +12,10 @@ use Rattle.stream_loop.specs.Edges.{Input}
 use Rattle.stream_reader.specs.Stream.{Situation, StreamEvent, StreamUnit, stream}
 use Rattle.stream_follower.specs.declared.writing.Outbound.{Outbound}
 use Rattle.stream_follower.specs.declared.writing.Outbound.TheVariants as outbounds
-use Rattle.stream_follower.specs.Followed.{AreFirst, Breaks, Decides, Follows, IsWhole, Starves}
-use Rattle.stream_follower.specs.Writing.{Wrote}
-use Rattle.stream_follower.proofs.Amounts.{AllWritten, Grew, all_written, first_told, grew_more}
-use Rattle.stream_follower.proofs.Amounts.{states_values, whole_told, wrote_grew}
-use Rattle.stream_follower.proofs.Counts.{heard_some}
+use Rattle.stream_follower.specs.Followed.{AreFirst, Follows, IsWhole}
+use Rattle.stream_follower.specs.Writing.{HoldNothing, Wrote}
+use Rattle.stream_follower.proofs.Amounts.{first_told, states_values, whole_told, wrote_grew}
+use Rattle.stream_follower.proofs.Grown.{AllWritten, Grew, all_written, grew_more}
 use Rattle.stream_follower.proofs.Knowing.{events_are, first_broken, first_starved, offence_of}
 use Rattle.stream_follower.proofs.Knowing.{whole_of}
 use Rattle.session_report.specs.declared.reporter.Outcome.{Outcome}
@@ -26,13 +24,13 @@ use Rattle.session_report.specs.Report.{last_line, lines_of, outcome}
 use Rattle.session_report.specs.Saying.{event_for, said_by}
 use Rattle.session_report.proofs.Saying.{lines_are}
 use Rattle.client.specs.declared.caller.Ack.{Ack}
-use Rattle.client.specs.declared.caller.Ack.TheVariants.{Awaited, Read}
+use Rattle.client.specs.declared.caller.Ack.TheVariants.{Awaited}
 use Rattle.client.specs.declared.outcome.CallOutcome.{CallOutcome}
 use Rattle.client.specs.declared.outcome.ClientIn.{ClientIn}
 use Rattle.client.specs.declared.outcome.ClientIn.TheVariants.{Ended, Offended, PeerFault}
 use Rattle.client.specs.declared.outcome.ClientIn.TheVariants.{ReadFault, Memory}
 use Rattle.client.specs.Called.{Calls, HasCalled, IsAckOf, Judges, ReportsOf, WritesCall, ack_along}
-use Rattle.client.specs.Called.{answers_to, closing_of, dumped, ending_of, heard_of, inbound_by}
+use Rattle.client.specs.Called.{answers_to, dumped, ending_of, heard_of, inbound_by}
 use Rattle.client.specs.Called.{reached_along}
 use Rattle.client.specs.Sent.{Sending}
 use Rattle.client.proofs.Amounts.{sends_written}
@@ -186,16 +184,20 @@ module _ {K : Type 0} (k_written : K → Option (List ℕ)) (k_held : K → List
       ap (λ (l : List StreamEvent). ack_along Awaited (map event_for l))
       (sym (events_are y es judged bytes whole))
 
+  -- where sinks hold nothing back
+  abbrev Plain : Type 0
+  Plain = HoldNothing k_written k_held k_faults k_wants
+
   pub writes : (called : CallOutcome) → Calls' called → (w : List ℕ) → k_written sink ≡ Some w
       → (w' : List ℕ) × (k_written sink' ≡ Some w') × (ack : Ack)
       × IsAckOf x bytes called.inbound ack
-      × WritesCall x via (k_held sink) w w' ack called.outbound called.sent
+      × WritesCall x Plain via (k_held sink) w w' ack called.outbound called.sent
   writes called h w told_w = by called.inbound refl h.follows where
     so : (inbound : ClientIn) (es : List StreamEvent) → Called called es
         → IsAckOf x bytes inbound (ack_along Awaited (map event_for es))
         → (w' : List ℕ) × (k_written sink' ≡ Some w') × (ack : Ack)
         × IsAckOf x bytes inbound ack
-        × WritesCall x via (k_held sink) w w' ack called.outbound called.sent
+        × WritesCall x Plain via (k_held sink) w w' ack called.outbound called.sent
     so inbound es c acked =
         let k = sends_written x k_written k_held k_faults k_wants via sink sink'
         (ack_along Awaited (map event_for es)) called.outbound called.sent c.sends w told_w in
@@ -205,7 +207,7 @@ module _ {K : Type 0} (k_written : K → Option (List ℕ)) (k_held : K → List
         → Follows y (Called called) i i' (ending_of inbound)
         → (w' : List ℕ) × (k_written sink' ≡ Some w') × (ack : Ack)
         × IsAckOf x bytes inbound ack
-        × WritesCall x via (k_held sink) w w' ack called.outbound called.sent
+        × WritesCall x Plain via (k_held sink) w w' ack called.outbound called.sent
     by Ended is d = so Ended d.events d.heard
         (ack_is d.events None (whole_of y i i' bytes left (Called called) None d))
     by PeerFault is d = so PeerFault d.events d.heard

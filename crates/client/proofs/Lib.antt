@@ -1,6 +1,8 @@
 -- what is sent of literal documents and reported of literal answers
 mod Worked
--- what is put of documents (src/sending.rt)
+-- what is gathered of documents, and what of that is put (src/outbox.rt)
+pub mod Gathered
+-- what is written of the opening, and what a half has sent (src/sending.rt, src/outbox.rt)
 pub mod Envelopes
 -- what a caller has heard and reported (src/caller.rt)
 pub mod Hearing

@@ -1,5 +1,5 @@
 -- What is sent of literal documents, and what is reported of literal answers, by computation alone.
-use Rattle.std.proofs.Common.{◌≡◌, ℕ, List, [], ◌∷◌, ◌++◌, length, map, pos, Option, Some, None}
+use Rattle.std.proofs.Common.{◌≡◌, ℕ, List, [], ◌∷◌, ◌++◌, length, map, pos, Option, None}
 use Rattle.std.proofs.Common.{refl}
 use Rattle.std.specs.Prelude.{⊤, codes}
 use Rattle.std.specs.Char.{encode_utf8}

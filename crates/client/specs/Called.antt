@@ -1,11 +1,13 @@
 -- What was read, reported and sent by a call, however it ends.
 use Rattle.std.specs.Prelude.{◌≡◌, ⊤, ℕ, ◌⊎◌, List, [], ◌∷◌, ◌++◌, length, Bool, Option, Some, None}
-use Rattle.std.specs.Prelude.{Result, Ok, Err, map}
+use Rattle.std.specs.Prelude.{Ok, Err, map}
 use Rattle.io_edges.specs.Faults.{CountsFaults}
 use Rattle.io_edges.specs.Flow.{GrowsByPrefix}
 use Rattle.unit_streams.specs.Judging.{events, offence}
 use Rattle.unit_streams.specs.Tellers.{state_behind}
+use Rattle.nbfx_values.specs.declared.content.Item.{Item}
 use Rattle.nbfx_values.specs.declared.refusals.Offence.{Offence}
+use Rattle.string_tables.specs.StringTable.{StringTable}
 use Rattle.nbfx_encoder.specs.Envelopes.{UnfitAt}
 use Rattle.nbfx_encoder.specs.Placing.{Placed}
 use Rattle.nbfx_encoder.specs.Refusals.{told}
@@ -33,7 +35,8 @@ use Rattle.client.specs.declared.outcome.ClientIn.TheVariants.{Ended, Offended, 
 use Rattle.client.specs.declared.outcome.ClientIn.TheVariants.{ReadFault, Memory}
 use Rattle.client.specs.declared.outcome.ClientOut.{ClientOut}
 use Rattle.client.specs.declared.outcome.ClientOut.TheVariants as out
-use Rattle.client.specs.Sent.{HasBroken, HasSentAll, HasSentFitting, Sending, envelopes, sent_by}
+use Rattle.client.specs.Sent.{HasBroken, HasSentAll, HasSentFitting, Sending, due_next, envelopes}
+use Rattle.client.specs.Sent.{sent_by}
 
 -- ---- the peer's stream
 
@@ -118,23 +121,49 @@ IsAckOf x bytes inbound ack = ack ≡ ack_along Awaited (heard_of x bytes)
 abbrev pub IsUnfit : Sending → (number : ℕ) → UnfitAt → Type 0
 IsUnfit x number unfit = (envelopes x x.documents ≡ Err unfit) × (number ≡ unfit.number)
 
--- What is written to the peer, behind what was held, by whether its Ack was read: the opening, and
--- behind the Ack all that is sent of the documents; or first bytes of that.
-abbrev pub WritesCall : Sending → (via held w w' : List ℕ) → Ack → ClientOut → (sent : ℕ) → Type 0
-WritesCall x via held w w' Awaited out.Done sent =
-    (sent ≡ 0) × (w' ≡ w ++ held ++ opening_bytes x.mode x.kind via)
-WritesCall x via held w w' Awaited (out.Unfit number fault) sent = ⊥
-WritesCall x via held w w' Awaited outbound sent =
+-- The writing ended at what was due behind the envelopes of the first documents, as many as were
+-- sent. Of the opening, these envelopes and what was due next the first bytes are written: at most
+-- one envelope more than were sent. Where the sink holds nothing back, the opening and the
+-- envelopes that were sent are written whole, and of what was due next the first bytes, or none.
+pub record WritesFirst (x : Sending) (holds_nothing : Type 0) (via held w w' : List ℕ) (sent : ℕ)
+    : Type 0 where
+  pub done : List (List Item)
+  pub rest : List (List Item)
+  pub joined : x.documents ≡ done ++ rest
+  pub counted : sent ≡ length done
+  pub bytes : List ℕ
+  pub table : StringTable
+  pub spelled : envelopes x done ≡ Ok (bytes, table)
+  pub within : GrowsByPrefix w w'
+      (held ++ (opening_bytes x.mode x.kind via ++ (bytes ++ due_next x table rest)))
+  pub grown : holds_nothing
+      → GrowsByPrefix (w ++ held ++ (opening_bytes x.mode x.kind via ++ bytes)) w'
+      (due_next x table rest)
+
+-- first bytes of the opening are written, and no envelope was sent
+abbrev pub WritesNone : Sending → (via held w w' : List ℕ) → (sent : ℕ) → Type 0
+WritesNone x via held w w' sent =
     (sent ≡ 0) × GrowsByPrefix w w' (held ++ opening_bytes x.mode x.kind via)
-WritesCall x via held w w' Read out.Done sent = (sent ≡ length x.documents)
+
+-- What is written to the peer, behind what was held, by whether its Ack was read: the opening, and
+-- behind the Ack all that is sent of the documents; or first bytes of that, with the envelopes that
+-- were sent.
+abbrev pub WritesCall : Sending → (holds_nothing : Type 0) → (via held w w' : List ℕ) → Ack
+    → ClientOut → (sent : ℕ) → Type 0
+WritesCall x holds_nothing via held w w' Awaited out.Done sent =
+    (sent ≡ 0) × (w' ≡ w ++ held ++ opening_bytes x.mode x.kind via)
+WritesCall x holds_nothing via held w w' Awaited (out.Unfit number fault) sent = ⊥
+WritesCall x holds_nothing via held w w' Awaited outbound sent = WritesNone x via held w w' sent
+WritesCall x holds_nothing via held w w' Read out.Done sent = (sent ≡ length x.documents)
     × ((all : Placed (List ℕ)) × (envelopes x x.documents ≡ Ok all))
     × (w' ≡ w ++ held ++ sent_by x via)
-WritesCall x via held w w' Read (out.Unfit number fault) sent = (sent ≡ number)
+WritesCall x holds_nothing via held w w' Read (out.Unfit number fault) sent = (sent ≡ number)
     × ((unfit : UnfitAt) × (envelopes x x.documents ≡ Err unfit) × (number ≡ unfit.number)
     × (fault ≡ told unfit.why))
     × (w' ≡ w ++ held ++ sent_by x via)
-WritesCall x via held w w' Read outbound sent =
+WritesCall x holds_nothing via held w w' Read outbound sent =
     GrowsByPrefix w w' (held ++ sent_by x via)
+    × (WritesNone x via held w w' sent ⊎ WritesFirst x holds_nothing via held w w' sent)
 
 -- ---- both
 

@@ -1,5 +1,5 @@
 -- What a caller has heard, reported and sent.
-use Rattle.std.specs.Prelude.{◌≡◌, ⊤, ℕ, List, [], Bool, Option, Result, Ok, Err, map}
+use Rattle.std.specs.Prelude.{◌≡◌, ⊤, ℕ, List, Bool, Option, Ok, map}
 use Rattle.nbfx_values.specs.declared.refusals.Offence.{Offence}
 use Rattle.stream_loop.specs.Edges.{Input}
 use Rattle.stream_reader.specs.Stream.{stream}
@@ -17,7 +17,6 @@ use Rattle.client.specs.declared.caller.Ack.TheVariants.{Awaited, Read}
 use Rattle.client.specs.declared.caller.Caller.{Caller}
 use Rattle.client.specs.declared.caller.Outputs.{Outputs}
 use Rattle.client.specs.declared.outcome.ClientOut.{ClientOut}
-use Rattle.client.specs.declared.outcome.ClientOut.TheVariants as out
 use Rattle.client.specs.Called.{ack_along, answers_to, reached_along}
 use Rattle.client.specs.Sent.{Sending, SendsAll}
 use Rattle.client.specs.Sending.{out_of, sending_of}

@@ -1,7 +1,9 @@
 -- What a client sends: an opening, an envelope for each document, and an End record (MC-NMF). What
 -- became of a sink that it was put to, however the writing ended.
-use Rattle.std.specs.Prelude.{◌≡◌, ⊤, ℕ, ◌⊎◌, List, [], ◌∷◌, ◌++◌, length, take, Bool, Option}
+use Rattle.std.specs.Prelude.{◌≡◌, ℕ, List, [], ◌∷◌, ◌++◌, length, take, Bool, Option}
 use Rattle.std.specs.Prelude.{Result, Ok, Err}
+use Rattle.io_edges.specs.Faults.{CountsFaults}
+use Rattle.io_edges.specs.Flow.{GrowsByPrefix, Told}
 use Rattle.nbfx_values.specs.Limits.{Limits}
 use Rattle.nbfx_values.specs.declared.content.Item.{Item}
 use Rattle.nbfx_values.specs.declared.session.Kind.{Kind}
@@ -19,7 +21,7 @@ use Rattle.initiator_machine.specs.Opening.{opening_bytes}
 use Rattle.session_ends.specs.Sent.{first_table}
 use Rattle.stream_follower.specs.declared.writing.Outbound.{Outbound}
 use Rattle.stream_follower.specs.declared.writing.Outbound.TheVariants as outbounds
-use Rattle.stream_follower.specs.Writing.{IsCut, PutsTo}
+use Rattle.stream_follower.specs.Writing.{HoldNothing, PutsTo}
 use Rattle.client.specs.declared.outcome.ClientOut.{ClientOut}
 use Rattle.client.specs.declared.outcome.ClientOut.TheVariants.{Done, Unfit as UnfitDocument}
 use Rattle.client.specs.declared.outcome.ClientOut.TheVariants.{WriteFault, Memory}
@@ -113,17 +115,25 @@ module _ (x : Sending) where
           pub puts : HasSent done table now
           pub emptied : held now ≡ []
 
-      -- the envelopes of the first documents were put, and the writing ended so at what was due
-      -- next
+      -- The writing ended so at what was due behind the envelopes of the first documents, as many
+      -- as were sent. First bytes are written of what was put before, of these envelopes and of
+      -- what was due next. Where sinks hold nothing back, these envelopes are written whole.
       pub record HasBroken (outbound : Outbound) (sent : ℕ) (now : K) : Type 0 where
         pub done : List (List Item)
         pub rest : List (List Item)
         pub joined : x.documents ≡ done ++ rest
         pub counted : sent ≡ length done
+        pub bytes : List ℕ
         pub table : StringTable
-        pub mid : K
-        pub puts : HasSent done table mid
-        pub cut : IsCut written held faults may_want outbound (due_next table rest) mid now
+        pub spelled : envelopes done ≡ Ok (bytes, table)
+        pub grown : Told (written first) (written now) (λ w w'. GrowsByPrefix w w'
+            (held first ++ (before ++ (bytes ++ due_next table rest))))
+        pub whole : HoldNothing written held faults may_want
+            → Told (written first) (written now) (λ w w'.
+            GrowsByPrefix (w ++ held first ++ (before ++ bytes)) w' (due_next table rest))
+        pub emptied : held now ≡ []
+        pub faults_counted : CountsFaults (faults first) (faults now)
+            (outbound ≡ outbounds.WriteFault)
 
       -- what was put of the documents, by how the writing ended, and how many envelopes that is
       abbrev pub SendsAll : ClientOut → (sent : ℕ) → K → Type 0

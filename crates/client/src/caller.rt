@@ -1,6 +1,6 @@
 //! What hears the events of the peer's stream, and answers and reports them.
 
-ghost use Rattle.std.specs.Prelude.{◌≡◌, List, ℕ, ⊤, Result};
+ghost use Rattle.std.specs.Prelude.{◌≡◌, List, ℕ, ⊤, true, Result};
 ghost use Rattle.stream_follower.specs.Writing.{Goes, Writes, Wrote, outbound_by};
 ghost use Rattle.io_edges.specs.declared.SinkFault.{SinkFault as Fault};
 ghost use Rattle.command_words.specs.declared.task.Detail.{Detail as Shown};
@@ -10,9 +10,9 @@ ghost use Rattle.client.specs.Called.{ack_after, closing_of};
 ghost use Rattle.client.specs.Calling.{IsFresh, Reports, SendsSo};
 ghost use Rattle.client.specs.Sending.{out_of, sending_of};
 
-use crate::outcome::ClientOut;
+use crate::outcome::{ClientOut, client_out};
 use crate::outgoing::Outgoing;
-use crate::sending::{client_out, send_documents};
+use crate::sending::send_documents;
 use command_words::Detail;
 use io_edges::{Sink, SinkFault};
 use nbfx_values::Offence;
@@ -89,8 +89,9 @@ fn put_lines<O: Sink>(reached: Outcome, event: &Event, output: &mut O) -> Outbou
 
 // Puts the last line, where there is one: a stream that isn't judged has none.
 fn put_last<O: Sink>(ending: Ending<Offence>, reached: Outcome, output: &mut O) -> Outbound
-    ensures { Goes O.written O.held O.faults O.may_want result (closing_of ending reached)
+    ensures goes { Goes O.written O.held O.faults O.may_want result (closing_of ending reached)
         output.old output.new }
+    ensures wanted { result ≡ Outbound.Memory → O.may_want output.old ≡ true }
 {
     let Ending::Judged(refusal) = ending else {
         return Outbound::Done;

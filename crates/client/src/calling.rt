@@ -8,8 +8,10 @@ ghost use Rattle.stream_loop.specs.Edges.{input_at};
 ghost use Rattle.stream_reader.specs.Standing.{StandsFor, settings_of};
 ghost use Rattle.stream_reader.specs.Stream.{stream};
 ghost use Rattle.stream_follower.specs.Followed.{Follows};
+ghost use Rattle.stream_follower.specs.Writing.{HoldNothing};
 ghost use Rattle.session_report.specs.Saying.{event_for};
-ghost use Rattle.client.specs.Called.{Calls, IsAckOf, Judges, ReportsOf, WritesCall, dumped, inbound_by};
+ghost use Rattle.client.specs.Called.{Calls, IsAckOf, Judges, ReportsOf, WritesCall};
+ghost use Rattle.client.specs.Called.{dumped, inbound_by};
 ghost use Rattle.client.specs.Calling.{HasFollowed, HasHeard, IsFresh};
 ghost use Rattle.client.specs.Sent.{sending};
 ghost use Rattle.client.specs.Sending.{sending_of};
@@ -164,8 +166,9 @@ pub fn call_one<S: Source, K: Sink, O: Sink>(
         × (ack : Acknowledged)
         × IsAckOf (sending (limits_of quotas.now) statics.now mode kind docs.now) bytes
         result.inbound ack
-        × WritesCall (sending (limits_of quotas.now) statics.now mode kind docs.now) via.now
-        (K.held sink.old) w w' ack result.outbound result.sent }
+        × WritesCall (sending (limits_of quotas.now) statics.now mode kind docs.now)
+        (HoldNothing K.written K.held K.faults K.may_want) via.now (K.held sink.old) w w' ack
+        result.outbound result.sent }
 
     // Which bytes were read, which of their events were reported, and which envelopes were put,
     // however that ends.

@@ -7,12 +7,15 @@
 //! once: envelopes are sent when the peer's Preamble Ack was read, and not before.
 //!
 //! [`call_one`] does all on the calling thread: it sends the documents where it has read the Ack,
-//! and goes on reading then. Its contract is in `specs/Called.antt`. A write that fails ends the
-//! writing and not the reading, and a report that can't be written ends neither.
+//! and goes on reading then. Envelopes are gathered and written 64 KiB at a time, and those that
+//! were written whole count as sent (`outbox`). Its contract is in `specs/Called.antt`. A write
+//! that fails ends the writing and not the reading, and a report that can't be written ends
+//! neither.
 #![tactic(auto)]
 
 mod caller;
 mod calling;
+mod outbox;
 mod outcome;
 mod outgoing;
 mod sending;

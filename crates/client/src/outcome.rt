@@ -1,6 +1,7 @@
 //! What became of a call.
 
 ghost use Rattle.std.specs.Prelude.{◌≡◌, true, false};
+ghost use Rattle.client.specs.Sending.{out_of};
 
 use nbfx_encoder::EncodeFault;
 use nbfx_values::Offence;
@@ -45,10 +46,22 @@ impl ClientOut {
     }
 }
 
+/// How the writing to the peer ended, by how it ended at the sink.
+pub(crate) fn client_out(outbound: Outbound) -> ClientOut
+    ensures { result ≡ out_of outbound }
+{
+    match outbound {
+        Outbound::Done => ClientOut::Done,
+        Outbound::WriteFault => ClientOut::WriteFault,
+        Outbound::Memory => ClientOut::Memory,
+    }
+}
+
 /// What became of a call.
 #[derive(Clone, Copy, Debug, PartialEq, Eq)]
 pub struct CallOutcome {
-    /// How many envelopes were put to the sink without a fault.
+    /// How many envelopes were written, each whole. Where a write failed, first bytes of the next
+    /// one may be written too. Of a sink that holds bytes back they are those that it took.
     pub sent: u64,
     pub inbound: ClientIn,
     pub outbound: ClientOut,

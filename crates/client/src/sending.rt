@@ -1,21 +1,18 @@
 //! How the opening and the documents of a call are written.
 
-ghost use Rattle.std.specs.Prelude.{◌≡◌, ◌≤◌, ⊤, Result, List, ℕ, [], length, false};
-ghost use Rattle.nmf_records.specs.Writing.{frame_bytes_of};
-ghost use Rattle.nbfx_encoder.specs.Sending.{KeepsSettings, behind_message, kind_in, limits_in, mode_in, names_in, state_in};
-ghost use Rattle.nbfx_encoder.specs.Spelling.{encoded};
+ghost use Rattle.std.specs.Prelude.{◌≡◌, ◌≤◌, ⊤, Result, List, ℕ, length};
 ghost use Rattle.initiator_machine.specs.Opening.{opening_bytes};
 ghost use Rattle.stream_follower.specs.Writing.{PutsTo};
 ghost use Rattle.client.specs.Sent.{SendsAll};
-ghost use Rattle.client.specs.Sending.{SendsOne, Stops, WritesOut, out_of, sending_of};
+ghost use Rattle.client.specs.Sending.{WritesOut, sending_of};
 
-use crate::outcome::ClientOut;
+use crate::outbox::Outbox;
+use crate::outcome::{ClientOut, client_out};
 use crate::outgoing::Outgoing;
 use initiator_machine::opening;
 use io_edges::Sink;
-use nbfx_encoder::{EncodeFault, SendFault, SendState, Sender, Side};
-use nbfx_values::{Doc, Kind, Mode};
-use nmf_records::record_types::END;
+use nbfx_encoder::{Sender, Side};
+use nbfx_values::{Kind, Mode};
 use std::alloc::Global;
 use stream_follower::{Outbound, flush, put_bytes, starve};
 use unit_streams::Memory;
@@ -23,20 +20,9 @@ use unit_streams::Memory;
 /// How the writing of documents ended.
 #[derive(Clone, Copy, Debug, PartialEq, Eq)]
 pub struct Sent {
-    /// How many envelopes were put without a fault.
+    /// How many envelopes were written, each whole.
     pub count: u64,
     pub outbound: ClientOut,
-}
-
-/// The same, of a call.
-pub fn client_out(outbound: Outbound) -> ClientOut
-    ensures { result ≡ out_of outbound }
-{
-    match outbound {
-        Outbound::Done => ClientOut::Done,
-        Outbound::WriteFault => ClientOut::WriteFault,
-        Outbound::Memory => ClientOut::Memory,
-    }
 }
 
 // Puts bytes, and writes what the sink holds.
@@ -69,43 +55,6 @@ pub fn send_opening<K: Sink>(
     }
 }
 
-// Ends the writing at a document that is refused so. What the sink holds is written.
-fn stop_at<K: Sink>(number: u64, fault: EncodeFault, sink: &mut K) -> ClientOut
-    ensures { Stops K.written K.held K.faults K.may_want number fault sink.old sink.new result }
-{
-    match fault {
-        EncodeFault::Memory => client_out(starve(sink)),
-        _ => match flush(sink) {
-            Outbound::Done => ClientOut::Unfit { number, fault },
-            stopped => client_out(stopped),
-        },
-    }
-}
-
-// Puts the envelope of the document with this number.
-fn send_document<K: Sink>(
-    sender: &mut Sender<'_>,
-    doc: &Doc,
-    number: u64,
-    envelope: &mut Vec<u8>,
-    sink: &mut K,
-) -> ClientOut
-    requires { state_in sender.old ≡ SendState.Ready }
-    ensures sends { SendsOne K.written K.held K.faults K.may_want (mode_in sender.old)
-        (encoded (limits_in sender.old) (kind_in sender.old) (names_in sender.old) doc.now)
-        number (names_in sender.new) sink.old sink.new result }
-    ensures state { result ≡ ClientOut.Done
-        → state_in sender.new ≡ behind_message (mode_in sender.old) }
-    ensures kept { KeepsSettings sender.old sender.new }
-{
-    envelope.clear();
-    match sender.message(doc, envelope) {
-        Ok(()) => client_out(put_bytes(envelope, sink)),
-        Err(SendFault::Refused(fault)) => stop_at(number, fault, sink),
-        Err(SendFault::WrongMoment { .. }) => unreachable!(),
-    }
-}
-
 /// Writes an envelope for each document, up to the first that doesn't fit, and an End record where
 /// all fit.
 pub fn send_documents<K: Sink>(alloc: Global, outgoing: &Outgoing<'_, '_>, sink: &mut K) -> Sent
@@ -122,19 +71,20 @@ pub fn send_documents<K: Sink>(alloc: Global, outgoing: &Outgoing<'_, '_>, sink:
         outgoing.mode,
         Side::Initiator,
     );
-    let mut envelope = Vec::new(alloc);
+    let mut outbox = Outbox::new(alloc);
     let docs = outgoing.docs.as_slice();
-    for (number, doc) in docs.iter().enumerate() {
-        let outbound = send_document(&mut sender, doc, number as u64, &mut envelope, sink);
+    for doc in docs {
+        let outbound = outbox.send(&mut sender, doc, sink);
         if !outbound.is_done() {
             return Sent {
-                count: number as u64,
+                count: outbox.sent,
                 outbound,
             };
         }
     }
+    let outbound = outbox.end(sink);
     Sent {
-        count: docs.len() as u64,
-        outbound: client_out(write_bytes(&[END], sink)),
+        count: outbox.sent,
+        outbound: client_out(outbound),
     }
 }

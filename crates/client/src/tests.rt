@@ -28,9 +28,13 @@ struct Case {
     kind: Kind,
     // How many elements each document has, one within the other.
     documents: &'static [usize],
+    // How often these are sent.
+    times: usize,
     peer: &'static [u8],
     takes: &'static [u64],
     puts: &'static [u64],
+    // How many bytes of a put that fails are written.
+    kept: usize,
     reports: &'static [u64],
 }
 
@@ -38,9 +42,11 @@ const ONE: Case = Case {
     mode: Mode::Duplex,
     kind: Kind::Session,
     documents: &[1],
+    times: 1,
     peer: b"\x0B\x07",
     takes: &[],
     puts: &[],
+    kept: 3,
     reports: &[],
 };
 
@@ -96,8 +102,10 @@ fn outcome_of<K: Sink, O: Sink>(
 ) -> Result<CallOutcome, Fail> {
     let statics = StaticTable::read(alloc, b"id,string\n").map_err(|_| "no table")?;
     let mut docs = Docs::new(alloc);
-    for depth in case.documents {
-        docs.push(nested(alloc, *depth)?).map_err(|_| "no memory")?;
+    for _ in 0..case.times {
+        for depth in case.documents {
+            docs.push(nested(alloc, *depth)?).map_err(|_| "no memory")?;
+        }
     }
     if !is_admitted(case.mode, &docs) {
         return Err("so many documents are no session".into());
@@ -130,11 +138,10 @@ fn joined(alloc: Global, parts: &[&[u8]]) -> Result<Vec<u8>, AllocError> {
 // A case, what becomes of it, what is sent to the peer, and the report.
 type Row = (Case, CallOutcome, &'static [&'static [u8]], &'static str);
 
-// A put that fails keeps three bytes.
 fn check(rt: &(impl Abort + AllocGlobal), rows: &[Row]) -> Result<(), Fail> {
     let alloc = rt.alloc();
     for (number, (case, outcome, sent, report)) in rows.iter().enumerate() {
-        let mut sink = MemorySink::new(alloc, case.puts.to_vec(alloc)?, 3);
+        let mut sink = MemorySink::new(alloc, case.puts.to_vec(alloc)?, case.kept);
         let mut output = MemorySink::new(alloc, case.reports.to_vec(alloc)?, 3);
         let called = outcome_of(alloc, case, &mut sink, &mut output)?;
         assert_eq!(rt; called, *outcome, "of row {number}");
@@ -265,7 +272,7 @@ fn what_fails_on_our_side_ends_that_alone(rt: HostRuntime) -> Result<(), Fail> {
         number: 1,
         fault: EncodeFault::TooDeep { depth: 33 },
     };
-    let rows: [Row; 7] = [
+    let rows: [Row; 8] = [
         // A read fails before the Ack, and behind it.
         (
             Case { takes: &[0], ..ONE },
@@ -299,7 +306,7 @@ fn what_fails_on_our_side_ends_that_alone(rt: HostRuntime) -> Result<(), Fail> {
             &[OPENING, FIRST],
             "accepted\nended 2\n",
         ),
-        // The opening isn't written, a document, or the end.
+        // The opening isn't written, or what is gathered behind it.
         (
             Case { puts: &[0], ..ONE },
             CallOutcome {
@@ -313,7 +320,22 @@ fn what_fails_on_our_side_ends_that_alone(rt: HostRuntime) -> Result<(), Fail> {
         (
             Case {
                 documents: &[1, 1],
-                puts: &[2],
+                puts: &[1],
+                ..ONE
+            },
+            CallOutcome {
+                sent: 0,
+                outbound: ClientOut::WriteFault,
+                ..ALL_WELL
+            },
+            &[OPENING, b"\x06\x06\x02"],
+            "accepted\nended 2\n",
+        ),
+        (
+            Case {
+                documents: &[1, 1],
+                puts: &[1],
+                kept: 11,
                 ..ONE
             },
             CallOutcome {
@@ -324,12 +346,16 @@ fn what_fails_on_our_side_ends_that_alone(rt: HostRuntime) -> Result<(), Fail> {
             "accepted\nended 2\n",
         ),
         (
-            Case { puts: &[2], ..ONE },
+            Case {
+                puts: &[1],
+                kept: 8,
+                ..ONE
+            },
             CallOutcome {
                 outbound: ClientOut::WriteFault,
                 ..ALL_WELL
             },
-            &[OPENING, FIRST, END],
+            &[OPENING, FIRST],
             "accepted\nended 2\n",
         ),
         // The report isn't written.
@@ -349,6 +375,29 @@ fn what_fails_on_our_side_ends_that_alone(rt: HostRuntime) -> Result<(), Fail> {
     check(&rt, &rows)
 }
 
+#[test]
+fn what_is_gathered_is_written_before_the_end(rt: HostRuntime) -> Result<(), Fail> {
+    let alloc = rt.alloc();
+    let many = Case {
+        times: 11_000,
+        puts: &[2],
+        kept: 0,
+        ..ONE
+    };
+    let mut sink = MemorySink::new(alloc, many.puts.to_vec(alloc)?, many.kept);
+    let mut output = MemorySink::new(alloc, Vec::new(alloc), 0);
+    let called = outcome_of(alloc, &many, &mut sink, &mut output)?;
+    // The first has 8 bytes, each other one 6: the last that is gathered ends behind 64 KiB.
+    let cut = CallOutcome {
+        sent: 10_923,
+        outbound: ClientOut::WriteFault,
+        ..ALL_WELL
+    };
+    assert_eq!(rt; called, cut);
+    assert_eq!(rt; sink.bytes().len(), 11 + 8 + 10_922 * 6);
+    Ok(())
+}
+
 // A sink that has no memory for any byte.
 #[derive(Drop)]
 struct Full;
@@ -365,6 +414,10 @@ impl Sink for Full {
     ghost may_want = { λ _. true };
 
     fn put(&mut self, _bytes: &[u8]) -> Result<(), SinkFault> {
+        Err(SinkFault::Memory)
+    }
+
+    fn put_some(&mut self, _bytes: &[u8]) -> Result<usize, SinkFault> {
         Err(SinkFault::Memory)
     }
 

@@ -6,13 +6,12 @@ use Rattle.nbfx_values.specs.declared.content.Item.{Item}
 use Rattle.string_tables.specs.StaticStrings.{Entry}
 use Rattle.stream_loop.specs.Edges.{Input, Output}
 use Rattle.io_edges.specs.Wires.{Network}
-use Rattle.connection_server.specs.Served.{SinkState}
 use Rattle.client.specs.Sent.{Sending, sending}
 use Rattle.session_calls.specs.Statuses.{status_of}
 use Rattle.session_calls.specs.Tags.{sent_line}
 use Rattle.command_words.specs.Tasks.{Opening}
 use Rattle.dump_replay.specs.Calling.{CalledOrNot, CalledPlace, TookNone, UnreadSecond}
-use Rattle.dump_replay.specs.Calling.{ending_of_list, output_of, status_of_documents}
+use Rattle.dump_replay.specs.Calling.{ending_of_list, status_of_documents}
 use Rattle.dump_replay.specs.Building.{status_of_building}
 use Rattle.dump_replay.specs.Outside.{SeenShelf, seen}
 use Rattle.dump_replay.specs.Running.{CountsWire}
@@ -32,7 +31,7 @@ second_leaves Says Untouched name s s' i o n n' status h =
     (omega arith) (omega arith))
 
 module _ (Says : List ℕ → Type 0) (limits : Limits) (i i' : Input) (o o' : Output) (status : ℕ)
-    {R K : Type 0} (reader : R → Input) (writer : K → SinkState) (opening : Opening)
+    {R K : Type 0} (reader : R → Input) (writer : K → Output) (opening : Opening)
     (statics : List Entry) (second : List (List Item)) (n n' : Network R K) where
   -- ---- what is left of the wire
 
@@ -40,7 +39,7 @@ module _ (Says : List ℕ → Type 0) (limits : Limits) (i i' : Input) (o o' : O
   Left = CalledOrNot Says limits i i' o o' status reader writer opening statics second n n'
 
   pub calls_wire : Left → CountsWire n.faults n'.faults n.end_faults n'.end_faults status
-  calls_wire (inl h) = called_wire reader (λ (k : K). output_of (writer k))
+  calls_wire (inl h) = called_wire reader writer
       (sending limits statics opening.mode opening.kind (h.first ++ second)) opening.via
       (sent_line (length h.first) (length second)) n n' o o' h.called
       status h.status_is h.calls
@@ -53,7 +52,7 @@ module _ (Says : List ℕ → Type 0) (limits : Limits) (i i' : Input) (o o' : O
       })
 
   pub calls_out : Left → n'.out ≡ n.out
-  calls_out (inl h) = called_out reader (λ (k : K). output_of (writer k))
+  calls_out (inl h) = called_out reader writer
       (sending limits statics opening.mode opening.kind (h.first ++ second)) opening.via
       (sent_line (length h.first) (length second)) n n' o o' h.called
       h.calls
@@ -67,13 +66,12 @@ module _ (Says : List ℕ → Type 0) (limits : Limits) (i i' : Input) (o o' : O
     placed_leaves h =
         let x : Sending = sending limits statics opening.mode opening.kind (h.first ++ second) in
         let line : ℕ → List ℕ = sent_line (length h.first) (length second) in
-        let to : K → Output = λ k. output_of (writer k) in
         subst (Leaves (seen s i o n) (seen s' i' o' n')) (sym h.status_is)
         (leaves_by (seen s i o n) (seen s' i' o' n') (status_of h.called) (called_cause h.called)
         (λ none. absurd none)
-        (report_rose reader to x opening.via line n n' o o' h.called h.calls)
+        (report_rose reader writer x opening.via line n n' o o' h.called h.calls)
         h.taken.asked_once h.taken.counted.grows
-        (called_writes reader to x opening.via line n n' o o' h.called h.calls))
+        (called_writes reader writer x opening.via line n n' o o' h.called h.calls))
 
     none_leaves : TookNone Says limits i i' o o' status (n' ≡ n)
         → Leaves (seen s i o n) (seen s' i' o' n') status

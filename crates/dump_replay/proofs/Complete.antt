@@ -34,7 +34,6 @@ use Rattle.session_summary.specs.declared.summary.Summary.TheVariants as summari
 use Rattle.client.specs.Sent.{Sending}
 use Rattle.connection_server.specs.declared.stopping.ServeFault.{ServeFault}
 use Rattle.connection_server.specs.declared.stopping.ServeFault.TheVariants as stops
-use Rattle.connection_server.specs.Served.{SinkState}
 use Rattle.session_calls.specs.Statuses.{status_of as status_of_called}
 use Rattle.session_calls.specs.Tags.{sent_line}
 use Rattle.command_words.specs.Requests.{Asked, IsRequest}
@@ -44,7 +43,7 @@ use Rattle.command_words.proofs.RequestFacts.{request-one}
 use Rattle.dump_replay.specs.Answering.{IsAskedFor, action_kind_name, status_of_replay}
 use Rattle.dump_replay.specs.Building.{status_of_building}
 use Rattle.dump_replay.specs.Calling.{CalledPlace, IsSecond, TookNone}
-use Rattle.dump_replay.specs.Calling.{ending_of_list, output_of, status_of_documents}
+use Rattle.dump_replay.specs.Calling.{ending_of_list, status_of_documents}
 use Rattle.dump_replay.specs.Complete.{GoesWell, IsComplete, sending_with}
 use Rattle.dump_replay.specs.Complete.{settings_to_answer, status_for, status_of_call}
 use Rattle.dump_replay.specs.Complete.{status_of_made, status_of_stream}
@@ -110,7 +109,7 @@ summed_up limits statics made o o' summaries.Memory w written = inr refl
 -- ---- all tasks
 
 module _ (Says : List ℕ → Type 0) (Untouched : Type 0) {R K : Type 0} (reader : R → Input)
-    (writer : K → SinkState) (old new : Outside R K) (status : ℕ) (store : Store)
+    (writer : K → Output) (old new : Outside R K) (status : ℕ) (store : Store)
     (input peer : List ℕ) where
   -- a file of actions isn't read
   no_actions : (serving : Serving) (next : ℕ) → old.shelf.files ≡ Some store
@@ -179,7 +178,7 @@ module _ (Says : List ℕ → Type 0) (Untouched : Type 0) {R K : Type 0} (reade
           as_other (after h.first) lines status
           (sym (ap (λ r. with_lines r after) (h.taken.says input well.given)))
           (by_status (after h.first) status (status_of_called h.called) h.status_is
-          (call_placed reader (λ (k : K). output_of (writer k)) (sends h.first) opening.via
+          (call_placed reader writer (sends h.first) opening.via
           (sent_line (length h.first) (length second)) old.wire new.wire old.output new.output peer
           well.written well.connected well.called h.called h.calls))
 
@@ -264,7 +263,7 @@ module _ (Says : List ℕ → Type 0) (Untouched : Type 0) {R K : Type 0} (reade
 
 -- a run that leaves this is complete
 module _ (Says : List ℕ → Type 0) (Untouched : Type 0) {R K : Type 0} (reader : R → Input)
-    (writer : K → SinkState) (Unasked Offline : Type 0) (words : List (List ℕ))
+    (writer : K → Output) (Unasked Offline : Type 0) (words : List (List ℕ))
     (old new : Outside R K) (status : ℕ) where
   unasked_ends : WhereAsked words (λ asked. ⊥)
       → Runs Says Untouched reader writer Unasked Offline words old new status

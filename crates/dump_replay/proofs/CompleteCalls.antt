@@ -16,7 +16,6 @@ use Rattle.stream_loop.specs.Edges.{Input, Output}
 use Rattle.stream_follower.specs.declared.writing.Outbound.{Outbound}
 use Rattle.stream_follower.specs.declared.writing.Outbound.TheVariants as outbounds
 use Rattle.session_ends.specs.Sent.{MayBeSent}
-use Rattle.session_generator.specs.Documents.{documents}
 use Rattle.session_report.specs.declared.reporter.Outcome.{Outcome}
 use Rattle.session_report.specs.declared.reporter.Outcome.TheVariants.{Open, Ended, Faulted}
 use Rattle.session_report.specs.Report.{outcome}
@@ -30,6 +29,7 @@ use Rattle.client.specs.declared.outcome.ClientOut.TheVariants as out
 use Rattle.client.specs.Called.{IsAckOf, Judges as JudgesPeer, WritesCall, ack_along, answers_to}
 use Rattle.client.specs.Called.{heard_of}
 use Rattle.client.specs.Sent.{Sending, envelopes}
+use Rattle.session_calls.specs.Peers.{HoldNothing}
 use Rattle.session_calls.specs.Places.{CallsOne, CallsPlace}
 use Rattle.session_calls.specs.Statuses.{fails, fails_in, fails_out, fails_report, inbound_status}
 use Rattle.session_calls.specs.Statuses.{is_starved_in, is_starved_out, is_starved_report}
@@ -38,7 +38,6 @@ use Rattle.session_calls.specs.Statuses.{status_of as status_of_called}
 use Rattle.session_calls.specs.declared.called.Called.{Called}
 use Rattle.session_calls.specs.declared.called.Called.TheVariants.{WrongCount, Starved, Unconnected}
 use Rattle.session_calls.specs.declared.called.Called.TheVariants.{Closed}
-use Rattle.command_words.specs.Tasks.{report}
 use Rattle.command_words.specs.declared.task.Detail.TheVariants.{Whole}
 use Rattle.dump_replay.specs.Complete.{AnswersCall}
 use Rattle.dump_replay.specs.Complete.{status_of_call}
@@ -127,26 +126,30 @@ module _ (x : Sending) (peer : List ℕ) where
 
   -- by what is sent
   sent_status : (ack : Ack) (v : ClientOut) → is_starved_out v ≡ false → (v ≡ out.WriteFault → ⊥)
-      → (via held w w' : List ℕ) (sent : ℕ) → WritesCall x via held w w' ack v sent → (n : ℕ)
+      → (plain : Type 0) (via held w w' : List ℕ) (sent : ℕ)
+      → WritesCall x plain via held w w' ack v sent → (n : ℕ)
       → (if is_unfit v then 7 else n) ≡ unless_unfit ack (envelopes x x.documents) n
-  sent_status Awaited out.Done fed well via held w w' sent writes n = refl
-  sent_status Awaited (out.Unfit number fault) fed well via held w w' sent writes n = absurd writes
-  sent_status Awaited out.WriteFault fed well via held w w' sent writes n = absurd (well refl)
-  sent_status Awaited out.Memory fed well via held w w' sent writes n = cc
-  sent_status Read out.Done fed well via held w w' sent writes n =
+  sent_status Awaited out.Done fed well plain via held w w' sent writes n = refl
+  sent_status Awaited (out.Unfit number fault) fed well plain via held w w' sent writes n =
+      absurd writes
+  sent_status Awaited out.WriteFault fed well plain via held w w' sent writes n =
+      absurd (well refl)
+  sent_status Awaited out.Memory fed well plain via held w w' sent writes n = cc
+  sent_status Read out.Done fed well plain via held w w' sent writes n =
       sym (ap (λ v. unless_unfit Read v n) writes.1.1)
-  sent_status Read (out.Unfit number fault) fed well via held w w' sent writes n =
+  sent_status Read (out.Unfit number fault) fed well plain via held w w' sent writes n =
       sym (ap (λ v. unless_unfit Read v n) writes.1.1)
-  sent_status Read out.WriteFault fed well via held w w' sent writes n = absurd (well refl)
-  sent_status Read out.Memory fed well via held w w' sent writes n = cc
+  sent_status Read out.WriteFault fed well plain via held w w' sent writes n = absurd (well refl)
+  sent_status Read out.Memory fed well plain via held w w' sent writes n = cc
 
   called_status : (o : CallOutcome) → (o.inbound ≡ heard.ReadFault → ⊥)
       → (o.outbound ≡ out.WriteFault → ⊥) → (o.report ≡ outbounds.WriteFault → ⊥)
       → JudgesPeer x peer o.inbound → (ack : Ack) → IsAckOf x peer o.inbound ack
-      → (via held w w' : List ℕ) → WritesCall x via held w w' ack o.outbound o.sent
+      → (plain : Type 0) (via held w w' : List ℕ)
+      → WritesCall x plain via held w w' ack o.outbound o.sent
       → IsOr (unless_unfit (ack_along Awaited (heard_of x peer)) (envelopes x x.documents)
       (status_of_report Whole (answers_to x) peer)) (outcome_status o)
-  called_status o read written reported judges ack is via held w w' writes =
+  called_status o read written reported judges ack is plain via held w w' writes =
       elim (first_status (wants_memory o) (fails o) (is_unfit o.outbound) (fails_report o.report)
       (inbound_status o.inbound)
       (neither (fails_in o.inbound) (fails_out o.outbound) (in_well o.inbound read)
@@ -158,7 +161,7 @@ module _ (x : Sending) (peer : List ℕ) where
             inl (first.1
             ∙ ap (λ (n : ℕ). if is_unfit o.outbound then 7 else n)
             (heard_status o.inbound fed.0 read judges)
-            ∙ sent_status ack o.outbound fed.1 written via held w w' o.sent writes
+            ∙ sent_status ack o.outbound fed.1 written plain via held w w' o.sent writes
             (status_of_report Whole (answers_to x) peer)
             ∙ ap (λ (a : Ack). unless_unfit a (envelopes x x.documents)
             (status_of_report Whole (answers_to x) peer))
@@ -223,7 +226,7 @@ module _ {R K : Type 0} (reader : R → Input) (to : K → Output) (x : Sending)
       (λ fault. ends_well outcome h (ap (λ v. fails_in outcome.inbound || fails_out v) fault
       ∙ or_true (fails_in outcome.inbound)))
       (λ fault. written (h.calls.reports_counted.rose fault))
-      (h.calls.judged peer left) s.2 s.3 via (to h.ends.1).held [] s.0 s.4)
+      (h.calls.judged peer left) s.2 s.3 (HoldNothing to) via (to h.ends.1).held [] s.0 s.4)
 
   pub call_placed : (called : Called) → CallsPlace reader to x via line n n' o o' called
       → IsOr (status_of_call x peer) (status_of_called called)

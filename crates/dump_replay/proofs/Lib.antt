@@ -15,6 +15,8 @@ pub mod Noting
 pub mod Causes
 pub mod Works
 pub mod RunSteps
+-- what is seen of the ends, by their traits (specs/Outside)
+pub mod Seen
 -- the status where nothing of the outside fails (specs/Complete, Order)
 pub mod CompleteFiles
 pub mod CompleteCalls

@@ -5,8 +5,7 @@ use Rattle.io_edges.specs.Faults.{one_more}
 use Rattle.io_edges.specs.Store.{Store}
 use Rattle.nbfx_values.specs.Limits.{Limits}
 use Rattle.string_tables.specs.StaticStrings.{Entry}
-use Rattle.stream_loop.specs.Edges.{Input}
-use Rattle.connection_server.specs.Served.{SinkState}
+use Rattle.stream_loop.specs.Edges.{Input, Output}
 use Rattle.command_words.specs.Options.{value_of}
 use Rattle.command_words.specs.Requests.{AskForTask, Asked, IsRequest, Values}
 use Rattle.command_words.specs.Tasks.{Serving, Task, serve}
@@ -16,7 +15,7 @@ use Rattle.command_words.specs.declared.action.Action.TheVariants.{Serve, Call, 
 use Rattle.command_words.specs.declared.words.WordsFault.{WordsFault}
 use Rattle.command_words.specs.declared.words.WordsFault.TheVariants as words
 use Rattle.dump_replay.specs.Outside.{Outside, SeenShelf, shelf_at}
-use Rattle.dump_replay.specs.Reading.{status_of_words}
+use Rattle.dump_replay.specs.Statuses.{status_of_words}
 use Rattle.dump_replay.specs.Running.{HasFetched, WhereAsked}
 use Rattle.dump_replay.specs.Serving.{AnsweredAll}
 use Rattle.dump_replay.specs.Working.{AreNotRead, HasNoActions, IsPossible, Works}
@@ -90,7 +89,7 @@ no_actions Says Less More more serving s s' n h = (
 
 -- connections were answered, or no file of actions is read
 pub serve_works : (Says : List ℕ → Type 0) (Less More : Type 0) → (Less → More)
-    → {R K : Type 0} (reader : R → Input) (writer : K → SinkState) (listen : List ℕ)
+    → {R K : Type 0} (reader : R → Input) (writer : K → Output) (listen : List ℕ)
     (connections : ℕ) (serving : Serving) (statics : List Entry) (limits : Limits)
     (old new : Outside R K) (n : ℕ)
     → AnsweredAll Says reader writer connections serving statics limits old new n

@@ -20,7 +20,7 @@ use Rattle.stream_reader.proofs.Closed.{closed_or_refused}
 use Rattle.command_words.specs.declared.task.Detail.{Detail}
 use Rattle.session_report.specs.declared.reporter.Outcome.{Outcome}
 use Rattle.session_report.specs.declared.reporter.Outcome.TheVariants.{Open, Ended, Faulted}
-use Rattle.dump_replay.specs.Reading.{status_at}
+use Rattle.dump_replay.specs.Statuses.{status_at}
 use Rattle.session_report.specs.Report.{lines_of, outcome, report}
 use Rattle.dump_replay.specs.Reporting.{IsEnded, IsFaulted, IsOffended, IsReportStatus, Reports}
 use Rattle.dump_replay.specs.Reporting.{closing_status, ends_by_fault}

@@ -29,7 +29,6 @@ use Rattle.session_summary.specs.declared.summary.Summary.TheVariants as summari
 use Rattle.connection_server.specs.declared.stopping.ServeFault.{ServeFault}
 use Rattle.connection_server.specs.declared.stopping.ServeFault.TheVariants as stops
 use Rattle.io_edges.specs.Wires.{Network}
-use Rattle.connection_server.specs.Served.{SinkState}
 use Rattle.dump_replay.specs.Answering.{status_of_replay}
 use Rattle.dump_replay.specs.Building.{Builds, status_of_building}
 use Rattle.dump_replay.specs.Outside.{Outside, SeenShelf, seen}
@@ -179,7 +178,7 @@ module _ (s s' : SeenShelf) (i i' : Input) (o o' : Output) {R K : Type 0} (w w' 
         counted.rose (inl (ap (λ (v : Input). v.empty_takes) same)) (omega (arith, read))
         counted.grows)
 
-    module _ (Says : List ℕ → Type 0) (reader : R → Input) (writer : K → SinkState)
+    module _ (Says : List ℕ → Type 0) (reader : R → Input) (writer : K → Output)
         (connections : ℕ) (serving : Serving) (statics : List Entry) (limits : Limits) (n : ℕ)
         (h : AnsweredAll Says reader writer connections serving statics limits old new n) where
       pub serve_leaves : Leaves old new n

@@ -16,7 +16,7 @@ use Rattle.client.specs.Called.{Calls, HasCalled, IsAckOf, Judges, ReportsOf, Wr
 use Rattle.client.specs.Called.{answers_to, closing_of, dumped, ending_of, reached_along}
 use Rattle.client.specs.Sent.{Sending}
 use Rattle.client.proofs.Amounts.{sends_written}
-use Rattle.session_calls.specs.Peers.{CallsPeer, WritesReport, line_after}
+use Rattle.session_calls.specs.Peers.{CallsPeer, HoldNothing, WritesReport, line_after}
 use Rattle.session_calls.specs.Sending.{Finishes}
 use Rattle.session_calls.proofs.Reporting.{dumps, emptied_by, reports, reports_counted}
 
@@ -41,8 +41,12 @@ module _ {K : Type 0} (k_written : K → Option (List ℕ)) (k_held : K → List
     report = report;
   }
 
+  -- where sinks hold nothing back
+  abbrev Plain : Type 0
+  Plain = HoldNothing (output_at k_written k_held k_faults)
+
   abbrev WritesTo : List StreamEvent → List ℕ → List ℕ → Type 0
-  WritesTo events w w' = WritesCall x via (k_held sink) w w'
+  WritesTo events w w' = WritesCall x Plain via (k_held sink) w w'
       (ack_along Awaited (map event_for events)) called.outbound called.sent
 
   heard : (events : List StreamEvent) → Called events
@@ -68,11 +72,11 @@ module _ {K : Type 0} (k_written : K → Option (List ℕ)) (k_held : K → List
       → ((bytes w : List ℕ) → i.left ≡ Some bytes → k_written sink ≡ Some w
       → (w' : List ℕ) × (k_written sink' ≡ Some w') × (ack : Ack)
       × IsAckOf x bytes called.inbound ack
-      × WritesCall x via (k_held sink) w w' ack called.outbound called.sent)
+      × WritesCall x Plain via (k_held sink) w w' ack called.outbound called.sent)
       → ((bytes w : List ℕ) → i.left ≡ Some bytes → o_written output ≡ Some w
       → (w' : List ℕ) × (o_written mid ≡ Some w')
       × ReportsOf (dumped x bytes) (o_held output) w w' called.inbound called.report)
-      → CallsPeer x via line i i' (output_at k_written k_held k_faults sink)
+      → CallsPeer x Plain via line i i' (output_at k_written k_held k_faults sink)
       (output_at k_written k_held k_faults sink') (output_at o_written o_held o_faults output)
       (output_at o_written o_held o_faults output') outcome
   peer_called judged sent reported = record {

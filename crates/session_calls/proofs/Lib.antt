@@ -1,6 +1,6 @@
 -- the letters of what was sent (src/tags.rt)
 pub mod Tagging
--- what is written of a report and of the line behind it, and of sinks beneath those that gather
+-- what is written of a report and of the line behind it, and of the output beneath one that gathers
 -- (src/peers.rt)
 pub mod Reporting
 pub mod Assembling

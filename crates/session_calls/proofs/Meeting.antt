@@ -45,8 +45,9 @@ paired : (taken written : Option (List ℕ)) (t w : List ℕ) → taken ≡ Some
     → after ≡ before ++ (t, w) ∷ []
 paired taken written t w is_taken is_written before after told = rw (is_taken, is_written) at told
 
-module _ (x : Sending) (via line : List ℕ) (i i' : Input) (k k' o o' : Output)
-    (called : CallOutcome) (c : CallsPeer x via line i i' k k' o o' called) where
+module _ (x : Sending) (holds_nothing : Type 0) (via line : List ℕ) (i i' : Input)
+    (k k' o o' : Output) (called : CallOutcome)
+    (c : CallsPeer x holds_nothing via line i i' k k' o o' called) where
   pub taken_told : (t : List ℕ) → i.taken ≡ Some t → (t' : List ℕ) × (i'.taken ≡ Some t')
   taken_told t is =
       took_some (stream (answers_to x)) _ i i' (ending_of called.inbound) c.follows t is

@@ -16,8 +16,8 @@ use Rattle.stream_reader.specs.Stream.{StreamEvent}
 use Rattle.stream_follower.specs.declared.writing.Outbound.{Outbound}
 use Rattle.stream_follower.specs.declared.writing.Outbound.TheVariants as outbounds
 use Rattle.stream_follower.specs.Writing.{PutsTo, Wrote, outbound_by}
-use Rattle.stream_follower.proofs.Amounts.{AllWritten, Grew, all_written, cut_written, grew_more}
 use Rattle.stream_follower.proofs.Amounts.{wrote_grew}
+use Rattle.stream_follower.proofs.Grown.{AllWritten, Grew, all_written, cut_written, grew_more}
 use Rattle.session_report.specs.Saying.{event_for, said_by}
 use Rattle.client.specs.declared.outcome.ClientIn.{ClientIn}
 use Rattle.client.specs.declared.outcome.ClientIn.TheVariants.{Ended, Offended, PeerFault}

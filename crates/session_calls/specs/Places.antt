@@ -10,7 +10,7 @@ use Rattle.client.specs.Sent.{Sending}
 use Rattle.session_calls.specs.declared.called.Called.{Called}
 use Rattle.session_calls.specs.declared.called.Called.TheVariants.{WrongCount, Starved, Unconnected}
 use Rattle.session_calls.specs.declared.called.Called.TheVariants.{Closed}
-use Rattle.session_calls.specs.Peers.{CallsPeer}
+use Rattle.session_calls.specs.Peers.{CallsPeer, HoldNothing}
 
 -- ends through which nothing has moved, and which have met no fault; they tell what moves where the
 -- wire tells what the ended connections left
@@ -32,8 +32,8 @@ module _ {R K : Type 0} (input_of : R → Input) (output_of : K → Output) (x :
     pub left : R × K
     pub handed : Told n.waiting n'.waiting (λ before after. before ≡ ends ∷ after)
     pub begins : AreNew n.closed (input_of ends.0) (output_of ends.1)
-    pub calls : CallsPeer x via (line outcome.sent) (input_of ends.0) (input_of left.0)
-        (output_of ends.1) (output_of left.1) o o' outcome
+    pub calls : CallsPeer x (HoldNothing output_of) via (line outcome.sent) (input_of ends.0)
+        (input_of left.0) (output_of ends.1) (output_of left.1) o o' outcome
     pub closed : Told n.closed n'.closed (λ before after. (pair : List ℕ × List ℕ)
         × (after ≡ before ++ pair ∷ []) × ((input_of left.0).taken ≡ Some pair.0)
         × ((output_of left.1).written ≡ Some pair.1))

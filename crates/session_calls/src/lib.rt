@@ -3,8 +3,8 @@
 //! The one idea: a call is one connection of a client (`client`), of which everything is known from
 //! its documents and the peer's bytes. What surrounds it is little, and is said apart from it: the
 //! documents come in two lists, of which a line tells how many were sent; the connection is made
-//! only where they may be sent, and is closed however it ends; and both outputs are gathered, so
-//! that what is due is put by few calls.
+//! only where they may be sent, and is closed however it ends; and the report is gathered, so that
+//! it is written by few calls. Envelopes aren't: each is written before it counts as sent.
 //!
 //! [`call_place`] does that. `specs/Tags.antt` has the line, `specs/Peers.antt` what was read, sent
 //! and reported over a connection, `specs/Places.antt` what is left of the wire and of the output,

@@ -5,7 +5,7 @@ ghost use Rattle.io_edges.specs.Puts.{Puts};
 ghost use Rattle.session_ends.specs.Sent.{MayBeSent};
 ghost use Rattle.stream_loop.specs.Edges.{input_at, output_at};
 ghost use Rattle.stream_follower.specs.Writing.{outbound_by};
-ghost use Rattle.session_calls.specs.Peers.{CallsPeer, line_after};
+ghost use Rattle.session_calls.specs.Peers.{CallsPeer, HoldNothing, line_after};
 ghost use Rattle.session_calls.specs.Sending.{Finishes, line_of, sending_of};
 ghost use Rattle.session_calls.specs.Tags.{sent_line};
 
@@ -26,13 +26,6 @@ pub struct Call<'c> {
     pub quotas: &'c Quotas,
     pub docs: &'c Docs,
     pub counts: Counts,
-}
-
-/// The rooms in which the bytes to a peer and those of its report are gathered.
-#[derive(Drop)]
-pub struct Rooms {
-    pub session: Vec<u8>,
-    pub report: Vec<u8>,
 }
 
 // Puts the line of what was sent, unless memory ran out.
@@ -93,7 +86,8 @@ fn call_peer<S: Source, K: Sink, O: Sink>(
 ) -> CallOutcome
     requires via { length call.now.opening.via.now ≤ 2048 }
     requires admitted { MayBeSent call.now.opening.mode call.now.docs.now }
-    ensures { CallsPeer (sending_of call.now) call.now.opening.via.now
+    ensures { CallsPeer (sending_of call.now)
+        (HoldNothing (output_at K.written K.held K.faults)) call.now.opening.via.now
         (line_of call.now result.sent)
         (input_at S.left S.taken S.faults S.empty_takes source.old)
         (input_at S.left S.taken S.faults S.empty_takes source.new)
@@ -124,30 +118,30 @@ fn call_peer<S: Source, K: Sink, O: Sink>(
     }
 }
 
-/// Calls the peer whose bytes the source gives and the sink takes, and writes the report of that.
-/// What is due for the bytes that were read is gathered, and put by few calls. Answers what became
-/// of it with the sink and the output.
+/// Calls the peer whose bytes the source gives and the sink takes, and writes the report of that,
+/// which is gathered in a room. What goes to the peer isn't. Answers what became of it with the
+/// output.
 pub fn call_gathered<S: Source, K: Sink, O: Sink>(
     alloc: Global,
     call: &Call<'_>,
-    rooms: Rooms,
+    room: Vec<u8>,
     source: &mut S,
-    sink: K,
+    sink: &mut K,
     output: O,
-) -> (CallOutcome, K, O)
+) -> (CallOutcome, O)
     requires via { length call.now.opening.via.now ≤ 2048 }
     requires admitted { MayBeSent call.now.opening.mode call.now.docs.now }
-    ensures { CallsPeer (sending_of call.now) call.now.opening.via.now
+    ensures { CallsPeer (sending_of call.now)
+        (HoldNothing (output_at K.written K.held K.faults)) call.now.opening.via.now
         (line_of call.now result.0.sent)
         (input_at S.left S.taken S.faults S.empty_takes source.old)
         (input_at S.left S.taken S.faults S.empty_takes source.new)
-        (output_at K.written K.held K.faults sink)
-        (output_at K.written K.held K.faults result.1)
+        (output_at K.written K.held K.faults sink.old)
+        (output_at K.written K.held K.faults sink.new)
         (output_at O.written O.held O.faults output)
-        (output_at O.written O.held O.faults result.2) result.0 }
+        (output_at O.written O.held O.faults result.1) result.0 }
 {
-    let mut session = GatheringSink::new(rooms.session, sink);
-    let mut report = GatheringSink::new(rooms.report, output);
-    let outcome = call_peer(alloc, call, source, &mut session, &mut report);
-    (outcome, session.into_sink(), report.into_sink())
+    let mut report = GatheringSink::new(room, output);
+    let outcome = call_peer(alloc, call, source, sink, &mut report);
+    (outcome, report.into_sink())
 }

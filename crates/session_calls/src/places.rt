@@ -11,14 +11,14 @@ ghost use Rattle.session_calls.specs.Sending.{line_of, sending_of};
 ghost use Rattle.session_calls.specs.Tags.{sent_line};
 
 use crate::called::Called;
-use crate::peers::{Call, Rooms, call_gathered};
+use crate::peers::{Call, call_gathered};
 use crate::tags::Counts;
 use client::CallOutcome;
 use command_words::Opening;
-use io_edges::{Failed, Sink, Source, Wire, gathering_room};
+use io_edges::{Sink, Source, Wire, gathering_room};
 use nbfx_values::{Docs, Mode, Quotas};
 use static_dictionary::StaticTable;
-use std::alloc::{AllocError, Global};
+use std::alloc::Global;
 use unit_streams::Memory;
 
 // Whether so many documents may be sent in one session of this mode.
@@ -43,20 +43,13 @@ fn joined(first: Docs, second: Docs) -> Result<Docs, Memory>
     Ok(docs)
 }
 
-fn rooms(alloc: Global) -> Result<Rooms, AllocError> {
-    Ok(Rooms {
-        session: gathering_room(alloc)?,
-        report: gathering_room(alloc)?,
-    })
-}
-
 // Makes a connection, calls the peer over it, and closes it.
 fn call_over<W: Wire, O: Sink>(
     alloc: Global,
     wire: &mut W,
     place: &str,
     call: &Call<'_>,
-    rooms: Rooms,
+    room: Vec<u8>,
     output: O,
 ) -> (Called, O)
     requires out { W.out wire.old < 2 ^ 63 }
@@ -71,10 +64,10 @@ fn call_over<W: Wire, O: Sink>(
         (output_at O.written O.held O.faults output)
         (output_at O.written O.held O.faults result.1) result.0 }
 {
-    let Ok((mut reader, writer)) = wire.connect(place) else {
+    let Ok((mut reader, mut writer)) = wire.connect(place) else {
         return (Called::Unconnected, output);
     };
-    let (outcome, writer, output) = call_gathered(alloc, call, rooms, &mut reader, writer, output);
+    let (outcome, output) = call_gathered(alloc, call, room, &mut reader, &mut writer, output);
     wire.close(reader, writer);
     (Called::Closed(outcome), output)
 }
@@ -116,7 +109,7 @@ pub fn call_place<W: Wire, O: Sink>(
     if !is_admitted(opening.mode, &docs) {
         return (Called::WrongCount, output);
     }
-    let Ok(rooms) = rooms(alloc) else {
+    let Ok(room) = gathering_room(alloc) else {
         return (Called::Starved, output);
     };
     let call = Call {
@@ -126,5 +119,5 @@ pub fn call_place<W: Wire, O: Sink>(
         docs: &docs,
         counts,
     };
-    call_over(alloc, wire, place, &call, rooms, output)
+    call_over(alloc, wire, place, &call, room, output)
 }

@@ -3,11 +3,8 @@ ghost use Rattle.io_edges.specs.Wires.{Untouched};
 
 use super::*;
 use command_words::Opening;
-use document_lines::InputFault;
 use document_lists::read_documents;
-use io_edges::{MemorySink, MemorySource, MemoryWire};
-use line_notation::LineKind;
-use nbfx_encoder::EncodeFault;
+use io_edges::{MemorySink, MemorySource, MemoryWire, Sink};
 use nbfx_values::{Docs, Kind, Mode, Quotas};
 use static_dictionary::StaticTable;
 use std::alloc::{AllocError, Global};
@@ -16,6 +13,8 @@ use std::test::Fail;
 
 // The captured document: what its lines say, its envelopes, and a reply's.
 mod captured;
+// Why a run ends with 5, and which fault of the documents a note names.
+mod causes;
 
 use captured::{FIRST_ENVELOPE, LINES, NEXT_ENVELOPE, REPLY, REPORT, STATICS};
 
@@ -47,6 +46,8 @@ struct Case {
     connects: &'static [u64],
     takes: &'static [u64],
     puts: &'static [u64],
+    // How many bytes of a put that fails are written.
+    kept: usize,
     reports: &'static [u64],
 }
 
@@ -60,6 +61,7 @@ const ONE: Case = Case {
     connects: &[],
     takes: &[],
     puts: &[],
+    kept: 3,
     reports: &[],
 };
 
@@ -76,13 +78,16 @@ fn quotas_of(case: &Case) -> Quotas {
     quotas.unwrap_or(usual)
 }
 
-// The ends of a connection to the peer. A put that fails keeps three bytes.
+// The ends of a connection to the peer.
 fn ends(alloc: Global, case: &Case) -> Result<(MemorySource, MemorySink), AllocError>
     ensures { IfOk result Untouched }
 {
     let takes = case.takes.to_vec(alloc)?;
     let source = MemorySource::new(case.peer.to_vec(alloc)?, case.most.max(1), takes);
-    Ok((source, MemorySink::new(alloc, case.puts.to_vec(alloc)?, 3)))
+    Ok((
+        source,
+        MemorySink::new(alloc, case.puts.to_vec(alloc)?, case.kept),
+    ))
 }
 
 fn wire_to(alloc: Global, case: &Case) -> Result<MemoryWire, Fail>
@@ -109,13 +114,13 @@ fn documents(alloc: Global, texts: &[&str]) -> Result<Docs, Fail> {
 
 // What a call leaves.
 #[derive(Drop)]
-struct Left {
+struct Left<O> {
     called: Called,
     wire: MemoryWire,
-    report: MemorySink,
+    report: O,
 }
 
-fn left_by(alloc: Global, case: &Case) -> Result<Left, Fail> {
+fn left_by<O: Sink + Drop>(alloc: Global, case: &Case, output: O) -> Result<Left<O>, Fail> {
     let statics = StaticTable::read(alloc, STATICS)?;
     let mut wire = wire_to(alloc, case)?;
     let opening = Opening {
@@ -132,7 +137,7 @@ fn left_by(alloc: Global, case: &Case) -> Result<Left, Fail> {
         &quotas_of(case),
         documents(alloc, case.lists[0])?,
         documents(alloc, case.lists[1])?,
-        MemorySink::new(alloc, case.reports.to_vec(alloc)?, 3),
+        output,
     );
     Ok(Left {
         called,
@@ -152,15 +157,18 @@ fn joined(alloc: Global, parts: &[&[u8]]) -> Result<Vec<u8>, AllocError> {
 // A case, its status, what was written to the peer, where a connection was made, and the report.
 type Row = (Case, u8, Option<&'static [&'static [u8]]>, &'static str);
 
+// A put of the report that fails keeps three bytes.
 fn check(rt: &(impl Abort + AllocGlobal), rows: &[Row]) -> Result<(), Fail> {
+    let alloc = rt.alloc();
     for (number, (case, status, sent, report)) in rows.iter().enumerate() {
-        let left = left_by(rt.alloc(), case)?;
+        let output = MemorySink::new(alloc, case.reports.to_vec(alloc)?, 3);
+        let left = left_by(alloc, case, output)?;
         assert_eq!(rt; left.called.status(), *status, "of row {number}");
         assert_eq!(rt; left.report.bytes(), report.as_bytes(), "of row {number}");
         let written = left.wire.pair(0).map(|pair| pair.1);
         match sent {
             Some(parts) => {
-                let wanted = joined(rt.alloc(), parts)?;
+                let wanted = joined(alloc, parts)?;
                 assert_eq!(rt; written, Some(wanted.as_slice()), "of row {number}");
             }
             None => assert!(rt; written.is_none(), "of row {number}"),
@@ -282,7 +290,7 @@ fn a_peer_ends_a_call_in_each_way(rt: HostRuntime) -> Result<(), Fail> {
 
 #[test]
 fn what_fails_on_our_side_is_told(rt: HostRuntime) -> Result<(), Fail> {
-    let rows: [Row; 7] = [
+    let rows: [Row; 8] = [
         // No connection is made.
         (
             Case {
@@ -310,7 +318,7 @@ fn what_fails_on_our_side_is_told(rt: HostRuntime) -> Result<(), Fail> {
             Some(&[OPENING, FIRST_X, b"\x07"]),
             "accepted\nsent 1 tags a\n",
         ),
-        // The opening isn't written, and the documents aren't.
+        // The opening isn't written, or a document isn't, of which the first bytes are.
         (
             Case { puts: &[0], ..ONE },
             8,
@@ -321,7 +329,18 @@ fn what_fails_on_our_side_is_told(rt: HostRuntime) -> Result<(), Fail> {
             Case { puts: &[1], ..ONE },
             8,
             Some(&[OPENING, b"\x06\x06\x02"]),
-            "accepted\nended 2\nsent 1 tags a\n",
+            "accepted\nended 2\nsent 0 tags -\n",
+        ),
+        (
+            Case {
+                lists: [&[X], &[X, X]],
+                puts: &[1],
+                kept: 17,
+                ..ONE
+            },
+            8,
+            Some(&[OPENING, FIRST_X, NEXT_X, b"\x06\x04\x00"]),
+            "accepted\nended 2\nsent 2 tags ab\n",
         ),
         // A document doesn't fit.
         (
@@ -446,42 +465,4 @@ fn a_session_of_one_document_has_one(rt: HostRuntime) -> Result<(), Fail> {
         ),
     ];
     check(&rt, &rows)
-}
-
-#[test]
-fn the_fault_of_the_documents_is_told(rt: HostRuntime) -> Result<(), Fail> {
-    let why = EncodeFault::TooDeep { depth: 5 };
-    let count = InputFault::Line {
-        line: 1,
-        kind: LineKind::WrongCount,
-    };
-    let deep = Case {
-        lists: [&[X], &[DEEP]],
-        depth: 4,
-        ..ONE
-    };
-    let cases = [
-        (ONE, None),
-        (deep, Some(InputFault::Unfit { number: 1, why })),
-        (
-            Case {
-                takes: &[1],
-                most: 1,
-                ..deep
-            },
-            None,
-        ),
-        (
-            Case {
-                mode: Mode::Singleton,
-                lists: [&[], &[]],
-                ..ONE
-            },
-            Some(count),
-        ),
-    ];
-    for (case, fault) in cases {
-        assert_eq!(rt; left_by(rt.alloc(), &case)?.called.fault(), fault);
-    }
-    Ok(())
 }

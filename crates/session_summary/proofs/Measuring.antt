@@ -15,9 +15,9 @@ use Rattle.io_edges.specs.Faults.{CountsFaults}
 use Rattle.io_edges.specs.declared.SinkFault.TheVariants as sinks
 use Rattle.stream_loop.specs.Edges.{Output, output_at}
 use Rattle.stream_loop.proofs.Writing.{counted_with, known_told}
-use Rattle.stream_follower.proofs.Amounts.{all_written}
+use Rattle.stream_follower.proofs.Grown.{all_written}
 use Rattle.session_generator.specs.Generated.{session_of}
-use Rattle.session_summary.specs.Reading.{summary_by}
+use Rattle.session_summary.specs.Measuring.{summary_by}
 use Rattle.session_summary.specs.Summary.{IsWithinQuota, Summarizes, Writes, line_of}
 use Rattle.session_summary.specs.Summary.{summary_line, summary_of}
 use Rattle.session_summary.specs.declared.summary.Summary.TheVariants.{WriteFault}

@@ -6,7 +6,7 @@ ghost use Rattle.nbfx_values.specs.QuotasOf.{limits_of};
 ghost use Rattle.stream_loop.specs.Edges.{output_at};
 ghost use Rattle.session_generator.specs.Documents.{documents};
 ghost use Rattle.session_summary.specs.Summary.{Summarizes, status_of, summary_line};
-ghost use Rattle.session_summary.specs.Reading.{Measures, line_of, summary_by};
+ghost use Rattle.session_summary.specs.Measuring.{Measures, line_of, summary_by};
 
 use io_edges::{GatheringSink, Sink, SinkFault, gathering_room};
 use line_notation::{Word, put_words};

@@ -1,4 +1,4 @@
-use Rattle.std.proofs.Common.{◌≡◌, List, map, refl, ap, ◌∙◌}
+use Rattle.std.proofs.Common.{List, map, ap, ◌∙◌}
 use Rattle.stream_loop.specs.Edges.{Input, input_at}
 use Rattle.stream_reader.specs.Stream.{Settings, StreamEvent}
 use Rattle.session_report.specs.Saying.{event_for}

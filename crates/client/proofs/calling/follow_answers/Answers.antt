@@ -1,4 +1,4 @@
-use Rattle.std.proofs.Common.{rules, ◌≡◌, List, map, refl}
+use Rattle.std.proofs.Common.{rules, List, map, refl}
 use Rattle.unit_streams.specs.Judging.{events_in, events_of}
 use Rattle.stream_loop.specs.Edges.{Input, input_at}
 use Rattle.stream_loop.proofs.LoopSteps.{first_pending}

@@ -8,4 +8,4 @@ returns g c =
     let done = c.if-not-is_going.ensures.going refl in
     rw f.2 (flushes_out g.K.Sink.written g.K.Sink.held g.K.Sink.faults g.K.Sink.may_want f.0
     c.args.bytes.now c.args.sink.now c.put_bytes-put.new.sink c.flush.new.sink
-    (rw done at c.put_bytes-put.ensures) f.1 c.flush.ensures.emptied)
+    (rw done at c.put_bytes-put.ensures.goes) f.1 c.flush.ensures.emptied)

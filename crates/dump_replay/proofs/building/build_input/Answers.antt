@@ -1,7 +1,6 @@
 use Rattle.std.proofs.Common.{◌∙◌, subst}
 use Rattle.nbfx_values.specs.QuotasOf.{limits_of}
 use Rattle.command_words.specs.Asking.{opening_of}
-use Rattle.stream_loop.specs.Edges.{input_at, output_at}
 use Rattle.command_words.specs.Tasks.{Opening}
 use Rattle.stream_loop.specs.Reported.{EndsAs}
 use Rattle.document_lines.specs.Input.{Settings, envelopes_and_end, lines_of_documents}
@@ -9,23 +8,22 @@ use Rattle.document_lines.specs.Standing.{has_good_quotas, settings_of}
 use Rattle.dump_replay.specs.Building.{preamble_of, with_preamble}
 use Rattle.dump_replay.proofs.Beginnings.{ends_behind}
 use Rattle.dump_replay.proofs.BuildEndings.{lines_end_within, unbegun}
+use Rattle.dump_replay.proofs.Seen.{input_by, output_by}
 use Rattle.dump_replay.proofs.building.build_input.Goals as goal
 
 pub returns-in_default : goal.returns-in_default
 returns-in_default g c =
     unbegun c.args.statics.now (limits_of c.args.quotas) (opening_of c.args.wanted)
     c.args.quotas.good
-    (input_at g.I.Source.left g.I.Source.taken g.I.Source.faults g.I.Source.empty_takes
-    c.args.input.now)
-    (output_at g.O.Sink.written g.O.Sink.held g.O.Sink.faults c.args.output)
+    (input_by g.I.Source c.args.input.now)
+    (output_by g.O.Sink c.args.output)
 
 pub returns-in_default-gathering_room : goal.returns-in_default-gathering_room
 returns-in_default-gathering_room g c =
     unbegun c.args.statics.now (limits_of c.args.quotas) (opening_of c.args.wanted)
     c.args.quotas.good
-    (input_at g.I.Source.left g.I.Source.taken g.I.Source.faults g.I.Source.empty_takes
-    c.args.input.now)
-    (output_at g.O.Sink.written g.O.Sink.held g.O.Sink.faults c.args.output)
+    (input_by g.I.Source c.args.input.now)
+    (output_by g.O.Sink c.args.output)
 
 pub report_stream-ending-requires-clause-ends : goal.report_stream-ending-requires-clause-ends
 report_stream-ending-requires-clause-ends g c =
@@ -34,12 +32,10 @@ report_stream-ending-requires-clause-ends g c =
 pub returns : goal.returns
 returns g c =
     let opening : Opening = opening_of c.args.wanted in
-    let i = input_at g.I.Source.left g.I.Source.taken g.I.Source.faults g.I.Source.empty_takes
-    c.args.input.now in
-    let i' = input_at g.I.Source.left g.I.Source.taken g.I.Source.faults g.I.Source.empty_takes
-    c.report_stream-ending.new.input in
-    let o = output_at g.O.Sink.written g.O.Sink.held g.O.Sink.faults c.args.output in
-    let o' = output_at g.O.Sink.written g.O.Sink.held g.O.Sink.faults c.into_sink.result in
+    let i = input_by g.I.Source c.args.input.now in
+    let i' = input_by g.I.Source c.report_stream-ending.new.input in
+    let o = output_by g.O.Sink c.args.output in
+    let o' = output_by g.O.Sink c.into_sink.result in
     let ending = c.report_stream-ending.result in
     let beneath = ends_behind (lines_of_documents (settings_of c.new-reader.result))
     envelopes_and_end g.O.Sink.written g.O.Sink.held g.O.Sink.faults i i' tt ending

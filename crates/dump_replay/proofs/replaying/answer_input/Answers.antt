@@ -1,13 +1,13 @@
 use Rattle.std.proofs.Common.{List, ℕ, Option, refl, subst}
 use Rattle.nbfx_values.specs.QuotasOf.{limits_of}
 use Rattle.command_words.specs.Asking.{serving_of}
-use Rattle.stream_loop.specs.Edges.{input_at, output_at}
 use Rattle.stream_follower.specs.declared.writing.Outbound.TheVariants as outbounds
 use Rattle.duplex_server.specs.declared.outcome.Inbound.TheVariants as inbounds
 use Rattle.duplex_server.specs.Owed.{answering}
 use Rattle.session_replay.specs.Replaying.{Replays}
 use Rattle.session_replay.specs.Responding.{served_by}
 use Rattle.session_replay.proofs.Outcomes.{unbegun_so}
+use Rattle.dump_replay.proofs.Seen.{input_by, output_by}
 use Rattle.dump_replay.proofs.replaying.answer_input.Goals as goal
 
 -- there was no memory for the Via
@@ -20,9 +20,8 @@ returns-in_default g c = λ files asked. record {
   status_is = refl;
   replays = unbegun_so (answering (served_by c.args.responder.now) c.args.statics.now
       (limits_of c.args.quotas)) (serving_of c.args.serving).endpoint
-      (input_at g.I.Source.left g.I.Source.taken g.I.Source.faults g.I.Source.empty_takes
-      c.args.input.now)
-      (output_at g.O.Sink.written g.O.Sink.held g.O.Sink.faults c.args.output)
+      (input_by g.I.Source c.args.input.now)
+      (output_by g.O.Sink c.args.output)
       c.args.quotas.good;
   says = (c.note_status.ensures.notes, c.note_status.ensures.none);
 }
@@ -36,12 +35,10 @@ returns g c = λ files asked. record {
   status_is = c.replay_status.ensures;
   replays = subst (λ (via : Option (List ℕ)). Replays (answering
       (served_by c.args.responder.now) c.args.statics.now (limits_of c.args.quotas)) via
-      (input_at g.I.Source.left g.I.Source.taken g.I.Source.faults g.I.Source.empty_takes
-      c.args.input.now)
-      (input_at g.I.Source.left g.I.Source.taken g.I.Source.faults g.I.Source.empty_takes
-      c.replay_stream-output.new.input)
-      (output_at g.O.Sink.written g.O.Sink.held g.O.Sink.faults c.args.output)
-      (output_at g.O.Sink.written g.O.Sink.held g.O.Sink.faults c.replay_stream-output.result.1)
+      (input_by g.I.Source c.args.input.now)
+      (input_by g.I.Source c.replay_stream-output.new.input)
+      (output_by g.O.Sink c.args.output)
+      (output_by g.O.Sink c.replay_stream-output.result.1)
       c.replay_stream-output.result.0.inbound c.replay_stream-output.result.0.outbound)
       c.in-Ok.ensures c.replay_stream-output.ensures;
   says = (c.note_replay.ensures.notes, c.note_replay.ensures.none);

@@ -3,7 +3,6 @@ use Rattle.nbfx_values.specs.QuotasOf.{limits_of}
 use Rattle.nbfx_values.specs.declared.refusals.Offence.{Offence}
 use Rattle.unit_streams.specs.Tellers.{Teller}
 use Rattle.stream_loop.specs.Answers.{written_by}
-use Rattle.stream_loop.specs.Edges.{input_at, output_at}
 use Rattle.stream_loop.specs.Reported.{EndsAs}
 use Rattle.stream_loop.specs.declared.reporting.Ending.TheVariants as endings
 use Rattle.stream_reader.specs.Standing.{settings_of}
@@ -16,6 +15,7 @@ use Rattle.session_report.specs.Report.{lines_of}
 use Rattle.dump_replay.specs.Statics.{settings_for}
 use Rattle.dump_replay.proofs.Beginnings.{ends_under, not_begun}
 use Rattle.session_report.proofs.Saying.{lines_are}
+use Rattle.dump_replay.proofs.Seen.{input_by, output_by}
 use Rattle.dump_replay.proofs.Statuses.{reports_by}
 use Rattle.session_report.proofs.Streams.{ends_within}
 use Rattle.dump_replay.proofs.reporting.report_input.Goals as goal
@@ -23,9 +23,8 @@ use Rattle.dump_replay.proofs.reporting.report_input.Goals as goal
 pub returns-in_default : goal.returns-in_default
 returns-in_default g c =
     let x = settings_for c.args.origin c.args.statics.now (limits_of c.args.quotas) in
-    let i = input_at g.I.Source.left g.I.Source.taken g.I.Source.faults g.I.Source.empty_takes
-    c.args.input.now in
-    let o = output_at g.O.Sink.written g.O.Sink.held g.O.Sink.faults c.args.output in
+    let i = input_by g.I.Source c.args.input.now in
+    let o = output_by g.O.Sink c.args.output in
     reports_by c.args.detail x c.args.quotas.good i i o o Open endings.Memory
     (not_begun (stream x) (lines_of c.args.detail) i o ends x.limits.session
     (ends_within x c.args.quotas.good) Open)
@@ -33,9 +32,8 @@ returns-in_default g c =
 pub returns-in_default-gathering_room : goal.returns-in_default-gathering_room
 returns-in_default-gathering_room g c =
     let x = settings_for c.args.origin c.args.statics.now (limits_of c.args.quotas) in
-    let i = input_at g.I.Source.left g.I.Source.taken g.I.Source.faults g.I.Source.empty_takes
-    c.args.input.now in
-    let o = output_at g.O.Sink.written g.O.Sink.held g.O.Sink.faults c.args.output in
+    let i = input_by g.I.Source c.args.input.now in
+    let o = output_by g.O.Sink c.args.output in
     reports_by c.args.detail x c.args.quotas.good i i o o Open endings.Memory
     (not_begun (stream x) (lines_of c.args.detail) i o ends x.limits.session
     (ends_within x c.args.quotas.good) Open)
@@ -47,12 +45,10 @@ report_stream-ending-requires-clause-ends g c =
 pub returns : goal.returns
 returns g c =
     let x = settings_for c.args.origin c.args.statics.now (limits_of c.args.quotas) in
-    let i = input_at g.I.Source.left g.I.Source.taken g.I.Source.faults g.I.Source.empty_takes
-    c.args.input.now in
-    let i' = input_at g.I.Source.left g.I.Source.taken g.I.Source.faults g.I.Source.empty_takes
-    c.report_stream-ending.new.input in
-    let o = output_at g.O.Sink.written g.O.Sink.held g.O.Sink.faults c.args.output in
-    let o' = output_at g.O.Sink.written g.O.Sink.held g.O.Sink.faults c.into_sink.result in
+    let i = input_by g.I.Source c.args.input.now in
+    let i' = input_by g.I.Source c.report_stream-ending.new.input in
+    let o = output_by g.O.Sink c.args.output in
+    let o' = output_by g.O.Sink c.into_sink.result in
     let ending = c.report_stream-ending.result in
     let end = c.report_stream-ending.new.reporter.outcome in
     let set = c.in-Ok.ensures.settings

@@ -1,47 +1,22 @@
-use Rattle.std.proofs.Common.{◌≡◌, ℕ, ◌⊎◌, inl, inr, List, [], map, Err, refl, ap, sym, ◌∙◌, subst}
+use Rattle.std.proofs.Common.{◌≡◌, ℕ, ◌⊎◌, inl, inr, map, Err, refl, ap, sym, ◌∙◌, subst}
 use Rattle.std.specs.String.{string_bytes}
 use Rattle.io_edges.specs.Faults.{Rose}
-use Rattle.stream_loop.specs.Edges.{Input, Output, input_at, output_at}
-use Rattle.io_edges.specs.Wires.{Network, network_at}
-use Rattle.connection_server.specs.Served.{SinkState, sink_at}
 use Rattle.command_words.specs.Asking.{asked_of}
-use Rattle.dump_replay.specs.Noting.{Notes}
-use Rattle.dump_replay.specs.Outside.{Outside, SeenShelf, seen, shelf_at}
+use Rattle.dump_replay.specs.Outside.{Outside, SeenShelf, seen}
 use Rattle.dump_replay.specs.Running.{files_of}
 use Rattle.dump_replay.specs.Working.{Works}
 use Rattle.dump_replay.proofs.Complete.{completes}
 use Rattle.dump_replay.proofs.RunSteps.{fetched_first, fetched_more, not_read, possible, same_shelf}
 use Rattle.dump_replay.proofs.RunSteps.{words_two}
+use Rattle.dump_replay.proofs.Seen.{Says, input_by, network_by, output_by, seen_by, shelf_by}
 use Rattle.dump_replay.proofs.run.run.Given.{Over}
 use Rattle.dump_replay.proofs.run.run.Goals as goal
 use Rattle.dump_replay.proofs.run.run.Goals.{After-drop-table-inside-3}
 
 module _ (g : Over) where
-  abbrev shelf : g.row.F.Denot → SeenShelf
-  shelf files = shelf_at g.F.Shelf.files g.F.Shelf.faults files
-
-  abbrev at : g.row.I.Denot → Input
-  at input = input_at g.I.Source.left g.I.Source.taken g.I.Source.faults g.I.Source.empty_takes
-      input
-
-  abbrev out : g.row.O.Denot → Output
-  out sink = output_at g.O.Sink.written g.O.Sink.held g.O.Sink.faults sink
-
-  abbrev net : g.row.W.Denot → Network g.row.W-Reader.Denot g.row.W-Writer.Denot
-  net wire = network_at g.W.Wire.waiting g.W.Wire.closed g.W.Wire.out g.W.Wire.faults
-      g.W.Wire.end_faults wire
-
-  abbrev reader : g.row.W-Reader.Denot → Input
-  reader = input_at g.W.Reader.Source.left g.W.Reader.Source.taken g.W.Reader.Source.faults
-      g.W.Reader.Source.empty_takes
-
-  abbrev writer : g.row.W-Writer.Denot → SinkState
-  writer = sink_at g.W.Writer.Sink.written g.W.Writer.Sink.held g.W.Writer.Sink.faults
-      g.W.Writer.Sink.may_want
-
-  abbrev Says : (old new : g.row.N.Denot) → List ℕ → Type 0
-  Says old new text = Notes g.N.Sink.written g.N.Sink.held g.N.Sink.faults g.N.Sink.may_want old
-      new text × (text ≡ [] → new ≡ old)
+  abbrev all : g.row.F.Denot → g.row.I.Denot → g.row.O.Denot → g.row.W.Denot
+      → Outside g.row.W-Reader.Denot g.row.W-Writer.Denot
+  all = seen_by g.F.Shelf g.I.Source g.O.Sink g.W.Wire
 
 -- the words aren't read
 pub returns-in-Err-clause-words : goal.returns-in-Err-clause-words
@@ -59,11 +34,10 @@ returns-in-Err-clause-runs g c = inl (
 
 pub returns-in-Err-clause-complete : goal.returns-in-Err-clause-complete
 returns-in-Err-clause-complete g c =
-    let same = seen (shelf g c.args.shelf.now) (at g c.args.input) (out g c.args.output)
-    (net g c.args.wire.now) in
-    completes (Says g c.args.notes.now c.note_status.new.notes)
+    let same = all g c.args.shelf.now c.args.input c.args.output c.args.wire.now in
+    completes (Says g.N.Sink c.args.notes.now c.note_status.new.notes)
     ((c.args.input ≡ c.args.input) × (c.args.output ≡ c.args.output)
-    × (c.args.wire.now ≡ c.args.wire.now)) (reader g) (writer g)
+    × (c.args.wire.now ≡ c.args.wire.now)) (input_by g.W.Reader.Source) (output_by g.W.Writer.Sink)
     (c.args.shelf.now ≡ c.args.shelf.now) (c.args.wire.now ≡ c.args.wire.now)
     (map string_bytes c.args.words.now) same same c.words_status-status.result
     (returns-in-Err-clause-runs g c)
@@ -85,15 +59,14 @@ returns-in-Err-read_statics-clause-runs g c = inr (
 
 pub returns-in-Err-read_statics-clause-complete : goal.returns-in-Err-read_statics-clause-complete
 returns-in-Err-read_statics-clause-complete g c =
-    completes (Says g c.args.notes.now c.note_file-status.new.notes)
+    completes (Says g.N.Sink c.args.notes.now c.note_file-status.new.notes)
     ((c.args.input ≡ c.args.input) × (c.args.output ≡ c.args.output)
-    × (c.args.wire.now ≡ c.args.wire.now)) (reader g) (writer g)
+    × (c.args.wire.now ≡ c.args.wire.now)) (input_by g.W.Reader.Source) (output_by g.W.Writer.Sink)
     (c.read_statics.new.shelf ≡ c.args.shelf.now) (c.args.wire.now ≡ c.args.wire.now)
     (map string_bytes c.args.words.now)
-    (seen (shelf g c.args.shelf.now) (at g c.args.input) (out g c.args.output)
-    (net g c.args.wire.now))
-    (seen (shelf g c.read_statics.new.shelf) (at g c.args.input) (out g c.args.output)
-    (net g c.args.wire.now)) c.note_file-status.result
+    (all g c.args.shelf.now c.args.input c.args.output c.args.wire.now)
+    (all g c.read_statics.new.shelf c.args.input c.args.output c.args.wire.now)
+    c.note_file-status.result
     (returns-in-Err-read_statics-clause-runs g c)
 
 pub returns-in-Err-read_statics-clause-fetched : goal.returns-in-Err-read_statics-clause-fetched
@@ -115,26 +88,26 @@ work-status-requires-clause-possible g c = λ κs lives.
 
 module _ (g : Over) (c : After-drop-table-inside-3 g) where
   -- the shelf is seen as before the file of static strings was fetched
-  same : shelf_at g.F.Shelf.files g.F.Shelf.faults c.read_statics.new.shelf
-      ≡ shelf_at g.F.Shelf.files g.F.Shelf.faults c.args.shelf.now
+  same : shelf_by g.F.Shelf c.read_statics.new.shelf ≡ shelf_by g.F.Shelf c.args.shelf.now
   same = same_shelf g.F.Shelf.files g.F.Shelf.faults c.args.shelf.now c.read_statics.new.shelf
       c.in-Ok-read_statics.ensures.kept (c.in-Ok-read_statics.ensures.counted.same (λ e. cc))
 
   abbrev new : Outside g.row.W-Reader.Denot g.row.W-Writer.Denot
-  new = seen (shelf g c.work-status.new.shelf) (at g c.work-status.new.input)
-      (out g c.work-status.result.1) (net g c.work-status.new.wire)
+  new = all g c.work-status.new.shelf c.work-status.new.input c.work-status.result.1
+      c.work-status.new.wire
 
   abbrev Untouched : Type 0
   Untouched = (c.work-status.new.input ≡ c.args.input) × (c.work-status.result.1 ≡ c.args.output)
       × (c.work-status.new.wire ≡ c.args.wire.now)
 
   abbrev Done : SeenShelf → Type 0
-  Done s = Works (Says g c.args.notes.now c.work-status.new.notes) Untouched (reader g) (writer g)
-      (asked_of c.in-Ok.request).task c.in-Ok-read_statics.table (asked_of c.in-Ok.request).limits
-      (seen s (at g c.args.input) (out g c.args.output) (net g c.args.wire.now)) new
-      c.work-status.result.0
+  Done s = Works (Says g.N.Sink c.args.notes.now c.work-status.new.notes) Untouched
+      (input_by g.W.Reader.Source) (output_by g.W.Writer.Sink) (asked_of c.in-Ok.request).task
+      c.in-Ok-read_statics.table (asked_of c.in-Ok.request).limits
+      (seen s (input_by g.I.Source c.args.input) (output_by g.O.Sink c.args.output)
+      (network_by g.W.Wire c.args.wire.now)) new c.work-status.result.0
 
-  own : Done (shelf_at g.F.Shelf.files g.F.Shelf.faults c.read_statics.new.shelf)
+  own : Done (shelf_by g.F.Shelf c.read_statics.new.shelf)
   own = c.work-status.ensures.works
 
 pub returns-clause-runs : goal.returns-clause-runs
@@ -150,12 +123,12 @@ returns-clause-runs g c = inr (
 
 pub returns-clause-complete : goal.returns-clause-complete
 returns-clause-complete g c =
-    completes (Says g c.args.notes.now c.work-status.new.notes) (Untouched g c) (reader g)
-    (writer g)
+    completes (Says g.N.Sink c.args.notes.now c.work-status.new.notes) (Untouched g c)
+    (input_by g.W.Reader.Source) (output_by g.W.Writer.Sink)
     (c.work-status.new.shelf ≡ c.args.shelf.now) (c.work-status.new.wire ≡ c.args.wire.now)
     (map string_bytes c.args.words.now)
-    (seen (shelf g c.args.shelf.now) (at g c.args.input) (out g c.args.output)
-    (net g c.args.wire.now)) (new g c) c.work-status.result.0 (returns-clause-runs g c)
+    (all g c.args.shelf.now c.args.input c.args.output c.args.wire.now) (new g c)
+    c.work-status.result.0 (returns-clause-runs g c)
 
 pub returns-clause-fetched : goal.returns-clause-fetched
 returns-clause-fetched g c =

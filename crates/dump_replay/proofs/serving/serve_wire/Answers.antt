@@ -1,31 +1,25 @@
 use Rattle.std.proofs.Common.{◌≡◌, ℕ, List, Option, Err, inl, refl, ap, subst}
 use Rattle.nbfx_values.specs.QuotasOf.{limits_of}
-use Rattle.stream_loop.specs.Edges.{Output, input_at, output_at}
+use Rattle.stream_loop.specs.Edges.{Output}
 use Rattle.stream_reader.specs.Sides.{endpoint_of}
 use Rattle.duplex_server.specs.Owed.{answering}
 use Rattle.session_replay.specs.Responding.{served_by}
 use Rattle.connection_server.specs.declared.stopping.ServeFault.TheVariants as stops
-use Rattle.io_edges.specs.Wires.{Network, network_at}
-use Rattle.connection_server.specs.Served.{Ends, ServesAll, sink_at}
+use Rattle.connection_server.specs.Served.{Ends, ServesAll}
 use Rattle.connection_server.proofs.Stops.{none_served}
 use Rattle.command_words.specs.Asking.{serving_of}
 use Rattle.dump_replay.specs.Outside.{ends_seen}
+use Rattle.dump_replay.proofs.Seen.{input_by, network_by, output_by}
 use Rattle.dump_replay.proofs.ServeEnds.{served_less}
 use Rattle.dump_replay.proofs.serving.serve_wire.Given.{Over}
 use Rattle.dump_replay.proofs.serving.serve_wire.Goals as goal
 
 module _ (g : Over) where
-  abbrev net : g.row.W.Denot → Network g.row.W-Reader.Denot g.row.W-Writer.Denot
-  net wire = network_at g.W.Wire.waiting g.W.Wire.closed g.W.Wire.out g.W.Wire.faults
-      g.W.Wire.end_faults wire
-
   abbrev ends : g.row.W-Reader.Denot × g.row.W-Writer.Denot → Ends
-  ends both = ends_seen (input_at g.W.Reader.Source.left g.W.Reader.Source.taken
-      g.W.Reader.Source.faults g.W.Reader.Source.empty_takes) (sink_at g.W.Writer.Sink.written
-      g.W.Writer.Sink.held g.W.Writer.Sink.faults g.W.Writer.Sink.may_want) both
+  ends = ends_seen (input_by g.W.Reader.Source) (output_by g.W.Writer.Sink)
 
   abbrev out : g.row.O.Denot → Output
-  out sink = output_at g.O.Sink.written g.O.Sink.held g.O.Sink.faults sink
+  out = output_by g.O.Sink
 
 -- there was no memory for the Via
 pub returns-in_default-clause-answers : goal.returns-in_default-clause-answers
@@ -38,11 +32,11 @@ returns-in_default-clause-answers g c = λ i.
       asked_for = c.in-Ok.ensures.found;
       stop = Err stops.Memory;
       status_is = refl;
-      serves = served_less x via (ends g) c.args.connections (net g c.args.wire.now)
-          (net g c.args.wire.now) (out g o) (out g o) (Err stops.Memory) (o ≡ o)
+      serves = served_less x via (ends g) c.args.connections (network_by g.W.Wire c.args.wire.now)
+          (network_by g.W.Wire c.args.wire.now) (out g o) (out g o) (Err stops.Memory) (o ≡ o)
           (out g o ≡ out g o) (λ same. refl)
           (none_served x via (ends g) g.O.Sink.written g.O.Sink.held g.O.Sink.faults
-          g.O.Sink.may_want c.args.connections (net g c.args.wire.now) o);
+          g.O.Sink.may_want c.args.connections (network_by g.W.Wire c.args.wire.now) o);
       says = (c.note_status.ensures.notes, c.note_status.ensures.none);
       unread = refl;
     })
@@ -53,8 +47,8 @@ returns-clause-answers g c = λ i.
     let served = c.serve_connections-stop in
     let o = c.args.output in
     let last = served.result.1 in
-    let n = net g c.args.wire.now in
-    let n' = net g served.new.wire in
+    let n = network_by g.W.Wire c.args.wire.now in
+    let n' = network_by g.W.Wire served.new.wire in
     inl (record {
       responder = c.in-Ok.responder;
       asked_for = c.in-Ok.ensures.found;

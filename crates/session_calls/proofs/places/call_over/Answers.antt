@@ -3,6 +3,7 @@ use Rattle.std.specs.Prelude.{IfSome}
 use Rattle.io_edges.specs.Flow.{Told}
 use Rattle.io_edges.specs.Wires.{added_up}
 use Rattle.stream_loop.specs.Edges.{Input, Output, input_at, output_at}
+use Rattle.session_calls.specs.Peers.{HoldNothing}
 use Rattle.session_calls.specs.Sending.{line_of, sending_of}
 use Rattle.session_calls.proofs.Meeting.{pair_more}
 use Rattle.session_calls.proofs.places.call_over.Given.{Over}
@@ -22,12 +23,12 @@ module _ (g : Over) where
 pub returns : goal.returns
 returns g c =
     let e = c.in-Ok.ensures in
-    let w = c.call_gathered-writer in
+    let w = c.call_gathered-output in
     let k = c.close.ensures in
     record {
       admitted = c.requires.admitted;
       ends = (c.in-Ok.reader, c.in-Ok.writer);
-      left = (w.new.source, w.result.1);
+      left = (w.new.source, w.new.sink);
       handed = subst (λ after. Told (g.W.Wire.waiting c.args.wire.now) after
           (λ before after. before ≡ (c.in-Ok.reader, c.in-Ok.writer) ∷ after)) (sym k.waiting)
           e.handed;
@@ -39,17 +40,18 @@ returns g c =
         nothing_held = e.writer.2;
       };
       calls = w.ensures;
-      closed = pair_more (sending_of c.args.call.now) c.args.call.now.opening.via.now
+      closed = pair_more (sending_of c.args.call.now) (HoldNothing (ends_to g))
+          c.args.call.now.opening.via.now
           (line_of c.args.call.now w.result.0.sent) (input_of g c.in-Ok.reader)
-          (input_of g w.new.source) (ends_to g c.in-Ok.writer) (ends_to g w.result.1)
-          (output_of g c.args.output) (output_of g w.result.2) w.result.0 w.ensures
+          (input_of g w.new.source) (ends_to g c.in-Ok.writer) (ends_to g w.new.sink)
+          (output_of g c.args.output) (output_of g w.result.1) w.result.0 w.ensures
           (g.W.Wire.closed c.args.wire.now) (g.W.Wire.closed c.close.new.self) e.reader.1 e.writer.1
           (subst (λ before. Told before (g.W.Wire.closed c.close.new.self) (λ c' c''.
           IfSome (g.W.Reader.Source.taken w.new.source) (λ t.
-          IfSome (g.W.Writer.Sink.written w.result.1) (λ v. c'' ≡ c' ++ (t, v) ∷ []))))
+          IfSome (g.W.Writer.Sink.written w.new.sink) (λ v. c'' ≡ c' ++ (t, v) ∷ []))))
           e.ended.0 k.closed);
       end_faults = k.counted ∙ ap (λ n. added_up n (g.W.Reader.Source.faults w.new.source)
-          (g.W.Writer.Sink.faults w.result.1)) e.ended.1;
+          (g.W.Writer.Sink.faults w.new.sink)) e.ended.1;
       out = omega (arith, e.out, k.out);
       faults = k.faults ∙ e.counted.same (λ is. cc);
     }

@@ -5,7 +5,7 @@ use Rattle.io_edges.specs.declared.SinkFault.TheVariants.{Failed}
 use Rattle.nbfx_values.specs.QuotasOf.{limits_of}
 use Rattle.stream_loop.specs.Edges.{output_at}
 use Rattle.session_generator.specs.Documents.{documents}
-use Rattle.session_summary.specs.Reading.{line_of, summary_by}
+use Rattle.session_summary.specs.Measuring.{line_of, summary_by}
 use Rattle.session_summary.specs.Summary.{Summarizes}
 use Rattle.session_summary.proofs.Measuring.{Wrote, beneath, summarized, wrote}
 use Rattle.session_summary.proofs.summary.summarize.Goals as goal

@@ -1,7 +1,14 @@
 use Rattle.std.proofs.Common.{refl}
 use Rattle.client.specs.Called.{closing_of}
-use Rattle.client.proofs.Hearing.{closed_at, closed_well}
+use Rattle.client.proofs.Hearing.{closed_at, closed_before, closed_well}
 use Rattle.client.proofs.caller.Caller.close.Goals as goal
+
+pub returns-then-not-is_going-clause-closed : goal.returns-then-not-is_going-clause-closed
+returns-then-not-is_going-clause-closed g c = λ first events h.
+    let m = c.args.self.now in
+    closed_before g.O.Sink.written g.O.Sink.held g.O.Sink.faults g.O.Sink.may_want first events
+    m.reached c.args.output.now m.report (closing_of c.args.ending m.reached) h
+    (c.if-not-is_going.ensures.stopped refl)
 
 pub returns-then-is_going-clause-closed : goal.returns-then-is_going-clause-closed
 returns-then-is_going-clause-closed g c = λ first events h.
@@ -12,7 +19,7 @@ returns-then-is_going-clause-closed g c = λ first events h.
     closed_well g.O.Sink.written g.O.Sink.held g.O.Sink.faults g.O.Sink.may_want first events
     m.reached c.args.output.now m.report (closing_of c.args.ending m.reached) h f.0
     c.flush-self.result p.new.output c.flush-self.new.sink (c.if-not-is_going.ensures.going refl)
-    (rw done at p.ensures) f.2 f.1 c.flush-self.ensures.emptied
+    (rw done at p.ensures.goes) f.2 f.1 c.flush-self.ensures.emptied
 
 pub returns-else-is_going-clause-closed : goal.returns-else-is_going-clause-closed
 returns-else-is_going-clause-closed g c = λ first events h.
@@ -21,4 +28,4 @@ returns-else-is_going-clause-closed g c = λ first events h.
     closed_at g.O.Sink.written g.O.Sink.held g.O.Sink.faults g.O.Sink.may_want first events
     m.reached c.args.output.now m.report (closing_of c.args.ending m.reached) h p.result
     p.new.output (c.if-not-is_going.ensures.going refl) (c.if-is_going.ensures.stopped refl)
-    p.ensures
+    p.ensures.goes p.ensures.wanted
