@@ -49,29 +49,29 @@ pub(crate) enum Judged<'d> {
 }
 
 // What becomes of a request with this action, if it has one, whose answer isn't for nobody.
-fn by_action<'d>(alloc: Global, action: Option<&str>, to: Destination) -> Result<Judged<'d>, Memory>
-    ensures { IfOk result (λ judged. judged ≡ spec.by_action (option_copied action.entry) to) }
+fn by_action<'d>(action: Option<Txt>, to: Destination) -> Judged<'d>
+    ensures { result ≡ spec.by_action action to }
 {
     let Some(action) = action else {
-        return Ok(Judged::Refused(Refusal::NoAction));
+        return Judged::Refused(Refusal::NoAction);
     };
     match to {
-        Destination::Elsewhere => Ok(Judged::Refused(Refusal::OtherReplyAddress)),
-        _ => Ok(Judged::Asked(Txt::of(alloc, action)?)),
+        Destination::Elsewhere => Judged::Refused(Refusal::OtherReplyAddress),
+        _ => Judged::Asked(action),
     }
 }
 
 /// What becomes of a request with this view.
-pub(crate) fn judge<'d>(alloc: Global, envelope: &Envelope<'d>) -> Result<Judged<'d>, Memory>
-    ensures { IfOk result (λ judged. judged ≡ spec.judged envelope.now) }
+pub(crate) fn judge<'d>(alloc: Global, envelope: Envelope<'d>) -> Result<Judged<'d>, Memory>
+    ensures { IfOk result (λ judged. judged ≡ spec.judged envelope.entry) }
 {
     let to = Destination::of(envelope.reply_address());
     if matches!(to, Destination::Nobody) {
         return Ok(Judged::Unanswered);
     }
-    let foreign = foreign_names(alloc, envelope)?;
+    let foreign = foreign_names(alloc, &envelope)?;
     if foreign.len() > 0 {
         return Ok(Judged::Refused(Refusal::NotUnderstood(foreign)));
     }
-    by_action(alloc, envelope.action(), to)
+    Ok(by_action(envelope.into_action(), to))
 }

@@ -67,13 +67,15 @@ fn plan_judged(
 }
 
 // What is left to do for the request with this view.
-fn plan_viewed(alloc: Global, quotas: &Quotas, envelope: &Envelope<'_>) -> Result<Plan, Memory>
-    ensures planned { IfOk result (λ plan. plan ≡ spec.planned_of quotas.now.content envelope.now) }
-    ensures texts { OnOk result (AreTexts envelope.now.message_id) }
+fn plan_viewed(alloc: Global, quotas: &Quotas, envelope: Envelope<'_>) -> Result<Plan, Memory>
+    ensures planned { IfOk result
+        (λ plan. plan ≡ spec.planned_of quotas.now.content envelope.entry) }
+    ensures texts { OnOk result (AreTexts envelope.entry.message_id) }
 {
-    let judged = judge(alloc, envelope)?;
     let relates = envelope.message_id(alloc)?;
-    plan_judged(alloc, quotas, judged, relates, envelope.body_at())
+    let body_at = envelope.body_at();
+    let judged = judge(alloc, envelope)?;
+    plan_judged(alloc, quotas, judged, relates, body_at)
 }
 
 /// What is left to do for the request that is this document.
@@ -81,7 +83,7 @@ pub(crate) fn plan_for(alloc: Global, quotas: &Quotas, doc: &Doc) -> Result<Plan
     ensures { IfOk result (Plans quotas.now.content doc.now) }
 {
     match Envelope::of(alloc, doc) {
-        Ok(envelope) => plan_viewed(alloc, quotas, &envelope),
+        Ok(envelope) => plan_viewed(alloc, quotas, envelope),
         Err(SoapFault::Memory) => Err(Memory),
         Err(fault) => {
             let answer = refused(alloc, Refusal::of(fault), Items::new(alloc))?;

@@ -22,6 +22,7 @@ pub mod ResolvedViews
 pub mod Renamed
 pub mod BoundNames
 pub mod InScope
+pub mod Usual
 pub mod BodyNames
 pub mod Declarations
 pub mod Contents

@@ -20,3 +20,5 @@ pub mod Made
 pub mod Resolved
 pub mod Renaming
 pub mod Laws
+-- for private calls
+pub mod Spelled

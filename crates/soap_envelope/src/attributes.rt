@@ -5,21 +5,23 @@ ghost use Rattle.nbfx_values.specs.Items.{is_valid_item};
 ghost use Rattle.soap_envelope.specs.Blocks as spec;
 ghost use Rattle.soap_envelope.specs.Headers as headers;
 ghost use Rattle.soap_envelope.specs.Scopes as scope;
+ghost use Rattle.soap_envelope.specs.Scopes.{declared};
 
+use crate::characters::{Characters, characters_in};
 use crate::children::behind;
 use crate::layers::Layer;
 use crate::namespaces::{ROLE_NEXT, ROLE_ULTIMATE_RECEIVER, SOAP};
 use crate::parts::element_uri;
-use crate::scopes::{Scopes, declared_in};
+use crate::scopes::Scopes;
 use nbfx_values::{Item, Txt};
 use std::alloc::Global;
 use unit_streams::Memory;
 
 // An attribute's place, and the characters of its value where it has some.
 #[derive(Drop)]
-pub(crate) struct Found {
+pub(crate) struct Found<'d> {
     pub(crate) at: usize,
-    pub(crate) characters: Option<Txt>,
+    pub(crate) characters: Option<Characters<'d>>,
 }
 
 // The namespace of an attribute with this prefix. One without prefix has none.
@@ -54,8 +56,8 @@ fn soap_attribute<'d>(
     own: &Layer<'d>,
     name: &str,
     at: usize,
-    behind: &[Item],
-) -> Result<Option<Found>, Memory>
+    behind: &'d [Item],
+) -> Result<Option<Found<'d>>, Memory>
     requires few { at + length behind.now < 2 ^ 64 }
     requires valid { IsTrue (list_all is_valid_item behind.now) }
     ensures { IfOk result (λ found. found
@@ -70,7 +72,7 @@ fn soap_attribute<'d>(
                 value,
             } => {
                 if is_soap_attribute(outer, own, name, prefix, local) {
-                    let characters = value.characters(alloc)?;
+                    let characters = characters_in(alloc, value)?;
                     return Ok(Some(Found {
                         at: at + i,
                         characters,
@@ -83,52 +85,55 @@ fn soap_attribute<'d>(
     Ok(None)
 }
 
-// The same of the element that begins at a place.
+// The same of the element that begins at a place and has these declarations.
 fn soap_attribute_of<'d>(
     alloc: Global,
     items: &'d [Item],
     outer: &Scopes<'d>,
+    own: &Layer<'d>,
     name: &str,
     at: usize,
-) -> Result<Option<Found>, Memory>
+) -> Result<Option<Found<'d>>, Memory>
     requires within { at < length items.now }
     requires valid { IsTrue (list_all is_valid_item items.now) }
+    requires own { own.now ≡ declared (drop (at + 1) items.now) }
     ensures { IfOk result
         (λ found. found ≡ spec.soap_attribute_of items.now outer.now name.now at) }
 {
     let behind = behind(items, at);
-    let own = declared_in(alloc, behind)?;
-    soap_attribute(alloc, outer, &own, name, at + 1, behind)
+    soap_attribute(alloc, outer, own, name, at + 1, behind)
 }
 
-pub(crate) fn must_understand_of<'d>(
+// The SOAP attributes of a header block.
+#[derive(Drop)]
+pub(crate) struct SoapAttributes<'d> {
+    pub(crate) must_understand: Option<Found<'d>>,
+    pub(crate) role: Option<Found<'d>>,
+}
+
+// Those of the element that begins at a place and has these declarations.
+pub(crate) fn soap_attributes<'d>(
     alloc: Global,
     items: &'d [Item],
     outer: &Scopes<'d>,
+    own: &Layer<'d>,
     at: usize,
-) -> Result<Option<Found>, Memory>
+) -> Result<SoapAttributes<'d>, Memory>
     requires within { at < length items.now }
     requires valid { IsTrue (list_all is_valid_item items.now) }
-    ensures { IfOk result (λ found. found ≡ spec.must_understand_of items.now outer.now at) }
+    requires own { own.now ≡ declared (drop (at + 1) items.now) }
+    ensures must_understand { IfOk result
+        (λ of. of.must_understand ≡ spec.must_understand_of items.now outer.now at) }
+    ensures role { IfOk result (λ of. of.role ≡ spec.role_of items.now outer.now at) }
 {
-    soap_attribute_of(alloc, items, outer, "mustUnderstand", at)
-}
-
-pub(crate) fn role_of<'d>(
-    alloc: Global,
-    items: &'d [Item],
-    outer: &Scopes<'d>,
-    at: usize,
-) -> Result<Option<Found>, Memory>
-    requires within { at < length items.now }
-    requires valid { IsTrue (list_all is_valid_item items.now) }
-    ensures { IfOk result (λ found. found ≡ spec.role_of items.now outer.now at) }
-{
-    soap_attribute_of(alloc, items, outer, "role", at)
+    Ok(SoapAttributes {
+        must_understand: soap_attribute_of(alloc, items, outer, own, "mustUnderstand", at)?,
+        role: soap_attribute_of(alloc, items, outer, own, "role", at)?,
+    })
 }
 
 // The spellings of a truth, as XML Schema has them.
-fn is_yes(characters: &Option<Txt>) -> bool
+fn is_yes(characters: &Option<Characters<'_>>) -> bool
     ensures { result ≡ spec.is_yes characters.now }
 {
     match characters {
@@ -137,7 +142,7 @@ fn is_yes(characters: &Option<Txt>) -> bool
     }
 }
 
-fn is_no(characters: &Option<Txt>) -> bool
+fn is_no(characters: &Option<Characters<'_>>) -> bool
     ensures { result ≡ spec.is_no characters.now }
 {
     match characters {
@@ -147,7 +152,7 @@ fn is_no(characters: &Option<Txt>) -> bool
 }
 
 // Whether a mustUnderstand attribute is there and true.
-pub(crate) fn must_be_understood(found: &Option<Found>) -> bool
+pub(crate) fn must_be_understood(found: &Option<Found<'_>>) -> bool
     ensures { result ≡ spec.must_be_understood found.now }
 {
     match found {
@@ -158,7 +163,7 @@ pub(crate) fn must_be_understood(found: &Option<Found>) -> bool
 
 // Whether characters are a role of the ultimate receiver's.
 #[tactic(auto, unfolding(crate::specs::Names::role_next, crate::specs::Names::role_ultimate_receiver))]
-fn is_own_role(characters: &Option<Txt>) -> bool
+fn is_own_role(characters: &Option<Characters<'_>>) -> bool
     ensures { result ≡ spec.is_own_role characters.now }
 {
     match characters {
@@ -172,7 +177,7 @@ fn is_own_role(characters: &Option<Txt>) -> bool
 }
 
 // Whether a role is left out or the ultimate receiver's.
-pub(crate) fn is_targeted(found: &Option<Found>) -> bool
+pub(crate) fn is_targeted(found: &Option<Found<'_>>) -> bool
     ensures { result ≡ spec.is_targeted found.now }
 {
     match found {
@@ -182,7 +187,7 @@ pub(crate) fn is_targeted(found: &Option<Found>) -> bool
 }
 
 // The place of an attribute mustUnderstand that is no truth.
-pub(crate) fn bad_must_understand(found: &Option<Found>) -> Option<usize>
+pub(crate) fn bad_must_understand(found: &Option<Found<'_>>) -> Option<usize>
     ensures { result ≡ headers.bad_must_understand found.now }
 {
     match found {
@@ -198,7 +203,7 @@ pub(crate) fn bad_must_understand(found: &Option<Found>) -> Option<usize>
 }
 
 // The place of a role without characters.
-pub(crate) fn bad_role(found: &Option<Found>) -> Option<usize>
+pub(crate) fn bad_role(found: &Option<Found<'_>>) -> Option<usize>
     ensures { result ≡ headers.bad_role found.now }
 {
     match found {

@@ -41,7 +41,7 @@ fn put_all<'d>(
 
 // Whether every reply declares it.
 #[tactic(auto, unfolding(crate::specs::Names::soap, crate::specs::Names::addressing))]
-fn is_usual(one: &Declared<'_>) -> bool
+pub(crate) fn is_usual(one: &Declared<'_>) -> bool
     ensures { result ≡ spec.is_usual (kept one.now) }
 {
     (one.prefix == "s" && one.uri == SOAP) || (one.prefix == "a" && one.uri == ADDRESSING)

@@ -1,10 +1,10 @@
 // The children of an element, and the place of its end.
-ghost use Rattle.std.specs.Prelude.{◌≡◌, ◌+◌, ◌<◌, ◌^◌, IfOk, IsTrue, drop, length, slice_get};
+ghost use Rattle.std.specs.Prelude.{◌≡◌, ◌+◌, ◌<◌, ◌≤◌, ◌^◌, [], ◌∷◌, IfNone, IfSome, IsTrue, Some, drop, length, slice_get};
 ghost use Rattle.soap_envelope.specs.Children as spec;
+ghost use Rattle.soap_envelope.specs.Children.{children_from};
 
 use nbfx_values::Item;
-use std::alloc::Global;
-use unit_streams::Memory;
+use std::marker::Model;
 
 // The items behind a place.
 pub(crate) fn behind(items: &[Item], at: usize) -> &[Item]
@@ -44,26 +44,90 @@ pub(crate) fn open_behind(inner: usize, item: &Item) -> Option<usize>
     }
 }
 
-/// The places of the children of the element that begins at a place.
-pub(crate) fn children_of(alloc: Global, items: &[Item], at: usize) -> Result<Vec<usize>, Memory>
-    ensures { IfOk result (λ children. children.items ≡ spec.children_of items.now at) }
+// The place of a child, and how many elements are open behind the item there, if the parent is.
+#[derive(Clone, Copy)]
+struct Child {
+    at: usize,
+    depth: Option<usize>,
+}
+
+// The first child among the items from a place on, where so many elements are open there.
+fn child_from(items: &[Item], from: usize, depth: usize) -> Option<Child>
+    requires { depth ≤ from }
+    ensures found { IfSome result (λ child.
+        children_from (Some depth) from (drop from items.now)
+        ≡ child.at ∷ children_from child.depth (child.at + 1) (drop (child.at + 1) items.now)) }
+    ensures within { IfSome result (λ child. child.at < length items.now) }
+    ensures few { IfSome result (λ child. IfSome child.depth (λ inner. inner ≤ child.at + 1)) }
+    ensures none { IfNone result (children_from (Some depth) from (drop from items.now) ≡ []) }
 {
-    let mut children = Vec::new(alloc);
-    if at >= items.len() {
-        return Ok(children);
-    }
-    let mut inner = 0;
-    for i in at + 1..items.len() {
+    let mut inner = depth;
+    for i in from..items.len() {
         let item = &items[i];
+        let behind = open_behind(inner, item);
         if inner == 0 && is_child(item) {
-            children.push(i)?;
+            return Some(Child {
+                at: i,
+                depth: behind,
+            });
         }
-        match open_behind(inner, item) {
+        match behind {
             Some(open) => inner = open,
-            None => return Ok(children),
+            None => return None,
         }
     }
-    Ok(children)
+    None
+}
+
+// The children of an element that are yet to come, which contracts see as the list of their places.
+#[derive(Drop)]
+pub(crate) struct Children<'d> {
+    items: &'d [Item],
+    at: usize,
+    depth: Option<usize>,
+}
+
+impl<'d> Model for Children<'d> {
+    ghost use Rattle.std.specs.Prelude.{◌≤◌, ℕ, IfSome, List, drop};
+    ghost use Rattle.soap_envelope.specs.Children.{children_from};
+
+    ghost Value = { List ℕ };
+
+    ghost view = { λ c. children_from c.depth c.at (drop c.at c.items.now) };
+
+    ghost invariant = { λ c. IfSome c.depth (λ inner. inner ≤ c.at) };
+}
+
+impl<'d> Children<'d> {
+    // Those of the element that begins at a place.
+    pub(crate) fn of(items: &'d [Item], at: usize) -> Children<'d>
+        ensures { result ≡ spec.children_of items.now at }
+    {
+        if at >= items.len() {
+            return Children {
+                items,
+                at,
+                depth: None,
+            };
+        }
+        Children {
+            items,
+            at: at + 1,
+            depth: Some(0),
+        }
+    }
+
+    // The next child.
+    pub(crate) fn next(&mut self) -> Option<usize>
+        ensures next { IfSome result (λ child. self.old ≡ child ∷ self.new) }
+        ensures none { IfNone result (self.old ≡ []) }
+    {
+        let depth = self.depth?;
+        let child = child_from(self.items, self.at, depth)?;
+        self.at = child.at + 1;
+        self.depth = child.depth;
+        Some(child.at)
+    }
 }
 
 /// The place where the element ends that begins at a place.

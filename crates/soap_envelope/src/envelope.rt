@@ -1,12 +1,14 @@
 //! The view of a document as an envelope.
 
-ghost use Rattle.std.specs.Prelude.{◌≡◌, ◌≢◌, ◌++◌, Err, IfOk, IfSome, IsTrue, MatchResult, Ok, OnOk, slice_get};
+ghost use Rattle.std.specs.Prelude.{◌≡◌, ◌≢◌, ◌++◌, [], ◌∷◌, Err, IfOk, IfSome, IsTrue, MatchResult, Ok, OnOk, slice_get};
 ghost use Rattle.std.specs.List.{list_all};
-ghost use Rattle.std.specs.Option.{option_copied, option_map};
+ghost use Rattle.std.specs.Option.{option_copied, option_map, option_or};
 ghost use Rattle.nbfx_values.specs.Documents.{IsDocument};
 ghost use Rattle.nbfx_values.specs.Items.{is_valid_item};
 ghost use Rattle.soap_envelope.specs.Characters as characters;
+ghost use Rattle.soap_envelope.specs.declared.refusals.SoapFault.TheVariants.{BadHeader, RepeatedHeader};
 ghost use Rattle.soap_envelope.specs.Fitting.{fitting};
+ghost use Rattle.soap_envelope.specs.Headers.{repeated};
 ghost use Rattle.soap_envelope.specs.Making.{AreTexts, IsContent};
 ghost use Rattle.soap_envelope.specs.Parts.{root_scope};
 ghost use Rattle.soap_envelope.specs.Seen.{BodyStands, HasBody};
@@ -16,8 +18,9 @@ ghost use Rattle.soap_envelope.specs.View.{blocks_of, header_children, header_sc
 
 use crate::blocks::{Block, Blocks, Names, QualifiedName};
 use crate::body::body_items;
-use crate::children::{behind, children_of};
-use crate::headers::{bad_header, blocks_among, counted_at, foreign_names, only_address, repeated};
+use crate::children::{Children, behind};
+use crate::headers::{Header, counted_at, first_repeated, foreign_names, header_of, only_address};
+use crate::layers::Layer;
 use crate::names::bad_name;
 use crate::parts::{Parts, kept_children, parts_of, wrong_root};
 use crate::refusals::SoapFault;
@@ -51,11 +54,10 @@ impl<'d> Model for Envelope<'d> {
     ghost invariant = { λ e. HasBody e.items.now e.body };
 }
 
-// Into the root.
-fn in_root<'d>(alloc: Global, items: &'d [Item]) -> Result<Scopes<'d>, Memory>
-    ensures { IfOk result (λ scopes. scopes ≡ root_scope items.now) }
+// Into the root, which has these declarations.
+fn in_root<'d>(alloc: Global, layer: Layer<'d>) -> Result<Scopes<'d>, Memory>
+    ensures { IfOk result (λ scopes. scopes ≡ layer.entry ∷ []) }
 {
-    let layer = declared_in(alloc, behind(items, 0))?;
     let mut scopes = Scopes::new(alloc);
     scopes.enter(layer)?;
     Ok(scopes)
@@ -94,25 +96,17 @@ fn children_in_header(
     }
 }
 
-// The first fault of Header, which has these children and blocks.
-fn fault_among<'d>(
-    alloc: Global,
-    items: &'d [Item],
-    scopes: &mut Scopes<'d>,
-    children: &[usize],
-    blocks: &[Block<'_>],
-) -> Result<Option<SoapFault>, Memory>
-    requires { IsTrue (list_all is_valid_item items.now) }
-    ensures fault { IfOk result
-        (λ fault. fault ≡ spec.fault_among items.now scopes.old children.now blocks.now) }
-    ensures unchanged { OnOk result (scopes.new ≡ scopes.old) }
+// The first fault of Header.
+fn fault_in(header: &Header<'_>) -> Option<SoapFault>
+    ensures { result ≡ option_or (option_map RepeatedHeader (repeated header.now.blocks))
+        (option_map BadHeader header.now.bad) }
 {
-    if let Some(item) = repeated(blocks) {
-        return Ok(Some(SoapFault::RepeatedHeader { item }));
+    if let Some(item) = first_repeated(header.blocks.as_slice()) {
+        return Some(SoapFault::RepeatedHeader { item });
     }
-    match bad_header(alloc, items, scopes, children)? {
-        Some(item) => Ok(Some(SoapFault::BadHeader { item })),
-        None => Ok(None),
+    match header.bad {
+        Some(item) => Some(SoapFault::BadHeader { item }),
+        None => None,
     }
 }
 
@@ -187,18 +181,11 @@ fn viewed<'d>(
 {
     enter_header(alloc, items, &mut scopes, parts.header)?;
     let children = children_in_header(alloc, items, parts.header)?;
-    let blocks = blocks_among(alloc, items, &scopes, children.as_slice())?;
-    let fault = fault_among(
-        alloc,
-        items,
-        &mut scopes,
-        children.as_slice(),
-        blocks.as_slice(),
-    )?;
-    if let Some(fault) = fault {
+    let header = header_of(alloc, items, &mut scopes, children.as_slice())?;
+    if let Some(fault) = fault_in(&header) {
         return Ok(Err(fault));
     }
-    let seen = envelope_with(alloc, items, &mut scopes, blocks, parts)?;
+    let seen = envelope_with(alloc, items, &mut scopes, header.blocks, parts)?;
     Ok(Ok(seen))
 }
 
@@ -210,10 +197,11 @@ fn view_of<'d>(alloc: Global, items: &'d [Item]) -> Result<Result<Envelope<'d>, 
     if let Some(item) = bad_name(alloc, items)? {
         return Ok(Err(SoapFault::BadNames { item }));
     }
-    if let Some(fault) = wrong_root(alloc, items)? {
+    let layer = declared_in(alloc, behind(items, 0))?;
+    if let Some(fault) = wrong_root(alloc, items, &layer) {
         return Ok(Err(fault));
     }
-    let root = in_root(alloc, items)?;
+    let root = in_root(alloc, layer)?;
     match parts_of(alloc, items, &root)? {
         Ok(parts) => viewed(alloc, items, root, parts),
         Err(fault) => Ok(Err(fault)),
@@ -247,26 +235,24 @@ fn put_text_at(out: &mut Items, items: &[Item], at: usize) -> Result<(), Memory>
     }
 }
 
-// The texts among these children.
-fn texts_among(alloc: Global, items: &[Item], children: &[usize]) -> Result<Items, Memory>
-    ensures { IfOk result (λ texts. texts ≡ spec.texts_among items.now children.now) }
+// The texts of the element at a place.
+fn texts_of(alloc: Global, items: &[Item], at: usize) -> Result<Items, Memory>
+    ensures { IfOk result (λ texts. texts ≡ spec.texts_of items.now at) }
 {
     let mut texts = Items::new(alloc);
-    for child in children {
-        put_text_at(&mut texts, items, *child)?;
+    let mut children = Children::of(items, at);
+    while let Some(child) = children.next() {
+        put_text_at(&mut texts, items, child)?;
     }
     Ok(texts)
 }
 
-// The texts of the element at a place, if there is one.
+// The same, if there is one.
 fn texts_at(alloc: Global, items: &[Item], at: Option<usize>) -> Result<Items, Memory>
     ensures { IfOk result (λ texts. texts ≡ spec.texts_at items.now at) }
 {
     match at {
-        Some(at) => {
-            let children = children_of(alloc, items, at)?;
-            texts_among(alloc, items, children.as_slice())
-        }
+        Some(at) => texts_of(alloc, items, at),
         None => Ok(Items::new(alloc)),
     }
 }
@@ -299,6 +285,13 @@ impl<'d> Envelope<'d> {
             Some(action) => Some(action.as_str()),
             None => None,
         }
+    }
+
+    /// The same characters, taken out.
+    pub fn into_action(self) -> Option<Txt>
+        ensures { result ≡ self.entry.action }
+    {
+        self.action
     }
 
     /// The characters of the ReplyTo's Address, if there is a ReplyTo that is targeted.

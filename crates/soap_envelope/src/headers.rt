@@ -1,17 +1,20 @@
 // The header blocks, those of addressing that count, and what is wrong with them.
-ghost use Rattle.std.specs.Prelude.{◌≡◌, ◌<◌, IfOk, IsTrue, OnOk, codes, length, slice_get};
+ghost use Rattle.std.specs.Prelude.{◌≡◌, ◌<◌, ◌+◌, ◌++◌, [], ◌∷◌, IfOk, IsTrue, OnOk, codes, drop, length, slice_get};
 ghost use Rattle.std.specs.List.{list_all, list_any};
 ghost use Rattle.nbfx_values.specs.Items.{is_valid_item};
 ghost use Rattle.soap_envelope.specs.Blocks as blocks;
+ghost use Rattle.soap_envelope.specs.Children.{children_of};
 ghost use Rattle.soap_envelope.specs.Headers as spec;
 ghost use Rattle.soap_envelope.specs.Names as names;
+ghost use Rattle.soap_envelope.specs.Scopes.{declared};
 ghost use Rattle.soap_envelope.specs.Understanding as understanding;
 
 use crate::attributes::{
-    bad_must_understand, bad_role, is_targeted, must_be_understood, must_understand_of, role_of,
+    SoapAttributes, bad_must_understand, bad_role, is_targeted, must_be_understood, soap_attributes,
 };
 use crate::blocks::{Block, Blocks, Names, QualifiedName};
-use crate::children::{behind, children_of, close_of, is_start};
+use crate::children::{Children, behind, close_of, is_start};
+use crate::layers::Layer;
 use crate::namespaces::ADDRESSING;
 use crate::parts::{element_uri, is_element};
 use crate::scopes::{Scopes, declared_in};
@@ -20,73 +23,56 @@ use nbfx_values::Item;
 use std::alloc::Global;
 use unit_streams::Memory;
 
-// The name of the element that begins at a place.
+// The name of the element that begins at a place and has these declarations.
 fn name_of<'d>(
-    alloc: Global,
     items: &'d [Item],
     outer: &Scopes<'d>,
+    own: &Layer<'d>,
     at: usize,
-) -> Result<QualifiedName<'d>, Memory>
-    ensures { IfOk result (λ name. name ≡ blocks.name_of items.now outer.now at) }
+) -> QualifiedName<'d>
+    requires { own.now ≡ declared (drop (at + 1) items.now) }
+    ensures { result ≡ blocks.name_of items.now outer.now at }
 {
     match items.get(at) {
-        Some(Item::Start { prefix, local }) => {
-            let own = declared_in(alloc, behind(items, at))?;
-            Ok(QualifiedName {
-                uri: element_uri(outer, &own, prefix),
-                local: local.as_str(),
-            })
-        }
-        _ => Ok(QualifiedName { uri: "", local: "" }),
+        Some(Item::Start { prefix, local }) => QualifiedName {
+            uri: element_uri(outer, own, prefix),
+            local: local.as_str(),
+        },
+        _ => QualifiedName { uri: "", local: "" },
     }
 }
 
-// The block that begins at a place.
+// The block that begins at a place and has these declarations and SOAP attributes.
 fn block_of<'d>(
-    alloc: Global,
     items: &'d [Item],
     outer: &Scopes<'d>,
+    own: &Layer<'d>,
+    attributes: &SoapAttributes<'_>,
     at: usize,
-) -> Result<Block<'d>, Memory>
+) -> Block<'d>
     requires within { at < length items.now }
-    requires valid { IsTrue (list_all is_valid_item items.now) }
-    ensures { IfOk result (λ block. block ≡ blocks.block_of items.now outer.now at) }
+    requires own { own.now ≡ declared (drop (at + 1) items.now) }
+    requires must_understand { attributes.now.must_understand
+        ≡ blocks.must_understand_of items.now outer.now at }
+    requires role { attributes.now.role ≡ blocks.role_of items.now outer.now at }
+    ensures { result ≡ blocks.block_of items.now outer.now at }
 {
-    let must_understand = must_understand_of(alloc, items, outer, at)?;
-    let role = role_of(alloc, items, outer, at)?;
-    Ok(Block {
-        name: name_of(alloc, items, outer, at)?,
-        must_understand: must_be_understood(&must_understand),
-        targeted: is_targeted(&role),
+    Block {
+        name: name_of(items, outer, own, at),
+        must_understand: must_be_understood(&attributes.must_understand),
+        targeted: is_targeted(&attributes.role),
         from: at,
         to: close_of(items, at),
-    })
-}
-
-// The blocks among the children of Header.
-pub(crate) fn blocks_among<'d>(
-    alloc: Global,
-    items: &'d [Item],
-    outer: &Scopes<'d>,
-    children: &[usize],
-) -> Result<Blocks<'d>, Memory>
-    requires { IsTrue (list_all is_valid_item items.now) }
-    ensures { IfOk result
-        (λ found. found ≡ blocks.blocks_among items.now outer.now children.now) }
-{
-    let mut found = Blocks::new(alloc);
-    for child in children {
-        if is_start(items, *child) {
-            found.push(block_of(alloc, items, outer, *child)?)?;
-        }
     }
-    Ok(found)
 }
 
 // Whether two names are one.
 pub(crate) fn is_same_name(name: &QualifiedName<'_>, other: &QualifiedName<'_>) -> bool
     ensures { result ≡ names.is_same_name name.now other.now }
 {
+    if name.local.len() != other.local.len() {
+        return false;
+    }
     name.uri == other.uri && name.local == other.local
 }
 
@@ -96,7 +82,10 @@ pub(crate) fn counts_as(block: &Block<'_>, local: &str) -> bool
     ensures { result ≡ spec.counts_as local.now block.now }
 {
     let name = &block.name;
-    block.targeted && name.uri == ADDRESSING && name.local == local
+    if name.local != local {
+        return false;
+    }
+    block.targeted && name.uri == ADDRESSING
 }
 
 // Whether a block counts as one with content of characters alone.
@@ -135,7 +124,7 @@ fn is_again(before: &[Block<'_>], block: &Block<'_>) -> bool
 }
 
 // The beginning of the first such.
-pub(crate) fn repeated(blocks: &[Block<'_>]) -> Option<usize>
+pub(crate) fn first_repeated(blocks: &[Block<'_>]) -> Option<usize>
     ensures { result ≡ spec.repeated blocks.now }
 {
     for (i, block) in blocks.iter().enumerate() {
@@ -160,38 +149,31 @@ fn is_address<'d>(
     if !is_element(alloc, items, outer, ADDRESSING, "Address", at)? {
         return Ok(false);
     }
-    has_plain_content(alloc, items, at)
+    Ok(has_plain_content(items, at))
 }
 
-// The children of the element that begins at a place that are an Address of characters alone.
-fn addresses_among<'d>(
+// The only child of the element that begins at a place that is an Address of characters alone.
+fn only_address_in<'d>(
     alloc: Global,
     items: &'d [Item],
     inner: &Scopes<'d>,
-    children: &[usize],
-) -> Result<Vec<usize>, Memory>
+    at: usize,
+) -> Result<Option<usize>, Memory>
     requires { IsTrue (list_all is_valid_item items.now) }
-    ensures { IfOk result
-        (λ found. found.items ≡ spec.addresses_among items.now inner.now children.now) }
+    ensures { IfOk result (λ found. found
+        ≡ spec.only (spec.addresses_among items.now inner.now (children_of items.now at))) }
 {
-    let mut found = Vec::new(alloc);
-    for child in children {
-        if is_address(alloc, items, inner, *child)? {
-            found.push(*child)?;
+    let mut found = None;
+    let mut children = Children::of(items, at);
+    while let Some(child) = children.next() {
+        if is_address(alloc, items, inner, child)? {
+            if found.is_some() {
+                return Ok(None);
+            }
+            found = Some(child);
         }
     }
     Ok(found)
-}
-
-// The only one of places.
-fn only(places: &[usize]) -> Option<usize>
-    ensures { result ≡ spec.only places.now }
-{
-    match places {
-        [] => None,
-        [only] => Some(*only),
-        [_, _, ..] => None,
-    }
 }
 
 // The same of the ReplyTo that begins at a place: its only Address.
@@ -207,11 +189,10 @@ pub(crate) fn only_address<'d>(
     ensures unchanged { OnOk result (scopes.new ≡ scopes.old) }
 {
     let layer = declared_in(alloc, behind(items, at))?;
-    let children = children_of(alloc, items, at)?;
     scopes.enter(layer)?;
-    let found = addresses_among(alloc, items, scopes, children.as_slice())?;
+    let found = only_address_in(alloc, items, scopes, at)?;
     scopes.close();
-    Ok(only(found.as_slice()))
+    Ok(found)
 }
 
 // Whether the content of a block that counts isn't what addressing asks of it.
@@ -226,7 +207,7 @@ fn is_bad_content<'d>(
         (λ bad. bad ≡ spec.is_bad_content items.now scopes.old block.now) }
     ensures unchanged { OnOk result (scopes.new ≡ scopes.old) }
 {
-    if is_textual(block) && !has_plain_content(alloc, items, block.from)? {
+    if is_textual(block) && !has_plain_content(items, block.from) {
         return Ok(true);
     }
     if !counts_as(block, "ReplyTo") {
@@ -247,15 +228,18 @@ fn earlier(first: Option<usize>, second: Option<usize>) -> Option<usize>
     }
 }
 
-// The first item of a block that isn't as it should be.
+// The first item of a block with these SOAP attributes that isn't as it should be.
 fn bad_in_block<'d>(
     alloc: Global,
     items: &'d [Item],
     scopes: &mut Scopes<'d>,
     block: &Block<'_>,
+    attributes: &SoapAttributes<'_>,
 ) -> Result<Option<usize>, Memory>
-    requires within { block.now.from < length items.now }
     requires valid { IsTrue (list_all is_valid_item items.now) }
+    requires must_understand { attributes.now.must_understand
+        ≡ blocks.must_understand_of items.now scopes.old block.now.from }
+    requires role { attributes.now.role ≡ blocks.role_of items.now scopes.old block.now.from }
     ensures bad { IfOk result
         (λ bad. bad ≡ spec.bad_in_block items.now scopes.old block.now) }
     ensures unchanged { OnOk result (scopes.new ≡ scopes.old) }
@@ -264,48 +248,87 @@ fn bad_in_block<'d>(
     if name.uri == "" || is_bad_content(alloc, items, scopes, block)? {
         return Ok(Some(block.from));
     }
-    let must_understand = must_understand_of(alloc, items, scopes, block.from)?;
-    let role = role_of(alloc, items, scopes, block.from)?;
-    Ok(earlier(bad_must_understand(&must_understand), bad_role(&role)))
+    Ok(earlier(
+        bad_must_understand(&attributes.must_understand),
+        bad_role(&attributes.role),
+    ))
 }
 
-// The same of a child of Header.
-fn bad_child<'d>(
+// Puts the block that begins at a place behind others, and says which of its items is the first
+// that isn't as it should be.
+fn put_block<'d>(
     alloc: Global,
     items: &'d [Item],
     scopes: &mut Scopes<'d>,
+    found: &mut Blocks<'d>,
+    at: usize,
+) -> Result<Option<usize>, Memory>
+    requires within { at < length items.now }
+    requires valid { IsTrue (list_all is_valid_item items.now) }
+    ensures bad { IfOk result (λ bad. bad
+        ≡ spec.bad_in_block items.now scopes.old (blocks.block_of items.now scopes.old at)) }
+    ensures put { OnOk result
+        (found.new ≡ found.old ++ blocks.block_of items.now scopes.old at ∷ []) }
+    ensures unchanged { OnOk result (scopes.new ≡ scopes.old) }
+{
+    let own = declared_in(alloc, behind(items, at))?;
+    let attributes = soap_attributes(alloc, items, scopes, &own, at)?;
+    let block = block_of(items, scopes, &own, &attributes, at);
+    let bad = bad_in_block(alloc, items, scopes, &block, &attributes)?;
+    found.push(block)?;
+    Ok(bad)
+}
+
+// The same of a child of Header, which is bad where it is no block.
+fn put_child<'d>(
+    alloc: Global,
+    items: &'d [Item],
+    scopes: &mut Scopes<'d>,
+    found: &mut Blocks<'d>,
     at: usize,
 ) -> Result<Option<usize>, Memory>
     requires { IsTrue (list_all is_valid_item items.now) }
     ensures bad { IfOk result (λ bad. bad ≡ spec.bad_child items.now scopes.old at) }
+    ensures put { OnOk result
+        (found.new ≡ found.old ++ blocks.blocks_among items.now scopes.old (at ∷ [])) }
     ensures unchanged { OnOk result (scopes.new ≡ scopes.old) }
 {
     if !is_start(items, at) {
         return Ok(Some(at));
     }
-    let block = block_of(alloc, items, scopes, at)?;
-    bad_in_block(alloc, items, scopes, &block)
+    put_block(alloc, items, scopes, found, at)
 }
 
-// The same of children of Header.
-pub(crate) fn bad_header<'d>(
+// The blocks of a Header, and the first item of it that isn't as it should be.
+#[derive(Drop)]
+pub(crate) struct Header<'d> {
+    pub(crate) blocks: Blocks<'d>,
+    pub(crate) bad: Option<usize>,
+}
+
+// The Header with these children.
+pub(crate) fn header_of<'d>(
     alloc: Global,
     items: &'d [Item],
     scopes: &mut Scopes<'d>,
     children: &[usize],
-) -> Result<Option<usize>, Memory>
+) -> Result<Header<'d>, Memory>
     requires { IsTrue (list_all is_valid_item items.now) }
+    ensures blocks { IfOk result
+        (λ header. header.blocks ≡ blocks.blocks_among items.now scopes.old children.now) }
     ensures bad { IfOk result
-        (λ bad. bad ≡ spec.bad_header items.now scopes.old children.now) }
+        (λ header. header.bad ≡ spec.bad_header items.now scopes.old children.now) }
     ensures unchanged { OnOk result (scopes.new ≡ scopes.old) }
 {
+    let mut found = Blocks::new(alloc);
+    let mut bad = None;
     for child in children {
-        let bad = bad_child(alloc, items, scopes, *child)?;
-        if bad.is_some() {
-            return Ok(bad);
+        let here = put_child(alloc, items, scopes, &mut found, *child)?;
+        if bad.is_none() {
+            bad = here;
         }
     }
-    Ok(None)
+    Ok(Header { blocks: found, bad })
 }
 
 // The beginning of the first block that counts as addressing's of a local name.

@@ -1,5 +1,5 @@
 // The declarations of one element, which are found by their prefixes.
-ghost use Rattle.std.specs.Prelude.{◌≡◌, ℕ, List, IfOk, None, OnOk, Some, if◌then◌else◌, is_some, map, take};
+ghost use Rattle.std.specs.Prelude.{◌≡◌, [], ℕ, List, IfOk, None, OnOk, Some, if◌then◌else◌, is_some, map, take};
 ghost use Rattle.std.specs.Option.{option_copied, option_or};
 ghost use Rattle.std.specs.Str.{bytes_eq};
 ghost use Rattle.soap_envelope.specs.Layers as spec;
@@ -97,6 +97,16 @@ impl<'d> Layer<'d> {
         Ok(Layer { declared, places })
     }
 
+    // That of an element that declares nothing.
+    pub(crate) fn none(alloc: Global) -> Layer<'d>
+        ensures { result ≡ [] }
+    {
+        Layer {
+            declared: Vec::new(alloc),
+            places: BTreeMap::new(alloc),
+        }
+    }
+
     // The declarations.
     pub(crate) fn as_slice(&self) -> &[Declared<'d>]
         ensures { map kept result.now ≡ self.now }
@@ -126,12 +136,23 @@ impl<'d> Layer<'d> {
     }
 
     // What the element declares a prefix to stand for.
-    pub(crate) fn uri_of(&self, prefix: &str) -> Option<&'d str>
+    fn uri_among(&self, prefix: &str) -> Option<&'d str>
         ensures { option_copied result ≡ scope.uri_in self.now prefix.now }
     {
         match self.place_of(prefix) {
             Some(at) => Some(self.declared[at].uri),
             None => None,
         }
+    }
+
+    // The same. Most elements declare nothing.
+    #[inline(always)]
+    pub(crate) fn uri_of(&self, prefix: &str) -> Option<&'d str>
+        ensures { option_copied result ≡ scope.uri_in self.now prefix.now }
+    {
+        if self.declared.is_empty() {
+            return None;
+        }
+        self.uri_among(prefix)
     }
 }

@@ -17,6 +17,7 @@
 mod attributes;
 mod blocks;
 mod body;
+mod characters;
 mod children;
 mod envelope;
 mod faults;
@@ -45,6 +46,3 @@ pub use naming::names_fit;
 pub use refusals::SoapFault;
 pub use report::{Code, FaultReport, Sub};
 pub use taking::take_body;
-
-#[cfg(test)]
-mod tests;

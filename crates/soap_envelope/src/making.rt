@@ -84,7 +84,8 @@ fn response_action(alloc: Global, action: &str) -> Result<Txt, Memory>
     ensures same { IfOk result (λ text. text ≡ spec.response_action action.now) }
     ensures utf8 { IfOk result (λ text. IsTrue (is_utf8 text)) }
 {
-    let mut text = String::from_str(alloc, action)?;
+    let mut text = String::with_capacity(alloc, action.len() + "Response".len())?;
+    text.push_str(action)?;
     text.push_str("Response")?;
     let text = Txt::from(text);
 

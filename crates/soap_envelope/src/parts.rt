@@ -1,12 +1,13 @@
 // The root of an envelope, and which of the root's children are its Header and its Body.
-ghost use Rattle.std.specs.Prelude.{◌≡◌, ◌∷◌, IfOk, IsTrue, Some};
+ghost use Rattle.std.specs.Prelude.{◌≡◌, ◌∷◌, IfOk, IsTrue, Some, drop};
 ghost use Rattle.std.specs.List.{list_all};
 ghost use Rattle.nbfx_values.specs.Items.{is_valid_item};
 ghost use Rattle.soap_envelope.specs.Names.{qualified_name};
 ghost use Rattle.soap_envelope.specs.Parts as spec;
 ghost use Rattle.soap_envelope.specs.Scopes as scope;
+ghost use Rattle.soap_envelope.specs.Scopes.{declared};
 
-use crate::children::{behind, children_of};
+use crate::children::{Children, behind};
 use crate::layers::Layer;
 use crate::namespaces::SOAP;
 use crate::refusals::SoapFault;
@@ -60,11 +61,11 @@ pub(crate) fn kept_children(alloc: Global, items: &[Item], at: usize) -> Result<
     requires { IsTrue (list_all is_valid_item items.now) }
     ensures { IfOk result (λ children. children.items ≡ spec.kept_children items.now at) }
 {
-    let children = children_of(alloc, items, at)?;
     let mut kept = Vec::new(alloc);
-    for child in children.as_slice() {
-        if !is_passed(alloc, items, *child)? {
-            kept.push(*child)?;
+    let mut children = Children::of(items, at);
+    while let Some(child) = children.next() {
+        if !is_passed(alloc, items, child)? {
+            kept.push(child)?;
         }
     }
     Ok(kept)
@@ -92,17 +93,17 @@ fn wrong_name(uri: &str, local: &str) -> Option<SoapFault>
     }
 }
 
-// What is wrong with the root.
-pub(crate) fn wrong_root(alloc: Global, items: &[Item]) -> Result<Option<SoapFault>, Memory>
-    ensures { IfOk result (λ wrong. wrong ≡ spec.wrong_root items.now) }
+// What is wrong with the root, which has these declarations.
+pub(crate) fn wrong_root<'d>(alloc: Global, items: &'d [Item], own: &Layer<'d>) -> Option<SoapFault>
+    requires { own.now ≡ declared (drop 1 items.now) }
+    ensures { result ≡ spec.wrong_root items.now }
 {
     match items.get(0) {
         Some(Item::Start { prefix, local }) => {
             let outer = Scopes::new(alloc);
-            let own = declared_in(alloc, behind(items, 0))?;
-            Ok(wrong_name(element_uri(&outer, &own, prefix), local.as_str()))
+            wrong_name(element_uri(&outer, own, prefix), local.as_str())
         }
-        _ => Ok(Some(SoapFault::NotAnEnvelope)),
+        _ => Some(SoapFault::NotAnEnvelope),
     }
 }
 

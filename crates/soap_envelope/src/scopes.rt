@@ -46,11 +46,17 @@ fn declarations_in<'d>(alloc: Global, behind: &'d [Item]) -> Result<Vec<Declared
 }
 
 // The declarations at the head of what stands behind the beginning of an element.
+// Most elements have no attributes.
 pub(crate) fn declared_in<'d>(alloc: Global, behind: &'d [Item]) -> Result<Layer<'d>, Memory>
     ensures { IfOk result (λ layer. layer ≡ declared behind.now) }
 {
-    let declarations = declarations_in(alloc, behind)?;
-    Layer::of(alloc, declarations)
+    match behind {
+        [Item::Xmlns { .. } | Item::Attr { .. }, ..] => {
+            let declarations = declarations_in(alloc, behind)?;
+            Layer::of(alloc, declarations)
+        }
+        _ => Ok(Layer::none(alloc)),
+    }
 }
 
 // The declarations among an array's attributes.

@@ -1,27 +1,54 @@
 //! The content of Body, taken out of its document.
 
 ghost use Rattle.std.specs.Prelude.{◌≡◌, ◌+◌, ◌≤◌, [], IfOk, IfSome, IsTrue, Some, drop, length, slice_get, take, true};
+ghost use Rattle.std.specs.List.{list_all};
 ghost use Rattle.soap_envelope.specs.Body as spec;
-ghost use Rattle.soap_envelope.specs.Body.{behind_head, needed, self_standing};
+ghost use Rattle.soap_envelope.specs.Body.{behind_head, is_usual, needed, self_standing};
 ghost use Rattle.soap_envelope.specs.Children.{is_start};
 ghost use Rattle.soap_envelope.specs.Fitting.{fits, fitting};
 ghost use Rattle.soap_envelope.specs.Making.{IsContent};
 ghost use Rattle.soap_envelope.specs.Parts.{root_scope};
-ghost use Rattle.soap_envelope.specs.Scopes.{within};
+ghost use Rattle.soap_envelope.specs.Scopes.{declared, within};
 
-use crate::body::{behind_head, body_items, needed_at};
+use crate::body::{behind_head, body_items, is_usual, needed_at};
 use crate::children::{behind, open_behind};
 use crate::fitting::content_fits;
+use crate::layers::Declared;
 use crate::moving::moved;
 use nbfx_values::{Doc, Item, Items, Quotas};
 use std::alloc::Global;
 use unit_streams::Memory;
 
-// Whether children of the Body that begins at a place need no declaration.
+// Whether an element declares nothing but what every reply does, where this stands behind its
+// beginning.
+fn declares_the_usual(behind: &[Item]) -> bool
+    ensures { result ≡ list_all is_usual (declared behind.now) }
+{
+    for item in behind {
+        match item {
+            Item::Xmlns { prefix, uri } => {
+                let (prefix, uri) = (prefix.as_str(), uri.as_str());
+                if !is_usual(&Declared { prefix, uri }) {
+                    return false;
+                }
+            }
+            Item::Attr { .. } => {}
+            _ => return true,
+        }
+    }
+    true
+}
+
+// Whether children of the Body that begins at a place need no declaration. Most don't, which is
+// seen without memory.
+#[tactic(auto, using(crate::proofs::Usual::needs_none))]
 fn needs_nothing(alloc: Global, items: &[Item], at: usize) -> Result<bool, Memory>
     ensures { IfOk result (λ nothing. nothing ≡ true
         → needed (within items.now at (root_scope items.now)) ≡ []) }
 {
+    if declares_the_usual(behind(items, 0)) && declares_the_usual(behind(items, at)) {
+        return Ok(true);
+    }
     let needs = needed_at(alloc, items, at)?;
     Ok(needs.is_empty())
 }

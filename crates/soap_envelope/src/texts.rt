@@ -7,7 +7,8 @@ ghost use Rattle.nbfx_values.specs.Scalars.{is_valid_value};
 ghost use Rattle.soap_envelope.specs.Characters as spec;
 ghost use Rattle.soap_envelope.specs.Characters.{are_white, is_white};
 
-use crate::children::children_of;
+use crate::characters::{characters_in, has_characters};
+use crate::children::Children;
 use nbfx_values::{Item, Txt, Value};
 use std::alloc::Global;
 use unit_streams::Memory;
@@ -27,7 +28,7 @@ fn has_only_white(alloc: Global, value: &Value) -> Result<bool, Memory>
     requires { IsTrue (is_valid_value value.now) }
     ensures { IfOk result (λ white. white ≡ are_white (value_characters value.now)) }
 {
-    Ok(match value.characters(alloc)? {
+    Ok(match characters_in(alloc, value)? {
         Some(characters) => is_blank(characters.as_str()),
         None => false,
     })
@@ -47,29 +48,27 @@ pub(crate) fn is_passed(alloc: Global, items: &[Item], at: usize) -> Result<bool
 
 // Whether the child at a place may stand where characters are wanted: a comment or a text with
 // characters.
-fn is_plain(alloc: Global, items: &[Item], at: usize) -> Result<bool, Memory>
-    requires { IsTrue (list_all is_valid_item items.now) }
-    ensures { IfOk result (λ plain. plain ≡ spec.is_plain (slice_get items.now at)) }
+fn is_plain(items: &[Item], at: usize) -> bool
+    ensures { result ≡ spec.is_plain (slice_get items.now at) }
 {
     match items.get(at) {
-        Some(Item::Comment(_)) => Ok(true),
-        Some(Item::Text(value)) => Ok(value.characters(alloc)?.is_some()),
-        _ => Ok(false),
+        Some(Item::Comment(_)) => true,
+        Some(Item::Text(value)) => has_characters(value),
+        _ => false,
     }
 }
 
 // Whether all children of the element that begins at a place are.
-pub(crate) fn has_plain_content(alloc: Global, items: &[Item], at: usize) -> Result<bool, Memory>
-    requires { IsTrue (list_all is_valid_item items.now) }
-    ensures { IfOk result (λ plain. plain ≡ spec.has_plain_content items.now at) }
+pub(crate) fn has_plain_content(items: &[Item], at: usize) -> bool
+    ensures { result ≡ spec.has_plain_content items.now at }
 {
-    let children = children_of(alloc, items, at)?;
-    for child in children.as_slice() {
-        if !is_plain(alloc, items, *child)? {
-            return Ok(false);
+    let mut children = Children::of(items, at);
+    while let Some(child) = children.next() {
+        if !is_plain(items, child) {
+            return false;
         }
     }
-    Ok(true)
+    true
 }
 
 // Puts the characters of the text at a place behind others, if a text stands there.
@@ -79,7 +78,7 @@ fn put_characters(alloc: Global, text: &mut String, items: &[Item], at: usize) -
         ≡ string_bytes text.old ++ spec.characters_of (slice_get items.now at)) }
 {
     if let Some(Item::Text(value)) = items.get(at) {
-        if let Some(characters) = value.characters(alloc)? {
+        if let Some(characters) = characters_in(alloc, value)? {
             text.push_str(characters.as_str())?;
             return Ok(());
         }
@@ -92,10 +91,10 @@ pub(crate) fn text_of(alloc: Global, items: &[Item], at: usize) -> Result<Txt, M
     requires { IsTrue (list_all is_valid_item items.now) }
     ensures { IfOk result (λ text. text ≡ spec.text_of items.now at) }
 {
-    let children = children_of(alloc, items, at)?;
     let mut text = String::new(alloc);
-    for child in children.as_slice() {
-        put_characters(alloc, &mut text, items, *child)?;
+    let mut children = Children::of(items, at);
+    while let Some(child) = children.next() {
+        put_characters(alloc, &mut text, items, child)?;
     }
     Ok(Txt::from(text))
 }

@@ -2,7 +2,7 @@ use Rattle.std.proofs.Common.{◌≡◌, ◌∙◌, ◌<◌, Some, ap, arith, ge
 use Rattle.std.proofs.lemmas.List.{get_or-map, length-map}
 use Rattle.soap_envelope.specs.Layers.{kept, place_of}
 use Rattle.soap_envelope.proofs.LayerFacts.{place-none, place-within, uri-at_place}
-use Rattle.soap_envelope.proofs.layers.Layer.uri_of.Goals as goal
+use Rattle.soap_envelope.proofs.layers.Layer.uri_among.Goals as goal
 
 pub index-requires : goal.index-requires
 index-requires c =

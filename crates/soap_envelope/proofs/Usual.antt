@@ -1,0 +1,45 @@
+-- Where the root and Body declare nothing but what every reply does, children need no declaration.
+use Rattle.std.proofs.Common.{◌≡◌, [], ◌∷◌, List, Bool, true, not, refl}
+use Rattle.std.specs.Cmp.Lexicographic.{slice_cmp}
+use Rattle.std.specs.List.{filter, list_all}
+use Rattle.std.specs.Ordering.{nat_cmp}
+use Rattle.std.specs.declared.cmp.Ordering.{Ordering}
+use Rattle.std.specs.declared.cmp.Ordering.TheVariants.{Less, Equal, Greater}
+use Rattle.std.proofs.lemmas.Bool.{and_parts}
+use Rattle.soap_envelope.specs.Body.{is_usual, needed, placed, put, put_all}
+use Rattle.soap_envelope.specs.Scopes.{Declaration}
+
+all-placed : (p : Declaration → Bool) (o : Ordering) (d e : Declaration)
+    (more behind : List Declaration)
+    → p d ≡ true → list_all p (e ∷ more) ≡ true → list_all p behind ≡ true
+    → list_all p (placed o d e more behind) ≡ true
+all-placed p Less d e more behind h k b = rw h k
+all-placed p Equal d e more behind h k b = rw h (and_parts (p e) (list_all p more) k).1
+all-placed p Greater d e more behind h k b = rw (and_parts (p e) (list_all p more) k).0 b
+
+all-put : (p : Declaration → Bool) (d : Declaration) (ds : List Declaration)
+    → p d ≡ true → list_all p ds ≡ true → list_all p (put d ds) ≡ true
+all-put p d [] h k = rw h refl
+all-put p d (e ∷ more) h k =
+    all-placed p (slice_cmp nat_cmp d.prefix e.prefix) d e more (put d more) h k
+    (all-put p d more h (and_parts (p e) (list_all p more) k).1)
+
+all-put-all : (p : Declaration → Bool) (ds others : List Declaration)
+    → list_all p ds ≡ true → list_all p others ≡ true → list_all p (put_all ds others) ≡ true
+all-put-all p [] others h k = k
+all-put-all p (d ∷ more) others h k =
+    let parts = and_parts (p d) (list_all p more) h in
+    all-put-all p more (put d others) parts.1 (all-put p d others parts.0 k)
+
+none-left : (p : Declaration → Bool) (ds : List Declaration) → list_all p ds ≡ true
+    → filter (λ d. not (p d)) ds ≡ []
+none-left p [] h = refl
+none-left p (d ∷ more) h =
+    let parts = and_parts (p d) (list_all p more) h in
+    rw parts.0 (none-left p more parts.1)
+
+pub needs_none : (root body : List Declaration) → list_all is_usual root ≡ true
+    → list_all is_usual body ≡ true → needed (body ∷ root ∷ []) ≡ []
+needs_none root body h k =
+    none-left is_usual (put_all body (put_all root []))
+    (all-put-all is_usual body (put_all root []) k (all-put-all is_usual root [] h refl))

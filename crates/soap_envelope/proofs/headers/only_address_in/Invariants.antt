@@ -1,0 +1,14 @@
+-- The Address found so far, and those to come.
+use Rattle.std.proofs.Common.{◌≡◌, ◌++◌, length}
+use Rattle.std.specs.Option.{option_to_list}
+use Rattle.soap_envelope.specs.Children.{children_of}
+use Rattle.soap_envelope.specs.Headers.{addresses_among, only}
+use Rattle.soap_envelope.proofs.headers.only_address_in.Given as goal
+
+abbrev pub invariant-loop-child : goal.invariant-loop-child
+invariant-loop-child l =
+    only (option_to_list l.found ++ addresses_among l.items l.inner l.children)
+    ≡ only (addresses_among l.items l.inner (children_of l.items l.at))
+
+abbrev pub decreases-loop-child : goal.decreases-loop-child
+decreases-loop-child l = length l.children

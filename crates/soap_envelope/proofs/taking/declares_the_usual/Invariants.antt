@@ -1,0 +1,11 @@
+-- The declarations so far are usual, so the rest gives the answer.
+use Rattle.std.proofs.Common.{◌≡◌, drop}
+use Rattle.std.specs.List.{list_all}
+use Rattle.soap_envelope.specs.Body.{is_usual}
+use Rattle.soap_envelope.specs.Scopes.{declared}
+use Rattle.soap_envelope.proofs.taking.declares_the_usual.Given as goal
+
+abbrev pub invariant-loop-item : goal.invariant-loop-item
+invariant-loop-item l =
+    list_all is_usual (declared (drop l.item-index l.behind))
+    ≡ list_all is_usual (declared l.behind)
