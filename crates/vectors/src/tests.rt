@@ -19,7 +19,9 @@ mod replays;
 mod replies;
 mod serves;
 mod words;
+mod worked_builds;
 mod worked_quotas;
+mod worked_replays;
 mod worked_streams;
 
 const SESSION: &[u8] = b"\x00\x01\x00\x01\x02\x02\x0Dnet.tcp://h/e\x03\x08\x0C\x07";
@@ -63,6 +65,19 @@ fn shelf_of(
 ) -> Result<MemoryShelf, AllocError> {
     let mut files = BTreeMap::new(alloc);
     files.insert(String::from_str(alloc, "S")?, file.to_vec(alloc)?)?;
+    Ok(MemoryShelf::new(files, failing.to_vec(alloc)?))
+}
+
+// The same with another file of that name.
+fn shelf_with(
+    alloc: Global,
+    name: &str,
+    file: &[u8],
+    failing: &'static [u64],
+) -> Result<MemoryShelf, AllocError> {
+    let mut files = BTreeMap::new(alloc);
+    files.insert(String::from_str(alloc, "S")?, STATICS.to_vec(alloc)?)?;
+    files.insert(String::from_str(alloc, name)?, file.to_vec(alloc)?)?;
     Ok(MemoryShelf::new(files, failing.to_vec(alloc)?))
 }
 
@@ -168,31 +183,65 @@ fn push_call(stream: &mut Vec<u8>, size: u8, strings: &[u8]) -> Result<(), Alloc
     stream.extend_from_slice(DOCUMENT)
 }
 
-// A session of two calls; the second names the string of the first.
-fn two_calls(alloc: Global) -> Result<Vec<u8>, AllocError> {
+// A session of so many calls; those after the first name its string.
+fn session_of_calls(alloc: Global, count: usize) -> Result<Vec<u8>, AllocError> {
     let mut stream = PREAMBLE.to_vec(alloc)?;
     push_call(&mut stream, 60, b"\x02\x01x")?;
-    push_call(&mut stream, 58, b"\x00")?;
+    for _ in 1..count {
+        push_call(&mut stream, 58, b"\x00")?;
+    }
     stream.push(7)?;
     Ok(stream)
 }
 
+fn two_calls(alloc: Global) -> Result<Vec<u8>, AllocError> {
+    session_of_calls(alloc, 2)
+}
+
+// The lines of so many calls.
+fn lines_of_calls(alloc: Global, count: usize) -> Result<Vec<u8>, AllocError> {
+    let mut lines = Vec::new(alloc);
+    for _ in 0..count {
+        lines.extend_from_slice(LINES.as_bytes())?;
+    }
+    Ok(lines)
+}
+
+// Some bytes in parts, which stand one behind the other.
+type Parts = &'static [&'static [u8]];
+
+fn joined(alloc: Global, parts: &[&[u8]]) -> Result<Vec<u8>, AllocError> {
+    let mut bytes = Vec::new(alloc);
+    for part in parts {
+        bytes.extend_from_slice(part)?;
+    }
+    Ok(bytes)
+}
+
 #[test]
 fn calls_are_reported_in_any_pieces(rt: HostRuntime) -> Result<(), Fail> {
-    let stream = two_calls(rt.alloc())?;
-    let want =
-        "open duplex 8 \"net.tcp://h/e\"\nmessage 0 payload 60 items 18 depth 3 content 165 strings 1 used 1\nmessage 1 payload 58 items 18 depth 3 content 165 strings 1 used 1\nended 146\n";
-    for most in [65_536, 61, 7, 1] {
-        let outside = Outside { most, ..SURE };
-        assert_left(&rt, &stream, outside, 0, want, b"")?;
+    let table: [(usize, &str); 2] = [
+        (
+            1,
+            "open duplex 8 \"net.tcp://h/e\"\nmessage 0 payload 60 items 18 depth 3 content 165 strings 1 used 1\nended 86\n",
+        ),
+        (
+            2,
+            "open duplex 8 \"net.tcp://h/e\"\nmessage 0 payload 60 items 18 depth 3 content 165 strings 1 used 1\nmessage 1 payload 58 items 18 depth 3 content 165 strings 1 used 1\nended 146\n",
+        ),
+    ];
+    for (count, report) in table {
+        let stream = session_of_calls(rt.alloc(), count)?;
+        for most in [65_536, 61, 7, 1] {
+            let outside = Outside { most, ..SURE };
+            assert_left(&rt, &stream, outside, 0, report, b"")?;
+        }
     }
     Ok(())
 }
 
-// What `dump` shows of two calls.
-const TWO_DOCUMENTS: &str = r#"open duplex 8 "net.tcp://h/e"
-message 0 payload 60 items 18 depth 3 content 165 strings 1 used 1
-start "s" "Envelope"
+// The lines of the document of a call.
+const LINES: &str = r#"start "s" "Envelope"
 ns "s" "http://www.w3.org/2003/05/soap-envelope"
 ns "a" "http://www.w3.org/2005/08/addressing"
 start "s" "Header"
@@ -210,35 +259,43 @@ text string "hi"
 close
 close
 close
-message 1 payload 58 items 18 depth 3 content 165 strings 1 used 1
-start "s" "Envelope"
-ns "s" "http://www.w3.org/2003/05/soap-envelope"
-ns "a" "http://www.w3.org/2005/08/addressing"
-start "s" "Header"
-start "a" "Action"
-attr "s" "mustUnderstand" number 1
-text string "urn:echo"
-close
-start "a" "MessageID"
-text id 00112233-4455-6677-8899-aabbccddeeff
-close
-close
-start "s" "Body"
-start "" "x"
-text string "hi"
-close
-close
-close
-ended 146
 "#;
+
+// What `dump` shows of calls, by the lines of their messages, and of the session's end.
+fn dump_of(alloc: Global, messages: &[&str], end: &str) -> Result<String, AllocError> {
+    let mut shown = String::from_str(alloc, OPEN)?;
+    for message in messages {
+        shown.push_str(message)?;
+        shown.push_str(LINES)?;
+    }
+    shown.push_str(end)?;
+    Ok(shown)
+}
+
+// What it shows of one call.
+fn one_document(alloc: Global) -> Result<String, AllocError> {
+    let first = "message 0 payload 60 items 18 depth 3 content 165 strings 1 used 1\n";
+    dump_of(alloc, &[first], "ended 86\n")
+}
+
+// The same of two.
+fn two_documents(alloc: Global) -> Result<String, AllocError> {
+    let first = "message 0 payload 60 items 18 depth 3 content 165 strings 1 used 1\n";
+    let second = "message 1 payload 58 items 18 depth 3 content 165 strings 1 used 1\n";
+    dump_of(alloc, &[first, second], "ended 146\n")
+}
 
 #[test]
 fn documents_are_dumped_in_any_pieces(rt: HostRuntime) -> Result<(), Fail> {
-    let stream = two_calls(rt.alloc())?;
+    let one = session_of_calls(rt.alloc(), 1)?;
+    let two = two_calls(rt.alloc())?;
+    let shown = one_document(rt.alloc())?;
+    let both = two_documents(rt.alloc())?;
     let words = ["nettcp", "dump", "--static=S"];
     for most in [65_536, 61, 7, 1] {
         let outside = Outside { most, ..SURE };
-        assert_ran(&rt, &words, &stream, outside, 0, TWO_DOCUMENTS, b"")?;
+        assert_ran(&rt, &words, &one, outside, 0, shown.as_str(), b"")?;
+        assert_ran(&rt, &words, &two, outside, 0, both.as_str(), b"")?;
     }
     Ok(())
 }
@@ -246,9 +303,10 @@ fn documents_are_dumped_in_any_pieces(rt: HostRuntime) -> Result<(), Fail> {
 #[test]
 fn a_dump_that_is_broken_off_keeps_the_documents_before(rt: HostRuntime) -> Result<(), Fail> {
     let stream = two_calls(rt.alloc())?;
+    let shown = two_documents(rt.alloc())?;
     let words = ["nettcp", "dump", "--static", "S"];
-    let first = TWO_DOCUMENTS.get(..459).unwrap_or("");
-    let cut = TWO_DOCUMENTS.get(..466).unwrap_or("");
+    let first = shown.as_str().get(..459).unwrap_or("");
+    let cut = shown.as_str().get(..466).unwrap_or("");
     let rest = stream.get(85..).unwrap_or(b"");
     // The preamble and the first call come with the first take.
     let broken = Outside {
@@ -291,7 +349,7 @@ fn quotas_are_set_by_words(rt: HostRuntime) -> Result<(), Fail> {
 
 #[test]
 fn streams_are_reported_in_any_pieces(rt: HostRuntime) -> Result<(), Fail> {
-    let table: [(&[u8], u8, &str); 10] = [
+    let table: [(&[u8], u8, &str); 11] = [
         (SESSION, 0, "open duplex 8 \"net.tcp://h/e\"\nended 24\n"),
         (b"", 1, "offence frame 0 24 Truncated\n"),
         (
@@ -309,6 +367,12 @@ fn streams_are_reported_in_any_pieces(rt: HostRuntime) -> Result<(), Fail> {
             PREAMBLE,
             1,
             "open duplex 8 \"net.tcp://h/e\"\noffence frame 23 24 Truncated\n",
+        ),
+        // An upgrade where the preamble would end.
+        (
+            b"\x00\x01\x00\x01\x02\x02\x0Dnet.tcp://h/e\x03\x08\x09",
+            1,
+            "offence frame 22 10 UpgradeRefused\n",
         ),
         (
             b"\x00\x01\x00\x01\x02\x02\x05a\"\\\xC3\xA9\x03\x07\x0C\x07",

@@ -1,7 +1,7 @@
 // Documents in lines through the whole program: the session that `build` writes of them.
 use super::*;
 
-const BUILD: [&str; 6] = ["nettcp", "build", "--static", "S", "--via", "net.tcp://h/e"];
+pub const BUILD: [&str; 6] = ["nettcp", "build", "--static", "S", "--via", "net.tcp://h/e"];
 
 const IN_SINGLETON_MODE: [&str; 7] = [
     "nettcp",
@@ -16,11 +16,11 @@ const IN_SINGLETON_MODE: [&str; 7] = [
 const SINGLETON: &[u8] = b"\x00\x01\x00\x01\x01\x02\x0Dnet.tcp://h/e\x03\x07\x0C";
 
 // Of an element `x`, the first in its session and the next.
-const FIRST: &[u8] = b"\x06\x06\x02\x01x\x42\x01\x01";
+pub const FIRST: &[u8] = b"\x06\x06\x02\x01x\x42\x01\x01";
 
-const NEXT: &[u8] = b"\x06\x04\x00\x42\x01\x01";
+pub const NEXT: &[u8] = b"\x06\x04\x00\x42\x01\x01";
 
-const X: &[u8] = b"start \"\" \"x\"\nclose\n";
+pub const X: &[u8] = b"start \"\" \"x\"\nclose\n";
 
 // Some lines, and what is left of them: the status, the note, and whether the session is written
 // with no envelope, with the first or with both, and with its End.
@@ -51,7 +51,7 @@ fn refused_at(lines: &'static [u8], envelopes: usize, note: &'static str) -> Cas
 }
 
 // What is written behind a preamble: so many envelopes, and End where the status is 0.
-fn session(
+pub fn session(
     alloc: Global,
     preamble: &[u8],
     envelopes: &[&[u8]],
@@ -68,7 +68,7 @@ fn session(
 }
 
 // Asserts what these words leave of lines.
-fn assert_built(
+pub fn assert_built(
     rt: &(impl Abort + AllocGlobal),
     words: &[&str],
     lines: &[u8],
@@ -198,16 +198,21 @@ fn a_session_in_singleton_mode_has_one_document(rt: HostRuntime) -> Result<(), F
 
 #[test]
 fn a_call_is_built_of_what_is_dumped(rt: HostRuntime) -> Result<(), Fail> {
-    let stream = two_calls(rt.alloc())?;
-    // The lines of the first document, as often as there are envelopes.
-    let lines = TWO_DOCUMENTS.get(97..459).unwrap_or("");
-    let mut both = String::from_str(rt.alloc(), lines)?;
-    both.push_str(lines)?;
-    for most in [65_536, 7, 1] {
-        let outside = Outside { most, ..SURE };
-        assert_built(&rt, &BUILD, both.as_bytes(), outside, &stream, 0, "")?;
+    let empty = joined(
+        rt.alloc(),
+        &[b"\n\n", LINES.as_bytes(), b"\n\n\n", LINES.as_bytes()],
+    )?;
+    for count in [1, 2] {
+        let stream = session_of_calls(rt.alloc(), count)?;
+        let lines = lines_of_calls(rt.alloc(), count)?;
+        for most in [65_536, 7, 1] {
+            let outside = Outside { most, ..SURE };
+            assert_built(&rt, &BUILD, &lines, outside, &stream, 0, "")?;
+        }
     }
-    Ok(())
+    // Empty lines stand between documents.
+    let both = two_calls(rt.alloc())?;
+    assert_built(&rt, &BUILD, &empty, SURE, &both, 0, "")
 }
 
 #[test]
@@ -251,9 +256,15 @@ fn what_does_not_fit_is_named(rt: HostRuntime) -> Result<(), Fail> {
 }
 
 // A document whose text has so many letters.
-fn long_document(alloc: Global, letters: usize) -> Result<Vec<u8>, AllocError> {
-    let mut lines = b"start \"\" \"x\"\ntext string \"".to_vec(alloc)?;
-    let text = vec![in alloc; b'y'; letters]?;
+pub fn long_document(
+    alloc: Global,
+    name: &str,
+    letter: u8,
+    letters: usize,
+) -> Result<Vec<u8>, AllocError> {
+    let parts: [&[u8]; 3] = [b"start \"\" \"", name.as_bytes(), b"\"\ntext string \""];
+    let mut lines = joined(alloc, &parts)?;
+    let text = vec![in alloc; letter; letters]?;
     lines.extend_from_slice(&text)?;
     lines.extend_from_slice(b"\"\nclose\n")?;
     Ok(lines)
@@ -261,7 +272,7 @@ fn long_document(alloc: Global, letters: usize) -> Result<Vec<u8>, AllocError> {
 
 #[test]
 fn a_line_of_a_megabyte_is_read(rt: HostRuntime) -> Result<(), Fail> {
-    let lines = long_document(rt.alloc(), 1_048_576)?;
+    let lines = long_document(rt.alloc(), "x", b'y', 1_048_576)?;
     let written = session(rt.alloc(), PREAMBLE, &[], 7)?;
     let content = "document 0 does not fit: content 1048577\n";
     assert_built(&rt, &BUILD, &lines, SURE, &written, 7, content)?;
@@ -349,9 +360,10 @@ fn the_preamble_is_written_before_the_first_line_is_read(rt: HostRuntime) -> Res
 }
 
 // What stands in the element `x`, and the envelope of that document.
-const CONTENTS: [(&[u8], &[u8]); 14] = [
+const CONTENTS: [(&[u8], &[u8]); 15] = [
     (b"text number 0\n", b"\x06\x06\x02\x01x\x42\x01\x81"),
     (b"text number 1\n", b"\x06\x06\x02\x01x\x42\x01\x83"),
+    (b"text number 127\n", b"\x06\x07\x02\x01x\x42\x01\x89\x7F"),
     (b"text number -128\n", b"\x06\x07\x02\x01x\x42\x01\x89\x80"),
     (
         b"text number 128\n",

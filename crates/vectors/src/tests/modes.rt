@@ -18,7 +18,12 @@ fn assert_reported(
 
 #[test]
 fn a_message_in_chunks(rt: HostRuntime) -> Result<(), Fail> {
-    let table: [(&[u8], u8, &str); 5] = [
+    let table: [(&[u8], u8, &str); 6] = [
+        (
+            b"\x00\x01\x00\x01\x01\x02\x0Dnet.tcp://h/e\x03\x07\x0C\x05\x01\x40\x01\x01\x01x\x01\x01\x00\x07",
+            0,
+            "open singleton 7 \"net.tcp://h/e\"\nmessage 0 payload 4 items 2 depth 1 content 1 strings 0 used 0\nended 34\n",
+        ),
         (
             b"\x00\x01\x00\x01\x01\x02\x01a\x03\x07\x0C\x05\x01\x40\x01\x01\x01\x78\x01\x01\x00\x07",
             0,

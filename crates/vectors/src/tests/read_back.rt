@@ -3,8 +3,9 @@ use super::captures::{
     ONE, ONE_REPLIES, ONEWAY5, ONEWAY5_REPLIES, STREAMED, STREAMED_REPLIES, TWENTY, TWENTY_REPLIES,
 };
 use super::*;
+use document_lists::read_documents;
 use io_edges::SinkFault;
-use line_notation::{LineFault, LineReader, LineStep, print};
+use line_notation::print;
 use nbfx_values::Docs;
 
 fn is_of_a_document(line: &str) -> bool {
@@ -17,27 +18,15 @@ fn is_of_a_document(line: &str) -> bool {
 }
 
 // The lines of the documents in a dump.
-fn document_lines(alloc: Global, dump: &str) -> Result<Vec<&str>, AllocError> {
-    let mut lines = Vec::new(alloc);
+fn document_lines(alloc: Global, dump: &str) -> Result<String, AllocError> {
+    let mut lines = String::new(alloc);
     for line in dump.lines() {
         if is_of_a_document(line) {
-            lines.push(line)?;
+            lines.push_str(line)?;
+            lines.push('\n')?;
         }
     }
     Ok(lines)
-}
-
-// The documents that the lines are of.
-fn read(alloc: Global, lines: &[&str]) -> Result<Docs, LineFault> {
-    let mut reader = LineReader::new(alloc);
-    let mut docs = Docs::new(alloc);
-    for line in lines {
-        if let LineStep::Done(doc) = reader.line(line.as_bytes())? {
-            docs.push(doc)?;
-        }
-    }
-    reader.finish()?;
-    Ok(docs)
 }
 
 fn printed(alloc: Global, docs: &Docs) -> Result<MemorySink, SinkFault> {
@@ -86,11 +75,12 @@ fn assert_read_back(
     assert_eq!(rt; ran.status, status);
     let dump = str::from_utf8(ran.output.bytes())?;
     let lines = document_lines(alloc, dump)?;
-    let docs = read(alloc, lines.as_slice())?;
+    let Ok(docs) = read_documents(alloc, lines.as_bytes()) else {
+        return Err("no documents".into());
+    };
     assert_eq!(rt; docs.len(), documents);
     let again = printed(alloc, &docs)?;
-    let again = document_lines(alloc, str::from_utf8(again.bytes())?)?;
-    assert!(rt; again.as_slice() == lines.as_slice());
+    assert!(rt; again.bytes() == lines.as_bytes());
     Ok(())
 }
 

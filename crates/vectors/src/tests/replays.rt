@@ -2,18 +2,16 @@
 use super::*;
 
 // The answer to a call, behind its strings.
-const ANSWER: &[u8] =
+pub const ANSWER: &[u8] =
     b"V\x02\x0B\x01s\x04\x0B\x01a\x06V\x08D\x0A\x1E\x00\x82\x99\x10urn:echoResponseD\x12\xAD3\x22\x11\x00UDwf\x88\x99\xAA\xBB\xCC\xDD\xEE\xFF\x01V\x0EB\x01\x99\x02hi\x01\x01";
 
 // The first bytes of the texts of Fault records.
-const FAULTS: &[u8] = b"http://schemas.microsoft.com/ws/2006/05/framing/faults/";
+pub const FAULTS: &[u8] = b"http://schemas.microsoft.com/ws/2006/05/framing/faults/";
 
-fn joined(alloc: Global, parts: &[&[u8]]) -> Result<Vec<u8>, AllocError> {
-    let mut bytes = Vec::new(alloc);
-    for part in parts {
-        bytes.extend_from_slice(part)?;
-    }
-    Ok(bytes)
+// What is owed for a call.
+pub fn one_answer(alloc: Global) -> Result<Vec<u8>, AllocError> {
+    let first: &[u8] = b"\x0B\x06\x44\x02\x01x";
+    joined(alloc, &[first, ANSWER, b"\x07"])
 }
 
 // What is owed for two calls.
@@ -25,7 +23,7 @@ pub fn two_answers(alloc: Global) -> Result<Vec<u8>, AllocError> {
 
 // Asserts what `replay` with one more option leaves of a stream: the status, what is written, and
 // the note.
-fn assert_replayed(
+pub fn assert_replayed(
     rt: &(impl Abort + AllocGlobal),
     option: &str,
     stream: &[u8],
@@ -44,7 +42,7 @@ fn assert_replayed(
 }
 
 // An option that changes nothing.
-const NONE: &str = "--depth=32";
+pub const NONE: &str = "--depth=32";
 
 #[test]
 fn calls_are_echoed_in_any_pieces(rt: HostRuntime) -> Result<(), Fail> {
@@ -58,7 +56,7 @@ fn calls_are_echoed_in_any_pieces(rt: HostRuntime) -> Result<(), Fail> {
 }
 
 // The Fault record of a text, behind these bytes.
-fn refused(alloc: Global, front: &[u8], text: &[u8]) -> Result<Vec<u8>, AllocError> {
+pub fn refused(alloc: Global, front: &[u8], text: &[u8]) -> Result<Vec<u8>, AllocError> {
     joined(alloc, &[front, FAULTS, text])
 }
 
@@ -131,26 +129,47 @@ fn faults_go_before_offences(rt: HostRuntime) -> Result<(), Fail> {
     assert_replayed(&rt, NONE, PREAMBLE, full, 4, b"\x0B", "write fault\n")
 }
 
-// The static strings, and a file of actions.
-fn shelf_with(alloc: Global, actions: Option<&[u8]>) -> Result<MemoryShelf, AllocError> {
-    let mut files = BTreeMap::new(alloc);
-    files.insert(String::from_str(alloc, "S")?, STATICS.to_vec(alloc)?)?;
-    if let Some(actions) = actions {
-        files.insert(String::from_str(alloc, "A")?, actions.to_vec(alloc)?)?;
-    }
-    Ok(MemoryShelf::new(files, Vec::new(alloc)))
+// A take that fails after the first call, and a put that fails with its second answer.
+#[test]
+fn the_first_answer_is_written_before_a_failure(rt: HostRuntime) -> Result<(), Fail> {
+    let stream = two_calls(rt.alloc())?;
+    let written = two_answers(rt.alloc())?;
+    let first = written.get(..71).unwrap_or(b"");
+    let broken = Outside {
+        most: 85,
+        takes: &[1],
+        ..SURE
+    };
+    assert_replayed(&rt, NONE, &stream, broken, 3, first, "read fault\n")?;
+    let cut = written.get(..74).unwrap_or(b"");
+    let full = Outside {
+        most: 85,
+        puts: &[1],
+        kept: 3,
+        ..SURE
+    };
+    assert_replayed(&rt, NONE, &stream, full, 4, cut, "write fault\n")
 }
 
-// What is left of a stream that is answered by a file of actions.
-fn replay_with(
+// The static strings, and a file of actions.
+fn shelf_of_actions(alloc: Global, actions: Option<&[u8]>) -> Result<MemoryShelf, AllocError> {
+    match actions {
+        Some(file) => shelf_with(alloc, "A", file, &[]),
+        None => shelf_of(alloc, STATICS, &[]),
+    }
+}
+
+// What is left of a stream that is answered by a file of actions, with so many bytes a take.
+pub fn replay_with(
     alloc: Global,
     actions: Option<&[u8]>,
     stream: &[u8],
+    most: usize,
     notes: &mut MemorySink,
 ) -> Result<Ran<MemorySource, MemorySink>, AllocError> {
     let words = listed(alloc, &["nettcp", "replay", "--static=S", "--actions=A"])?;
-    let input = MemorySource::new(stream.to_vec(alloc)?, 65_536, Vec::new(alloc));
-    let mut shelf = shelf_with(alloc, actions)?;
+    let input = MemorySource::new(stream.to_vec(alloc)?, most.max(1), Vec::new(alloc));
+    let mut shelf = shelf_of_actions(alloc, actions)?;
     let mut wire = no_wire(alloc)?;
     let output = sure_sink(alloc);
     Ok(run(alloc, &words, &mut shelf, input, output, notes, &mut wire))
@@ -170,7 +189,7 @@ fn a_file_of_actions_is_read_first(rt: HostRuntime) -> Result<(), Fail> {
     ];
     for (file, note) in table {
         let mut notes = sure_sink(alloc);
-        let ran = replay_with(alloc, file, &stream, &mut notes)?;
+        let ran = replay_with(alloc, file, &stream, 65_536, &mut notes)?;
         assert_eq!(rt; ran.status, 6, "{note}");
         assert_eq!(rt; notes.bytes(), note.as_bytes());
         assert_eq!(rt; ran.input.rest(), stream.as_slice());
@@ -179,18 +198,22 @@ fn a_file_of_actions_is_read_first(rt: HostRuntime) -> Result<(), Fail> {
     Ok(())
 }
 
+// A text for the action of a call, and what is owed for a call then.
+pub const ACTIONS: &[u8] = b"action,text\nurn:echo,ok\n";
+
+pub fn text_answer(alloc: Global) -> Result<Vec<u8>, Fail> {
+    let front = ANSWER.strip_suffix(b"hi\x01\x01").ok_or("ends so")?;
+    let head: &[u8] = b"\x0B\x06\x48\x06\x05reply";
+    Ok(joined(alloc, &[head, front, b"ok\x01\x01\x07"])?)
+}
+
 #[test]
 fn texts_answer_by_action(rt: HostRuntime) -> Result<(), Fail> {
     let alloc = rt.alloc();
-    let mut stream = PREAMBLE.to_vec(alloc)?;
-    push_call(&mut stream, 60, b"\x02\x01x")?;
-    stream.push(7)?;
+    let stream = session_of_calls(alloc, 1)?;
     let mut notes = sure_sink(alloc);
-    let actions: &[u8] = b"action,text\nurn:echo,ok\n";
-    let ran = replay_with(alloc, Some(actions), &stream, &mut notes)?;
-    let front = ANSWER.strip_suffix(b"hi\x01\x01").ok_or("ends so")?;
-    let head: &[u8] = b"\x0B\x06\x48\x06\x05reply";
-    let written = joined(alloc, &[head, front, b"ok\x01\x01\x07"])?;
+    let ran = replay_with(alloc, Some(ACTIONS), &stream, 65_536, &mut notes)?;
+    let written = text_answer(alloc)?;
     assert_eq!(rt; ran.status, 0);
     assert_eq!(rt; ran.output.bytes(), written.as_slice());
     Ok(())

@@ -1,5 +1,6 @@
 // What a receiver sends back, in each mode.
 use super::captures::{ONE_REPLIES, STREAMED_REPLIES};
+use super::worked_replays::IN_ONE_CHUNK;
 use super::*;
 
 // Asserts that `check` reports the replies of a session so, with this status.
@@ -70,6 +71,30 @@ fn sessions_end_in_each_mode(rt: HostRuntime) -> Result<(), Fail> {
         assert_replied(&rt, mode, stream, status, report)?;
     }
     Ok(())
+}
+
+// What `replay` writes for a call, for two and for one in singleton mode.
+#[test]
+fn answers_and_the_end(rt: HostRuntime) -> Result<(), Fail> {
+    let one = replays::one_answer(rt.alloc())?;
+    let report =
+        "accepted\nmessage 0 payload 68 items 18 depth 3 content 173 strings 1 used 1\nended 72\n";
+    assert_replied(&rt, "duplex", &one, 0, report)?;
+    let two = replays::two_answers(rt.alloc())?;
+    let report =
+        "accepted\nmessage 0 payload 68 items 18 depth 3 content 173 strings 1 used 1\nmessage 1 payload 66 items 18 depth 3 content 173 strings 1 used 1\nended 140\n";
+    assert_replied(&rt, "duplex", &two, 0, report)?;
+    let words = [
+        "nettcp",
+        "check",
+        "--static=S",
+        "--replies=singleton",
+        "--encoding=7",
+    ];
+    let chunk = joined(rt.alloc(), IN_ONE_CHUNK)?;
+    let report =
+        "accepted\nmessage 0 payload 66 items 18 depth 3 content 173 strings 0 used 0\nended 71\n";
+    assert_ran(&rt, &words, &chunk, SURE, 0, report, b"")
 }
 
 #[test]

@@ -199,7 +199,7 @@ fn names_that_are_cut_or_go_on(rt: HostRuntime) -> Result<(), Fail> {
     Ok(())
 }
 
-// What other commands are told, none of which is built yet.
+// What other commands are told.
 const OTHERS: [(&str, &str); 10] = [
     ("--via", "net.tcp://h/e"),
     ("--mode", "duplex"),
