@@ -89,6 +89,7 @@ impl<'s> LineEncoder<'s> {
 
     /// Reads a line, which is given without its line feed, and writes the document that it
     /// completes, if it completes one.
+    #[inline(always)]
     pub fn line(&mut self, line: &[u8]) -> Result<Option<Envelope>, FeedFault<InputFault>>
         requires lines { HasReadFew self.old.lines }
         requires documents { self.old.documents < 2 ^ 63 }

@@ -18,7 +18,6 @@ use Rattle.document_lists.specs.declared.fetching.FileFault.TheVariants as files
 use Rattle.document_lists.specs.declared.reading.ListFault.{ListFault}
 use Rattle.document_lists.specs.declared.reading.ListFault.TheVariants as lists
 use Rattle.io_edges.specs.Wires.{Network}
-use Rattle.connection_server.specs.Served.{SinkState}
 use Rattle.client.specs.Sent.{sending}
 use Rattle.session_calls.specs.Places.{CallsPlace}
 use Rattle.session_calls.specs.Statuses.{fault_of, status_of}
@@ -68,10 +67,6 @@ note_of_called called = note_by (fault_of called) (status_of called)
 
 -- ---- what is left
 
--- where a connection's bytes go, as a call sees it
-abbrev pub output_of : SinkState → Output
-output_of k = record { written = k.written; held = k.held; faults = k.faults }
-
 -- the second list: none, or what the file with this name says
 abbrev pub IsSecond : Option Store → Option (List ℕ) → List (List Item) → Type 0
 IsSecond stored None second = second ≡ []
@@ -111,7 +106,7 @@ module _ (Says : List ℕ → Type 0) where
       pub unwritten : o' ≡ o
       pub same : Same
 
-    module _ {R K : Type 0} (reader : R → Input) (writer : K → SinkState) (opening : Opening)
+    module _ {R K : Type 0} (reader : R → Input) (writer : K → Output) (opening : Opening)
         (statics : List Entry) (second : List (List Item)) (n n' : Network R K) where
       -- the place was called with the documents of the input and those of the second list, with the
       -- status and the note of what became of it
@@ -119,7 +114,7 @@ module _ (Says : List ℕ → Type 0) where
         pub first : List (List Item)
         pub taken : TakesDocuments limits.session i i' (Ok first)
         pub called : Called
-        pub calls : CallsPlace reader (λ (k : K). output_of (writer k))
+        pub calls : CallsPlace reader writer
             (sending limits statics opening.mode opening.kind (first ++ second)) opening.via
             (sent_line (length first) (length second)) n n' o o' called
         pub status_is : status ≡ status_of called
@@ -132,13 +127,13 @@ module _ (Says : List ℕ → Type 0) where
   -- A peer was called, or the documents of the input aren't read, where the second list is.
   pub record CalledFor (stored : Option Store) (named : Option (List ℕ)) (limits : Limits)
       (i i' : Input) (o o' : Output) (status : ℕ) {R K : Type 0} (reader : R → Input)
-      (writer : K → SinkState) (opening : Opening) (statics : List Entry) (n n' : Network R K)
+      (writer : K → Output) (opening : Opening) (statics : List Entry) (n n' : Network R K)
       : Type 0 where
     pub second : List (List Item)
     pub read : IsSecond stored named second
     pub does : CalledOrNot limits i i' o o' status reader writer opening statics second n n'
 
-  abbrev pub CalledWith : {R K : Type 0} → (R → Input) → (K → SinkState) → Opening
+  abbrev pub CalledWith : {R K : Type 0} → (R → Input) → (K → Output) → Opening
       → (named : Option (List ℕ)) → List Entry → Limits → (old new : Outside R K) → ℕ → Type 0
   CalledWith reader writer opening named statics limits old new status =
       CalledFor old.shelf.files named limits old.input new.input old.output new.output status

@@ -42,7 +42,7 @@ use Rattle.dump_replay.specs.Statics.{reading_statics, settings_for}
 
 -- ---- files and lines
 
--- a run goes on with what a file says, and ends with 6 where there is no such file
+-- a run goes on with what a file says, and ends with 6 where it doesn't exist or has a bad row
 abbrev pub with_file : {X K : Type 0} → ShelfFile X K → (X → ℕ) → ℕ
 with_file (whole says) next = next says
 with_file (bad row kind) next = 6
@@ -93,8 +93,8 @@ status_of_made x (Err unfit) = 7
 
 -- ---- a call
 
--- documents are sent behind the Ack alone, and then a document that doesn't fit goes before
--- anything else
+-- where the peer's Ack is read a document that doesn't fit goes before all that the peer sends; no
+-- document is sent without it
 abbrev pub unless_unfit : Ack → Result (Placed (List ℕ)) UnfitAt → (next : ℕ) → ℕ
 unless_unfit Awaited sent next = next
 unless_unfit Read (Ok sent) next = next
@@ -161,12 +161,18 @@ abbrev pub WherePeer : {R K : Type 0} → Task → (R → Input) → (n n' : Net
 WherePeer (call connect opening second) reader n n' peer = AnswersCall reader n n' peer
 WherePeer task reader n n' peer = ⊤
 
--- The shelf holds these files, the input gives these bytes, and no count of I/O errors rose. The
--- ends of a server's connections may have failed.
+-- a task that reads the input is given this
+abbrev pub WhereRead : Task → (given : Type 0) → Type 0
+WhereRead (serve listen connections serving) given = ⊤
+WhereRead (generate seed count) given = ⊤
+WhereRead task given = given
+
+-- The shelf holds these files, the input that is read gives these bytes, and no count of I/O errors
+-- rose. The ends of a server's connections may have failed.
 pub record GoesWell {R K : Type 0} (reader : R → Input) (old new : Outside R K) (task : Task)
     (store : Store) (input peer : List ℕ) : Type 0 where
   pub files : old.shelf.files ≡ Some store
-  pub given : old.input.left ≡ Some input
+  pub given : WhereRead task (old.input.left ≡ Some input)
   pub fetched : Rose old.shelf.faults new.shelf.faults → ⊥
   pub read : Rose old.input.faults new.input.faults → ⊥
   pub written : Rose old.output.faults new.output.faults → ⊥

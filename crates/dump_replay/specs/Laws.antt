@@ -34,7 +34,8 @@ module _ (opening : Opening) (statics : List Entry) (limits : Limits) where
       ++ report_by (lines_of_documents (settings_for_building opening statics limits))
       envelopes_and_end bytes
 
-  -- whoever reads that session as an initiator's, with the same static strings and quotas as great
+  -- whoever reads that session as an initiator's, with the same static strings and quotas as great,
+  -- of which that of a session admits its bytes
   pub record ReadsAsMuch (x : Settings) (bytes : List ℕ) : Type 0 where
     pub endpoint : Option (List ℕ)
     pub side : x.side ≡ initiators endpoint

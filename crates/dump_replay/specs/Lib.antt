@@ -14,5 +14,5 @@ pub mod Laws
 pub mod Complete
 pub mod Order
 -- cited by private calls
-pub mod Reading
+pub mod Statuses
 pub mod Responding

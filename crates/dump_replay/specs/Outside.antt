@@ -3,7 +3,7 @@ use Rattle.std.specs.Prelude.{ℕ, Option}
 use Rattle.io_edges.specs.Store.{Store}
 use Rattle.stream_loop.specs.Edges.{Input, Output}
 use Rattle.io_edges.specs.Wires.{Network}
-use Rattle.connection_server.specs.Served.{Ends, SinkState}
+use Rattle.connection_server.specs.Served.{Ends}
 
 -- of a shelf: its files, where it tells them, and how many calls met a fault
 pub record SeenShelf : Type 0 where
@@ -25,7 +25,15 @@ abbrev pub seen : {R K : Type 0} → SeenShelf → Input → Output → Network 
 seen shelf input output wire =
     record { shelf = shelf; input = input; output = output; wire = wire }
 
+-- this holds of what is seen of shelf, input, output and wire before and after
+abbrev pub Across : {F I O W R K : Type 0} → (of_shelf : F → SeenShelf) → (of_input : I → Input)
+    → (of_output : O → Output) → (of_wire : W → Network R K) → F → I → O → W → F → I → O → W
+    → (Outside R K → Outside R K → Type 0) → Type 0
+Across of_shelf of_input of_output of_wire shelf input output wire shelf' input' output' wire'
+    Holds = Holds (seen (of_shelf shelf) (of_input input) (of_output output) (of_wire wire))
+    (seen (of_shelf shelf') (of_input input') (of_output output') (of_wire wire'))
+
 -- the ends of a connection, by what is seen of each
-abbrev pub ends_seen : {R K : Type 0} → (reader : R → Input) → (writer : K → SinkState) → R × K
+abbrev pub ends_seen : {R K : Type 0} → (reader : R → Input) → (writer : K → Output) → R × K
     → Ends
 ends_seen reader writer ends = record { input = reader ends.0; sink = writer ends.1 }

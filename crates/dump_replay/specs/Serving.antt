@@ -2,13 +2,13 @@
 use Rattle.std.specs.Prelude.{◌≡◌, ⊤, ℕ, List, Result, Ok, Err}
 use Rattle.nbfx_values.specs.Limits.{Limits}
 use Rattle.string_tables.specs.StaticStrings.{Entry}
-use Rattle.stream_loop.specs.Edges.{Input}
+use Rattle.stream_loop.specs.Edges.{Input, Output}
 use Rattle.duplex_server.specs.Owed.{answering}
 use Rattle.session_replay.specs.declared.responding.Responder.{Responder}
 use Rattle.session_replay.specs.Responding.{served_by}
 use Rattle.connection_server.specs.declared.stopping.ServeFault.{ServeFault}
 use Rattle.connection_server.specs.declared.stopping.ServeFault.TheVariants as stops
-use Rattle.connection_server.specs.Served.{ServesAll, SinkState}
+use Rattle.connection_server.specs.Served.{ServesAll}
 use Rattle.command_words.specs.Tasks.{Serving}
 use Rattle.dump_replay.specs.Answering.{IsAskedFor}
 use Rattle.dump_replay.specs.Outside.{Outside, ends_seen}
@@ -22,12 +22,11 @@ status_of_stop (Err stops.Output) = 4
 status_of_stop (Err stops.Memory) = 5
 
 -- Connections were answered so, as many as were asked for at most, by the service that is asked
--- for,
--- with the status and the note of why no more were. The input isn't read. `Says` is what is known
--- of
--- the note with a text, and `reader` and `writer` are what is seen of the ends of a connection.
+-- for, with the status and the note of why no more were. The input isn't read. `Says` is what is
+-- known of the note with a text, and `reader` and `writer` are what is seen of the ends of a
+-- connection.
 pub record AnsweredAll (Says : List ℕ → Type 0) {R K : Type 0} (reader : R → Input)
-    (writer : K → SinkState) (connections : ℕ) (serving : Serving) (statics : List Entry)
+    (writer : K → Output) (connections : ℕ) (serving : Serving) (statics : List Entry)
     (limits : Limits) (old new : Outside R K) (status : ℕ) : Type 0 where
   pub responder : Responder
   pub asked_for : IsAskedFor old.shelf.files serving.actions responder

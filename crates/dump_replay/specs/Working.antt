@@ -12,7 +12,6 @@ use Rattle.stream_loop.specs.Edges.{Input, Output}
 use Rattle.stream_loop.specs.declared.reporting.Ending.{Ending}
 use Rattle.document_lines.specs.declared.InputFault.{InputFault}
 use Rattle.session_replay.specs.Responding.{reading_actions}
-use Rattle.connection_server.specs.Served.{SinkState}
 use Rattle.command_words.specs.Requests.{Asked, IsRequest}
 use Rattle.command_words.specs.Tasks.{Opening, Serving, Task, report, build, replay, serve, call}
 use Rattle.command_words.specs.Tasks.{generate}
@@ -84,7 +83,7 @@ module _ (Says : List ℕ → Type 0) where
     HasNoActions serving old new status = (name : List ℕ) × (serving.actions ≡ Some name)
         × Unread reading_actions action_kind_name name old new status
 
-  module _ (Untouched : Type 0) {R K : Type 0} (reader : R → Input) (writer : K → SinkState) where
+  module _ (Untouched : Type 0) {R K : Type 0} (reader : R → Input) (writer : K → Output) where
     -- what each task leaves, with these static strings
     abbrev pub Works : Task → List Entry → Limits → (old new : Outside R K) → ℕ → Type 0
     Works (report detail origin) statics limits old new status =

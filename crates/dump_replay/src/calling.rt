@@ -6,7 +6,6 @@ ghost use Rattle.nbfx_values.specs.QuotasOf.{limits_of};
 ghost use Rattle.stream_loop.specs.Edges.{input_at, output_at};
 ghost use Rattle.document_lists.specs.Files.{Answers};
 ghost use Rattle.io_edges.specs.Wires.{network_at};
-ghost use Rattle.connection_server.specs.Served.{sink_at};
 ghost use Rattle.command_words.specs.Asking.{opening_of};
 ghost use Rattle.command_words.specs.Values.{text_behind};
 ghost use Rattle.dump_replay.specs.Calling.{CalledFor, CalledOrNot, HasFailedSecond, HasNoSecond, IsSecond, ending_of_list};
@@ -92,7 +91,7 @@ fn call_with<I: Source, O: Sink, N: Sink, W: Wire>(
         (output_at O.written O.held O.faults output)
         (output_at O.written O.held O.faults result.1) result.0
         (input_at W.Reader.left W.Reader.taken W.Reader.faults W.Reader.empty_takes)
-        (sink_at W.Writer.written W.Writer.held W.Writer.faults W.Writer.may_want)
+        (output_at W.Writer.written W.Writer.held W.Writer.faults)
         (opening_of opening.entry) statics.now second
         (network_at W.waiting W.closed W.out W.faults W.end_faults wire.old)
         (network_at W.waiting W.closed W.out W.faults W.end_faults wire.new) }
@@ -144,7 +143,7 @@ pub fn call_peer<F: Shelf, I: Source, O: Sink, N: Sink, W: Wire>(
         (output_at O.written O.held O.faults output)
         (output_at O.written O.held O.faults result.1) result.0
         (input_at W.Reader.left W.Reader.taken W.Reader.faults W.Reader.empty_takes)
-        (sink_at W.Writer.written W.Writer.held W.Writer.faults W.Writer.may_want)
+        (output_at W.Writer.written W.Writer.held W.Writer.faults)
         (opening_of opening.entry) statics.now
         (network_at W.waiting W.closed W.out W.faults W.end_faults wire.old)
         (network_at W.waiting W.closed W.out W.faults W.end_faults wire.new)

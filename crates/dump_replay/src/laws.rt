@@ -6,8 +6,8 @@ ghost use Rattle.dump_replay.specs.Laws.{BuildsAreComplete, BuiltAreSessions};
 ghost use Rattle.dump_replay.specs.Order.{ZeroInOrder};
 
 /// What is written of lines of documents that aren't refused is a session of just these documents,
-/// for any reader that serves the Via and whose quotas are as great, and that reader's report is
-/// these documents, in lines where it shows them.
+/// for any reader that serves the Via, whose quotas are as great and whose session quota admits its
+/// bytes, and that reader's report is these documents, in lines where it shows them.
 pub fn built_sessions()
     ensures { BuiltAreSessions }
 {}

@@ -4,7 +4,7 @@ ghost use Rattle.std.specs.Prelude.{◌≡◌};
 ghost use Rattle.nbfx_values.specs.QuotasOf.{limits_of};
 ghost use Rattle.stream_loop.specs.Edges.{input_at, output_at};
 ghost use Rattle.stream_reader.specs.Sides.{side_of};
-ghost use Rattle.dump_replay.specs.Reading.{status_at};
+ghost use Rattle.dump_replay.specs.Statuses.{status_at};
 ghost use Rattle.dump_replay.specs.Reporting.{Reports};
 ghost use Rattle.dump_replay.specs.Running.{offence_status};
 ghost use Rattle.dump_replay.specs.Statics.{settings_for, side_for};

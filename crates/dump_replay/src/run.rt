@@ -5,11 +5,10 @@ ghost use Rattle.std.specs.String.{string_bytes};
 ghost use Rattle.io_edges.specs.Faults.{Rose, one_more};
 ghost use Rattle.stream_loop.specs.Edges.{input_at, output_at};
 ghost use Rattle.io_edges.specs.Wires.{network_at};
-ghost use Rattle.connection_server.specs.Served.{sink_at};
 ghost use Rattle.dump_replay.specs.Complete.{IsComplete};
 ghost use Rattle.dump_replay.specs.Noting.{Notes};
-ghost use Rattle.dump_replay.specs.Outside.{seen, shelf_at};
-ghost use Rattle.dump_replay.specs.Reading.{status_of_words};
+ghost use Rattle.dump_replay.specs.Outside.{Across, shelf_at};
+ghost use Rattle.dump_replay.specs.Statuses.{status_of_words};
 ghost use Rattle.dump_replay.specs.Running.{CountsWire, FetchesNamed, IsStatus, WhereAsked};
 ghost use Rattle.dump_replay.specs.Working.{Runs};
 
@@ -112,35 +111,27 @@ pub fn run<F: Shelf, I: Source, O: Sink + Send, N: Sink, W: Wire>(
     ensures shelf_well { (result.status ≡ 3 → ⊥) → F.faults shelf.new ≡ F.faults shelf.old }
 
     // By what they ask for.
-    ensures runs { Runs
+    ensures runs { Across (shelf_at F.files F.faults)
+        (input_at I.left I.taken I.faults I.empty_takes) (output_at O.written O.held O.faults)
+        (network_at W.waiting W.closed W.out W.faults W.end_faults)
+        shelf.old input output wire.old shelf.new result.input result.output wire.new
+        (λ before after. Runs
         (λ text. Notes N.written N.held N.faults N.may_want notes.old notes.new text
         × (text ≡ [] → notes.new ≡ notes.old))
         ((result.input ≡ input) × (result.output ≡ output) × (wire.new ≡ wire.old))
         (input_at W.Reader.left W.Reader.taken W.Reader.faults W.Reader.empty_takes)
-        (sink_at W.Writer.written W.Writer.held W.Writer.faults W.Writer.may_want)
+        (output_at W.Writer.written W.Writer.held W.Writer.faults)
         (shelf.new ≡ shelf.old) (wire.new ≡ wire.old)
-        (map string_bytes words.now)
-        (seen (shelf_at F.files F.faults shelf.old)
-        (input_at I.left I.taken I.faults I.empty_takes input)
-        (output_at O.written O.held O.faults output)
-        (network_at W.waiting W.closed W.out W.faults W.end_faults wire.old))
-        (seen (shelf_at F.files F.faults shelf.new)
-        (input_at I.left I.taken I.faults I.empty_takes result.input)
-        (output_at O.written O.held O.faults result.output)
-        (network_at W.waiting W.closed W.out W.faults W.end_faults wire.new)) result.status }
+        (map string_bytes words.now) before after result.status) }
 
     // Where nothing of the outside fails and memory suffices.
-    ensures complete { IsComplete
+    ensures complete { Across (shelf_at F.files F.faults)
+        (input_at I.left I.taken I.faults I.empty_takes) (output_at O.written O.held O.faults)
+        (network_at W.waiting W.closed W.out W.faults W.end_faults)
+        shelf.old input output wire.old shelf.new result.input result.output wire.new
+        (λ before after. IsComplete
         (input_at W.Reader.left W.Reader.taken W.Reader.faults W.Reader.empty_takes)
-        (map string_bytes words.now)
-        (seen (shelf_at F.files F.faults shelf.old)
-        (input_at I.left I.taken I.faults I.empty_takes input)
-        (output_at O.written O.held O.faults output)
-        (network_at W.waiting W.closed W.out W.faults W.end_faults wire.old))
-        (seen (shelf_at F.files F.faults shelf.new)
-        (input_at I.left I.taken I.faults I.empty_takes result.input)
-        (output_at O.written O.held O.faults result.output)
-        (network_at W.waiting W.closed W.out W.faults W.end_faults wire.new)) result.status }
+        (map string_bytes words.now) before after result.status) }
 {
     let request = match command_words::read(alloc, words) {
         Ok(request) => request,

@@ -5,7 +5,6 @@ ghost use Rattle.io_edges.specs.Faults.{CountsFaults, Rose};
 ghost use Rattle.nbfx_values.specs.QuotasOf.{limits_of};
 ghost use Rattle.stream_loop.specs.Edges.{Input, input_at, output_at};
 ghost use Rattle.io_edges.specs.Wires.{network_at};
-ghost use Rattle.connection_server.specs.Served.{sink_at};
 ghost use Rattle.command_words.specs.Asking.{serving_of};
 ghost use Rattle.dump_replay.specs.Noting.{Notes};
 ghost use Rattle.dump_replay.specs.Outside.{seen, shelf_at};
@@ -55,7 +54,7 @@ pub fn serve_wire<F: Shelf, O: Sink, N: Sink, W: Wire>(
         AnsweredAll (λ text. Notes N.written N.held N.faults N.may_want notes.old notes.new text
         × (text ≡ [] → notes.new ≡ notes.old))
         (input_at W.Reader.left W.Reader.taken W.Reader.faults W.Reader.empty_takes)
-        (sink_at W.Writer.written W.Writer.held W.Writer.faults W.Writer.may_want) connections
+        (output_at W.Writer.written W.Writer.held W.Writer.faults) connections
         (serving_of serving.entry) statics.now (limits_of quotas)
         (seen (shelf_at F.files F.faults shelf.old) i
         (output_at O.written O.held O.faults output)

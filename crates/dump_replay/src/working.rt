@@ -4,10 +4,9 @@ ghost use Rattle.std.specs.Prelude.{◌≡◌, ◌≤◌, ◌<◌, ◌^◌, []};
 ghost use Rattle.nbfx_values.specs.QuotasOf.{limits_of};
 ghost use Rattle.stream_loop.specs.Edges.{input_at, output_at};
 ghost use Rattle.io_edges.specs.Wires.{network_at};
-ghost use Rattle.connection_server.specs.Served.{sink_at};
 ghost use Rattle.command_words.specs.Asking.{task_of};
 ghost use Rattle.dump_replay.specs.Noting.{Notes};
-ghost use Rattle.dump_replay.specs.Outside.{seen, shelf_at};
+ghost use Rattle.dump_replay.specs.Outside.{Across, shelf_at};
 ghost use Rattle.dump_replay.specs.Running.{CountsWire, HasFetched, files_of};
 ghost use Rattle.dump_replay.specs.Working.{IsPossible, Leaves, WhereOffline, Works};
 
@@ -39,30 +38,22 @@ pub fn work<F: Shelf, I: Source, O: Sink, N: Sink, W: Wire>(
 ) -> (u8, O)
     requires possible { IsPossible (task_of task) }
     requires room { W.out wire.old < 2 ^ 63 }
-    ensures leaves { Leaves
-        (seen (shelf_at F.files F.faults shelf.old)
-        (input_at I.left I.taken I.faults I.empty_takes input.old)
-        (output_at O.written O.held O.faults output)
-        (network_at W.waiting W.closed W.out W.faults W.end_faults wire.old))
-        (seen (shelf_at F.files F.faults shelf.new)
-        (input_at I.left I.taken I.faults I.empty_takes input.new)
-        (output_at O.written O.held O.faults result.1)
-        (network_at W.waiting W.closed W.out W.faults W.end_faults wire.new)) result.0 }
-    ensures works { Works
+    ensures leaves { Across (shelf_at F.files F.faults)
+        (input_at I.left I.taken I.faults I.empty_takes) (output_at O.written O.held O.faults)
+        (network_at W.waiting W.closed W.out W.faults W.end_faults)
+        shelf.old input.old output wire.old shelf.new input.new result.1 wire.new
+        (λ before after. Leaves before after result.0) }
+    ensures works { Across (shelf_at F.files F.faults)
+        (input_at I.left I.taken I.faults I.empty_takes) (output_at O.written O.held O.faults)
+        (network_at W.waiting W.closed W.out W.faults W.end_faults)
+        shelf.old input.old output wire.old shelf.new input.new result.1 wire.new
+        (λ before after. Works
         (λ text. Notes N.written N.held N.faults N.may_want notes.old notes.new text
         × (text ≡ [] → notes.new ≡ notes.old))
         ((input.new ≡ input.old) × (result.1 ≡ output) × (wire.new ≡ wire.old))
         (input_at W.Reader.left W.Reader.taken W.Reader.faults W.Reader.empty_takes)
-        (sink_at W.Writer.written W.Writer.held W.Writer.faults W.Writer.may_want)
-        (task_of task.entry) statics.now (limits_of quotas)
-        (seen (shelf_at F.files F.faults shelf.old)
-        (input_at I.left I.taken I.faults I.empty_takes input.old)
-        (output_at O.written O.held O.faults output)
-        (network_at W.waiting W.closed W.out W.faults W.end_faults wire.old))
-        (seen (shelf_at F.files F.faults shelf.new)
-        (input_at I.left I.taken I.faults I.empty_takes input.new)
-        (output_at O.written O.held O.faults result.1)
-        (network_at W.waiting W.closed W.out W.faults W.end_faults wire.new)) result.0 }
+        (output_at W.Writer.written W.Writer.held W.Writer.faults)
+        (task_of task.entry) statics.now (limits_of quotas) before after result.0) }
     ensures offline { WhereOffline (task_of task.entry) (wire.new ≡ wire.old) }
     ensures wire_fault { CountsWire (W.faults wire.old) (W.faults wire.new)
         (W.end_faults wire.old) (W.end_faults wire.new) result.0 }

@@ -68,14 +68,15 @@ record AreFields (fields : List ℕ) : Type 0 where
   count : length fields ≡ 16
   bytes : IsBytes fields
 
-all-at : (test : ℕ → Bool) (bytes : List ℕ) (k : ℕ) → k < length bytes → list_all test bytes ≡ true
+pub all-at : (test : ℕ → Bool) (bytes : List ℕ) (k : ℕ) → k < length bytes
+    → list_all test bytes ≡ true
     → test (slice_index bytes k) ≡ true
 all-at test [] k below h = absurd (omega arith)
 all-at test (b ∷ bytes) zero below h = (and_parts (test b) (list_all test bytes) h).0
 all-at test (b ∷ bytes) (suc k) below h = all-at test bytes k (omega arith)
     (and_parts (test b) (list_all test bytes) h).1
 
-digit-small : (c : ℕ) → is_hex_digit c ≡ true → value_of c < 16
+pub digit-small : (c : ℕ) → is_hex_digit c ≡ true → value_of c < 16
 digit-small c h = grind (arith, nat_tests)
 
 byte-small : (high low : ℕ) → high < 16 → low < 16 → high * 16 + low < 256
@@ -179,7 +180,7 @@ digit-solid d small = go (cases_lt d 10)
         rw (le-ltb d 10 high) (solid (97 + d - 10) (omega arith) (omega arith)
         (λ e. omega (arith, e, high)) (λ e. omega (arith, e, high)))
 
-all-listed : (test : ℕ → Bool) (n : ℕ) (f : ℕ → ℕ) → ((k : ℕ) → test (f k) ≡ true)
+pub all-listed : (test : ℕ → Bool) (n : ℕ) (f : ℕ → ℕ) → ((k : ℕ) → test (f k) ≡ true)
     → list_all test (by_index n f) ≡ true
 unfolding by_index
 all-listed test zero f h = refl

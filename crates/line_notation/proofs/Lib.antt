@@ -33,12 +33,14 @@ pub mod ValueFacts
 pub mod ValuesFacts
 pub mod WordsFacts
 -- what is written is what is read: lines and words (SpacedFacts), texts (PiecesFacts), numbers
--- (NaturalFacts, HexFacts), identifiers (IdentifierFacts), values (ScalarFacts, WrittenFacts),
+-- (NaturalFacts, HexFacts), identifiers (IdentifierFacts, IdentifierCase), values (ScalarFacts,
+-- WrittenFacts),
 -- forms (FormFacts), whose words
 -- are solid or quoted (LineWords), with no space outside quotes (ClosedFacts)
 pub mod ClosedFacts
 pub mod FormFacts
 pub mod HexFacts
+pub mod IdentifierCase
 pub mod IdentifierFacts
 pub mod LineWords
 pub mod NaturalFacts

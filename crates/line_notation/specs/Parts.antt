@@ -1,7 +1,8 @@
 -- The parts of a line, read and judged at once, for private calls.
 use Rattle.std.specs.Prelude.{ℕ, zero, suc, true, false, ◌&&◌, ◌+◌, ◌-◌, ◌^◌, ◌++◌, List, [], ◌∷◌}
 use Rattle.std.specs.Prelude.{ℤ, pos, Bool, Option, None, Some, Result, Ok, Err, nat_le, ◌≤◌, ◌==◌}
-use Rattle.std.specs.Prelude.{if◌then◌else◌}
+use Rattle.std.specs.Prelude.{not, if◌then◌else◌}
+use Rattle.std.specs.List.{list_all}
 use Rattle.std.specs.Str.{is_utf8}
 use Rattle.nbfx_values.specs.declared.scalars.Scalar.{Scalar}
 use Rattle.nbfx_values.specs.Items.{fits_kind}
@@ -36,6 +37,13 @@ natural_up_to most word = natural_in word >>= λ n. Some (kept OutOfRange (λ n.
 abbrev pub integer_up_to : ℕ → List ℕ → Option (Result ℤ LineKind)
 integer_up_to most word =
     integer_in word >>= λ n. Some (kept OutOfRange (is_between (least_signed 64) (pos most)) n)
+
+-- a byte that is no capital letter, and bytes that are none
+abbrev pub is_no_capital : ℕ → Bool
+is_no_capital c = not (nat_le 65 c && nat_le c 90)
+
+abbrev pub has_no_capitals : List ℕ → Bool
+has_no_capitals = list_all is_no_capital
 
 -- the byte that an escape in front of pieces writes
 abbrev pub escape_at : List ℕ → Option ℕ

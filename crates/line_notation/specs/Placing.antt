@@ -5,9 +5,13 @@ use Rattle.std.specs.List.{list_all}
 use Rattle.nbfx_values.specs.declared.content.ArrayItem.{ArrayItem}
 use Rattle.nbfx_values.specs.declared.content.ArrayKind.{ArrayKind}
 use Rattle.nbfx_values.specs.declared.content.Item.{Item}
+use Rattle.nbfx_values.specs.Documents.{IsDocument}
 use Rattle.nbfx_values.specs.Items.{are_texts, fits_kind, is_valid_attribute, is_valid_item}
+use Rattle.line_notation.specs.declared.line.Keyword.{Keyword}
 use Rattle.line_notation.specs.declared.line.Line.{Line}
 use Rattle.line_notation.specs.declared.line.Line.TheVariants as says
+use Rattle.line_notation.specs.declared.placing.Leads.{Leads}
+use Rattle.line_notation.specs.declared.placing.Leads.TheVariants.{On, ToTheEnd}
 use Rattle.line_notation.specs.declared.placing.Refusal.{Refusal}
 use Rattle.line_notation.specs.declared.placing.Refusal.TheVariants.{Kind, Memory}
 use Rattle.line_notation.specs.declared.reader.LineFault.{LineFault}
@@ -15,11 +19,10 @@ use Rattle.line_notation.specs.declared.reader.LineFault.TheVariants as faults
 use Rattle.line_notation.specs.declared.reader.LineFault.TheVariants.{Bad}
 use Rattle.line_notation.specs.declared.reader.LineKind.{LineKind}
 use Rattle.line_notation.specs.declared.reader.LineKind.TheVariants.{NotALine}
-use Rattle.line_notation.specs.declared.reader.LineStep.{LineStep}
-use Rattle.line_notation.specs.declared.reader.LineStep.TheVariants.{More, Done}
 use Rattle.line_notation.specs.declared.words.Stop.{Stop}
 use Rattle.line_notation.specs.declared.words.Stop.TheVariants as stops
-use Rattle.line_notation.specs.Standing.{Placed, led, on, ends}
+use Rattle.line_notation.specs.Reading.{judged_behind}
+use Rattle.line_notation.specs.Standing.{Placed, led, on, ends, kind_of}
 
 -- where a step of reading stopped
 abbrev pub stopped : Stop → Refusal
@@ -54,9 +57,19 @@ led_by items array None = Err NotALine
 led_by items array (Some judged) = led items array judged
 
 -- a line led where these items and this array are, unless memory ran out
-abbrev pub Places : Result LineStep Refusal → Result Placed LineKind → List Item → Option ArrayItem
+abbrev pub Places : Result Leads Refusal → Result Placed LineKind → List Item → Option ArrayItem
     → Type 0
-Places (Ok More) placed items array = placed ≡ Ok (on items array)
-Places (Ok (Done doc)) placed items array = (placed ≡ Ok (ends doc)) × (items ≡ []) × (array ≡ None)
+Places (Ok On) placed items array = placed ≡ Ok (on items array)
+Places (Ok ToTheEnd) placed items array =
+    (placed ≡ Ok (ends items)) × IsDocument items × (array ≡ None)
 Places (Err (Kind kind)) placed items array = placed ≡ Err kind
 Places (Err Memory) placed items array = Unit {0}
+
+-- what the words behind a keyword say led from these items and this array to those, unless memory
+-- ran out
+pub record PlacesRead (result : Result Leads Refusal) (keyword : Keyword) (words : List (List ℕ))
+    (items : List Item) (array : Option ArrayItem) (items' : List Item) (array' : Option ArrayItem)
+    : Type 0 where
+  pub places : Places result (led_by items array (judged_behind (kind_of array) keyword words))
+      items' array'
+  pub is_open : IsOpen array'

@@ -2,6 +2,7 @@
 ghost use Rattle.std.specs.Prelude.{◌≡◌, ◌<◌, ◌^◌};
 ghost use Rattle.line_notation.specs.Numerals as spec;
 ghost use Rattle.line_notation.specs.Numerals.{bytes_in, bytes_sized};
+ghost use Rattle.line_notation.specs.Parts.{has_no_capitals, is_no_capital};
 ghost use Rattle.line_notation.specs.Scalars.{identifier_in};
 ghost use Rattle.line_notation.specs.Steps.{Finds};
 
@@ -10,6 +11,9 @@ use crate::words::Stop;
 use hex::FromHexError;
 use std::alloc::Global;
 use uuid::Uuid;
+
+// How many bytes an identifier's word has.
+const HYPHENATED: usize = 36;
 
 // Whether all are digits, of which letters are lower-case.
 fn are_digits(word: &[u8]) -> bool
@@ -46,17 +50,35 @@ pub fn bytes_sized<const N: usize>(word: &[u8]) -> Option<[u8; N]>
     }
 }
 
+fn is_no_capital(byte: u8) -> bool
+    ensures { result ≡ is_no_capital byte }
+{
+    !(b'A' <= byte && byte <= b'Z')
+}
+
+// Whether no byte is a capital letter. No byte ends the loop, so that it goes over many at a time.
+fn has_no_capitals(word: &[u8]) -> bool
+    ensures { result ≡ has_no_capitals word.now }
+{
+    let mut none = true;
+    for byte in word {
+        none &= is_no_capital(*byte);
+    }
+    none
+}
+
 // The bytes of an identifier in hyphenated lower-case form.
 pub fn identifier(word: &[u8]) -> Option<[u8; 16]>
     ensures { result ≡ identifier_in word.now }
 {
-    let Ok(fields) = Uuid::try_parse_ascii(word) else {
+    if word.len() != HYPHENATED {
         return None;
-    };
-    let mut buffer = Uuid::encode_buffer();
-    if fields.hyphenated().encode_lower(&mut buffer).as_bytes() == word {
-        Some(fields.to_bytes_le())
-    } else {
-        None
+    }
+    if !has_no_capitals(word) {
+        return None;
+    }
+    match Uuid::try_parse_ascii(word) {
+        Ok(fields) => Some(fields.to_bytes_le()),
+        Err(_) => None,
     }
 }

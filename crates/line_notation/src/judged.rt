@@ -18,6 +18,7 @@ pub fn first_of(kind: LineKind, other: LineKind) -> LineKind
 }
 
 // Both, unless the line is refused for one of them.
+#[inline(always)]
 pub fn both<A: Drop, B: Drop>(first: Judged<A>, second: Judged<B>) -> Judged<(A, B)>
     ensures { result ≡ spec.both first second }
 {

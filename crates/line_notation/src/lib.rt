@@ -38,6 +38,3 @@ pub use decimals::put_labelled;
 pub use printing::print;
 pub use puts::{Word, put_joined, put_plain, put_words, quote};
 pub use reader::{LineFault, LineKind, LineReader, LineStep};
-
-#[cfg(test)]
-mod tests;

@@ -16,6 +16,7 @@ use nbfx_values::{ArrayItem, ArrayKind, Attrs, Item, Txt, Values};
 use std::alloc::Global;
 
 // What was read, if no word is left behind it.
+#[inline(always)]
 fn alone<T: Drop>(one: T, words: &Words) -> Result<T, Stop>
     ensures { Finds (λ one. one) result (alone (Some (one, words.now))) }
 {
@@ -27,6 +28,7 @@ fn alone<T: Drop>(one: T, words: &Words) -> Result<T, Stop>
 }
 
 // The two texts that all words are.
+#[inline(always)]
 fn texts_alone(alloc: Global, words: &mut Words) -> Result<Judged<(Txt, Txt)>, Stop>
     ensures { Finds (λ texts. texts) result (spec.texts_alone words.old) }
 {

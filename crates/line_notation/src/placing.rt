@@ -1,16 +1,14 @@
 // Where what a line says leads.
 ghost use Rattle.std.specs.Prelude.{◌≡◌, [], None, Some, Ok, Err, IfErr, IfOk, IsTrue};
-ghost use Rattle.nbfx_values.specs.Documents.{IsDocument};
 ghost use Rattle.nbfx_values.specs.Items.{is_valid_attribute, is_valid_item};
 ghost use Rattle.nbfx_values.specs.Positions.{position_of};
-ghost use Rattle.line_notation.specs.Placing.{IsHeld, IsOpen, Places, is_held, led_by};
-ghost use Rattle.line_notation.specs.Reading.{judged_behind};
+ghost use Rattle.line_notation.specs.Placing.{IsHeld, IsOpen, Places, PlacesRead, is_held};
 ghost use Rattle.line_notation.specs.Standing as spec;
 ghost use Rattle.line_notation.specs.Standing.{is_passed_over, kind_of, on, outcome, placed, placed_array, placed_item, with_attribute};
 
 use crate::line::{Keyword, Line};
 use crate::lines::read_behind;
-use crate::reader::{LineKind, LineStep};
+use crate::reader::LineKind;
 use crate::words::{Stop, Words};
 use nbfx_values::{ArrayItem, ArrayKind, AttrItem, DocBuilder, Item, Memory, Position, PushFault};
 use std::alloc::Global;
@@ -58,22 +56,18 @@ impl From<Memory> for Refusal {
     }
 }
 
-// The document that has ended.
-#[inline(never)]
-fn ended(builder: &mut DocBuilder) -> LineStep
-    requires { IsDocument builder.old }
-    ensures document { result ≡ LineStep.Done builder.old }
-    ensures anew { builder.new ≡ [] }
-{
-    match builder.finish() {
-        Some(doc) => LineStep::Done(doc),
-        None => unreachable!(),
-    }
+/// Where a line leads that isn't refused.
+#[derive(Clone, Copy, Debug)]
+pub enum Leads {
+    /// On within a document, or between documents.
+    On,
+    /// To the end of the document that the builder holds.
+    ToTheEnd,
 }
 
 // What an item does that is put behind the others.
 #[inline(always)]
-fn place_item(builder: &mut DocBuilder, item: Item) -> Result<LineStep, Refusal>
+fn place_item(builder: &mut DocBuilder, item: Item) -> Result<Leads, Refusal>
     requires { IsTrue (is_valid_item item) }
     ensures { Places result (placed_item builder.old item) builder.new None }
 {
@@ -84,8 +78,8 @@ fn place_item(builder: &mut DocBuilder, item: Item) -> Result<LineStep, Refusal>
         Err(PushFault::Memory) => return Err(Refusal::Memory),
     }
     match builder.position() {
-        Position::After => Ok(ended(builder)),
-        Position::Before | Position::Within { .. } => Ok(LineStep::More),
+        Position::After => Ok(Leads::ToTheEnd),
+        Position::Before | Position::Within { .. } => Ok(Leads::On),
     }
 }
 
@@ -121,7 +115,7 @@ fn place_by_array(
     builder: &mut DocBuilder,
     array: &mut Option<ArrayItem>,
     line: Line,
-) -> Result<LineStep, Refusal>
+) -> Result<Leads, Refusal>
     requires open { IsOpen array.old }
     requires held { IsHeld (kind_of array.old) line }
     ensures places { Places result (placed builder.old array.old line) builder.new array.new }
@@ -131,12 +125,12 @@ fn place_by_array(
         (None, Line::Item(item)) => place_item(builder, item),
         (None, Line::Array(begun)) => {
             *array = Some(opened(builder, begun)?);
-            Ok(LineStep::More)
+            Ok(Leads::On)
         }
         (Some(open), Line::Item(item)) => {
             let one = item.into_attribute().ok_or(LineKind::OutOfPlace)?;
             *array = Some(with_attribute(open, one)?);
-            Ok(LineStep::More)
+            Ok(Leads::On)
         }
         (Some(open), Line::Values(values)) => {
             place_item(builder, Item::Array(ArrayItem { values, ..open }))
@@ -154,7 +148,7 @@ fn place(
     builder: &mut DocBuilder,
     array: &mut Option<ArrayItem>,
     line: Line,
-) -> Result<LineStep, Refusal>
+) -> Result<Leads, Refusal>
     requires open { IsOpen array.old }
     requires held { IsHeld (kind_of array.old) line }
     ensures places { Places result (placed builder.old array.old line) builder.new array.new }
@@ -188,11 +182,9 @@ fn place_read(
     array: &mut Option<ArrayItem>,
     keyword: Keyword,
     words: &mut Words,
-) -> Result<LineStep, Refusal>
+) -> Result<Leads, Refusal>
     requires { IsOpen array.old }
-    ensures places { Places result (led_by builder.old array.old
-        (judged_behind (kind_of array.old) keyword words.old)) builder.new array.new }
-    ensures open { IsOpen array.new }
+    ensures { PlacesRead result keyword words.old builder.old array.old builder.new array.new }
 {
     let line = read_behind(alloc, open_kind(array), keyword, words)??;
     place(builder, array, line)
@@ -206,11 +198,9 @@ fn place_rare(
     array: &mut Option<ArrayItem>,
     keyword: Keyword,
     words: &mut Words,
-) -> Result<LineStep, Refusal>
+) -> Result<Leads, Refusal>
     requires { IsOpen array.old }
-    ensures places { Places result (led_by builder.old array.old
-        (judged_behind (kind_of array.old) keyword words.old)) builder.new array.new }
-    ensures open { IsOpen array.new }
+    ensures { PlacesRead result keyword words.old builder.old array.old builder.new array.new }
 {
     place_read(alloc, builder, array, keyword, words)
 }
@@ -224,11 +214,9 @@ fn place_behind(
     array: &mut Option<ArrayItem>,
     keyword: Keyword,
     words: &mut Words,
-) -> Result<LineStep, Refusal>
+) -> Result<Leads, Refusal>
     requires { IsOpen array.old }
-    ensures places { Places result (led_by builder.old array.old
-        (judged_behind (kind_of array.old) keyword words.old)) builder.new array.new }
-    ensures open { IsOpen array.new }
+    ensures { PlacesRead result keyword words.old builder.old array.old builder.new array.new }
 {
     match keyword {
         Keyword::Start => place_read(alloc, builder, array, Keyword::Start, words),
@@ -243,18 +231,19 @@ fn place_behind(
 }
 
 // Reads a line, and places what it says.
+#[inline(never)]
 pub fn read_placed(
     alloc: Global,
     builder: &mut DocBuilder,
     array: &mut Option<ArrayItem>,
     line: &[u8],
-) -> Result<LineStep, Refusal>
+) -> Result<Leads, Refusal>
     requires { IsOpen array.old }
     ensures places { Places result (outcome builder.old array.old line.now) builder.new array.new }
     ensures open { IsOpen array.new }
 {
     if is_passed_over(builder, array, line) {
-        return Ok(LineStep::More);
+        return Ok(Leads::On);
     }
     let mut words = Words::of(line);
     let keyword = words.next_keyword()?;

@@ -110,10 +110,13 @@ fn plain_ones(bytes: &[u8]) -> usize
     bytes.iter().take_while(|byte| is_plain(**byte)).count()
 }
 
-// How many bytes at the front are plain.
+// How many bytes at the front are plain. Most texts are short, and are counted one by one.
 pub fn plain_count(bytes: &[u8]) -> usize
     ensures { result ≡ length (take_while is_plain bytes.now) }
 {
+    if bytes.len() < 64 {
+        return plain_ones(bytes);
+    }
     let eights = plain_eights(bytes);
     let (_, rest) = bytes.split_at(eights);
     eights + plain_ones(rest)

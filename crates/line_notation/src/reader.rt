@@ -1,10 +1,11 @@
 // Documents out of lines.
-ghost use Rattle.std.specs.Prelude.{◌≡◌, [], IsErrOf};
+ghost use Rattle.std.specs.Prelude.{◌≡◌, [], Ok, Err, IsErrOf};
+ghost use Rattle.nbfx_values.specs.Documents.{IsDocument};
 ghost use Rattle.line_notation.specs.Between.{IsUnrefused, is_between, next_line};
 ghost use Rattle.line_notation.specs.Placing.{fault_of};
 ghost use Rattle.line_notation.specs.Standing.{HasFailed, HasReadFew, StandsBehind, UnlessMemory, after, answer, ended, ending};
 
-use crate::placing::{Refusal, read_placed};
+use crate::placing::{Leads, Refusal, read_placed};
 use nbfx_values::{ArrayItem, Doc, DocBuilder, Memory};
 use std::alloc::Global;
 use std::marker::Model;
@@ -66,6 +67,27 @@ impl Refusal {
             Refusal::Memory => LineFault::Memory,
         }
     }
+}
+
+// The document that has ended, apart from the code for lines that end none.
+#[inline(never)]
+fn whole(builder: &mut DocBuilder) -> Result<LineStep, LineFault>
+    requires { IsDocument builder.old }
+    ensures document { result ≡ Ok (LineStep.Done builder.old) }
+    ensures anew { builder.new ≡ [] }
+{
+    match builder.finish() {
+        Some(doc) => Ok(LineStep::Done(doc)),
+        None => unreachable!(),
+    }
+}
+
+// Refuses a line, apart from the code for lines that aren't refused.
+#[inline(never)]
+fn refused(fault: LineFault) -> Result<LineStep, LineFault>
+    ensures { result ≡ Err fault }
+{
+    Err(fault)
 }
 
 /// Reads documents out of lines, of which each is given without its line feed. Contracts see where
@@ -130,6 +152,7 @@ impl LineReader {
     }
 
     /// Reads one line more. A fault stays: each further line has the same.
+    #[inline(always)]
     pub fn line(&mut self, line: &[u8]) -> Result<LineStep, LineFault>
         requires few { HasReadFew self.old }
         ensures answer { UnlessMemory result (result ≡ answer self.old line.now) }
@@ -143,13 +166,12 @@ impl LineReader {
         }
         self.lines += 1;
         match read_placed(self.alloc, &mut self.builder, &mut self.array, line) {
-            // Moved apart, so that nothing is where no document is whole.
-            Ok(LineStep::More) => Ok(LineStep::More),
-            Ok(LineStep::Done(doc)) => Ok(LineStep::Done(doc)),
+            Ok(Leads::On) => Ok(LineStep::More),
+            Ok(Leads::ToTheEnd) => whole(&mut self.builder),
             Err(refusal) => {
                 let fault = refusal.of_line(self.lines);
                 self.fault = Some(fault);
-                Err(fault)
+                refused(fault)
             }
         }
     }

@@ -121,6 +121,7 @@ pub fn text(alloc: Global, words: &mut Words) -> Result<Judged<Txt>, Stop>
 }
 
 // The two texts in quotes that are the next words.
+#[inline(always)]
 pub fn two_texts(alloc: Global, words: &mut Words) -> Result<Judged<(Txt, Txt)>, Stop>
     ensures { Gives (λ texts. texts) result words.new (judged_texts_at words.old) }
 {

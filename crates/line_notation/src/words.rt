@@ -133,8 +133,8 @@ fn first_word_end(line: &[u8]) -> usize
     }
 }
 
-// The plain bytes that the first word has between quotes, if it is such, and what is left of the line
-// behind its space.
+// The plain bytes that the first word has between quotes, if it is such, and what is left of the
+// line behind its space.
 fn shown_first(line: &[u8]) -> Option<(&[u8], Option<&[u8]>)>
     ensures { IfSome result (λ cut. CutsShown line.now cut.0.now (option_copied cut.1)) }
 {

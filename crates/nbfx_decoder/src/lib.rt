@@ -23,8 +23,3 @@ mod units;
 
 pub use decoder::Decoder;
 pub use faults::DecodeFault;
-
-#[cfg(test)]
-mod kept_tests;
-#[cfg(test)]
-mod tests;

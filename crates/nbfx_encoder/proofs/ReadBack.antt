@@ -11,7 +11,7 @@ use Rattle.nbfx_encoder.specs.declared.encoder.Encoder.{Encoder}
 use Rattle.nbfx_encoder.specs.Reading.{AdmitsAsMuch, IsRead}
 use Rattle.nbfx_encoder.specs.Inside.{SpelledPayload, names_of, writing_of}
 use Rattle.nbfx_encoder.specs.Spelling.{Fits, chosen, within_payload, writing}
-use Rattle.nbfx_encoder.specs.Standing.{kind_in, limits_in, names_in}
+use Rattle.nbfx_encoder.specs.EncoderState.{kind_in, limits_in, names_in}
 use Rattle.nbfx_encoder.proofs.LawFacts.{short_one}
 use Rattle.nbfx_encoder.proofs.Payloads.{chosen_is_payload}
 

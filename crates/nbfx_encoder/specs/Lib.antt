@@ -2,7 +2,7 @@
 pub mod Placing
 pub mod Spelling
 pub mod Refusals
-pub mod Standing
+pub mod EncoderState
 pub mod Envelopes
 pub mod Reading
 pub mod Laws

@@ -15,9 +15,9 @@ use Rattle.nbfx_encoder.specs.declared.sender.Side.TheVariants.{Initiator, Recei
 use Rattle.nbfx_encoder.specs.Envelopes.{envelope}
 use Rattle.nbfx_encoder.specs.Placing.{Placed}
 use Rattle.nbfx_encoder.specs.Spelling.{Unfit}
-use Rattle.nbfx_encoder.specs.Standing.{Refuses, kind_in as encoder_kind_in}
-use Rattle.nbfx_encoder.specs.Standing.{limits_in as encoder_limits_in}
-use Rattle.nbfx_encoder.specs.Standing.{names_in as encoder_names_in}
+use Rattle.nbfx_encoder.specs.EncoderState.{Refuses, kind_in as encoder_kind_in}
+use Rattle.nbfx_encoder.specs.EncoderState.{limits_in as encoder_limits_in}
+use Rattle.nbfx_encoder.specs.EncoderState.{names_in as encoder_names_in}
 
 -- what it is set to, where it is in its session, and what its identifiers name
 unfoldable pub limits_in : Sender → Limits

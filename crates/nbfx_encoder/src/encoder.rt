@@ -1,5 +1,5 @@
 //! Documents as payloads, with the session's strings carried on from one to the next.
-#![tactic(auto, unfolding(crate::specs::Standing::kind_in, crate::specs::Standing::limits_in, crate::specs::Standing::names_in, crate::specs::Standing::payload_in,))]
+#![tactic(auto, unfolding(crate::specs::EncoderState::kind_in, crate::specs::EncoderState::limits_in, crate::specs::EncoderState::names_in, crate::specs::EncoderState::payload_in,))]
 
 ghost use Rattle.std.specs.Prelude.{◌≡◌, ◌+◌, ◌<◌, ◌≤◌, ◌^◌, ◌++◌, [], OnOk, OnErr, IfErr, IfOk, IsTrue, drop, length, take};
 ghost use Rattle.std.specs.List.{list_all};
@@ -47,7 +47,8 @@ pub(crate) struct Prepared {
 }
 
 impl<'s> Encoder<'s> {
-    ghost use Rattle.nbfx_encoder.specs.Standing.{HasPrepared, KeepsSettings, Refuses, Writes, kind_in, limits_in, names_in, payload_in};
+    ghost use Rattle.nbfx_encoder.specs.EncoderState.{HasPrepared, KeepsSettings, Refuses, Writes};
+    ghost use Rattle.nbfx_encoder.specs.EncoderState.{kind_in, limits_in, names_in, payload_in};
 
     /// A writer of a direction without strings so far.
     pub fn new(alloc: Global, statics: &'s StaticTable, quotas: Quotas, kind: Kind) -> Self

@@ -35,7 +35,8 @@ use Rattle.nbfx_records.proofs.ShapeBytes.{ArrayPartIs, IsArrayTurn, ElementOf, 
 use Rattle.nbfx_records.proofs.ShapeBytes.{ArrayIs}
 use Rattle.nbfx_records.specs.TypeBytes.{text_byte}
 use Rattle.nbfx_records.proofs.KindBytes.{byte_is, no_text_above}
-use Rattle.nbfx_records.proofs.ScalarBytes.{of_fixed, spelled_there, spelled_back}
+use Rattle.nbfx_records.proofs.ScalarBytes.{spelled_there, spelled_back}
+use Rattle.nbfx_records.proofs.ScalarParts.{of_fixed}
 use Rattle.nbfx_records.proofs.ValueBytes.{mapped_some, bound_some}
 use Rattle.nbfx_records.proofs.AttributeBytes.{PartIs, part_there, part_back, element_there}
 use Rattle.nbfx_records.proofs.AttributeBytes.{element_back}

@@ -12,6 +12,7 @@ pub mod ShapeFronts
 pub mod PartBytes
 pub mod ShapeBytes
 pub mod KindBytes
+pub mod ScalarParts
 pub mod ScalarBytes
 pub mod ValueBytes
 pub mod NameBytes
@@ -40,6 +41,7 @@ pub mod PutFacts
 pub mod ChosenScalars
 pub mod ChosenNodes
 pub mod ChosenShort
+pub mod ValueLengths
 pub mod ChosenLengths
 -- What a node means.
 pub mod Missing

@@ -25,7 +25,8 @@ use Rattle.nbfx_records.proofs.PartBytes.{ScalarIs, TurnIs, IsTurn}
 use Rattle.nbfx_records.proofs.ShapeBytes.{ValueIs, IsValue, TextIs}
 use Rattle.nbfx_records.specs.TypeBytes.{text_byte, byte_of, is_kind}
 use Rattle.nbfx_records.proofs.KindBytes.{byte_is, kind_of_byte}
-use Rattle.nbfx_records.proofs.ScalarBytes.{end_is_none, list_is_none, spelled_there, spelled_back}
+use Rattle.nbfx_records.proofs.ScalarBytes.{spelled_there, spelled_back}
+use Rattle.nbfx_records.proofs.ScalarParts.{end_is_none, list_is_none}
 
 -- a mapped option that is there
 pub mapped_some : {A B : Type 0} (f : A → B) (o : Option A) (y : B) → option_map f o ≡ Some y

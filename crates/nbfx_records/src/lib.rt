@@ -52,8 +52,3 @@ pub use put_values::{ScalarChoice, put_list_end, put_list_start, put_scalar};
 pub use reader::{NodeReader, NodeStep};
 pub use records::{RecordPart, parts_at};
 pub use type_bytes::{is_chars, text_kind_in, width};
-
-#[cfg(test)]
-mod put_tests;
-#[cfg(test)]
-mod tests;

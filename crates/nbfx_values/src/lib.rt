@@ -41,6 +41,3 @@ pub use scalars::{Dec, Scalar, Value, Values};
 pub use session::{Kind, Mode};
 pub use texts::{Blob, Txt};
 pub use unit_streams::Memory;
-
-#[cfg(test)]
-mod tests;

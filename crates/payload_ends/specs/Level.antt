@@ -5,7 +5,7 @@ use Rattle.nbfx_values.specs.declared.content.Item.{Item}
 use Rattle.nbfx_encoder.specs.declared.encoder.Encoder.{Encoder}
 use Rattle.nbfx_encoder.specs.Reading.{AdmitsAsMuch}
 use Rattle.nbfx_encoder.specs.Spelling.{encoded}
-use Rattle.nbfx_encoder.specs.Standing.{Refuses, Writes, kind_in, limits_in, names_in}
+use Rattle.nbfx_encoder.specs.EncoderState.{Refuses, Writes, kind_in, limits_in, names_in}
 use Rattle.nbfx_decoder.specs.declared.decoder.Decoder.{Decoder}
 use Rattle.nbfx_decoder.specs.declared.faults.DecodeFault.TheVariants as faults
 use Rattle.nbfx_decoder.specs.Standing.{StandsFor, failure_of, settings_of}

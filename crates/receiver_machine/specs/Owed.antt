@@ -21,16 +21,22 @@ fault_with (Some text) = frame_bytes_of Fault text
 abbrev pub fault_record : Reason → List ℕ
 fault_record reason = fault_with (fault_text_of reason)
 
+-- what ends a receiver's stream: an End, or what says why the initiator's is refused, where there is
+-- a text for that
+abbrev pub closing_bytes : Option Offence → List ℕ
+closing_bytes None = frame_bytes_of End []
+closing_bytes (Some offence) = fault_record offence.reason
+
 -- for a refusal
 abbrev pub owed_for : ReadRefusal → List ℕ
-owed_for (refusals.Offence o) = fault_record o.reason
+owed_for (refusals.Offence o) = closing_bytes (Some o)
 owed_for refusals.Memory = []
 
 -- what the code keeps of it, and what that is in bytes
 abbrev pub bytes_of : Owed → List ℕ
 bytes_of owes.Nothing = []
 bytes_of owes.Ack = frame_bytes_of PreambleAck []
-bytes_of owes.End = frame_bytes_of End []
+bytes_of owes.End = closing_bytes None
 
 abbrev pub after_step : Owed → StreamStep → Owed
 after_step owed steps.More = owed
@@ -46,7 +52,7 @@ after_answer owed (Err refusal) = owed
 abbrev pub owed_after : List ℕ → StreamStep → List ℕ
 owed_after owed steps.More = owed
 owed_after owed (steps.Opened mode kind) = frame_bytes_of PreambleAck []
-owed_after owed (steps.Ended n) = frame_bytes_of End []
+owed_after owed (steps.Ended n) = closing_bytes None
 owed_after owed step = []
 
 -- after the answer to a piece
@@ -57,4 +63,4 @@ owed_behind owed (Err refusal) = owed_for refusal
 -- after the answer to the end of the input
 abbrev pub owed_at_end : List ℕ → Result ⊤ Offence → List ℕ
 owed_at_end owed (Ok _) = owed
-owed_at_end owed (Err o) = fault_record o.reason
+owed_at_end owed (Err o) = closing_bytes (Some o)

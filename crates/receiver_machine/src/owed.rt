@@ -1,9 +1,10 @@
 //! What a receiver's framing answers an event or an offence with (MC-NMF).
 
 ghost use Rattle.std.specs.Prelude.{◌≡◌};
-ghost use Rattle.receiver_machine.specs.Owed.{after_answer, after_step, bytes_of, fault_record, owed_for};
+ghost use Rattle.receiver_machine.specs.Owed.{after_answer, after_step, bytes_of, closing_bytes, fault_record, owed_for};
 
-use nbfx_values::Reason;
+use nbfx_values::{Offence, Reason};
+use nmf_records::record_types::{END, PREAMBLE_ACK};
 use stream_reader::{ReadRefusal, StreamStep};
 
 /// What the last event is answered with.
@@ -47,8 +48,8 @@ impl Owed {
     {
         match self {
             Owed::Nothing => &[],
-            Owed::Ack => &[0x0B],
-            Owed::End => &[0x07],
+            Owed::Ack => &[PREAMBLE_ACK],
+            Owed::End => closing_record(None),
         }
     }
 }
@@ -58,8 +59,20 @@ pub(crate) fn owed_for(refusal: ReadRefusal) -> &'static [u8]
     ensures { result.now ≡ owed_for refusal }
 {
     match refusal {
-        ReadRefusal::Offence(offence) => fault_record(offence.reason),
+        ReadRefusal::Offence(offence) => closing_record(Some(offence)),
         ReadRefusal::Memory => &[],
+    }
+}
+
+/// The record that a receiver ends its stream with: an End where the initiator's stream ended well,
+/// else the Fault record that says why it is refused (MC-NMF, 2.2.3.5), or no bytes where the
+/// standard has no text for that. It takes no memory.
+pub fn closing_record(refusal: Option<Offence>) -> &'static [u8]
+    ensures { result.now ≡ closing_bytes refusal }
+{
+    match refusal {
+        None => &[END],
+        Some(offence) => fault_record(offence.reason),
     }
 }
 

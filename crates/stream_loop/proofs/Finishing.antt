@@ -19,7 +19,7 @@ use Rattle.unit_streams.proofs.Telling.{told_nothing}
 use Rattle.stream_loop.specs.Edges.{Input, Output}
 use Rattle.stream_loop.specs.Reported.{AsksOnce, Breaks, Decides, EndsAs, Grows, IsJudged, Judges}
 use Rattle.stream_loop.specs.Reported.{Reaches, Reports, Writes}
-use Rattle.stream_loop.specs.Reading.{HasReported, IsAllRead, ReportsAs, done, ended_by}
+use Rattle.stream_loop.specs.LoopParts.{HasReported, IsAllRead, ReportsAs, done, ended_by}
 use Rattle.stream_loop.specs.declared.reporting.Ending.{Ending}
 use Rattle.stream_loop.specs.declared.reporting.Ending.TheVariants as endings
 use Rattle.stream_loop.proofs.Writing.{told_some, known_told, told_as, grown_within, put_either}

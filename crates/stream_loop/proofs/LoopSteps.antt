@@ -17,7 +17,7 @@ use Rattle.unit_streams.proofs.Telling.{state_first}
 use Rattle.stream_loop.specs.Answers.{EndsWithin}
 use Rattle.stream_loop.specs.Edges.{Input, Output}
 use Rattle.stream_loop.specs.Reported.{Grows, Writes}
-use Rattle.stream_loop.specs.Reading.{HasRead, HasReported, ReadsOf, EndsOf, ReportsAs}
+use Rattle.stream_loop.specs.LoopParts.{HasRead, HasReported, ReadsOf, EndsOf, ReportsAs}
 use Rattle.stream_loop.specs.declared.pieces.Progress.{Progress}
 use Rattle.stream_loop.specs.declared.reporting.Ending.{Ending}
 use Rattle.stream_loop.proofs.Writing.{told_some, known_told, told_as, prefix_grows}

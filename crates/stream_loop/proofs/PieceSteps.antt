@@ -19,7 +19,7 @@ use Rattle.unit_streams.proofs.Pieces.{joined, last_due}
 use Rattle.unit_streams.proofs.Telling.{ends_add}
 use Rattle.stream_loop.specs.Answers.{said, Says, said_at_end}
 use Rattle.stream_loop.specs.Reported.{IsJudged, last_state}
-use Rattle.stream_loop.specs.Reading.{HasRead, ReadsOf, EndsOf}
+use Rattle.stream_loop.specs.LoopParts.{HasRead, ReadsOf, EndsOf}
 use Rattle.stream_loop.specs.declared.reading_end.FeedFault.{FeedFault}
 use Rattle.stream_loop.specs.declared.reading_end.FeedFault.TheVariants.{Refused, Memory}
 use Rattle.stream_loop.specs.declared.pieces.Progress.{Progress}

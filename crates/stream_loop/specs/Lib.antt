@@ -6,6 +6,6 @@ pub mod Edges
 pub mod Reported
 pub mod Laws
 -- Private calls cite this one: what the parts of the loop answer.
-pub mod Reading
+pub mod LoopParts
 -- The tests cite this one.
 pub mod Toy

@@ -18,7 +18,7 @@
 //! `specs/Answers` says how an end's answers are those of its grammar, and what a grammar has to
 //! keep so that its streams can be read to their end; `specs/Reported` what was read and written;
 //! `specs/Edges` what is seen of the input and the output; `specs/Laws` what follows, which
-//! [`laws`] carries. `specs/Reading` is for private calls, and `specs/Toy` for the tests.
+//! [`laws`] carries. `specs/LoopParts` is for private calls, and `specs/Toy` for the tests.
 #![tactic(auto)]
 
 pub mod laws;

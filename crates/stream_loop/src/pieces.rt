@@ -5,7 +5,7 @@ ghost use Rattle.io_edges.specs.Puts.{Puts};
 ghost use Rattle.unit_streams.specs.Going.{IsPending};
 ghost use Rattle.unit_streams.specs.Tellers.{Closes};
 ghost use Rattle.stream_loop.specs.Answers.{written_by};
-ghost use Rattle.stream_loop.specs.Reading.{HasRead, ReadsOf, EndsOf, done};
+ghost use Rattle.stream_loop.specs.LoopParts.{HasRead, ReadsOf, EndsOf, done};
 
 use crate::{FeedFault, ReadingEnd, Reporter};
 use io_edges::{Sink, SinkFault};

@@ -6,7 +6,7 @@ ghost use Rattle.io_edges.specs.Puts.{Puts};
 ghost use Rattle.io_edges.specs.declared.SinkFault.{SinkFault as Fault};
 ghost use Rattle.stream_loop.specs.Answers.{EndsWithin, written_by};
 ghost use Rattle.stream_loop.specs.Edges.{input_at, output_at};
-ghost use Rattle.stream_loop.specs.Reading.{HasReported, done, ended_by};
+ghost use Rattle.stream_loop.specs.LoopParts.{HasReported, done, ended_by};
 ghost use Rattle.stream_loop.specs.Reported.{EndsAs};
 
 use crate::pieces::{self, Progress};

@@ -43,7 +43,8 @@ use Rattle.stream_reader.proofs.SessionEnds.{closed_offence}
 use Rattle.stream_reader.proofs.ToSession.{Closing, ends, faults, stops, Closes, may_carry}
 use Rattle.stream_reader.proofs.ToSession.{IsFromDue, IsFrom, none_mapped, none_both, rest_behind}
 use Rattle.stream_reader.proofs.ToSession.{byte_first}
-use Rattle.stream_reader.proofs.Accepted.{IsProper, ProperAt, chunk_first, record_first, resumes}
+use Rattle.stream_reader.proofs.Accepted.{IsProper, chunk_first, record_first, resumes}
+use Rattle.stream_reader.proofs.ProperStages.{ProperAt}
 use Rattle.stream_reader.proofs.Accepted.{unit_proper}
 use Rattle.stream_reader.proofs.RightRecords.{right_size}
 

@@ -36,6 +36,7 @@ pub mod Envelopes
 pub mod FromSession
 pub mod SessionEnds
 pub mod ToSession
+pub mod ProperStages
 pub mod Accepted
 pub mod Closed
 -- a reader (specs/Bounds, Standing, Stepping): its bounds, what it stands for, payloads (what it

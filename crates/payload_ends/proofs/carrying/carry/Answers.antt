@@ -1,6 +1,6 @@
 use Rattle.std.proofs.Common.{◌∙◌, [], arith, refl}
 use Rattle.nbfx_encoder.specs.Reading.{IsRead}
-use Rattle.nbfx_encoder.specs.Standing.{kind_in, names_in}
+use Rattle.nbfx_encoder.specs.EncoderState.{kind_in, names_in}
 use Rattle.nbfx_decoder.specs.Standing.{settings_of}
 use Rattle.payload_ends.proofs.BothEnds.{level-again, taken, whole, whole-again, written_read}
 use Rattle.payload_ends.proofs.carrying.carry.Goals as goal

@@ -12,7 +12,7 @@ use Rattle.unit_streams.specs.Tellers.{Teller, told_so_far, state_at}
 use Rattle.unit_streams.proofs.Pending.{open_going_on}
 use Rattle.unit_streams.proofs.Pieces.{rest_of, rest_length, further, joined, none_due, due_behind}
 use Rattle.stream_loop.specs.Answers.{Says, written_by}
-use Rattle.stream_loop.specs.Reading.{HasRead}
+use Rattle.stream_loop.specs.LoopParts.{HasRead}
 use Rattle.stream_loop.specs.declared.reading_end.FeedFault.TheVariants.{Refused}
 use Rattle.stream_loop.proofs.PieceSteps.{said_at, puts_as, ReadsEvent, read_more, event_read}
 use Rattle.stream_loop.proofs.PieceSteps.{refusal_read, reads_judged}

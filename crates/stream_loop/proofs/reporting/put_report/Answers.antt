@@ -13,7 +13,7 @@ use Rattle.unit_streams.specs.Tellers.{Teller, AreDue, report, told_so_far}
 use Rattle.unit_streams.proofs.Telling.{told_nothing}
 use Rattle.stream_loop.specs.Answers.{written_by}
 use Rattle.stream_loop.specs.Edges.{Input, Output, input_at, output_at}
-use Rattle.stream_loop.specs.Reading.{ReadsOf, done}
+use Rattle.stream_loop.specs.LoopParts.{ReadsOf, done}
 use Rattle.stream_loop.specs.declared.pieces.Progress.{Progress}
 use Rattle.stream_loop.proofs.Writing.{counted_with, counted_none, after_flush, puts_grow}
 use Rattle.stream_loop.proofs.LoopSteps.{room_is, first_read, first_pending, reads_at, ends_at}

@@ -3,7 +3,7 @@ use Rattle.io_edges.specs.Puts.{PutsAll}
 use Rattle.unit_streams.specs.Going.{IsPending}
 use Rattle.unit_streams.specs.Tellers.{told_so_far}
 use Rattle.stream_loop.specs.Answers.{written_by}
-use Rattle.stream_loop.specs.Reading.{HasRead}
+use Rattle.stream_loop.specs.LoopParts.{HasRead}
 use Rattle.stream_loop.proofs.LoopSteps.{LeftSince, TakenSince, WritesSoFar}
 use Rattle.stream_loop.proofs.reporting.put_report.Given as goal
 

@@ -1,5 +1,5 @@
 use Rattle.std.proofs.Common.{◌++◌, ap, ◌∙◌}
-use Rattle.nbfx_encoder.specs.Standing.{payload_in}
+use Rattle.nbfx_encoder.specs.EncoderState.{payload_in}
 use Rattle.nbfx_encoder.proofs.Openings.{third_stopped}
 use Rattle.nbfx_encoder.proofs.encoder.Encoder.put_payload.Goals as goal
 

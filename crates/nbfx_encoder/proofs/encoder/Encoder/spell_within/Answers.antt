@@ -2,7 +2,7 @@ use Rattle.std.proofs.Common.{◌<◌, subst}
 use Rattle.nbfx_values.specs.declared.limits.Quotas.{Quotas}
 use Rattle.nbfx_encoder.specs.Inside.{names_of, writing_of}
 use Rattle.nbfx_encoder.specs.Spelling.{chosen}
-use Rattle.nbfx_encoder.specs.Standing.{payload_in}
+use Rattle.nbfx_encoder.specs.EncoderState.{payload_in}
 use Rattle.nbfx_encoder.proofs.Sizes.{large}
 use Rattle.nbfx_encoder.proofs.encoder.Encoder.spell_within.Goals as goal
 
