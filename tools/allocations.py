@@ -1,4 +1,4 @@
-"""Runs of the program in which one allocation fails, or one write.
+"""Runs of the program in which one allocation fails, or one write or send.
 
 What lets it fail is a library that is loaded before the C library. It also counts what was asked
 for, and what wasn't given back.
@@ -13,8 +13,9 @@ from sockets import PROGRAM, SECONDS
 AMPLE = 1_000_000
 OUT_OF_MEMORY = (5, b"out of memory\n")
 # Fails the call with a number, from 1, of all that ask for memory, and writes at the end how many
-# did, and how many more gave memory than gave it back. Fails the write of the output with a number,
-# if there is one, and writes how many there were; reads at most so many bytes at a time.
+# did, and how many more gave memory than gave it back. Fails the write of the output, and the send
+# over a socket, with a number, if there is one, and writes how many of each there were; reads at
+# most so many bytes at a time.
 SHIM = r"""
 #define _GNU_SOURCE
 #include <dlfcn.h>
@@ -22,12 +23,13 @@ SHIM = r"""
 #include <stdio.h>
 #include <errno.h>
 #include <stdlib.h>
+#include <sys/socket.h>
 #include <unistd.h>
-static long calls, wanted, live, writes;
+static long calls, wanted, live, writes, sends;
 __attribute__((destructor)) static void tell(void) {
-    long told = calls, kept = live, put = writes;
+    long told = calls, kept = live, put = writes, sent = sends;
     int file = open(getenv("ALLOCATIONS"), O_WRONLY | O_CREAT | O_TRUNC, 0600);
-    dprintf(file, "%ld %ld %ld", told, kept, put);
+    dprintf(file, "%ld %ld %ld %ld", told, kept, put, sent);
 }
 static long told_by(const char *name) {
     const char *text = getenv(name);
@@ -41,6 +43,15 @@ ssize_t write(int file, const void *bytes, size_t n) {
         return -1;
     }
     return next(file, bytes, n);
+}
+ssize_t send(int socket, const void *bytes, size_t n, int flags) {
+    static ssize_t (*next)(int, const void *, size_t, int);
+    if (!next) next = dlsym(RTLD_NEXT, "send");
+    if (++sends == told_by("FAIL_SEND")) {
+        errno = EPIPE;
+        return -1;
+    }
+    return next(socket, bytes, n, flags);
 }
 ssize_t read(int file, void *bytes, size_t n) {
     static ssize_t (*next)(int, void *, size_t);
@@ -123,9 +134,9 @@ class Shim:
 
     def counts(self):
         """How many allocations the last run asked for, how many were still there at its end, and
-        how many writes there were. A run that was killed counts nothing."""
+        how many writes and sends there were. A run that was killed counts nothing."""
         try:
             with open(self.library + ".calls") as file:
                 return [int(number) for number in file.read().split()]
         except FileNotFoundError:
-            return [0, 0, 0]
+            return [0, 0, 0, 0]

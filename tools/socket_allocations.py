@@ -1,4 +1,5 @@
-"""`serve` and `call` over this machine's sockets, with each allocation failing in turn."""
+"""`serve` and `call` over this machine's sockets, with each allocation failing in turn, and each
+send."""
 
 import functools
 import os
@@ -14,6 +15,7 @@ from sockets import connected, documents, free_port, place, read_all, run
 
 INTO_FULL_DEVICE = (4, b"", b"write fault\n")
 OUTPUT_AND_MEMORY = (5, b"", b"out of memory\n")
+BROKEN = re.compile(rb"connection \d+ messages \d+ answers \d+ in ended out write-fault\n")
 LINE = re.compile(rb"connection \d+ messages \d+ answers \d+ in (ended|memory) out (done|memory)\n")
 SENT = re.compile(rb"sent (\d+) tags (a*b*|-)\n\Z")
 
@@ -53,22 +55,22 @@ def exchanged(connection, stream):
     return read_all(connection)
 
 
-def serve(shim, words, streams, number):
+def serve(shim, words, streams, number, more={}):
     """How `serve` of a connection for each stream ends, and what answers each of them."""
     port = free_port()
     words = ["serve", *words, "--listen", place(port), "--connections", str(len(streams))]
-    started = started_with(shim.told(number), words)
+    started = started_with(shim.told(number, more), words)
     answers = [asked(started, port, stream) for stream in streams]
     return *wait_to_end(started), answers
 
 
-def call(shim, words, lines, replies, number, output=subprocess.PIPE):
+def call(shim, words, lines, replies, number, output=subprocess.PIPE, more={}):
     """How `call` with these lines ends, and what it sends to a service that replies so."""
     with socket.create_server((HOST, 0)) as server, tempfile.TemporaryFile() as stdin:
         stdin.write(lines)
         stdin.seek(0)
         words = ["call", *words, "--connect", place(server.getsockname()[1])]
-        started = started_with(shim.told(number), words, stdin, output)
+        started = started_with(shim.told(number, more), words, stdin, output)
         received = replied(server, started, replies)
         return *wait_to_end(started), received
 
@@ -165,10 +167,15 @@ def two_of(statics, stream):
 
 
 def server_plans(shim, folder, statics, two):
-    # One allocation fails, so that one of two connections is answered in full.
-    streams = fronts_of(statics, ["--via=" + VIA], two)[-1:] * 2
     texts = file_of(folder, "texts.csv", b"action,text\nurn:echo,aTextOfMoreThanSixteenBytes\n")
-    for name, words in (("the echo", []), ("texts", ["--actions=" + texts])):
+    for name, words, mode, given in (
+        ("the echo", [], "duplex", two),
+        ("texts", ["--actions=" + texts], "duplex", two),
+        ("one-way messages", [], "simplex", two),
+        ("a streamed call", [], "singleton", two[:1]),
+    ):
+        # One allocation fails, so that one of two connections is answered in full.
+        streams = fronts_of(statics, ["--via=" + VIA, "--mode=" + mode], given)[-1:] * 2
         yield "serve with " + name, functools.partial(serve, shim, statics + words, streams)
 
 
@@ -194,6 +201,42 @@ def call_plans(shim, folder, statics, two):
     )
 
 
+def may_serve_brokenly(whole, ended):
+    """The same where one send failed: the line of one connection says so, and its client got first
+    bytes of the answer. The others are answered in full."""
+    status, output, note, answers = ended
+    lines, due = output.splitlines(True), whole[1].splitlines(True)
+    broken = [at for at, line in enumerate(lines) if BROKEN.fullmatch(line)]
+    return (
+        (status, note, len(lines), len(broken)) == (0, b"", len(due), 1)
+        and all(
+            full.startswith(answer) and answer != full
+            if at in broken
+            else (lines[at], answer) == (due[at], full)
+            for at, (full, answer) in enumerate(zip(whole[3], answers))
+        )
+    )
+
+
+def may_call_brokenly(fronts):
+    """The same of a call, whose session has these fronts. It has status 8, first bytes of the
+    report and the line of what was sent, and the service received that and not all of it."""
+    def may_end(whole, ended):
+        status, output, note, received = ended
+        sent, all_sent = SENT.search(output), SENT.search(whole[1])
+        if (status, note) != (8, b"wire fault\n") or not sent:
+            return False
+        count = int(sent[1])
+        return (
+            whole[1][:all_sent.start()].startswith(output[:sent.start()])
+            and sent[2] == (all_sent[2][:count] or b"-")
+            and received.startswith(fronts[count] if count else b"")
+            and whole[3].startswith(received)
+            and whole[3] != received
+        )
+    return may_end
+
+
 def plans(shim, folder, statics, stream):
     """The name of each kind of run, a run in which the allocation with a number fails, and whether
     it may end so, beside one with ample memory. The stream is a session of a call."""
@@ -201,6 +244,26 @@ def plans(shim, folder, statics, stream):
     for name, serving in server_plans(shim, folder, statics, two):
         yield name, serving, may_serve
     yield from call_plans(shim, folder, statics, two)
+
+
+def sending_plans(shim, statics, stream):
+    """The name of each kind of run, a run in which the send with a number fails, and whether it may
+    end so, beside one in which none does."""
+    two = two_of(statics, stream)
+    words = statics + ["--via=" + VIA]
+    fronts = fronts_of(statics, ["--via=" + VIA], two)
+    session = fronts[-1]
+    replies = run(["replay"] + statics, session)[1]
+
+    def serve_failing(number):
+        return serve(shim, statics, [session] * 2, AMPLE, {"FAIL_SEND": str(number)})
+
+    def call_failing(number):
+        more = {"FAIL_SEND": str(number)}
+        return call(shim, words, b"".join(two), replies, AMPLE, more=more)
+
+    yield "serve with a failed send", serve_failing, may_serve_brokenly
+    yield "call with a failed send", call_failing, may_call_brokenly(fronts)
 
 
 def many(shim, statics, stream):
@@ -220,18 +283,29 @@ def tried(shim, name, run_failing, may_end):
     The allocation that fails is each in turn, until a run asks for fewer: that ends as with ample
     memory, whose run may ask for some more or fewer, by the pieces in which bytes come.
     """
+    return each_failing(shim, name, run_failing, may_end, "allocation", 0)
+
+
+def tried_sending(shim, name, run_failing, may_end):
+    """The same of sends."""
+    return each_failing(shim, name, run_failing, may_end, "send", 3)
+
+
+def each_failing(shim, name, run_failing, may_end, kind, counted):
+    """The same of what stands at that place of the counts."""
     whole = run_failing(AMPLE)
     if whole[0] and whole[:3] != INTO_FULL_DEVICE:
-        raise SystemExit("%s: with ample memory %r" % (name, whole))
-    runs = wanting = wrong = 0
+        raise SystemExit("%s: with none failing %r" % (name, whole))
+    runs = failing = wrong = 0
     failed = True
     while failed:
         runs += 1
         ended = run_failing(runs)
-        asked_for, live, _ = shim.counts()
-        failed = runs <= asked_for
-        wanting += ended != whole
-        if not (ended == whole or failed and may_end(whole, ended)) or live:
+        counts = shim.counts()
+        failed = runs <= counts[counted]
+        failing += ended != whole
+        if not (ended == whole or failed and may_end(whole, ended)) or counts[1]:
             wrong += 1
-            print("%s, allocation %d of %d: %r, %d live" % (name, runs, asked_for, ended, live))
-    return runs, wanting, wrong
+            told = (name, kind, runs, counts[counted], ended, counts[1])
+            print("%s, %s %d of %d: %r, %d live" % told)
+    return runs, failing, wrong

@@ -4,6 +4,7 @@ import os
 import random
 import socket
 import subprocess
+import sys
 import time
 
 ROOT = os.path.dirname(os.path.dirname(os.path.realpath(__file__)))
@@ -16,6 +17,12 @@ HOST = "127.0.0.1"
 SECONDS = 20
 # How often it is looked whether a server listens.
 MOMENT = 0.002
+
+
+def assert_built():
+    """Ends the script where the program isn't built of the sources as they are."""
+    if subprocess.run([os.path.join(ROOT, "tools", "prove"), "--built"]).returncode:
+        sys.exit("the program isn't built: tools/prove builds it")
 
 
 def free_port():
