@@ -1,8 +1,11 @@
 // A module for each crate that is called.
+mod answers;
+mod carried;
+mod edges;
 mod envelopes;
-mod kept;
-mod lines;
-mod parts;
-mod payloads;
+mod lists;
 mod records;
-mod values;
+mod served;
+mod statics;
+mod strings;
+mod wires;

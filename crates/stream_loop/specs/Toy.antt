@@ -1,9 +1,9 @@
--- For the tests: streams of which each byte is an event, up to the byte 0, and what is written of
--- them.
-use Rattle.std.specs.Prelude.{◌≡◌, ℕ, ◌+◌, length, ◌==◌, nat_le, if◌then◌else◌, min, List, [], ◌∷◌}
+-- For worked examples: streams of which each byte is an event, up to the byte 0, and what is
+-- written of them.
+use Rattle.std.specs.Prelude.{ℕ, ◌+◌, ◌==◌, nat_le, if◌then◌else◌, min, List, [], ◌∷◌}
 use Rattle.std.specs.Prelude.{Bool, false, Option, Some, None}
 use Rattle.unit_streams.specs.Front.{Front, begun, whole, wrong}
-use Rattle.unit_streams.specs.Grammar.{Grammar, standing}
+use Rattle.unit_streams.specs.Grammar.{Grammar}
 use Rattle.unit_streams.specs.Tellers.{Teller}
 
 module _ {R : Type 0} (bad cut too_long : R) where
@@ -25,13 +25,6 @@ module _ {R : Type 0} (bad cut too_long : R) where
         if over then None else if nat_le 200000 n then Some too_long else None;
     at_end = λ over from n. if over then None else Some cut;
   }
-
-  -- what a reader that has read so many bytes stands for: it is over or not
-  pub record HasRead (over : Bool) (taken : ℕ) (p : List ℕ) : Type 0 where
-    pub situation : (standing bytes_to_0 p).situation ≡ over
-    pub between : (standing bytes_to_0 p).begun ≡ []
-    pub unrefused : (standing bytes_to_0 p).refusal ≡ None
-    pub counted : taken ≡ length p
 
 -- each byte is written as it is, and at last a question mark where the stream is refused, and how
 -- many bytes there were, up to 255

@@ -1,5 +1,5 @@
 use Rattle.std.proofs.Common.{◌≤◌, ◌-◌, length}
-use Rattle.io_edges.proofs.tests.wires.taken.Given as goal
+use Rattle.public_calls.proofs.tests.wires.taken.Given as goal
 
 abbrev pub invariant-loop-len : goal.invariant-loop-len
 invariant-loop-len g l = l.len ≤ length l.room

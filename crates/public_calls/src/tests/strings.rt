@@ -1,0 +1,18 @@
+// A great session table.
+use session_dictionary::SessionTable;
+use std::test::Fail;
+
+// Finding each of them by a search through all would take minutes.
+#[test]
+fn many_strings(rt: HostRuntime) -> Result<(), Fail> {
+    let mut table = SessionTable::new(rt.alloc(), 1_073_741_824);
+    for number in 0..300_000u32 {
+        let text = format!(in rt.alloc(); "{number:07}")?;
+        assert_eq!(rt; table.add(text.as_str()), Ok(2 * number + 1));
+    }
+    for number in 0..300_000u32 {
+        let text = format!(in rt.alloc(); "{number:07}")?;
+        assert_eq!(rt; table.id(text.as_str()), Some(2 * number + 1));
+    }
+    Ok(())
+}
