@@ -30,85 +30,144 @@ fn document_lines(alloc: Global, dump: &str) -> Result<String, AllocError> {
 }
 
 fn printed(alloc: Global, docs: &Docs) -> Result<MemorySink, SinkFault> {
-    let mut sink = sure_sink(alloc);
+    let mut sink = MemorySink::new(alloc, Vec::new(alloc), 0);
     for doc in docs.as_slice() {
         print(doc, &mut sink)?;
     }
     Ok(sink)
 }
 
-const DUMP: [&str; 3] = ["nettcp", "dump", "--static=S"];
+// The first run of a row, in one piece.
+fn ran(alloc: Global, row: &Row) -> Result<Ran<MemorySource, MemorySink>, AllocError> {
+    let words = listed(alloc, row.words, row.options)?;
+    let input = joined(alloc, row.input, row.long)?;
+    let source = source_of(alloc, &input, 65_536, row.takes)?;
+    let mut notes = notes_of(alloc, row)?;
+    let mut wire = wire_of(alloc, row)?;
+    run_on_fakes(alloc, row, &words, source, &mut notes, &mut wire)
+}
 
-const DUPLEX_REPLIES: [&str; 4] = ["nettcp", "dump", "--static=S", "--replies=duplex"];
+// The lines of the documents that a row dumps.
+fn dumped(alloc: Global, row: &Row) -> Result<String, Fail> {
+    let ran = ran(alloc, row)?;
+    if ran.status != row.status {
+        return Err("another status".into());
+    }
+    Ok(document_lines(alloc, str::from_utf8(ran.output.bytes())?)?)
+}
 
-const STREAMED_REPLY: [&str; 5] = [
-    "nettcp",
-    "dump",
-    "--static=S",
-    "--replies=singleton",
-    "--encoding=7",
-];
+fn read(alloc: Global, lines: &str) -> Result<Docs, Fail> {
+    match read_documents(alloc, lines.as_bytes()) {
+        Ok(docs) => Ok(docs),
+        Err(_) => Err("no documents".into()),
+    }
+}
 
-// Asserts that a dump by these words has so many documents, and that they are read back out of it.
+// Asserts that the dump of a row has so many documents, and that they are read back out of it.
 fn assert_read_back(
     rt: &(impl Abort + AllocGlobal),
-    words: &[&str],
-    stream: &[u8],
-    status: u8,
+    row: &Row,
     documents: usize,
 ) -> Result<(), Fail> {
     let alloc = rt.alloc();
-    let words = listed(alloc, words)?;
-    let input = MemorySource::new(stream.to_vec(alloc)?, 65_536, Vec::new(alloc));
-    let mut shelf = shelf_of(alloc, STATICS, &[])?;
-    let mut notes = sure_sink(alloc);
-    let mut wire = no_wire(alloc)?;
-    let ran = run(
-        alloc,
-        &words,
-        &mut shelf,
-        input,
-        sure_sink(alloc),
-        &mut notes,
-        &mut wire,
-    );
-    assert_eq!(rt; ran.status, status);
-    let dump = str::from_utf8(ran.output.bytes())?;
-    let lines = document_lines(alloc, dump)?;
-    let Ok(docs) = read_documents(alloc, lines.as_bytes()) else {
-        return Err("no documents".into());
-    };
-    assert_eq!(rt; docs.len(), documents);
+    let name = row.name;
+    let lines = dumped(alloc, row)?;
+    let docs = read(alloc, lines.as_str())?;
+    assert_eq!(rt; docs.len(), documents, "{name}");
     let again = printed(alloc, &docs)?;
-    assert!(rt; again.bytes() == lines.as_bytes());
+    assert!(rt; again.bytes() == lines.as_bytes(), "{name}");
     Ok(())
 }
 
-#[test]
-fn one_call_is_read_back(rt: HostRuntime) -> Result<(), Fail> {
-    assert_read_back(&rt, &DUMP, ONE, 0, 1)
-}
-
-#[test]
-fn one_way_messages_are_read_back(rt: HostRuntime) -> Result<(), Fail> {
-    assert_read_back(&rt, &DUMP, ONEWAY5, 0, 6)
-}
-
-#[test]
-fn twenty_calls_are_read_back(rt: HostRuntime) -> Result<(), Fail> {
-    assert_read_back(&rt, &DUMP, TWENTY, 0, 20)
-}
+const SENT: Row = Row {
+    words: DUMP_ONE,
+    ..CHECK
+};
 
 // The server of the captured sessions never sends End.
-#[test]
-fn answers_are_read_back(rt: HostRuntime) -> Result<(), Fail> {
-    assert_read_back(&rt, &DUPLEX_REPLIES, ONE_REPLIES, 1, 1)?;
-    assert_read_back(&rt, &DUPLEX_REPLIES, ONEWAY5_REPLIES, 1, 1)?;
-    assert_read_back(&rt, &DUPLEX_REPLIES, TWENTY_REPLIES, 1, 20)
-}
+const SENT_BACK: Row = Row {
+    options: &["--replies=duplex"],
+    status: 1,
+    ..SENT
+};
+
+const CALLS: &[(Row, usize)] = &[
+    (
+        Row {
+            name: "one call",
+            input: &[ONE],
+            ..SENT
+        },
+        1,
+    ),
+    (
+        Row {
+            name: "one-way messages",
+            input: &[ONEWAY5],
+            ..SENT
+        },
+        6,
+    ),
+    (
+        Row {
+            name: "twenty calls",
+            input: &[TWENTY],
+            ..SENT
+        },
+        20,
+    ),
+    (
+        Row {
+            name: "a streamed call",
+            input: &[STREAMED],
+            ..SENT
+        },
+        1,
+    ),
+];
+
+const ANSWERS: &[(Row, usize)] = &[
+    (
+        Row {
+            name: "one answer",
+            input: &[ONE_REPLIES],
+            ..SENT_BACK
+        },
+        1,
+    ),
+    (
+        Row {
+            name: "the answer behind one-way messages",
+            input: &[ONEWAY5_REPLIES],
+            ..SENT_BACK
+        },
+        1,
+    ),
+    (
+        Row {
+            name: "twenty answers",
+            input: &[TWENTY_REPLIES],
+            ..SENT_BACK
+        },
+        20,
+    ),
+    (
+        Row {
+            name: "a streamed answer",
+            options: &["--replies=singleton", "--encoding=7"],
+            input: &[STREAMED_REPLIES],
+            ..SENT
+        },
+        1,
+    ),
+];
 
 #[test]
-fn a_streamed_call_is_read_back_in_both_directions(rt: HostRuntime) -> Result<(), Fail> {
-    assert_read_back(&rt, &DUMP, STREAMED, 0, 1)?;
-    assert_read_back(&rt, &STREAMED_REPLY, STREAMED_REPLIES, 0, 1)
+fn captured_documents_are_read_back(rt: HostRuntime) -> Result<(), Fail> {
+    for table in [CALLS, ANSWERS] {
+        for (row, documents) in table {
+            assert_read_back(&rt, row, *documents)?;
+        }
+    }
+    Ok(())
 }

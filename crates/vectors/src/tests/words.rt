@@ -1,403 +1,263 @@
-// Words in each form of the commands, and in none, through the whole program.
+// Words in each form of the commands, through the whole program.
 use super::*;
 
-const COMMANDS: [&str; 2] = ["check", "dump"];
+// The words that stand for an option, for its value, and for both as one word.
+pub const OPTION: &str = "OPTION";
 
-// Each quota, with the least and the greatest number that it may have and the session is reported with.
-const QUOTAS: [(&str, &str); 10] = [
-    ("--payload", "4096"),
-    ("--payload", "1048576"),
-    ("--depth", "4"),
-    ("--depth", "128"),
-    ("--dictionary", "0"),
-    ("--dictionary", "65536"),
-    ("--content", "65536"),
-    ("--content", "16777216"),
-    ("--session", "24"),
-    ("--session", "281474976710656"),
-];
+pub const VALUE: &str = "VALUE";
 
-// An option and its value as one word.
-fn joined(alloc: Global, option: &str, value: &str) -> Result<String, AllocError> {
+pub const BOTH: &str = "BOTH";
+
+// Forms of words, each with every option and each of its values, and what a session leaves.
+pub struct Asked {
+    pub forms: &'static [&'static [&'static str]],
+    pub settings: &'static [(&'static str, &'static [&'static str])],
+    pub row: Row,
+}
+
+// Of forms that have no option to fill in.
+pub const NO_SETTING: &[(&str, &[&str])] = &[("", &[""])];
+
+fn one_word(alloc: Global, option: &str, value: &str) -> Result<String, AllocError> {
     let mut word = String::from_str(alloc, option)?;
     word.push_str("=")?;
     word.push_str(value)?;
     Ok(word)
 }
 
-// Asserts that the session is reported as these words ask for it.
-fn assert_taken(rt: &(impl Abort + AllocGlobal), words: &[&str]) -> Result<(), Fail> {
-    assert_ran(rt, words, SESSION, SURE, 0, ENDED, b"")
+fn filled_word(alloc: Global, word: &str, option: &str, value: &str) -> Result<String, AllocError> {
+    if word == OPTION {
+        return String::from_str(alloc, option);
+    }
+    if word == VALUE {
+        return String::from_str(alloc, value);
+    }
+    if word == BOTH {
+        return one_word(alloc, option, value);
+    }
+    String::from_str(alloc, word)
 }
 
-// Asserts that these words ask for nothing, and so nothing is read or written.
-fn assert_refused(rt: &(impl Abort + AllocGlobal), words: &[&str]) -> Result<(), Fail> {
-    assert_ran(rt, words, SESSION, SURE, 2, "", SESSION)
+fn filled(
+    alloc: Global,
+    form: &[&str],
+    option: &str,
+    value: &str,
+) -> Result<Vec<String>, AllocError> {
+    let mut words = Vec::new(alloc);
+    for word in form {
+        words.push(filled_word(alloc, word, option, value)?)?;
+    }
+    Ok(words)
 }
 
-#[test]
-fn a_quota_is_one_word_or_two(rt: HostRuntime) -> Result<(), Fail> {
-    for (option, number) in QUOTAS {
-        let one = joined(rt.alloc(), option, number)?;
-        assert_taken(&rt, &["nettcp", "check", "--static", "S", option, number])?;
-        assert_taken(&rt, &["nettcp", "dump", option, number, "--static=S"])?;
-        assert_taken(&rt, &["nettcp", "dump", "--static", "S", one.as_str()])?;
-        assert_taken(&rt, &["nettcp", "check", one.as_str(), "--static=S"])?;
+// Asserts what each form leaves with this option and value.
+fn assert_forms(
+    rt: &(impl Abort + AllocGlobal),
+    asked: &Asked,
+    option: &str,
+    value: &str,
+) -> Result<(), Fail> {
+    for form in asked.forms {
+        let words = filled(rt.alloc(), form, option, value)?;
+        assert_asked(rt, &asked.row, &words)?;
     }
     Ok(())
 }
 
-#[test]
-fn options_come_in_any_order(rt: HostRuntime) -> Result<(), Fail> {
-    let table: [&[&str]; 3] = [
-        &[
-            "nettcp",
-            "check",
-            "--static",
-            "S",
-            "--payload",
-            "8192",
-            "--depth",
-            "8",
-            "--dictionary",
-            "1000",
-            "--content",
-            "9000",
-            "--session",
-            "24",
-        ],
-        &[
-            "nettcp",
-            "dump",
-            "--session=24",
-            "--content=9000",
-            "--dictionary=1000",
-            "--depth=8",
-            "--payload=8192",
-            "--static=S",
-        ],
-        &[
-            "nettcp",
-            "check",
-            "--content",
-            "9000",
-            "--static=S",
-            "--session",
-            "24",
-            "--payload=8192",
-            "--dictionary",
-            "1000",
-            "--depth=8",
-        ],
-    ];
-    for words in table {
-        assert_taken(&rt, words)?;
-    }
-    Ok(())
-}
-
-#[test]
-fn the_shortest_session_quota(rt: HostRuntime) -> Result<(), Fail> {
-    let words = ["nettcp", "check", "--session=1", "--static=S"];
-    let report = "offence frame 0 25 SessionTooLong\n";
-    assert_ran(&rt, &words, SESSION, SURE, 10, report, b"")
-}
-
-// A value behind an equals sign may be any but the empty one.
-#[test]
-fn any_name_of_a_file(rt: HostRuntime) -> Result<(), Fail> {
-    let table = [
-        ("--static=-", "-: not found\n"),
-        ("--static=--", "--: not found\n"),
-        ("--static=-S", "-S: not found\n"),
-        ("--static=--depth=8", "--depth=8: not found\n"),
-        ("--static==S", "=S: not found\n"),
-        ("--static= ", " : not found\n"),
-    ];
-    for (word, text) in table {
-        let mut notes = sure_sink(rt.alloc());
-        let words = ["nettcp", "check", word];
-        let ran = run_on_fakes(rt.alloc(), &words, SESSION, SURE, &mut notes)?;
-        assert_eq!(rt; ran.status, 6);
-        assert_eq!(rt; notes.bytes(), text.as_bytes());
-    }
-    Ok(())
-}
-
-#[test]
-fn other_words(rt: HostRuntime) -> Result<(), Fail> {
-    let table: [&[&str]; 15] = [
-        &[],
-        &["nettcp"],
-        &["check"],
-        &["nettcp", ""],
-        &["nettcp", "--help"],
-        &["nettcp", "dump"],
-        &["nettcp", "check"],
-        &["nettcp", "check", "S"],
-        &["nettcp", "check", "--static"],
-        &["nettcp", "check", "--static="],
-        &["nettcp", "check", "--static", ""],
-        &["nettcp", "check", "--depth", "8"],
-        &["nettcp", "build", "--static", "S"],
-        &["nettcp", "Check", "--static", "S"],
-        &["nettcp", "--static", "S", "check"],
-    ];
-    for words in table {
-        assert_refused(&rt, words)?;
-    }
-    Ok(())
-}
-
-#[test]
-fn words_that_are_no_option(rt: HostRuntime) -> Result<(), Fail> {
-    let table = [
-        "",
-        "-",
-        "--",
-        "S",
-        "check",
-        "help",
-        "-s",
-        "-h",
-        "-V",
-        "-S",
-        "-d8",
-        "--help",
-        "--version",
-        "--help=8",
-        "--=",
-        "--=8",
-        "---depth=8",
-        "-depth=8",
-        "--other",
-        "--other=8",
-        "--depth",
-        "--depth=",
-    ];
-    for word in table {
-        for command in COMMANDS {
-            assert_refused(&rt, &["nettcp", command, "--static", "S", word])?;
-            assert_refused(&rt, &["nettcp", command, word, "--static", "S"])?;
+pub fn assert_table(rt: &(impl Abort + AllocGlobal), table: &[Asked]) -> Result<(), Fail> {
+    for asked in table {
+        for (option, values) in asked.settings {
+            for value in *values {
+                assert_forms(rt, asked, option, value)?;
+            }
         }
     }
     Ok(())
 }
 
-#[test]
-fn names_that_are_cut_or_go_on(rt: HostRuntime) -> Result<(), Fail> {
-    for name in ["--stat", "--static-", "--statics", "--Static", "--s"] {
-        let one = joined(rt.alloc(), name, "S")?;
-        assert_refused(&rt, &["nettcp", "check", name, "S"])?;
-        assert_refused(&rt, &["nettcp", "check", one.as_str()])?;
-    }
-    for name in ["--dept", "--depth-", "--depths", "--DEPTH", "--pay", "--d"] {
-        let one = joined(rt.alloc(), name, "8")?;
-        assert_refused(&rt, &["nettcp", "check", "--static", "S", name, "8"])?;
-        assert_refused(&rt, &["nettcp", "check", "--static", "S", one.as_str()])?;
-    }
-    Ok(())
-}
+const TAKEN: Row = Row {
+    pieces: WHOLE,
+    ..CHECK
+};
 
-// What other commands are told.
-const OTHERS: [(&str, &str); 10] = [
-    ("--via", "net.tcp://h/e"),
-    ("--mode", "duplex"),
-    ("--endpoint", "net.tcp://h/e"),
-    ("--actions", "S"),
-    ("--listen", "127.0.0.1:1"),
-    ("--connect", "127.0.0.1:1"),
-    ("--connections", "1"),
-    ("--second", "S"),
-    ("--seed", "1"),
-    ("--count", "1"),
+const UNDERSTOOD: &[Asked] = &[
+    Asked {
+        forms: &[
+            &["nettcp", "check", "--static", "S", OPTION, VALUE],
+            &["nettcp", "dump", OPTION, VALUE, "--static=S"],
+            &["nettcp", "dump", "--static", "S", BOTH],
+            &["nettcp", "check", BOTH, "--static=S"],
+        ],
+        settings: &[
+            ("--payload", &["4096", "1048576"]),
+            ("--depth", &["4", "128"]),
+            ("--dictionary", &["0", "65536"]),
+            ("--content", &["65536", "16777216"]),
+            ("--session", &["24", "281474976710656"]),
+        ],
+        row: Row {
+            name: "a quota is one word or two",
+            ..TAKEN
+        },
+    },
+    Asked {
+        forms: &[
+            &[
+                "nettcp",
+                "check",
+                "--static",
+                "S",
+                "--payload",
+                "8192",
+                "--depth",
+                "8",
+                "--dictionary",
+                "1000",
+                "--content",
+                "9000",
+                "--session",
+                "24",
+            ],
+            &[
+                "nettcp",
+                "dump",
+                "--session=24",
+                "--content=9000",
+                "--dictionary=1000",
+                "--depth=8",
+                "--payload=8192",
+                "--static=S",
+            ],
+            &[
+                "nettcp",
+                "check",
+                "--content",
+                "9000",
+                "--static=S",
+                "--session",
+                "24",
+                "--payload=8192",
+                "--dictionary",
+                "1000",
+                "--depth=8",
+            ],
+        ],
+        settings: NO_SETTING,
+        row: Row {
+            name: "options come in any order",
+            ..TAKEN
+        },
+    },
+    Asked {
+        forms: &[&["nettcp", "check", "--session=1", "--static=S"]],
+        settings: NO_SETTING,
+        row: Row {
+            name: "the shortest session quota",
+            status: 10,
+            output: &[b"offence frame 0 25 SessionTooLong\n"],
+            ..TAKEN
+        },
+    },
+    Asked {
+        forms: &[&["nettcp", "check", OPTION]],
+        settings: &[("--static=-", &[""])],
+        row: Row {
+            name: "any name of a file behind an equals sign, but the empty one",
+            status: 6,
+            note: "-: not found\n",
+            ..REFUSED_WORDS
+        },
+    },
+    Asked {
+        forms: &[&["nettcp", "check", OPTION]],
+        settings: &[("--static=--", &[""])],
+        row: Row {
+            name: "any name of a file behind an equals sign, but the empty one",
+            status: 6,
+            note: "--: not found\n",
+            ..REFUSED_WORDS
+        },
+    },
+    Asked {
+        forms: &[&["nettcp", "check", OPTION]],
+        settings: &[("--static=-S", &[""])],
+        row: Row {
+            name: "any name of a file behind an equals sign, but the empty one",
+            status: 6,
+            note: "-S: not found\n",
+            ..REFUSED_WORDS
+        },
+    },
+    Asked {
+        forms: &[&["nettcp", "check", OPTION]],
+        settings: &[("--static=--depth=8", &[""])],
+        row: Row {
+            name: "any name of a file behind an equals sign, but the empty one",
+            status: 6,
+            note: "--depth=8: not found\n",
+            ..REFUSED_WORDS
+        },
+    },
+    Asked {
+        forms: &[&["nettcp", "check", OPTION]],
+        settings: &[("--static==S", &[""])],
+        row: Row {
+            name: "any name of a file behind an equals sign, but the empty one",
+            status: 6,
+            note: "=S: not found\n",
+            ..REFUSED_WORDS
+        },
+    },
+    Asked {
+        forms: &[&["nettcp", "check", OPTION]],
+        settings: &[("--static= ", &[""])],
+        row: Row {
+            name: "any name of a file behind an equals sign, but the empty one",
+            status: 6,
+            note: " : not found\n",
+            ..REFUSED_WORDS
+        },
+    },
+    Asked {
+        forms: &[
+            &[
+                "nettcp",
+                "check",
+                "--content=8192",
+                "--static=S",
+                "--dictionary=8192",
+                "--payload=8192",
+            ],
+            &[
+                "nettcp",
+                "check",
+                "--content=1048576",
+                "--static=S",
+                "--dictionary=1048576",
+                "--payload=1048576",
+            ],
+        ],
+        settings: NO_SETTING,
+        row: Row {
+            name: "a dictionary quota is at most the payload's, which a content quota is at least",
+            ..TAKEN
+        },
+    },
+    Asked {
+        forms: &[
+            &["nettcp", "check", OPTION, "--static=S"],
+            &["nettcp", "dump", "--static", "S", OPTION],
+        ],
+        settings: &[("--encoding=7", &[""]), ("--encoding=8", &[""])],
+        row: Row {
+            name: "an encoding has no effect on an initiator's stream",
+            ..TAKEN
+        },
+    },
 ];
 
 #[test]
-fn options_of_other_commands(rt: HostRuntime) -> Result<(), Fail> {
-    for (option, value) in OTHERS {
-        let one = joined(rt.alloc(), option, value)?;
-        assert_refused(&rt, &["nettcp", "check", "--static", "S", option, value])?;
-        assert_refused(&rt, &["nettcp", "dump", "--static", "S", option, value])?;
-        assert_refused(&rt, &["nettcp", "check", one.as_str(), "--static=S"])?;
-        assert_refused(&rt, &["nettcp", "dump", one.as_str(), "--static=S"])?;
-    }
-    Ok(())
-}
-
-// Each option with a value, as two words and as one.
-const OPTIONS: [(&str, &str, &str); 8] = [
-    ("--replies", "duplex", "--replies=duplex"),
-    ("--encoding", "8", "--encoding=8"),
-    ("--payload", "65536", "--payload=65536"),
-    ("--depth", "8", "--depth=8"),
-    ("--dictionary", "8", "--dictionary=8"),
-    ("--content", "65536", "--content=65536"),
-    ("--session", "65536", "--session=65536"),
-    ("--static", "S", "--static=S"),
-];
-
-// Where an option is given twice, its value may be the same.
-#[test]
-fn options_that_are_given_twice(rt: HostRuntime) -> Result<(), Fail> {
-    for (option, value, one) in OPTIONS {
-        let words = ["nettcp", "dump", "--static=S", option, value, option, value];
-        assert_refused(&rt, &words)?;
-        assert_refused(&rt, &["nettcp", "dump", "--static=S", option, value, one])?;
-        assert_refused(&rt, &["nettcp", "dump", one, option, value, "--static=S"])?;
-        assert_refused(&rt, &["nettcp", "dump", one, "--static=S", one])?;
-    }
-    Ok(())
-}
-
-#[test]
-fn values_that_look_like_options(rt: HostRuntime) -> Result<(), Fail> {
-    for value in ["-", "--", "-S", "--depth", "--depth=8", "-8"] {
-        assert_refused(&rt, &["nettcp", "check", "--static", value])?;
-        assert_refused(&rt, &["nettcp", "check", "--static=S", "--depth", value])?;
-    }
-    Ok(())
-}
-
-#[test]
-fn values_that_are_no_number(rt: HostRuntime) -> Result<(), Fail> {
-    let table = [
-        "",
-        "+65536",
-        "-65536",
-        "065536",
-        "00",
-        " 65536",
-        "65536 ",
-        "65_536",
-        "65.536",
-        "65536.0",
-        "0x10000",
-        "64k",
-        "S",
-        "\u{661}",
-        "18446744073709551616",
-        "99999999999999999999",
-    ];
-    for option in [
-        "--payload",
-        "--depth",
-        "--dictionary",
-        "--content",
-        "--session",
-    ] {
-        for value in table {
-            let one = joined(rt.alloc(), option, value)?;
-            assert_refused(&rt, &["nettcp", "check", "--static", "S", option, value])?;
-            assert_refused(&rt, &["nettcp", "check", one.as_str(), "--static=S"])?;
-        }
-    }
-    Ok(())
-}
-
-const BAD_QUOTAS: [(&str, &str); 11] = [
-    ("--payload", "4095"),
-    ("--payload", "1048577"),
-    ("--payload", "4294967296"),
-    ("--depth", "3"),
-    ("--depth", "129"),
-    ("--depth", "4294967304"),
-    ("--dictionary", "65537"),
-    ("--content", "65535"),
-    ("--content", "16777217"),
-    ("--session", "0"),
-    ("--session", "281474976710657"),
-];
-
-#[test]
-fn quotas_that_may_not_be(rt: HostRuntime) -> Result<(), Fail> {
-    for (option, number) in BAD_QUOTAS {
-        let one = joined(rt.alloc(), option, number)?;
-        assert_refused(&rt, &["nettcp", "check", "--static", "S", option, number])?;
-        assert_refused(&rt, &["nettcp", "dump", one.as_str(), "--static=S"])?;
-    }
-    Ok(())
-}
-
-// A dictionary quota is at most the payload's, which a content quota is at least.
-#[test]
-fn quotas_that_may_not_be_together(rt: HostRuntime) -> Result<(), Fail> {
-    let table = [
-        (
-            "--payload=8192",
-            "--dictionary=8192",
-            "--content=8192",
-            true,
-        ),
-        (
-            "--payload=8192",
-            "--dictionary=8193",
-            "--content=8192",
-            false,
-        ),
-        (
-            "--payload=8192",
-            "--dictionary=8192",
-            "--content=8191",
-            false,
-        ),
-        (
-            "--payload=1048576",
-            "--dictionary=1048576",
-            "--content=1048576",
-            true,
-        ),
-        (
-            "--payload=1048576",
-            "--dictionary=1048576",
-            "--content=1048575",
-            false,
-        ),
-    ];
-    for (payload, dictionary, content, may_be) in table {
-        let words = [
-            "nettcp",
-            "check",
-            content,
-            "--static=S",
-            dictionary,
-            payload,
-        ];
-        if may_be {
-            assert_taken(&rt, &words)?;
-        } else {
-            assert_refused(&rt, &words)?;
-        }
-    }
-    Ok(())
-}
-
-// An initiator's stream names its own encoding.
-#[test]
-fn an_encoding_has_no_effect_on_an_initiators_stream(rt: HostRuntime) -> Result<(), Fail> {
-    for word in ["--encoding=7", "--encoding=8"] {
-        assert_taken(&rt, &["nettcp", "check", word, "--static=S"])?;
-        assert_taken(&rt, &["nettcp", "dump", "--static", "S", word])?;
-    }
-    Ok(())
-}
-
-#[test]
-fn modes_and_encodings_of_other_names(rt: HostRuntime) -> Result<(), Fail> {
-    for mode in ["Duplex", "dup", "request", "2", "", "duplex "] {
-        assert_refused(&rt, &["nettcp", "check", "--static=S", "--replies", mode])?;
-    }
-    for kind in ["6", "9", "08", "binary", "", "+8"] {
-        assert_refused(&rt, &["nettcp", "dump", "--static=S", "--encoding", kind])?;
-        let words = [
-            "nettcp",
-            "dump",
-            "--static=S",
-            "--replies=duplex",
-            "--encoding",
-            kind,
-        ];
-        assert_refused(&rt, &words)?;
-    }
-    Ok(())
+fn words_are_understood(rt: HostRuntime) -> Result<(), Fail> {
+    assert_table(&rt, UNDERSTOOD)
 }

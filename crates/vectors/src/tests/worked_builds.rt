@@ -1,88 +1,139 @@
 // Worked documents, and the session that `build` writes of them.
-use super::building::{BUILD, FIRST, NEXT, X, assert_built, long_document, session};
+use super::building::{BUILD, BUILD_ONE, BUILD_TWO, CLOSE, FIRST, NEXT, NOT_LINES, START, UNFIT};
 use super::*;
 
-// What `build` is asked for, with one more option.
-fn words_with(option: &str) -> [&str; 5] {
-    [
-        "nettcp",
-        "build",
-        "--static=S",
-        "--via=net.tcp://h/e",
-        option,
-    ]
-}
+const ONE: Row = Row {
+    words: BUILD_ONE,
+    pieces: WHOLE,
+    ..BUILD
+};
 
-// How many letters a text has, and the bytes of its envelope before the first.
-const LENGTHS: [(usize, &[u8]); 4] = [
-    (0, b"\x06\x06\x02\x01xB\x01\xA9"),
-    (255, b"\x06\x86\x02\x02\x01xB\x01\x99\xFF"),
-    (256, b"\x06\x88\x02\x02\x01xB\x01\x9B\x00\x01"),
-    (
-        65_536,
-        b"\x06\x8A\x80\x04\x02\x01xB\x01\x9D\x00\x00\x01\x00",
-    ),
+// A document with a long text.
+const LONG_TEXT: Parts = &[b"start \"\" \"x\"\ntext string \"", LONG, b"\"\nclose\n"];
+
+const EIGHT_STARTS: &[u8] =
+    b"start \"\" \"x\"\nstart \"\" \"x\"\nstart \"\" \"x\"\nstart \"\" \"x\"\n\
+start \"\" \"x\"\nstart \"\" \"x\"\nstart \"\" \"x\"\nstart \"\" \"x\"\n";
+
+const EIGHT_ENDS: &[u8] = b"close\nclose\nclose\nclose\nclose\nclose\nclose\nclose\n";
+
+const BUILDS: &[Row] = &[
+    Row {
+        name: "texts on each side of a wider length: no letters",
+        options: &["--payload=131072"],
+        input: LONG_TEXT,
+        long: NO_TEXT,
+        output: &[PREAMBLE, b"\x06\x06\x02\x01xB\x01\xA9", LONG, END],
+        ..ONE
+    },
+    Row {
+        name: "texts on each side of a wider length: 255 letters",
+        options: &["--payload=131072"],
+        input: LONG_TEXT,
+        long: (255, b"z"),
+        output: &[PREAMBLE, b"\x06\x86\x02\x02\x01xB\x01\x99\xFF", LONG, END],
+        ..ONE
+    },
+    Row {
+        name: "texts on each side of a wider length: 256 letters",
+        options: &["--payload=131072"],
+        input: LONG_TEXT,
+        long: (256, b"z"),
+        output: &[
+            PREAMBLE,
+            b"\x06\x88\x02\x02\x01xB\x01\x9B\x00\x01",
+            LONG,
+            END,
+        ],
+        ..ONE
+    },
+    Row {
+        name: "texts on each side of a wider length: 65,536 letters",
+        options: &["--payload=131072"],
+        input: LONG_TEXT,
+        long: (65_536, b"z"),
+        output: &[
+            PREAMBLE,
+            b"\x06\x8A\x80\x04\x02\x01xB\x01\x9D\x00\x00\x01\x00",
+            LONG,
+            END,
+        ],
+        ..ONE
+    },
+    Row {
+        name: "documents beyond a quota: a payload",
+        options: &["--payload=4096"],
+        input: &[b"start \"\" \"big\"\ntext string \"", LONG, b"\"\nclose\n"],
+        long: (5_000, b"y"),
+        note: "document 0 does not fit: payload 5010\n",
+        ..UNFIT
+    },
+    Row {
+        name: "documents within a quota: a payload",
+        options: &["--payload=4096"],
+        ..ONE
+    },
+    Row {
+        name: "documents beyond a quota: a depth",
+        words: BUILD_TWO,
+        input: &[
+            EIGHT_STARTS,
+            EIGHT_STARTS,
+            EIGHT_STARTS,
+            EIGHT_STARTS,
+            START,
+            EIGHT_ENDS,
+            EIGHT_ENDS,
+            EIGHT_ENDS,
+            EIGHT_ENDS,
+            CLOSE,
+        ],
+        note: "document 0 does not fit: depth 33\n",
+        ..UNFIT
+    },
+    Row {
+        name: "a session in simplex mode",
+        options: &["--mode=simplex"],
+        input: &[X, X],
+        pieces: ANY,
+        output: &[
+            b"\x00\x01\x00\x01\x03\x02\x0Dnet.tcp://h/e\x03\x08\x0C",
+            FIRST,
+            NEXT,
+            END,
+        ],
+        ..ONE
+    },
+    Row {
+        name: "an attribute after a text",
+        input: &[
+            START,
+            b"attr \"\" \"k\" number 1\n",
+            b"text number 1\n",
+            b"attr \"\" \"k\" number 1\n",
+            CLOSE,
+        ],
+        pieces: WHOLE,
+        note: "input: line 4 OutOfPlace\n",
+        ..NOT_LINES
+    },
+    Row {
+        name: "a second document in singleton mode is refused at its first line",
+        words: BUILD_ONE,
+        options: &["--mode=singleton"],
+        input: &[LINES, LINES],
+        pieces: WHOLE,
+        output: &[
+            b"\x00\x01\x00\x01\x01\x02\x0Dnet.tcp://h/e\x03\x08\x0C\x05\x3C\x02\x01x",
+            DOCUMENT,
+            b"\x00",
+        ],
+        note: "input: line 19 WrongCount\n",
+        ..NOT_LINES
+    },
 ];
 
 #[test]
-fn texts_on_each_side_of_a_wider_length(rt: HostRuntime) -> Result<(), Fail> {
-    let words = words_with("--payload=131072");
-    for (letters, front) in LENGTHS {
-        let lines = long_document(rt.alloc(), "x", b'z', letters)?;
-        let mut envelope = front.to_vec(rt.alloc())?;
-        let text = vec![in rt.alloc(); b'z'; letters]?;
-        envelope.extend_from_slice(&text)?;
-        let written = session(rt.alloc(), PREAMBLE, &[envelope.as_slice()], 0)?;
-        assert_built(&rt, &words, &lines, SURE, &written, 0, "")?;
-    }
-    Ok(())
-}
-
-#[test]
-fn documents_beyond_a_quota(rt: HostRuntime) -> Result<(), Fail> {
-    let words = words_with("--payload=4096");
-    let big = long_document(rt.alloc(), "big", b'y', 5_000)?;
-    let note = "document 0 does not fit: payload 5010\n";
-    assert_built(&rt, &words, &big, SURE, PREAMBLE, 7, note)?;
-    let written = session(rt.alloc(), PREAMBLE, &[FIRST], 0)?;
-    assert_built(&rt, &words, X, SURE, &written, 0, "")?;
-    let mut deep = Vec::new(rt.alloc());
-    for _ in 0..33 {
-        deep.extend_from_slice(b"start \"\" \"x\"\n")?;
-    }
-    for _ in 0..33 {
-        deep.extend_from_slice(b"close\n")?;
-    }
-    let note = "document 0 does not fit: depth 33\n";
-    assert_built(&rt, &BUILD, &deep, SURE, PREAMBLE, 7, note)
-}
-
-// Of one-way messages; its envelopes are as those of a duplex session.
-#[test]
-fn a_session_in_simplex_mode(rt: HostRuntime) -> Result<(), Fail> {
-    let words = words_with("--mode=simplex");
-    let preamble = b"\x00\x01\x00\x01\x03\x02\x0Dnet.tcp://h/e\x03\x08\x0C";
-    let lines = b"start \"\" \"x\"\nclose\nstart \"\" \"x\"\nclose\n";
-    let written = session(rt.alloc(), preamble, &[FIRST, NEXT], 0)?;
-    for most in [65_536, 1] {
-        let outside = Outside { most, ..SURE };
-        assert_built(&rt, &words, lines, outside, &written, 0, "")?;
-    }
-    Ok(())
-}
-
-// An attribute after a text, and a second document in singleton mode, which is refused at its first
-// line.
-#[test]
-fn lines_where_they_may_not_be(rt: HostRuntime) -> Result<(), Fail> {
-    let lines =
-        b"start \"\" \"x\"\nattr \"\" \"k\" number 1\ntext number 1\nattr \"\" \"k\" number 1\nclose\n";
-    let note = "input: line 4 OutOfPlace\n";
-    assert_built(&rt, &BUILD, lines, SURE, PREAMBLE, 6, note)?;
-    let words = words_with("--mode=singleton");
-    let lines = lines_of_calls(rt.alloc(), 2)?;
-    let front: &[u8] = b"\x00\x01\x00\x01\x01\x02\x0Dnet.tcp://h/e\x03\x08\x0C\x05\x3C\x02\x01x";
-    let written = joined(rt.alloc(), &[front, DOCUMENT, b"\x00"])?;
-    let note = "input: line 19 WrongCount\n";
-    assert_built(&rt, &words, &lines, SURE, &written, 6, note)
+fn worked_documents_are_built(rt: HostRuntime) -> Result<(), Fail> {
+    assert_rows(&rt, BUILDS)
 }
