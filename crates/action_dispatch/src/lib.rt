@@ -30,6 +30,3 @@ pub use fault::{ActionFault, ActionKind};
 pub use refusals::unfit_doc;
 pub use service::{Served, Service};
 pub use table::TableService;
-
-#[cfg(test)]
-mod tests;

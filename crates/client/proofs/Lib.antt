@@ -2,6 +2,7 @@
 mod Worked
 -- what is gathered of documents, and what of that is put (src/outbox.rt)
 pub mod Gathered
+pub mod PutGathered
 -- what is written of the opening, and what a half has sent (src/sending.rt, src/outbox.rt)
 pub mod Envelopes
 -- what a caller has heard and reported (src/caller.rt)

@@ -117,10 +117,6 @@ IsAckOf x bytes ReadFault ack = ⊤
 IsAckOf x bytes Memory ack = ⊤
 IsAckOf x bytes inbound ack = ack ≡ ack_along Awaited (heard_of x bytes)
 
--- a document doesn't fit: by its number, and why
-abbrev pub IsUnfit : Sending → (number : ℕ) → UnfitAt → Type 0
-IsUnfit x number unfit = (envelopes x x.documents ≡ Err unfit) × (number ≡ unfit.number)
-
 -- The writing ended at what was due behind the envelopes of the first documents, as many as were
 -- sent. Of the opening, these envelopes and what was due next the first bytes are written: at most
 -- one envelope more than were sent. Where the sink holds nothing back, the opening and the

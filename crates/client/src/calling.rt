@@ -5,7 +5,7 @@ ghost use Rattle.io_edges.specs.Faults.{CountsFaults};
 ghost use Rattle.nbfx_values.specs.QuotasOf.{limits_of};
 ghost use Rattle.session_ends.specs.Sent.{MayBeSent};
 ghost use Rattle.stream_loop.specs.Edges.{input_at};
-ghost use Rattle.stream_reader.specs.Standing.{StandsFor, settings_of};
+ghost use Rattle.stream_reader.specs.StreamReaderState.{StandsFor, settings_of};
 ghost use Rattle.stream_reader.specs.Stream.{stream};
 ghost use Rattle.stream_follower.specs.Followed.{Follows};
 ghost use Rattle.stream_follower.specs.Writing.{HoldNothing};

@@ -23,6 +23,3 @@ mod sending;
 pub use calling::call_one;
 pub use outcome::{CallOutcome, ClientIn, ClientOut};
 pub use stream_follower::Outbound as Reported;
-
-#[cfg(test)]
-mod tests;

@@ -178,7 +178,7 @@ impl Outbox {
         }
     }
 
-    /// Ends the session behind all documents: writes what is gathered and an End record.
+    /// Ends the session after all documents: writes what is gathered and an End record.
     pub fn end<K: Sink>(&mut self, sink: &mut K) -> Outbound
         ensures { (x : Sending) (before : List ℕ) (first : K) (table : StringTable)
             → HasGathered x K.written K.held K.faults K.may_want before first x.documents table

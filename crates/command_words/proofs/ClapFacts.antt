@@ -16,7 +16,7 @@ use Rattle.command_words.specs.declared.action.Action.{Action}
 use Rattle.command_words.specs.declared.option_name.OptionName.{OptionName}
 use Rattle.command_words.specs.Options.{Given, IsOnce, SpellOptions, Text, option_text, value_of}
 use Rattle.command_words.specs.Commands.{options_of, word_of}
-use Rattle.command_words.specs.Reading.{HasTaken, IsReadable, app_for, app_with, found_values}
+use Rattle.command_words.specs.WordAnswers.{HasTaken, IsReadable, app_for, app_with, found_values}
 use Rattle.command_words.specs.Requests.{GiveOptions}
 use Rattle.command_words.proofs.OptionFacts.{new-from_once, once-from_new}
 use Rattle.command_words.proofs.ReadingFacts.{Passes, are_known, held_behind, reading-complete}

@@ -20,7 +20,7 @@ use Rattle.command_words.specs.declared.option_name.OptionName.TheVariants.{Payl
 use Rattle.command_words.specs.declared.option_name.OptionName.TheVariants.{Dictionary, Content}
 use Rattle.command_words.specs.declared.option_name.OptionName.TheVariants.{Session}
 use Rattle.command_words.specs.Options.{Text}
-use Rattle.command_words.specs.Reading.{begins_plain}
+use Rattle.command_words.specs.WordAnswers.{begins_plain}
 use Rattle.command_words.specs.Requests.{AreLimits, usual_content}
 use Rattle.command_words.specs.Values.{IsNumber, kind_text}
 

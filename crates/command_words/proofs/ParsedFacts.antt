@@ -13,7 +13,8 @@ use Rattle.command_words.specs.declared.words.WordsFault.TheVariants.{Memory, No
 use Rattle.command_words.specs.Commands.{options_of, word_of}
 use Rattle.command_words.specs.Options.{Given, SpellOptions, Text, begins_with_hyphen, dashed}
 use Rattle.command_words.specs.Options.{value_of}
-use Rattle.command_words.specs.Reading.{HasFound, HasTaken, IsLoneHyphens, IsReadable, found_values}
+use Rattle.command_words.specs.WordAnswers.{HasFound, HasTaken, IsLoneHyphens, IsReadable}
+use Rattle.command_words.specs.WordAnswers.{found_values}
 use Rattle.command_words.specs.Requests.{AskFor, Asked, GiveOptions, IsRequest, Values}
 use Rattle.command_words.proofs.OptionFacts.{among, full-from_values, full-no_empty}
 use Rattle.command_words.proofs.RequestFacts.{word_of-injective}

@@ -15,7 +15,7 @@ use Rattle.command_words.specs.declared.option_name.OptionName.{OptionName}
 use Rattle.command_words.specs.Options.{BeginsApart, BeginsJoined, Given, SpellOptions, Text}
 use Rattle.command_words.specs.Options.{begins_with_hyphen, dashed, is_option, option_text}
 use Rattle.command_words.specs.Options.{value_of}
-use Rattle.command_words.specs.Reading.{IsReadable}
+use Rattle.command_words.specs.WordAnswers.{IsReadable}
 use Rattle.command_words.proofs.OptionFacts.{IsNew, IsNew-cons, IsNew-head, IsNew-nil, IsNew-tail}
 use Rattle.command_words.proofs.RuleFacts.{arg_by_long-is, row_for, built_rules, shape}
 use Rattle.command_words.proofs.StepFacts.{joined-passes, joined-tells, joined-walks, named-fault}

@@ -17,7 +17,7 @@ use Rattle.clap.specs.declared.builder.value_parser.Reading.TheVariants as readi
 use Rattle.clap.specs.declared.parser.matches.ValueSource.TheVariants.{CommandLine}
 use Rattle.command_words.specs.declared.option_name.OptionName.{OptionName}
 use Rattle.command_words.specs.Options.{Given, Text, is_option, option_text, value_of}
-use Rattle.command_words.specs.Reading.{app_with, app_without_options, option_rule, with_option}
+use Rattle.command_words.specs.WordAnswers.{app_with, app_without_options, option_rule, with_option}
 use Rattle.command_words.proofs.OptionFacts.{is_option-flips, is_option-same, same-is_option}
 
 -- ---- the command as clap builds it

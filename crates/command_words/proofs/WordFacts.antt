@@ -21,7 +21,7 @@ use Rattle.command_words.specs.declared.option_name.OptionName.TheVariants.{Payl
 use Rattle.command_words.specs.declared.option_name.OptionName.TheVariants.{Dictionary, Content}
 use Rattle.command_words.specs.declared.option_name.OptionName.TheVariants.{Session}
 use Rattle.command_words.specs.Options.{Text, begins_with_hyphen, dashed, option_text}
-use Rattle.command_words.specs.Reading.{IsReadable}
+use Rattle.command_words.specs.WordAnswers.{IsReadable}
 
 -- ---- the words of options
 

@@ -7,4 +7,4 @@ pub mod Requests
 pub mod Asking
 pub mod Laws
 -- cited by private calls
-pub mod Reading
+pub mod WordAnswers

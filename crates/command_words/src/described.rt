@@ -2,7 +2,7 @@
 ghost use Rattle.std.specs.Prelude.{◌≡◌, IfOk};
 ghost use Rattle.clap.specs.Simple.{app_of};
 ghost use Rattle.command_words.specs.Commands.{word_of};
-ghost use Rattle.command_words.specs.Reading.{app_for, app_without_options, with_option};
+ghost use Rattle.command_words.specs.WordAnswers.{app_for, app_without_options, with_option};
 
 use crate::action::{Action, options_of, word_of};
 use crate::option_name::{OptionName, option_text};

@@ -3,7 +3,7 @@ ghost use Rattle.std.specs.Prelude.{◌≡◌, ◌≤◌, ◌↔◌, IfNone, IfS
 ghost use Rattle.clap.specs.declared.parser.matches.ArgMatches.{ArgMatches};
 ghost use Rattle.nbfx_values.specs.Limits.{usual_limits};
 ghost use Rattle.nbfx_values.specs.QuotasOf.{limits_of};
-ghost use Rattle.command_words.specs.Reading.{found_values};
+ghost use Rattle.command_words.specs.WordAnswers.{found_values};
 ghost use Rattle.command_words.specs.Values.{text_behind};
 ghost use Rattle.command_words.specs.Asking.{asked_of, opening_of, serving_of, task_of};
 ghost use Rattle.command_words.specs.Requests.{AreLimits, AskFor, AskForTask, AskToBuild, AskToCall, AskToGenerate, AskToReport, AskToServe, Asked, IsOpening, IsOrigin, serving_in};

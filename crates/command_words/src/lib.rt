@@ -1,5 +1,5 @@
-//! The words of the program as what they ask for: the file of the static strings, quotas, and what
-//! a command is to do.
+//! What the program's arguments ask for: the file of the static strings, quotas, and what a command
+//! is to do.
 //!
 //! The first word is the program's name, and isn't judged. The second is a command. The others are
 //! its options, in any order and each at most once. An option and its value are two words, of
@@ -9,8 +9,8 @@
 //!
 //! Every command has `--static NAME`, which has to be there, and `--payload`, `--depth`,
 //! `--dictionary`, `--content` and `--session`, each with a number. A quota that isn't given is the
-//! usual one, and the usual content is four times the payload where that is more; the quota of a
-//! Via is always the usual one. Quotas that aren't good, and any other words, are not understood.
+//! default, and the default content is four times the payload where that is more; the quota of a
+//! Via is always the default. Quotas that aren't valid, and any other words, are not understood.
 //!
 //! - `check` and `dump` have `--replies` with a mode, where a receiver's stream is read, and
 //!   `--encoding` with 7 or 8, which is 8 where it is missing, and has no effect on an initiator's
@@ -26,8 +26,8 @@
 //! - `gen` has `--seed` with a number below 2^64 and `--count` with one of at most 1,000,000, which
 //!   both have to be there.
 //!
-//! `read` answers the one request that the words are, or that they are none. The definitions don't
-//! speak of how words are read: `specs/Options` has the options and the two ways to spell one,
+//! `read` returns the one request that the arguments are, or that they aren't valid. The definitions
+//! don't speak of how words are read: `specs/Options` has the options and the two ways to spell one,
 //! `specs/Commands` the commands and the options of each, `specs/Values` how numbers and names are
 //! written, `specs/Tasks` what there is to do, `specs/Requests` what values ask for and which words
 //! are a request. The options are read by the crate `clap`. What holds by the definitions alone is
@@ -50,6 +50,3 @@ mod words;
 pub use request::Request;
 pub use task::{Detail, Opening, Origin, Serving, Task};
 pub use words::{WordsFault, read};
-
-#[cfg(test)]
-mod tests;

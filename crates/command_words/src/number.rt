@@ -1,7 +1,7 @@
 // The number that a value writes.
 ghost use Rattle.std.specs.Prelude.{◌≡◌, ◌≢◌, ◌<◌, ◌≤◌, ◌^◌, ℕ, IfNone, IfSome};
 ghost use Rattle.std.specs.Fmt.{decimal};
-ghost use Rattle.command_words.specs.Reading.{begins_plain};
+ghost use Rattle.command_words.specs.WordAnswers.{begins_plain};
 ghost use Rattle.command_words.specs.Values.{IsNumber, text_behind};
 
 // Whether a text begins as a number does: with a digit, which is the zero only where it is alone.

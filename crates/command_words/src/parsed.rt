@@ -4,7 +4,7 @@ ghost use Rattle.std.specs.Bool.{OnFalse, OnTrue};
 ghost use Rattle.clap.specs.Values.{kind_of};
 ghost use Rattle.command_words.specs.Commands.{options_of};
 ghost use Rattle.command_words.specs.Options.{Given};
-ghost use Rattle.command_words.specs.Reading.{HasFound, HasTaken, IsLoneHyphens, IsReadable, found_values};
+ghost use Rattle.command_words.specs.WordAnswers.{HasFound, HasTaken, IsLoneHyphens, IsReadable, found_values};
 ghost use Rattle.command_words.specs.Values.{text_behind};
 ghost use Rattle.command_words.specs.Requests.{GiveOptions};
 

@@ -3,7 +3,7 @@ ghost use Rattle.std.specs.Prelude.{IfNone, IfSome};
 ghost use Rattle.clap.specs.declared.parser.matches.ArgMatches.{ArgMatches};
 ghost use Rattle.nbfx_values.specs.Limits.{IsGood, Limits};
 ghost use Rattle.nbfx_values.specs.QuotasOf.{limits_of};
-ghost use Rattle.command_words.specs.Reading.{found_values};
+ghost use Rattle.command_words.specs.WordAnswers.{found_values};
 ghost use Rattle.command_words.specs.Requests.{AreLimits};
 
 use crate::number::{number_or, small_or};

@@ -3,7 +3,7 @@
 //! The one idea: what happens on a connection stays on it. Each connection is answered from its
 //! first byte to its last (`duplex_server`), closed, and reported by a line; then the next one is
 //! taken, whatever became of it: a peer that sends what is refused or resets the connection, and
-//! want of memory to answer one, each show in that connection's line and nowhere else.
+//! running out of memory to answer one, each show in that connection's line and nowhere else.
 //!
 //! [`serve_connections`] ends where as many connections as were asked for were served, where no
 //! other is to come, and by a [`ServeFault`] of what all connections share: where they come from,
@@ -19,6 +19,3 @@ mod stopping;
 pub use connection::Server;
 pub use serving::serve_connections;
 pub use stopping::ServeFault;
-
-#[cfg(test)]
-mod tests;

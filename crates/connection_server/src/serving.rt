@@ -49,10 +49,10 @@ fn serve_each<W: Wire, O: Sink, V: Service>(
 /// come, which a wire over sockets never says. Answers with the output whether it stopped early,
 /// and why.
 ///
-/// Each connection that was accepted is closed, whatever became of it. Neither a peer nor want of
-/// memory to answer it stops the server: the wire does where an accept fails, the output where a
-/// line can't be written, and want of memory for the lines. That the peer is told the end, and for
-/// how long what it still sends is read then, is the wire's affair.
+/// Each connection that was accepted is closed, whatever became of it. Neither a peer nor running
+/// out of memory to answer it stops the server: the wire does where an accept fails, the output
+/// where a line can't be written, and running out of memory for the lines. That the peer learns of
+/// the end, and for how long what it still sends is read then, is the wire's affair.
 pub fn serve_connections<W: Wire, O: Sink, V: Service>(
     alloc: Global,
     server: &Server<'_, V>,

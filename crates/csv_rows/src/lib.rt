@@ -7,6 +7,3 @@
 mod reader;
 
 pub use reader::{RowReader, text_of};
-
-#[cfg(test)]
-mod tests;

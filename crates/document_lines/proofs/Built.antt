@@ -14,9 +14,9 @@ use Rattle.unit_streams.proofs.Units.{between_first, units_bring}
 use Rattle.unit_streams.proofs.Pieces.{told_flat}
 use Rattle.string_tables.specs.StringTable.{StringTable}
 use Rattle.line_notation.specs.Lines.{cut}
-use Rattle.line_notation.specs.Standing.{Standing, failed, going, answer_of, outcome}
-use Rattle.line_notation.specs.Standing.{Placed as PlacedLine, on, ends, standing_of, document_of}
-use Rattle.line_notation.specs.Standing.{documents_from, at_start}
+use Rattle.line_notation.specs.LineReaderState.{Standing, failed, going, answer_of, outcome}
+use Rattle.line_notation.specs.LineReaderState.{Placed as PlacedLine, on, ends, standing_of}
+use Rattle.line_notation.specs.LineReaderState.{document_of, documents_from, at_start}
 use Rattle.line_notation.specs.declared.reader.LineKind.{LineKind}
 use Rattle.nbfx_encoder.specs.Envelopes.{behind_bytes, envelope, envelope_then, envelopes_from}
 use Rattle.nbfx_encoder.specs.Placing.{Placed}

@@ -16,8 +16,8 @@ use Rattle.stream_loop.specs.Answers.{Says, said}
 use Rattle.stream_loop.specs.declared.reading_end.FeedFault.{FeedFault}
 use Rattle.stream_loop.specs.declared.reading_end.FeedFault.TheVariants.{Refused, Memory}
 use Rattle.document_lines.specs.Input.{Settings, Situation, lines_of_documents}
-use Rattle.document_lines.specs.Standing.{Reached, StandsFor, UnitAnswers, WhereItStands}
-use Rattle.document_lines.specs.Standing.{settings_of}
+use Rattle.document_lines.specs.DocumentReaderState.{Reached, StandsFor, UnitAnswers, WhereItStands}
+use Rattle.document_lines.specs.DocumentReaderState.{settings_of}
 use Rattle.document_lines.specs.declared.InputFault.{InputFault}
 use Rattle.document_lines.specs.declared.InputFault.TheVariants.{TooLong}
 use Rattle.document_lines.specs.declared.reader.DocumentReader.{DocumentReader}

@@ -25,11 +25,12 @@ use Rattle.line_notation.specs.Between.{is_between, next_line}
 use Rattle.line_notation.specs.Forms.{Form, form_of}
 use Rattle.line_notation.specs.Judging.{judged}
 use Rattle.line_notation.specs.Lines.{cut, cut_before}
-use Rattle.line_notation.specs.Standing.{Standing, failed, going, answer_of, at_start, document_of}
-use Rattle.line_notation.specs.Standing.{documents_from, ending, ends as ends_document, kind_of}
-use Rattle.line_notation.specs.Standing.{led, on as leads_on, outcome, outcome_of, documents_of}
-use Rattle.line_notation.specs.Standing.{placed, placed_array, placed_at, Placed as PlacedLine}
-use Rattle.line_notation.specs.Standing.{standing, standing_from, standing_of}
+use Rattle.line_notation.specs.LineReaderState.{Standing, failed, going, answer_of, at_start}
+use Rattle.line_notation.specs.LineReaderState.{document_of, documents_from, ending}
+use Rattle.line_notation.specs.LineReaderState.{ends as ends_document, kind_of, led, on as leads_on}
+use Rattle.line_notation.specs.LineReaderState.{outcome, outcome_of, documents_of, placed}
+use Rattle.line_notation.specs.LineReaderState.{placed_array, placed_at, Placed as PlacedLine}
+use Rattle.line_notation.specs.LineReaderState.{standing, standing_from, standing_of}
 use Rattle.line_notation.specs.declared.line.Line.{Line}
 use Rattle.line_notation.specs.declared.line.Line.TheVariants as says
 use Rattle.line_notation.specs.declared.reader.LineFault.{LineFault}

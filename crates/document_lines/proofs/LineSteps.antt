@@ -18,12 +18,12 @@ use Rattle.unit_streams.proofs.Standing.{standing_length, standing_nothing}
 use Rattle.unit_streams.proofs.Passing.{decides_quiet, given_none, leaves_quiet, leaves_standing}
 use Rattle.unit_streams.proofs.Passing.{whole_event, whole_quiet, whole_refusal, whole_standing}
 use Rattle.line_notation.specs.Lines.{has_no_feed}
-use Rattle.line_notation.specs.Standing.{after, answer}
+use Rattle.line_notation.specs.LineReaderState.{after, answer}
 use Rattle.line_notation.specs.declared.reader.LineFault.{LineFault}
 use Rattle.line_notation.specs.declared.reader.LineFault.TheVariants as line_faults
 use Rattle.line_notation.specs.declared.reader.LineStep.{LineStep}
 use Rattle.line_notation.specs.declared.reader.LineStep.TheVariants.{More, Done}
-use Rattle.line_notation.specs.Standing.{Standing as LineStanding}
+use Rattle.line_notation.specs.LineReaderState.{Standing as LineStanding}
 use Rattle.nbfx_encoder.specs.Placing.{Placed}
 use Rattle.nbfx_encoder.specs.Spelling.{Unfit}
 use Rattle.stream_loop.specs.declared.reading_end.FeedFault.{FeedFault}
@@ -31,8 +31,8 @@ use Rattle.stream_loop.specs.declared.reading_end.FeedFault.TheVariants.{Refused
 use Rattle.document_lines.specs.Input.{Settings, Situation, lines_of_documents, line_at}
 use Rattle.document_lines.specs.Input.{behind_line, completed_line, ending_fault, envelope_of}
 use Rattle.document_lines.specs.Input.{fault_of, payload_at, refused_line, start_of}
-use Rattle.document_lines.specs.Standing.{IsAt, LineAnswers, Reached, StandsFor, UnitAnswers}
-use Rattle.document_lines.specs.Standing.{WhereItStands, settings_of}
+use Rattle.document_lines.specs.DocumentReaderState.{IsAt, LineAnswers, Reached, StandsFor}
+use Rattle.document_lines.specs.DocumentReaderState.{UnitAnswers, WhereItStands, settings_of}
 use Rattle.document_lines.specs.declared.InputFault.{InputFault}
 use Rattle.document_lines.specs.declared.line_encoder.LineEncoder.{LineEncoder}
 use Rattle.document_lines.specs.declared.reader.DocumentReader.{DocumentReader}

@@ -7,7 +7,7 @@ use Rattle.nbfx_values.specs.declared.content.Item.{Item}
 use Rattle.nbfx_values.specs.declared.session.Mode.{Mode}
 use Rattle.nbfx_values.specs.declared.session.Mode.TheVariants.{Singleton, Duplex, Simplex}
 use Rattle.line_notation.specs.Between.{IsUnrefused, is_between, next_line}
-use Rattle.line_notation.specs.Standing.{after, answer}
+use Rattle.line_notation.specs.LineReaderState.{after, answer}
 use Rattle.line_notation.specs.declared.reader.LineFault.{LineFault}
 use Rattle.line_notation.specs.declared.reader.LineFault.TheVariants.{Bad}
 use Rattle.line_notation.specs.declared.reader.LineKind.{LineKind}
@@ -23,7 +23,7 @@ use Rattle.stream_loop.specs.declared.reading_end.FeedFault.{FeedFault}
 use Rattle.stream_loop.specs.declared.reading_end.FeedFault.TheVariants.{Refused, Memory}
 use Rattle.document_lines.specs.Input.{Settings, Situation, behind_line, completed_line, is_full}
 use Rattle.document_lines.specs.Input.{is_singleton, payload_at, refused_line}
-use Rattle.document_lines.specs.Standing.{IsAt, IsSent, LineAnswers, SendAnswers}
+use Rattle.document_lines.specs.DocumentReaderState.{IsAt, IsSent, LineAnswers, SendAnswers}
 use Rattle.document_lines.specs.declared.InputFault.{InputFault}
 use Rattle.document_lines.specs.declared.InputFault.TheVariants.{Line}
 use Rattle.document_lines.specs.declared.line_encoder.LineEncoder.{LineEncoder}

@@ -11,9 +11,9 @@ use Rattle.nbfx_values.specs.declared.position.Position.TheVariants.{Before}
 use Rattle.line_notation.specs.Between.{IsUnrefused, is_between, next_line}
 use Rattle.line_notation.specs.Forms.{Form, form_of}
 use Rattle.line_notation.specs.Judging.{judged}
-use Rattle.line_notation.specs.Standing.{Placed, HasReadFewer, Standing, after, answer, answer_of}
-use Rattle.line_notation.specs.Standing.{ends, failed, going, led, on, outcome, outcome_of}
-use Rattle.line_notation.specs.Standing.{placed_at, standing_of}
+use Rattle.line_notation.specs.LineReaderState.{Placed, HasReadFewer, Standing, after, answer}
+use Rattle.line_notation.specs.LineReaderState.{answer_of, ends, failed, going, led, on, outcome}
+use Rattle.line_notation.specs.LineReaderState.{outcome_of, placed_at, standing_of}
 use Rattle.line_notation.specs.declared.line.Line.{Line}
 use Rattle.line_notation.specs.declared.line.Line.TheVariants as says
 use Rattle.line_notation.specs.declared.reader.LineKind.{LineKind}

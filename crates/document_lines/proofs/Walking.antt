@@ -18,7 +18,7 @@ use Rattle.unit_streams.proofs.Fronts.{whole_some}
 use Rattle.unit_streams.proofs.Units.{IsBetween, between_going, between_place, unit_decides}
 use Rattle.unit_streams.proofs.Units.{unit_quiet}
 use Rattle.line_notation.specs.Lines.{has_no_feed}
-use Rattle.line_notation.specs.Standing.{after, answer}
+use Rattle.line_notation.specs.LineReaderState.{after, answer}
 use Rattle.document_lines.specs.Input.{Settings, Situation, lines_of_documents, line_at}
 use Rattle.document_lines.specs.Input.{ending_fault, refused_line}
 use Rattle.document_lines.specs.declared.InputFault.{InputFault}

@@ -18,11 +18,11 @@ use Rattle.nbfx_encoder.specs.Placing.{Placed}
 use Rattle.nbfx_encoder.specs.Spelling.{Unfit, encoded}
 use Rattle.line_notation.specs.Between.{IsUnrefused, is_between, next_line}
 use Rattle.line_notation.specs.Lines.{AreLinesOf, cut}
-use Rattle.line_notation.specs.Standing.{Standing as LineStanding, failed, going, after, answer}
-use Rattle.line_notation.specs.Standing.{answer_of, at_start, document_of, documents_from}
-use Rattle.line_notation.specs.Standing.{documents_of, ending, ends as ends_document}
-use Rattle.line_notation.specs.Standing.{on as leads_on, outcome, Placed as PlacedLine}
-use Rattle.line_notation.specs.Standing.{standing_from, standing_of}
+use Rattle.line_notation.specs.LineReaderState.{Standing as LineStanding, failed, going, after}
+use Rattle.line_notation.specs.LineReaderState.{answer, answer_of, at_start, document_of}
+use Rattle.line_notation.specs.LineReaderState.{documents_from, documents_of, ending}
+use Rattle.line_notation.specs.LineReaderState.{ends as ends_document, on as leads_on, outcome}
+use Rattle.line_notation.specs.LineReaderState.{Placed as PlacedLine, standing_from, standing_of}
 use Rattle.line_notation.specs.declared.reader.LineFault.{LineFault}
 use Rattle.line_notation.specs.declared.reader.LineKind.{LineKind}
 use Rattle.line_notation.specs.declared.reader.LineKind.TheVariants.{Cut, WrongCount}

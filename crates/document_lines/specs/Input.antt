@@ -12,7 +12,7 @@ use Rattle.nbfx_values.specs.declared.session.Mode.TheVariants.{Singleton}
 use Rattle.string_tables.specs.StaticStrings.{Entry}
 use Rattle.string_tables.specs.StringTable.{StringTable}
 use Rattle.line_notation.specs.Between.{is_between, next_line}
-use Rattle.line_notation.specs.Standing.{Standing, at_start, after, answer}
+use Rattle.line_notation.specs.LineReaderState.{Standing, at_start, after, answer}
 use Rattle.line_notation.specs.declared.reader.LineFault.{LineFault}
 use Rattle.line_notation.specs.declared.reader.LineFault.TheVariants.{Bad, Memory}
 use Rattle.line_notation.specs.declared.reader.LineKind.TheVariants.{Cut, WrongCount}

@@ -5,7 +5,7 @@ use Rattle.unit_streams.specs.Going.{IsPending}
 use Rattle.unit_streams.specs.Judging.{offence, refusal_at}
 use Rattle.unit_streams.specs.Tellers.{Closes, report}
 use Rattle.line_notation.specs.Lines.{AreLinesOf, cut}
-use Rattle.line_notation.specs.Standing.{answer, documents_of, standing}
+use Rattle.line_notation.specs.LineReaderState.{answer, documents_of, standing}
 use Rattle.line_notation.specs.declared.reader.LineStep.TheVariants.{Done}
 use Rattle.nbfx_values.specs.declared.content.Item.{Item}
 use Rattle.string_tables.specs.StringTable.{StringTable}

@@ -1,5 +1,5 @@
 -- cited by whoever reads documents in lines to write them: the grammar (Input), where a reader
--- stands (Standing), and what holds by the definitions alone (Laws)
+-- stands (DocumentReaderState), and what holds by the definitions alone (Laws)
 pub mod Input
-pub mod Standing
+pub mod DocumentReaderState
 pub mod Laws

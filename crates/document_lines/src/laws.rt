@@ -8,8 +8,8 @@ pub fn input_is_closed()
     ensures { InputIsClosed }
 {}
 
-/// Input of no bytes isn't refused where the session quota admits a byte, and input that may go on
-/// has fewer bytes than that quota.
+/// Input of no bytes isn't refused where the session quota admits a byte, and pending input has
+/// fewer bytes than that quota.
 pub fn input_is_bounded()
     ensures begins { InputMayBegin }
     ensures bounded { InputIsBounded }

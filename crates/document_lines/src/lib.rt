@@ -10,8 +10,8 @@
 //!
 //! A [`DocumentReader`] reads such input in any pieces, and answers what the grammar does: the
 //! envelope of a document at its last line, or the first refusal. `specs/Input` has the grammar,
-//! `specs/Standing` which bytes a reader has read, and `specs/Laws` what holds by the definitions
-//! alone, which [`laws`] carries.
+//! `specs/DocumentReaderState` which bytes a reader has read, and `specs/Laws` what holds by the
+//! definitions alone, which [`laws`] carries.
 #![tactic(auto)]
 
 mod envelope;
@@ -35,6 +35,3 @@ pub enum InputFault {
     /// As many bytes as the session quota were read, and the input hasn't ended.
     TooLong,
 }
-
-#[cfg(test)]
-mod tests;

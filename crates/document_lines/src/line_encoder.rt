@@ -2,7 +2,7 @@
 
 ghost use Rattle.std.specs.Prelude.{◌≡◌, ◌+◌, ◌<◌, ◌≤◌, ◌^◌, ◌==◌, ◌&&◌, not, [], Err};
 ghost use Rattle.line_notation.specs.Between.{next_line};
-ghost use Rattle.line_notation.specs.Standing.{HasReadFew};
+ghost use Rattle.line_notation.specs.LineReaderState.{HasReadFew};
 ghost use Rattle.nbfx_values.specs.QuotasOf.{limits_of};
 ghost use Rattle.nbfx_encoder.specs.Sending.{KeepsSettings, kind_in, limits_in, mode_in, names_in, state_in};
 ghost use Rattle.nbfx_encoder.specs.Spelling.{encoded};
@@ -50,7 +50,7 @@ pub struct LineEncoder<'s> {
 }
 
 impl<'s> LineEncoder<'s> {
-    ghost use Rattle.document_lines.specs.Standing.{IsAt, KeepsAll, KeepsSet, LineAnswers, SendAnswers};
+    ghost use Rattle.document_lines.specs.DocumentReaderState.{IsAt, KeepsAll, KeepsSet, LineAnswers, SendAnswers};
 
     /// Before the first line.
     pub fn new(

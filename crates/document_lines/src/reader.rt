@@ -1,5 +1,5 @@
 //! Lines of documents, in any pieces.
-#![tactic(auto, unfolding(crate::specs::Standing::StandsFor, crate::specs::Standing::failure_of, crate::specs::Standing::settings_of))]
+#![tactic(auto, unfolding(crate::specs::DocumentReaderState::StandsFor, crate::specs::DocumentReaderState::failure_of, crate::specs::DocumentReaderState::settings_of))]
 
 ghost use Rattle.std.specs.Prelude.{◌≡◌, ℕ, ◌+◌, ◌<◌, ◌≤◌, List, [], ◌++◌, length, take, IfOk, IfErr, OnOk, Some, Err};
 ghost use Rattle.unit_streams.specs.Judging.{answer, ending_at};
@@ -39,7 +39,7 @@ pub struct DocumentReader<'s> {
 impl<'s> DocumentReader<'s> {
     ghost use Rattle.stream_loop.specs.declared.reading_end.FeedFault.{FeedFault as Fault};
     ghost use Rattle.document_lines.specs.declared.InputFault.{InputFault as Refusal};
-    ghost use Rattle.document_lines.specs.Standing.{IsAt, KeepsSet, LineAnswers, StandsFor, UnitAnswers, WhereItStands, failure_of, said_at_end, settings_of};
+    ghost use Rattle.document_lines.specs.DocumentReaderState.{IsAt, KeepsSet, LineAnswers, StandsFor, UnitAnswers, WhereItStands, failure_of, said_at_end, settings_of};
 
     /// A reader before the first byte, of documents that are written within these quotas, in a
     /// session of this mode whose payloads are of this kind.

@@ -13,7 +13,7 @@ impl<'s> ReadingEnd for DocumentReader<'s> {
     type Refusal = InputFault;
 
     ghost use Rattle.document_lines.specs.Input.{Situation as InputSituation, lines_of_documents};
-    ghost use Rattle.document_lines.specs.Standing.{StandsFor, counts_taken, settings_of, taken_of};
+    ghost use Rattle.document_lines.specs.DocumentReaderState.{StandsFor, counts_taken, settings_of, taken_of};
 
     ghost Situation = { InputSituation };
 

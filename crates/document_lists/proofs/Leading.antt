@@ -8,9 +8,10 @@ use Rattle.std.proofs.lemmas.List.{append-nil}
 use Rattle.std.proofs.Math.Seq.{take-append-add, take-append_seam}
 use Rattle.line_notation.specs.Between.{IsUnrefused}
 use Rattle.line_notation.specs.Lines.{cut}
-use Rattle.line_notation.specs.Standing.{Placed, Standing, after, answer, answer_of, document_of}
-use Rattle.line_notation.specs.Standing.{documents_from, documents_of, ends, failed, going, on}
-use Rattle.line_notation.specs.Standing.{outcome, standing, standing_from, standing_of}
+use Rattle.line_notation.specs.LineReaderState.{Placed, Standing, after, answer, answer_of}
+use Rattle.line_notation.specs.LineReaderState.{document_of, documents_from, documents_of, ends}
+use Rattle.line_notation.specs.LineReaderState.{failed, going, on, outcome, standing, standing_from}
+use Rattle.line_notation.specs.LineReaderState.{standing_of}
 use Rattle.line_notation.specs.declared.reader.LineFault.{LineFault}
 use Rattle.line_notation.specs.declared.reader.LineFault.TheVariants.{Bad}
 use Rattle.line_notation.specs.declared.reader.LineKind.{LineKind}
@@ -18,7 +19,7 @@ use Rattle.nbfx_values.specs.declared.content.Item.{Item}
 use Rattle.document_lines.specs.declared.InputFault.{InputFault}
 use Rattle.document_lines.specs.declared.InputFault.TheVariants.{TooLong}
 use Rattle.document_lists.specs.Documents.{documents_in, documents_within, refusal_in, unless}
-use Rattle.document_lists.specs.Reading.{IsWhy}
+use Rattle.document_lists.specs.LineAnswers.{IsWhy}
 use Rattle.document_lists.proofs.Cutting.{cut_append}
 
 -- the documents of a line more

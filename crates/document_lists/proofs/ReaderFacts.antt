@@ -6,13 +6,13 @@ use Rattle.std.specs.Prelude.{⊤}
 use Rattle.std.proofs.lemmas.List.{append-nil, take-append-drop}
 use Rattle.line_notation.specs.Between.{IsUnrefused}
 use Rattle.line_notation.specs.Lines.{cut, has_no_feed}
-use Rattle.line_notation.specs.Standing.{after, answer, document_of, documents_of, standing}
+use Rattle.line_notation.specs.LineReaderState.{after, answer, document_of, documents_of, standing}
 use Rattle.line_notation.specs.declared.reader.LineFault.TheVariants.{Bad}
 use Rattle.line_notation.proofs.StandingFacts.{standing-more}
 use Rattle.document_lines.specs.declared.InputFault.TheVariants.{TooLong}
 use Rattle.document_lists.specs.Documents.{documents_in, documents_within}
 use Rattle.document_lists.specs.Reader.{HasRead, ReadsOn, ReadsPiece, ReadsTo}
-use Rattle.document_lists.specs.Reading.{IsWhy, ReadsLine}
+use Rattle.document_lists.specs.LineAnswers.{IsWhy, ReadsLine}
 use Rattle.document_lists.specs.Taking.{Says}
 use Rattle.document_lists.specs.declared.reading.ListFault.{ListFault}
 use Rattle.document_lists.specs.declared.reading.ListFault.TheVariants.{Refused, ReadFault, Memory}

@@ -7,7 +7,7 @@ use Rattle.io_edges.specs.Faults.{CountsFaults, one_more}
 use Rattle.io_edges.specs.Flow.{Told}
 use Rattle.line_notation.specs.Between.{IsUnrefused}
 use Rattle.line_notation.specs.Lines.{cut}
-use Rattle.line_notation.specs.Standing.{standing}
+use Rattle.line_notation.specs.LineReaderState.{standing}
 use Rattle.stream_loop.specs.Edges.{Input}
 use Rattle.stream_loop.proofs.LoopSteps.{LeftSince, TakenSince}
 use Rattle.stream_loop.proofs.Writing.{counted_none, counted_with, known_told, told_some}

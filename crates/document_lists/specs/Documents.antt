@@ -3,7 +3,7 @@ use Rattle.std.specs.Prelude.{ℕ, List, [], ◌∷◌, length, take, nat_le, if
 use Rattle.std.specs.Prelude.{None, Result, Ok, Err}
 use Rattle.line_notation.specs.Between.{is_between, next_line}
 use Rattle.line_notation.specs.Lines.{cut}
-use Rattle.line_notation.specs.Standing.{Standing, documents_of, failed, going, standing}
+use Rattle.line_notation.specs.LineReaderState.{Standing, documents_of, failed, going, standing}
 use Rattle.line_notation.specs.declared.reader.LineFault.TheVariants.{Bad, Memory}
 use Rattle.line_notation.specs.declared.reader.LineKind.TheVariants.{Cut}
 use Rattle.nbfx_values.specs.declared.content.Item.{Item}

@@ -3,8 +3,8 @@
 pub mod Documents
 pub mod Files
 pub mod Taking
--- Private calls cite these: what a line is answered with (Reading), what a reader has read so
+-- Private calls cite these: what a line is answered with (LineAnswers), what a reader has read so
 -- far (Reader), and what was taken for it (Taken).
-pub mod Reading
+pub mod LineAnswers
 pub mod Reader
 pub mod Taken

@@ -2,9 +2,9 @@
 use Rattle.std.specs.Prelude.{◌≡◌, ⊤, ℕ, ◌<◌, List, ◌++◌, length, Result, Ok, Err}
 use Rattle.line_notation.specs.Between.{IsUnrefused}
 use Rattle.line_notation.specs.Lines.{cut}
-use Rattle.line_notation.specs.Standing.{documents_of, standing}
+use Rattle.line_notation.specs.LineReaderState.{documents_of, standing}
 use Rattle.document_lists.specs.Documents.{documents_within}
-use Rattle.document_lists.specs.Reading.{IsWhy, IsWhyWithin}
+use Rattle.document_lists.specs.LineAnswers.{IsWhy, IsWhyWithin}
 use Rattle.document_lists.specs.declared.reading.ListFault.{ListFault}
 use Rattle.document_lists.specs.declared.reading.ListFault.TheVariants.{Refused, ReadFault, Memory}
 use Rattle.document_lists.specs.declared.reading.ListReader.{ListReader}

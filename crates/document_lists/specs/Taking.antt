@@ -4,7 +4,7 @@ use Rattle.io_edges.specs.Faults.{CountsFaults, one_more}
 use Rattle.io_edges.specs.Flow.{Told}
 use Rattle.line_notation.specs.Between.{IsUnrefused}
 use Rattle.line_notation.specs.Lines.{cut}
-use Rattle.line_notation.specs.Standing.{standing}
+use Rattle.line_notation.specs.LineReaderState.{standing}
 use Rattle.nbfx_values.specs.declared.content.Item.{Item}
 use Rattle.stream_loop.specs.Edges.{Input}
 use Rattle.document_lines.specs.declared.InputFault.{InputFault}

@@ -9,7 +9,7 @@
 //! [`read_documents`] reads bytes that are in memory, [`fetch_documents`] those of a shelf's file,
 //! and [`take_documents`] those of a source, in the pieces in which they come: of these it keeps
 //! the documents and the unfinished line alone. Contracts of private calls are in
-//! `specs/Reading.antt`.
+//! `specs/LineAnswers.antt`.
 #![tactic(auto)]
 
 mod fetching;
@@ -19,6 +19,3 @@ mod taking;
 pub use fetching::{FileFault, fetch_documents};
 pub use reading::{ListFault, read_documents};
 pub use taking::take_documents;
-
-#[cfg(test)]
-mod tests;

@@ -3,15 +3,15 @@
 ghost use Rattle.std.specs.Prelude.{◌≡◌, ℕ, ◌+◌, ◌<◌, ◌≤◌, ◌^◌, List, [], ◌∷◌, ◌++◌, length, true, Err, OnOk, IfErr, IfSome, IsNone};
 ghost use Rattle.line_notation.specs.Between.{next_line};
 ghost use Rattle.line_notation.specs.Lines.{has_no_feed};
-ghost use Rattle.line_notation.specs.Standing.{HasReadFew};
+ghost use Rattle.line_notation.specs.LineReaderState.{HasReadFew};
 ghost use Rattle.document_lists.specs.Documents.{documents_in, documents_within};
 ghost use Rattle.document_lists.specs.Taking.{Says};
-ghost use Rattle.document_lists.specs.Reading.{ReadsLine};
+ghost use Rattle.document_lists.specs.LineAnswers.{ReadsLine};
 
 use document_lines::InputFault;
 use line_notation::{LineFault, LineKind, LineReader, LineStep};
 use memchr::memchr;
-use nbfx_values::Docs;
+use nbfx_values::{Doc, Docs};
 use std::alloc::Global;
 use unit_streams::Memory;
 
@@ -170,7 +170,7 @@ fn read_line(lines: &mut LineReader, docs: &mut Docs, line: &[u8]) -> Result<(),
 {
     match lines.line(line) {
         Ok(LineStep::More) => Ok(()),
-        Ok(LineStep::Done(doc)) => match docs.push(doc) {
+        Ok(LineStep::Done(doc)) => match keep(lines, docs, doc) {
             Ok(()) => Ok(()),
             Err(Memory) => Err(ListFault::Memory),
         },
@@ -179,6 +179,16 @@ fn read_line(lines: &mut LineReader, docs: &mut Docs, line: &[u8]) -> Result<(),
         }
         Err(LineFault::Memory) => Err(ListFault::Memory),
     }
+}
+
+// Adds a document, and makes room for a next one as long: grown item by item it would be moved, and
+// have room for twice as many.
+fn keep(lines: &mut LineReader, docs: &mut Docs, doc: Doc) -> Result<(), Memory>
+    ensures added { OnOk result (docs.new ≡ docs.old ++ doc ∷ []) }
+    ensures lines { lines.new ≡ lines.old }
+{
+    lines.reserve(doc.items().len())?;
+    docs.push(doc)
 }
 
 /// Reads the documents of all these lines.

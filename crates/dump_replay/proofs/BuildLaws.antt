@@ -1,4 +1,4 @@
--- What is written of documents is a session of them, and when it is written (specs/BuildLaws).
+-- What is written of documents is a session of them, and when it is written (specs/Laws, Building).
 use Rattle.std.proofs.Common.{◌≡◌, ℕ, ◌≤◌, ◌⊎◌, inl, inr, List, [], ◌∷◌, ◌++◌, length, map, true}
 use Rattle.std.proofs.Common.{IsUtf8, Option, Some, None, refl, sym, ap, ◌∙◌, subst}
 use Rattle.std.proofs.lemmas.List.{append_assoc, append-nil}
@@ -12,7 +12,7 @@ use Rattle.nbfx_values.specs.declared.session.Mode.TheVariants.{Duplex, Simplex,
 use Rattle.string_tables.specs.StaticStrings.{Entry, IsStaticMap}
 use Rattle.initiator_machine.proofs.Openings.{openings_are_preambles}
 use Rattle.line_notation.specs.Lines.{AreLinesOf, cut}
-use Rattle.line_notation.specs.Standing.{documents_of}
+use Rattle.line_notation.specs.LineReaderState.{documents_of}
 use Rattle.document_lines.specs.Input.{Settings as LineSettings, envelopes_and_end, is_singleton}
 use Rattle.document_lines.specs.Input.{lines_of_documents}
 use Rattle.document_lines.specs.Laws.{Explains, IsWritten}

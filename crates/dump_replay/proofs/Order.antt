@@ -21,7 +21,7 @@ use Rattle.nbfx_encoder.specs.Placing.{Placed}
 use Rattle.string_tables.specs.StaticStrings.{Entry}
 use Rattle.shelf_files.specs.Files.{ShelfFile, bad, file_in, missing, whole}
 use Rattle.line_notation.specs.Lines.{cut}
-use Rattle.line_notation.specs.Standing.{documents_of}
+use Rattle.line_notation.specs.LineReaderState.{documents_of}
 use Rattle.document_lines.specs.Input.{Settings as LineSettings, lines_of_documents}
 use Rattle.document_lines.specs.Laws.{Explains, FittingIsAccepted, IsWritten, MayBeBuilt}
 use Rattle.document_lines.specs.declared.InputFault.{InputFault}

@@ -8,7 +8,7 @@ use Rattle.unit_streams.specs.Tellers.{report as report_by}
 use Rattle.nbfx_values.specs.Limits.{IsGood, Limits}
 use Rattle.nbfx_values.specs.declared.content.Item.{Item}
 use Rattle.string_tables.specs.StaticStrings.{Entry, IsStaticMap}
-use Rattle.nbfx_encoder.specs.Reading.{AdmitsAsMuch}
+use Rattle.nbfx_encoder.specs.ReadBack.{AdmitsAsMuch}
 use Rattle.line_notation.specs.Lines.{AreLinesOf, cut}
 use Rattle.document_lines.specs.Input.{envelopes_and_end, lines_of_documents}
 use Rattle.document_lines.specs.declared.InputFault.{InputFault}

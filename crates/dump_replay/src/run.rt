@@ -28,7 +28,7 @@ pub struct Ran<I, O> {
     pub output: O,
 }
 
-/// Does all that the program does for these words, the first of which is its name.
+/// Does all that the program does for these arguments, the first of which is its name.
 ///
 /// `check` reads a stream from the input, an initiator's or with `--replies` a receiver's, with the
 /// static strings of the shelf's file that `--static` names and within the quotas that the other

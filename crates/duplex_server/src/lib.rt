@@ -21,6 +21,3 @@ mod spelling;
 pub use outcome::{Inbound, Outcome};
 pub use serving::serve_one;
 pub use stream_follower::Outbound;
-
-#[cfg(test)]
-mod tests;

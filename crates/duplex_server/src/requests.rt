@@ -2,7 +2,7 @@
 
 ghost use Rattle.std.specs.Prelude.{◌≡◌, List, ℕ, [], IfOk};
 ghost use Rattle.nbfx_values.specs.QuotasOf.{limits_of};
-ghost use Rattle.receiver_machine.specs.Standing.{StandsFor, settings_of};
+ghost use Rattle.receiver_machine.specs.ReceiverState.{StandsFor, settings_of};
 ghost use Rattle.stream_reader.specs.Sides.{endpoint_of};
 ghost use Rattle.stream_reader.specs.Stream.{initiators};
 ghost use Rattle.duplex_server.specs.Requests.{request_in};
@@ -72,7 +72,7 @@ impl<'s> ReadingEnd for RequestReader<'s> {
 
     type Refusal = Offence;
 
-    ghost use Rattle.receiver_machine.specs.Standing.{settings_of, taken_of, StandsFor, counts_taken};
+    ghost use Rattle.receiver_machine.specs.ReceiverState.{settings_of, taken_of, StandsFor, counts_taken};
     ghost use Rattle.stream_reader.specs.Stream.{Situation as StreamSituation, StreamUnit, StreamEvent, ends as is_last, stream};
     ghost use Rattle.duplex_server.specs.Requests.{request_for};
 

@@ -2,7 +2,7 @@
 use Rattle.std.proofs.Common.{◌≡◌, ℕ, List, Some}
 use Rattle.stream_reader.specs.declared.reader.ReadRefusal.{ReadRefusal}
 use Rattle.stream_reader.specs.declared.reader.StreamReader.{StreamReader}
-use Rattle.stream_reader.specs.Standing.{StandsFor, failure_of}
+use Rattle.stream_reader.specs.StreamReaderState.{StandsFor, failure_of}
 
 pub no_failure : (r : StreamReader) (p : List ℕ) (refusal : ReadRefusal) → StandsFor r p
     → failure_of r ≡ Some refusal → ⊥

@@ -1,3 +1,3 @@
 -- Public contracts cite both.
+pub mod InitiatorState
 pub mod Opening
-pub mod Standing

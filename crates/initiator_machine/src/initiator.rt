@@ -1,12 +1,12 @@
 //! A receiver's stream, in any pieces.
-#![tactic(auto, unfolding(crate::specs::Standing::reader_of))]
+#![tactic(auto, unfolding(crate::specs::InitiatorState::reader_of))]
 
 ghost use Rattle.std.specs.Prelude.{◌≡◌, ℕ, List, [], IfOk, Some, false};
 ghost use Rattle.unit_streams.specs.Judging.{is_over_at};
 ghost use Rattle.nbfx_values.specs.QuotasOf.{limits_of};
 ghost use Rattle.nmf_records.specs.declared.script.Direction.TheVariants.{FromReceiver};
 ghost use Rattle.stream_reader.specs.Stream.{direction_of, receivers, stream};
-ghost use Rattle.stream_reader.specs.Standing.{settings_of};
+ghost use Rattle.stream_reader.specs.StreamReaderState.{settings_of};
 
 use nbfx_values::{Doc, Kept, Kind, Mode, Offence, Quotas};
 use session_dictionary::SessionTable;
@@ -24,8 +24,8 @@ pub struct Initiator<'s> {
 
 impl<'s> Initiator<'s> {
     ghost use Rattle.stream_reader.specs.Calls.{Feeds, EndsInput, Reuses, HasText, HasTaken, HasStrings, Holds};
-    ghost use Rattle.stream_reader.specs.Standing.{failure_of, StandsFor, WhereItStands};
-    ghost use Rattle.initiator_machine.specs.Standing.{reader_of};
+    ghost use Rattle.stream_reader.specs.StreamReaderState.{failure_of, StandsFor, WhereItStands};
+    ghost use Rattle.initiator_machine.specs.InitiatorState.{reader_of};
 
     /// An initiator before the first byte, in a session of the mode and the encoding that its
     /// preamble has named. It allocates all that it needs before the first envelope.

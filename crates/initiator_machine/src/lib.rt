@@ -5,7 +5,7 @@
 //! stream, in the mode and the encoding that the initiator's own preamble names. Which bytes
 //! complete an event or are refused is said there, of whole byte lists, and what each call answers
 //! and leaves by one record a call (`stream_reader` `specs/Calls`), which an initiator's calls say
-//! of their reader (`specs/Standing`). [`opening`] writes the preamble (`specs/Opening`).
+//! of their reader (`specs/InitiatorState`). [`opening`] writes the preamble (`specs/Opening`).
 #![tactic(auto)]
 
 mod initiator;
@@ -15,6 +15,3 @@ mod preamble;
 pub use initiator::Initiator;
 pub use preamble::opening;
 pub use stream_reader::{ReadRefusal, StreamStep as BackStep};
-
-#[cfg(test)]
-mod tests;

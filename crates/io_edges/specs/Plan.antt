@@ -19,8 +19,8 @@ abbrev pub is_due : Plan → Bool
 is_due plan = list_any (λ number. number == plan.calls) plan.failing
 
 -- after a call that failed or didn't
-abbrev pub counted : Bool → Plan → Plan
-counted failed plan = record {
+abbrev pub one_call_more : Bool → Plan → Plan
+one_call_more failed plan = record {
   failing = plan.failing;
   calls = one_more plan.calls;
   faults = if failed then one_more plan.faults else plan.faults;
@@ -28,4 +28,4 @@ counted failed plan = record {
 
 -- after the next call, which fails where it is due
 abbrev pub after_call : Plan → Plan
-after_call plan = counted (is_due plan) plan
+after_call plan = one_call_more (is_due plan) plan

@@ -22,7 +22,7 @@ impl Model for FaultPlan {
 }
 
 impl FaultPlan {
-    ghost use Rattle.io_edges.specs.Plan.{new_plan, is_due, counted, after_call};
+    ghost use Rattle.io_edges.specs.Plan.{new_plan, is_due, one_call_more, after_call};
 
     pub(crate) fn new(failing: Vec<u64>) -> FaultPlan
         ensures { result ≡ new_plan failing.items }
@@ -51,7 +51,7 @@ impl FaultPlan {
 
     // Counts a call that failed or didn't.
     pub(crate) fn count(&mut self, failed: bool)
-        ensures { self.new ≡ counted failed self.old }
+        ensures { self.new ≡ one_call_more failed self.old }
     {
         self.calls = self.calls.saturating_add(1);
         if failed {

@@ -117,7 +117,7 @@ pub trait Sink {
     /// How many calls met an I/O error, up to 2^64 - 1.
     ghost faults: { Self → ℕ };
 
-    /// Whether a call may want memory.
+    /// Whether a call may run out of memory.
     ghost may_want: { Self → Bool };
 
     /// Takes the whole piece, after what is held. A refusal may have written the first bytes of
@@ -192,6 +192,3 @@ pub trait Shelf {
             (IsErrOf result ShelfFault.Failed) }
         ensures fetched { fetches self.new ≡ one_more (fetches self.old) };
 }
-
-#[cfg(test)]
-mod tests;

@@ -1,7 +1,7 @@
 //! A sink in memory, whose calls fail as planned.
 
 ghost use Rattle.std.specs.Prelude.{◌≡◌, ◌<◌, ◌≤◌, ◌^◌, ◌++◌, [], length, take, true, false, Some, OnOk, OnErr, IfOk, IsOk, IsErrOf};
-ghost use Rattle.io_edges.specs.Plan.{is_due, counted, after_call};
+ghost use Rattle.io_edges.specs.Plan.{is_due, one_call_more, after_call};
 ghost use Rattle.io_edges.specs.InMemory.{new_sink};
 
 use crate::fault_plan::FaultPlan;
@@ -27,8 +27,9 @@ impl Model for MemorySink {
 
 impl MemorySink {
     /// The puts whose numbers, from 0, are in `failing` fail. Each of them writes the first `kept`
-    /// bytes of its piece, or all where it is shorter. A put that wants memory writes nothing. Of
-    /// puts in parts, the last one before a failing one writes these first bytes.
+    /// bytes of its piece, or all where it is shorter. A put that runs out of memory writes nothing.
+    /// Of puts in parts, the last one before a failing one writes these first bytes, and later ones
+    /// that fail write none.
     pub fn new(alloc: Global, failing: Vec<u64>, kept: usize) -> MemorySink
         ensures { result ≡ new_sink failing.items kept }
     {
@@ -73,7 +74,7 @@ impl Sink for MemorySink {
         ensures counted { (IsErrOf result SinkFault.Memory → ⊥)
             → self.new.plan ≡ after_call self.old.plan }
         ensures passed { IsErrOf result SinkFault.Memory
-            → self.new.plan ≡ counted false self.old.plan }
+            → self.new.plan ≡ one_call_more false self.old.plan }
         ensures kept { self.new.kept ≡ self.old.kept }
         ensures faults { self.old.plan.faults < 2 ^ 64 }
     {

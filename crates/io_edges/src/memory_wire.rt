@@ -2,7 +2,7 @@
 
 ghost use Rattle.std.specs.Prelude.{◌≡◌, ◌⊎◌, true, false, OnOk, ◌<◌, ◌+◌, ◌^◌, ◌∷◌, ◌++◌, [], Some, IfOk, IfSome, All, IsTrue, IsErr, IsNone, ◌↔◌, length, OnErr, MatchOption, slice_get};
 ghost use Rattle.std.specs.Option.{option_map};
-ghost use Rattle.io_edges.specs.Plan.{is_due, counted, after_call};
+ghost use Rattle.io_edges.specs.Plan.{is_due, one_call_more, after_call};
 ghost use Rattle.io_edges.specs.Wires.{Untouched, new_wire, pair_of, added_up};
 
 use crate::fault_plan::FaultPlan;
@@ -123,8 +123,8 @@ impl Wire for MemoryWire {
         ensures failed { OnErr result ((self.new.waiting ≡ self.old.waiting)
             × (self.new.out ≡ self.old.out)) }
         ensures why { OnErr result ((is_due self.old.plan ≡ true) ⊎ (self.old.waiting ≡ [])) }
-        ensures plan { OnOk result (self.new.plan ≡ counted false self.old.plan) }
-        ensures failed_plan { OnErr result (self.new.plan ≡ counted true self.old.plan) }
+        ensures plan { OnOk result (self.new.plan ≡ one_call_more false self.old.plan) }
+        ensures failed_plan { OnErr result (self.new.plan ≡ one_call_more true self.old.plan) }
         ensures ended { (self.new.closed ≡ self.old.closed)
             × (self.new.end_faults ≡ self.old.end_faults) }
         ensures faults { self.old.plan.faults < 2 ^ 64 }

@@ -6,8 +6,8 @@ use crate::{Sink, SinkFault};
 use std::alloc::Global;
 use std::marker::Model;
 
-/// A sink that keeps what is written to it. A put that wants memory writes nothing, and nothing
-/// else makes one fail.
+/// A sink that keeps what is written to it. A put that runs out of memory writes nothing, and
+/// nothing else makes one fail.
 #[derive(Debug, Drop)]
 pub struct SureSink {
     bytes: Vec<u8>,

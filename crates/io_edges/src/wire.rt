@@ -22,7 +22,7 @@ pub trait Wire {
     /// contents.
     ghost closed: { Self → Option (List (List ℕ × List ℕ)) };
 
-    /// How many connections are handed out and not yet closed.
+    /// How many connections were given and not yet closed.
     ghost out: { Self → ℕ };
 
     /// How many calls met an I/O error, up to 2^64 - 1.
@@ -31,7 +31,7 @@ pub trait Wire {
     /// How many faults the ends of ended connections met, up to 2^64 - 1.
     ghost end_faults: { Self → ℕ };
 
-    /// Hands out the next connection that a peer makes to that place, or `None` where none is to
+    /// Gives the next connection that a peer makes to that place, or `None` where none is to
     /// come. Its ends have met no fault, and nothing has moved through them.
     fn accept(&mut self, place: &str) -> Result<Option<(Self::Reader, Self::Writer)>, Failed>
         requires { out self.old < 2 ^ 63 }

@@ -9,8 +9,8 @@ use crate::{Failed, Sink, SinkFault};
 use std::io::Write;
 
 /// A sink over a writer. A put writes until the whole piece is taken, a put in parts is one write,
-/// and a flush flushes the writer. A write that fails, one that was interrupted too, one that takes nothing and a flush
-/// that fails each count as a fault and end the call.
+/// and a flush flushes the writer. A write that fails, one that was interrupted too, one that takes
+/// nothing and a flush that fails each count as a fault and end the call.
 #[derive(Debug, Drop)]
 pub struct WriteSink<W> {
     writer: W,

@@ -1,8 +1,8 @@
 -- How many lines were read, for a loop that hands them in.
 use Rattle.std.proofs.Common.{◌≡◌, ◌+◌, ℕ, List, Ok, Err, Result, arith, subst, sym}
 use Rattle.line_notation.specs.declared.reader.LineKind.{LineKind}
-use Rattle.line_notation.specs.Standing.{HasReadFewer, Placed, Standing, after, ends, failed, going}
-use Rattle.line_notation.specs.Standing.{on, outcome, standing_of}
+use Rattle.line_notation.specs.LineReaderState.{HasReadFewer, Placed, Standing, after, ends, failed}
+use Rattle.line_notation.specs.LineReaderState.{going, on, outcome, standing_of}
 
 fewer-behind : (most : ℕ) (z : Standing) (line : List ℕ) → HasReadFewer most z
     → HasReadFewer (most + 1) (after z line)

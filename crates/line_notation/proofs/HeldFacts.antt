@@ -16,11 +16,11 @@ use Rattle.line_notation.specs.declared.reader.LineKind.TheVariants.{BadText, Ou
 use Rattle.line_notation.specs.Forms.{Form, start, ns, attr, text, comment, array, values, close}
 use Rattle.line_notation.specs.Forms.{array_kind_in, form_behind, two_texts_at}
 use Rattle.line_notation.specs.Judging.{are_in_range, are_scalars, has_bad_text, have_good_texts}
-use Rattle.line_notation.specs.Judging.{is_out_of_range, judged, said, scalars_of, value_of}
+use Rattle.line_notation.specs.Judging.{is_out_of_range, judged, said, scalars_of, value_said}
 use Rattle.line_notation.specs.Options.{alone, ◌>>=◌}
 use Rattle.line_notation.specs.Placing.{IsHeld}
 use Rattle.line_notation.specs.Quoted.{quoted_in}
-use Rattle.line_notation.specs.Reading.{judged_behind}
+use Rattle.line_notation.specs.BehindKeywords.{judged_behind}
 use Rattle.line_notation.specs.Scalars.{one_word}
 use Rattle.line_notation.specs.Values.{Written, no_more, one, list, how_many, if_some, value_in}
 use Rattle.line_notation.specs.Values.{values_in}
@@ -42,8 +42,8 @@ scalars-count test (one s more) h = let p = and_parts (test s) (are_scalars test
     (scalars-count test more p.1)
 scalars-count test (list within more) h = absurd cc
 
-value-valid : (written : Written) → are_in_range written ≡ true → is_valid_value (value_of written)
-    ≡ true
+value-valid : (written : Written) → are_in_range written ≡ true
+    → is_valid_value (value_said written) ≡ true
 value-valid no_more h = refl
 value-valid (one s more) h = (and_parts (is_valid_scalar s) (are_in_range more) h).0
 value-valid (list within more) h = scalars-all is_valid_scalar within

@@ -27,14 +27,15 @@ use Rattle.line_notation.specs.declared.reader.LineKind.{LineKind}
 use Rattle.line_notation.specs.Forms.{Form, start, ns, attr, text, comment, array, values, close}
 use Rattle.line_notation.specs.Forms.{IsForm, IsLine, form_of}
 use Rattle.line_notation.specs.Judging.{are_in_range, are_scalars, begun_array, judged, scalars_of}
-use Rattle.line_notation.specs.Judging.{value_of}
+use Rattle.line_notation.specs.Judging.{value_said}
 use Rattle.line_notation.specs.Laws.{AreReadTo, HaveRead, begun_forms}
 use Rattle.line_notation.specs.Lines.{AreBlank, AreLines, AreLinesOf, attribute_form, forms_of}
 use Rattle.line_notation.specs.Lines.{item_forms}
-use Rattle.line_notation.specs.Standing.{Placed, Standing, after, answer, answer_of, document_of}
-use Rattle.line_notation.specs.Standing.{documents_from, ending, failed, going, kind_of, led, on}
-use Rattle.line_notation.specs.Standing.{ends, outcome, outcome_of, placed, placed_array, placed_at}
-use Rattle.line_notation.specs.Standing.{placed_item, standing_from, standing_of, with_attribute}
+use Rattle.line_notation.specs.LineReaderState.{Placed, Standing, after, answer, answer_of}
+use Rattle.line_notation.specs.LineReaderState.{document_of, documents_from, ending, failed, going}
+use Rattle.line_notation.specs.LineReaderState.{kind_of, led, on, ends, outcome, outcome_of, placed}
+use Rattle.line_notation.specs.LineReaderState.{placed_array, placed_at, placed_item, standing_from}
+use Rattle.line_notation.specs.LineReaderState.{standing_of, with_attribute}
 use Rattle.line_notation.specs.Values.{Written, no_more, one, list, how_many, written_scalars}
 use Rattle.line_notation.specs.Values.{written_value}
 use Rattle.line_notation.proofs.FormFacts.{read-line}
@@ -54,7 +55,7 @@ none-more (one s more) h = absurd (omega (arith, h))
 none-more (list within more) h = absurd (omega (arith, h))
 
 value-written : (written : Written) → how_many written ≡ 1 → are_in_range written ≡ true
-    → written_value (value_of written) ≡ written
+    → written_value (value_said written) ≡ written
 value-written no_more single h = absurd (omega (arith, single))
 value-written (one s more) single h = ap (one s) (sym (none-more more single))
 value-written (list within more) single h =
@@ -164,12 +165,12 @@ form-says items (start prefix local) said w single j h =
 form-says items (ns prefix uri) said w single j h = item-says items (Xmlns prefix uri)
     (ns prefix uri) w refl (ap (placed items None) (ok_same j.said_is) ∙ h)
 form-says items (attr prefix local written) said w single j h =
-    item-says items (Attr prefix local (value_of written)) (attr prefix local written) w
+    item-says items (Attr prefix local (value_said written)) (attr prefix local written) w
     (ap (λ v. attr prefix local v ∷ [])
     (value-written written single (not-false (are_in_range written) j.range)))
     (ap (placed items None) (ok_same j.said_is) ∙ h)
 form-says items (text written) said w single j h =
-    item-says items (TextItem (value_of written)) (text written) w
+    item-says items (TextItem (value_said written)) (text written) w
     (ap (λ v. text v ∷ [])
     (value-written written single (not-false (are_in_range written) j.range)))
     (ap (placed items None) (ok_same j.said_is) ∙ h)
@@ -193,7 +194,7 @@ within-says items a (ns prefix uri) said w single j h =
 within-says items a (attr prefix local written) said w single j h =
     subst (Says items (Some a) (attr prefix local written))
     (ok_same (ap (placed items (Some a)) (ok_same j.said_is) ∙ h))
-    (attribute-says items a (AttrOn prefix local (value_of written)) (attr prefix local written)
+    (attribute-says items a (AttrOn prefix local (value_said written)) (attr prefix local written)
     (ap (attr prefix local)
     (value-written written single (not-false (are_in_range written) j.range))))
 within-says items a (text written) said w single j h = absurd

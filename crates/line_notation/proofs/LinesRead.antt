@@ -38,12 +38,12 @@ use Rattle.line_notation.specs.declared.reader.LineKind.TheVariants.{BadText}
 use Rattle.line_notation.specs.Forms.{Form, start, ns, attr, text, comment, array, values, close}
 use Rattle.line_notation.specs.Forms.{IsLine, form_of}
 use Rattle.line_notation.specs.Judging.{are_in_range, are_scalars, begun_array, has_good_text}
-use Rattle.line_notation.specs.Judging.{have_good_texts, judged, scalars_of, value_of}
+use Rattle.line_notation.specs.Judging.{have_good_texts, judged, scalars_of, value_said}
 use Rattle.line_notation.specs.Lines.{AreBlank, AreLines, AreLinesOf, attribute_form, forms_of}
 use Rattle.line_notation.specs.Lines.{item_forms, lines_of}
-use Rattle.line_notation.specs.Standing.{Placed, answer_of, document_of, going, kind_of, led, on}
-use Rattle.line_notation.specs.Standing.{outcome, outcome_of, placed, placed_array, placed_at}
-use Rattle.line_notation.specs.Standing.{standing_of, with_attribute}
+use Rattle.line_notation.specs.LineReaderState.{Placed, answer_of, document_of, going, kind_of, led}
+use Rattle.line_notation.specs.LineReaderState.{on, outcome, outcome_of, placed, placed_array}
+use Rattle.line_notation.specs.LineReaderState.{placed_at, standing_of, with_attribute}
 use Rattle.line_notation.specs.Values.{written_scalars, written_value}
 use Rattle.line_notation.proofs.FormFacts.{line-read}
 use Rattle.line_notation.proofs.GatherFacts.{some_same}
@@ -106,7 +106,7 @@ value-range : (v : Value) → is_valid_value v ≡ true → are_in_range (writte
 value-range (One s) h = rw h refl
 value-range (ListOf ss) h = rw (scalars-tested is_valid_scalar ss, h) refl
 
-value-same : (v : Value) → value_of (written_value v) ≡ v
+value-same : (v : Value) → value_said (written_value v) ≡ v
 value-same (One s) = refl
 value-same (ListOf ss) = ap ListOf (scalars-same ss)
 

@@ -16,7 +16,7 @@ use Rattle.std.proofs.lemmas.Int.Digits.{digits_push, digits_value_push}
 use Rattle.std.proofs.lemmas.List.{get_or_append_left, length-append}
 use Rattle.std.proofs.Math.Bool.{and-false}
 use Rattle.std.proofs.Math.Nat.{pow-suc}
-use Rattle.line_notation.specs.Numerals.{IsInteger, IsNatural, counted, has_zero_in_front}
+use Rattle.line_notation.specs.Numerals.{IsInteger, IsNatural, count_digits, has_zero_in_front}
 use Rattle.line_notation.specs.Numerals.{integer_in, is_natural, less_than_zero, natural_in}
 use Rattle.line_notation.specs.Options.{◌>>=◌}
 use Rattle.line_notation.proofs.GatherFacts.{some_same}
@@ -133,8 +133,8 @@ below-power (suc n) = let e = pow-suc 10 (suc n) in more (10 ^ suc n) (10 ^ suc 
     more : (p q : ℕ) → n < p → q ≡ p * 10 → suc n < q
     more p q h e = omega (arith, e)
 
-pub counted-natural : (n : ℕ) → IsNatural n (counted n)
-counted-natural n = puts-natural n n (below-power n)
+pub count_digits-natural : (n : ℕ) → IsNatural n (count_digits n)
+count_digits-natural n = puts-natural n n (below-power n)
 
 pub decimal-natural : (n : ℕ) → n < 10 ^ 64 → IsNatural n (decimal n)
 unfolding digits

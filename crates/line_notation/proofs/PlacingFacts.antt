@@ -18,10 +18,10 @@ use Rattle.line_notation.specs.Forms.{Form, form_behind, form_in, form_of, keywo
 use Rattle.line_notation.specs.Judging.{judged as judge}
 use Rattle.line_notation.specs.Options.{◌>>=◌}
 use Rattle.line_notation.specs.Placing.{Places, led_by, stopped}
-use Rattle.line_notation.specs.Reading.{judged_behind}
+use Rattle.line_notation.specs.BehindKeywords.{judged_behind}
 use Rattle.line_notation.specs.Scalars.{one_word}
-use Rattle.line_notation.specs.Standing.{is_passed_over, on, ends, kind_of, outcome}
-use Rattle.line_notation.specs.Standing.{outcome_of, placed_at}
+use Rattle.line_notation.specs.LineReaderState.{is_passed_over, on, ends, kind_of, outcome}
+use Rattle.line_notation.specs.LineReaderState.{outcome_of, placed_at}
 use Rattle.line_notation.specs.Steps.{Stops}
 use Rattle.line_notation.specs.Words.{words_of}
 use Rattle.line_notation.proofs.GatherFacts.{some_same}

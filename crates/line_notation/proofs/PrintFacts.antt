@@ -14,7 +14,7 @@ use Rattle.nbfx_values.specs.declared.content.Item.{Item}
 use Rattle.line_notation.specs.Forms.{array, attr, line_of, values}
 use Rattle.line_notation.specs.Lines.{attribute_form, form_text, forms_of, item_forms, item_text}
 use Rattle.line_notation.specs.Lines.{items_text, with_line_feed}
-use Rattle.line_notation.specs.Numerals.{counted}
+use Rattle.line_notation.specs.Numerals.{count_digits}
 use Rattle.line_notation.specs.Scalars.{scalar_words}
 use Rattle.nbfx_values.specs.declared.scalars.Value.TheVariants.{List as ListOf}
 use Rattle.line_notation.specs.Values.{how_many, value_words, written_scalars, written_value}
@@ -42,8 +42,8 @@ pub behind_spaces-scalars : (ss : List Scalar) → behind_spaces (flat_map scala
 behind_spaces-scalars ss = flat_map-flat_map (λ word. 32 ∷ word) scalar_words ss
 
 -- a count that a program can have is put as std puts it
-pub counted-decimal : (n : ℕ) → n < 2 ^ 64 → counted n ≡ decimal n
-counted-decimal n small =
+pub count_digits-decimal : (n : ℕ) → n < 2 ^ 64 → count_digits n ≡ decimal n
+count_digits-decimal n small =
     decimal_from_prepends (λ k m acc. digits_onto k 10 false m acc) (search rules) (suc n) n []
     small (let h = length-decimal-le_succ n small in omega (arith, h))
     ∙ append-nil (decimal n)
@@ -54,10 +54,10 @@ pub list_words : (ss : List Scalar) → length ss < 2 ^ 64
     ≡ behind_spaces (codes "list" ∷ decimal (length ss) ∷ [])
     ++ behind_spaces (flat_map scalar_words ss)
 list_words ss small =
-    ap (λ l. behind_spaces (codes "list" ∷ counted (how_many (written_scalars ss)) ∷ l))
+    ap (λ l. behind_spaces (codes "list" ∷ count_digits (how_many (written_scalars ss)) ∷ l))
     (append-nil (value_words (written_scalars ss)) ∙ value_words-scalars ss)
     ∙ ap (λ n. behind_spaces (codes "list" ∷ n ∷ flat_map scalar_words ss))
-    (ap counted (how_many-scalars ss) ∙ counted-decimal (length ss) small)
+    (ap count_digits (how_many-scalars ss) ∙ count_digits-decimal (length ss) small)
     ∙ flat_map-append (λ word. 32 ∷ word) (codes "list" ∷ decimal (length ss) ∷ [])
     (flat_map scalar_words ss)
 

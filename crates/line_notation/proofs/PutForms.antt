@@ -33,7 +33,8 @@ use Rattle.line_notation.specs.Quoted.{IsQuoted, quoted}
 use Rattle.line_notation.specs.Scalars.{IsScalar, scalar_words}
 use Rattle.line_notation.specs.Values.{AreValues, IsOneValue, how_many, value_words}
 use Rattle.line_notation.specs.Values.{written_scalars, written_value}
-use Rattle.line_notation.proofs.NaturalFacts.{counted-natural, decimal-integer, decimal-natural}
+use Rattle.line_notation.proofs.NaturalFacts.{count_digits-natural, decimal-integer}
+use Rattle.line_notation.proofs.NaturalFacts.{decimal-natural}
 use Rattle.line_notation.proofs.PiecesFacts.{quoted-quoted}
 use Rattle.line_notation.proofs.PrintFacts.{how_many-scalars}
 use Rattle.line_notation.proofs.ValidFacts.{array-some, array_parts, number-64}
@@ -148,7 +149,7 @@ value-put (ListOf ss) h =
         value_words (written_scalars ss),
         [],
         refl,
-        counted-natural
+        count_digits-natural
             (how_many (written_scalars ss)),
         scalars-put ss h,
         refl,

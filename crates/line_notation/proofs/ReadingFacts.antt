@@ -15,15 +15,16 @@ use Rattle.line_notation.specs.declared.reader.LineKind.TheVariants.{BadText, Ou
 use Rattle.line_notation.specs.Forms.{Form, start, ns, attr, text, comment, array, values}
 use Rattle.line_notation.specs.Forms.{array_kind_in, two_texts_at}
 use Rattle.line_notation.specs.Judging.{are_in_range, are_scalars, begun_array, have_good_texts}
-use Rattle.line_notation.specs.Judging.{judged, said, scalars_of, value_of}
+use Rattle.line_notation.specs.Judging.{judged, said, scalars_of, value_said}
 use Rattle.line_notation.specs.Options.{alone, ◌>>=◌}
 use Rattle.line_notation.specs.Parts.{both, holder_of, judged_by, judged_scalars, judged_text}
 use Rattle.line_notation.specs.Parts.{judged_text_in, judged_texts_at, judged_value}
 use Rattle.line_notation.specs.Parts.{judged_value_in, mapped}
 use Rattle.line_notation.specs.Quoted.{quoted_in}
-use Rattle.line_notation.specs.Reading.{read_array, read_attribute, as_attribute, read_comment}
-use Rattle.line_notation.specs.Reading.{read_declaration, judged_behind, read_start, read_text}
-use Rattle.line_notation.specs.Reading.{texts_alone, read_values, values_of}
+use Rattle.line_notation.specs.BehindKeywords.{read_array, read_attribute, as_attribute}
+use Rattle.line_notation.specs.BehindKeywords.{read_comment, read_declaration, judged_behind}
+use Rattle.line_notation.specs.BehindKeywords.{read_start, read_text, texts_alone, read_values}
+use Rattle.line_notation.specs.BehindKeywords.{values_of}
 use Rattle.line_notation.specs.Scalars.{one_word}
 use Rattle.line_notation.specs.Values.{Written, how_many, if_some, value_in}
 use Rattle.line_notation.specs.Values.{values_in as written_in}
@@ -148,10 +149,10 @@ attribute-said kind a b written = go (is_utf8 a) (is_utf8 b) (have_good_texts wr
   where
     go : (s t goods fit : Bool)
         → (if not ((s && t) && goods) then Err BadText else if not fit then Err OutOfRange else Ok
-        (says.Item (Attr a b (value_of written))))
+        (says.Item (Attr a b (value_said written))))
         ≡ mapped as_attribute
         (both (both (if s then Ok a else Err BadText) (if t then Ok b else Err BadText))
-        (if goods then (if fit then Ok (value_of written) else Err OutOfRange) else Err BadText))
+        (if goods then (if fit then Ok (value_said written) else Err OutOfRange) else Err BadText))
     go true true true true = refl
     go true true true false = refl
     go true true false fit = refl
@@ -193,9 +194,9 @@ text-said kind written = go (have_good_texts written) (are_in_range written)
   where
     go : (goods fit : Bool)
         → (if not goods then Err BadText else if not fit then Err OutOfRange else Ok
-        (says.Item (Text (value_of written))))
+        (says.Item (Text (value_said written))))
         ≡ mapped (λ v. says.Item (Text v))
-        (if goods then (if fit then Ok (value_of written) else Err OutOfRange) else Err BadText)
+        (if goods then (if fit then Ok (value_said written) else Err OutOfRange) else Err BadText)
     go true true = refl
     go true false = refl
     go false fit = refl

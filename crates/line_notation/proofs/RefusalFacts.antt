@@ -21,8 +21,8 @@ use Rattle.line_notation.specs.Forms.{IsLine, form_of}
 use Rattle.line_notation.specs.Judging.{begun_array, has_bad_text, is_out_of_range, judged, said}
 use Rattle.line_notation.specs.Refusals.{CannotFollow, CannotStand, HasBadText, IsNoLine}
 use Rattle.line_notation.specs.Refusals.{IsOutOfPlace, IsOutOfRange, IsRefusedForNothingElse}
-use Rattle.line_notation.specs.Standing.{is_passed_over, Placed, on, kind_of, led, outcome}
-use Rattle.line_notation.specs.Standing.{outcome_of, placed_array, placed_at, placed_item}
+use Rattle.line_notation.specs.LineReaderState.{is_passed_over, Placed, on, kind_of, led, outcome}
+use Rattle.line_notation.specs.LineReaderState.{outcome_of, placed_array, placed_at, placed_item}
 use Rattle.line_notation.proofs.FormFacts.{line-read, read-line}
 use Rattle.line_notation.proofs.LinesRead.{outcome-form}
 use Rattle.line_notation.proofs.PlacingFacts.{outcome-read}

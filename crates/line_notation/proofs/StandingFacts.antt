@@ -6,8 +6,9 @@ use Rattle.line_notation.specs.declared.reader.LineFault.{LineFault}
 use Rattle.line_notation.specs.declared.reader.LineFault.TheVariants.{Bad}
 use Rattle.line_notation.specs.declared.reader.LineKind.{LineKind}
 use Rattle.line_notation.specs.Laws.{IsRefusedAt}
-use Rattle.line_notation.specs.Standing.{Placed, Standing, after, ends, failed, going, on, outcome}
-use Rattle.line_notation.specs.Standing.{standing, standing_from, standing_of, at_start}
+use Rattle.line_notation.specs.LineReaderState.{Placed, Standing, after, ends, failed, going, on}
+use Rattle.line_notation.specs.LineReaderState.{outcome, standing, standing_from, standing_of}
+use Rattle.line_notation.specs.LineReaderState.{at_start}
 
 -- a line more
 more-from : (z : Standing) (lines : List (List ℕ)) (line : List ℕ) → standing_from z

@@ -5,9 +5,9 @@ use Rattle.std.proofs.lemmas.List.{length-append}
 use Rattle.nbfx_values.specs.declared.content.ArrayItem.{ArrayItem}
 use Rattle.nbfx_values.specs.declared.content.Item.{Item}
 use Rattle.line_notation.specs.declared.reader.LineKind.{LineKind}
-use Rattle.line_notation.specs.Standing.{Placed, Standing, after, answer, answer_of, document_of}
-use Rattle.line_notation.specs.Standing.{documents_from, going, on, ends, outcome, standing_from}
-use Rattle.line_notation.specs.Standing.{standing_of}
+use Rattle.line_notation.specs.LineReaderState.{Placed, Standing, after, answer, answer_of}
+use Rattle.line_notation.specs.LineReaderState.{document_of, documents_from, going, on, ends}
+use Rattle.line_notation.specs.LineReaderState.{outcome, standing_from, standing_of}
 
 -- behind these lines a reader stands there, and they brought these documents
 pub record Leads (z : Standing) (lines : List (List ℕ)) (z' : Standing) (docs : List (List Item)) :

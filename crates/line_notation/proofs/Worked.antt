@@ -5,7 +5,7 @@ use Rattle.nbfx_values.specs.declared.content.Item.TheVariants.{Start, Xmlns, At
 use Rattle.nbfx_values.specs.declared.scalars.Scalar.TheVariants.{Number, Text as TextOf, UniqueId}
 use Rattle.nbfx_values.specs.declared.scalars.Value.TheVariants.{One}
 use Rattle.line_notation.specs.Lines.{lines_of}
-use Rattle.line_notation.specs.Standing.{documents_of, standing, going}
+use Rattle.line_notation.specs.LineReaderState.{documents_of, standing, going}
 use Rattle.line_notation.proofs.OnLiterals.{lines_on_literals}
 
 identifier : List ℕ

@@ -12,7 +12,7 @@ use Rattle.line_notation.specs.declared.reader.LineFault.TheVariants.{Bad}
 use Rattle.line_notation.specs.declared.reader.LineKind.{LineKind}
 use Rattle.line_notation.specs.declared.reader.LineKind.TheVariants.{NotALine, BadText, OutOfRange}
 use Rattle.line_notation.specs.declared.reader.LineKind.TheVariants.{OutOfPlace, Cut}
-use Rattle.line_notation.specs.Standing.{ending, failed, on, outcome, standing}
+use Rattle.line_notation.specs.LineReaderState.{ending, failed, on, outcome, standing}
 use Rattle.line_notation.proofs.OnLiterals.{lines_on_literals}
 
 -- behind a root, behind a text in it, and within an array there

@@ -1,6 +1,6 @@
 -- Whether a reader of lines stands between documents, and the number of the next line.
 use Rattle.std.specs.Prelude.{ℕ, ◌+◌, Bool, true, false, [], None}
-use Rattle.line_notation.specs.Standing.{Standing, failed, going}
+use Rattle.line_notation.specs.LineReaderState.{Standing, failed, going}
 
 -- no line was refused, and memory didn't run out
 abbrev pub IsUnrefused : Standing → Type 0

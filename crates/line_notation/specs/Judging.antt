@@ -72,10 +72,10 @@ scalars_of (one s more) = s ∷ scalars_of more
 scalars_of (list within more) = scalars_of within ++ scalars_of more
 
 -- the first value
-abbrev pub value_of : Written → Value
-value_of no_more = ListOf []
-value_of (one s more) = One s
-value_of (list within more) = ListOf (scalars_of within)
+abbrev pub value_said : Written → Value
+value_said no_more = ListOf []
+value_said (one s more) = One s
+value_said (list within more) = ListOf (scalars_of within)
 
 -- an array of which there is no value yet
 abbrev pub begun_array : ArrayKind → (prefix local : List ℕ) → ArrayItem
@@ -86,8 +86,8 @@ begun_array kind prefix local =
 abbrev pub said : Option ArrayKind → Form → Result Line LineKind
 said kind (start prefix local) = Ok (says.Item (Start prefix local))
 said kind (ns prefix uri) = Ok (says.Item (Xmlns prefix uri))
-said kind (attr prefix local written) = Ok (says.Item (Attr prefix local (value_of written)))
-said kind (text written) = Ok (says.Item (TextItem (value_of written)))
+said kind (attr prefix local written) = Ok (says.Item (Attr prefix local (value_said written)))
+said kind (text written) = Ok (says.Item (TextItem (value_said written)))
 said kind (comment bytes) = Ok (says.Item (Comment bytes))
 said kind (array own prefix local) = Ok (says.Array (begun_array own prefix local))
 said None (values written) = Err OutOfPlace

@@ -12,8 +12,8 @@ use Rattle.line_notation.specs.declared.reader.LineKind.{LineKind}
 use Rattle.line_notation.specs.Forms.{Form, array, IsLine, form_of}
 use Rattle.line_notation.specs.Lines.{AreLines, AreLinesOf, attribute_form, cut, forms_of}
 use Rattle.line_notation.specs.Lines.{has_no_feed, lines_of, items_text}
-use Rattle.line_notation.specs.Standing.{Standing, after, documents_of, ending, failed, going}
-use Rattle.line_notation.specs.Standing.{outcome, standing}
+use Rattle.line_notation.specs.LineReaderState.{Standing, after, documents_of, ending, failed}
+use Rattle.line_notation.specs.LineReaderState.{going, outcome, standing}
 
 -- a line has the form that is read out of it, and no other
 abbrev pub HaveOneForm : Type 0

@@ -1,11 +1,12 @@
 -- cited by public contracts: the words of a line (Words, Quoted, Numerals, Scalars, Values), its
 -- form (Forms), the lines of documents (Lines), what a form is refused for and says (Judging),
--- where a reader stands (Standing) and what it says of that (Between), what is put (Puts), and the
--- laws (Laws, Refusals)
+-- where a reader stands (LineReaderState) and what it says of that (Between), what is put (Puts),
+-- and the laws (Laws, Refusals)
 pub mod Between
 pub mod Forms
 pub mod Judging
 pub mod Laws
+pub mod LineReaderState
 pub mod Lines
 pub mod Numerals
 pub mod Options
@@ -13,12 +14,11 @@ pub mod Puts
 pub mod Quoted
 pub mod Refusals
 pub mod Scalars
-pub mod Standing
 pub mod Values
 pub mod Words
 -- cited by private calls: what a step of reading gives (Steps), the same read and judged at once
--- (Parts, Reading), and where a line is placed (Placing)
+-- (Parts, BehindKeywords), and where a line is placed (Placing)
+pub mod BehindKeywords
 pub mod Parts
 pub mod Placing
-pub mod Reading
 pub mod Steps

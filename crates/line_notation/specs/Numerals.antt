@@ -26,8 +26,8 @@ IsInteger (pos n) word = IsNatural n word
 IsInteger (negsuc n) word = (digits : List ℕ) × (word ≡ 45 ∷ digits) × IsNatural (suc n) digits
 
 -- a count as it is put, whatever its size: std's `decimal` has at most 64 digits
-abbrev pub counted : ℕ → List ℕ
-counted n = digits_onto (suc n) 10 false n []
+abbrev pub count_digits : ℕ → List ℕ
+count_digits n = digits_onto (suc n) 10 false n []
 
 -- the number that a word writes
 abbrev pub has_zero_in_front : List ℕ → Bool

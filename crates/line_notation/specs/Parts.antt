@@ -19,7 +19,7 @@ use Rattle.nbfx_values.specs.declared.content.ArrayKind.{ArrayKind}
 use Rattle.nbfx_values.specs.declared.scalars.Value.{Value}
 use Rattle.nbfx_values.specs.declared.scalars.Value.TheVariants.{One, List as ListOf}
 use Rattle.line_notation.specs.Judging.{are_in_range, are_scalars, has_good_text, have_good_texts}
-use Rattle.line_notation.specs.Judging.{scalars_of, value_of}
+use Rattle.line_notation.specs.Judging.{scalars_of, value_said}
 use Rattle.line_notation.specs.Numerals.{integer_in, natural_in}
 use Rattle.line_notation.specs.Options.{◌>>=◌}
 use Rattle.line_notation.specs.Quoted.{pair_in, quoted_in}
@@ -144,7 +144,7 @@ judged_scalars holder = judged_due holder 0
 abbrev pub judged_value : Written → Result Value LineKind
 judged_value written =
     if have_good_texts written
-    then (if are_in_range written then Ok (value_of written) else Err OutOfRange)
+    then (if are_in_range written then Ok (value_said written) else Err OutOfRange)
     else Err BadText
 
 -- one value more, with so many due in it

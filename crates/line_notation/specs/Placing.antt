@@ -21,8 +21,8 @@ use Rattle.line_notation.specs.declared.reader.LineKind.{LineKind}
 use Rattle.line_notation.specs.declared.reader.LineKind.TheVariants.{NotALine}
 use Rattle.line_notation.specs.declared.words.Stop.{Stop}
 use Rattle.line_notation.specs.declared.words.Stop.TheVariants as stops
-use Rattle.line_notation.specs.Reading.{judged_behind}
-use Rattle.line_notation.specs.Standing.{Placed, led, on, ends, kind_of}
+use Rattle.line_notation.specs.BehindKeywords.{judged_behind}
+use Rattle.line_notation.specs.LineReaderState.{Placed, led, on, ends, kind_of}
 
 -- where a step of reading stopped
 abbrev pub stopped : Stop → Refusal

@@ -10,8 +10,8 @@ use Rattle.line_notation.specs.declared.reader.LineKind.TheVariants.{NotALine, B
 use Rattle.line_notation.specs.declared.reader.LineKind.TheVariants.{OutOfPlace, Cut, WrongCount}
 use Rattle.line_notation.specs.Forms.{Form, start, ns, attr, text, comment, array, values, close}
 use Rattle.line_notation.specs.Forms.{IsLine}
-use Rattle.line_notation.specs.Judging.{has_bad_text, is_out_of_range, scalars_of, value_of}
-use Rattle.line_notation.specs.Standing.{is_passed_over, kind_of, outcome}
+use Rattle.line_notation.specs.Judging.{has_bad_text, is_out_of_range, scalars_of, value_said}
+use Rattle.line_notation.specs.LineReaderState.{is_passed_over, kind_of, outcome}
 
 -- no document begins with these items and this one
 abbrev pub CannotStand : List Item → Item → Type 0
@@ -22,8 +22,8 @@ abbrev pub CannotFollow : List Item → Option ArrayItem → Form → Type 0
 CannotFollow items None (start prefix local) = CannotStand items (Start prefix local)
 CannotFollow items None (ns prefix uri) = CannotStand items (Xmlns prefix uri)
 CannotFollow items None (attr prefix local written) =
-    CannotStand items (Attr prefix local (value_of written))
-CannotFollow items None (text written) = CannotStand items (Text (value_of written))
+    CannotStand items (Attr prefix local (value_said written))
+CannotFollow items None (text written) = CannotStand items (Text (value_said written))
 CannotFollow items None (comment bytes) = CannotStand items (Comment bytes)
 CannotFollow items None (array kind prefix local) = (a : ArrayItem) → CannotStand items (Array a)
 CannotFollow items None (values written) = Unit {0}

@@ -5,7 +5,7 @@ use Rattle.std.specs.Str.{bytes_eq}
 use Rattle.nbfx_values.specs.declared.scalars.Scalar.{Scalar}
 use Rattle.nbfx_values.specs.declared.scalars.Value.{Value}
 use Rattle.nbfx_values.specs.declared.scalars.Value.TheVariants.{One, List as ListOf}
-use Rattle.line_notation.specs.Numerals.{IsNatural, counted, natural_in}
+use Rattle.line_notation.specs.Numerals.{IsNatural, count_digits, natural_in}
 use Rattle.line_notation.specs.Options.{◌>>=◌}
 use Rattle.line_notation.specs.Scalars.{IsScalar, scalar_at, scalar_kind_in, scalar_words}
 use Rattle.line_notation.specs.Words.{next_in}
@@ -44,7 +44,7 @@ abbrev pub value_words : Written → List (List ℕ)
 value_words no_more = []
 value_words (one s more) = scalar_words s ++ value_words more
 value_words (list within more) =
-    codes "list" ∷ counted (how_many within) ∷ value_words within ++ value_words more
+    codes "list" ∷ count_digits (how_many within) ∷ value_words within ++ value_words more
 
 -- values without a list among them, and a value that a record can hold
 abbrev pub written_scalars : List Scalar → Written

@@ -21,9 +21,9 @@ pub fn documents()
     ensures { AreOfWhatTheyBring }
 {}
 
-/// After lines that aren't refused a reader stands as they say: they are the lines of whole
-/// documents, and those of the unfinished one, as many as it counts. A line that is refused is the
-/// first such, and the refusal has its number. Each line leads on from where those before it lead.
+/// Lines that aren't refused are those of whole documents and then of the unfinished one, as many
+/// as the reader counts; the first bad line is refused, with its number. The state after a line
+/// depends only on the line and on the state before it.
 pub fn standing()
     ensures read { AreReadAsTheySay }
     ensures refused { AreRefusedAtALine }

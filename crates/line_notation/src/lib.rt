@@ -6,7 +6,7 @@
 //! `line_of` is the line that is put for one. A document is the forms of its items
 //! (`specs/Lines.antt`): an array has several lines, any other item has one. What a line is
 //! refused for by itself, and what it says else, is in `specs/Judging.antt`; where that leads is
-//! in `specs/Standing.antt`, by the positions of `nbfx_values`.
+//! in `specs/LineReaderState.antt`, by the positions of `nbfx_values`.
 //!
 //! `print` puts a document's lines and `quote` a quoted text, byte for byte. A line goes in several
 //! puts: where a put is expensive, give a buffering sink, such as `io_edges::GatheringSink`. They

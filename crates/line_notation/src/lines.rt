@@ -1,8 +1,8 @@
 // What a line says, unless it is refused for itself.
 ghost use Rattle.std.specs.Prelude.{◌≡◌, Some};
 ghost use Rattle.line_notation.specs.Options.{alone};
-ghost use Rattle.line_notation.specs.Reading as spec;
-ghost use Rattle.line_notation.specs.Reading.{judged_behind};
+ghost use Rattle.line_notation.specs.BehindKeywords as spec;
+ghost use Rattle.line_notation.specs.BehindKeywords.{judged_behind};
 ghost use Rattle.line_notation.specs.Steps.{Finds};
 
 use crate::arrays::array_kind;

@@ -3,8 +3,8 @@ ghost use Rattle.std.specs.Prelude.{◌≡◌, [], None, Some, Ok, Err, IfErr, I
 ghost use Rattle.nbfx_values.specs.Items.{is_valid_attribute, is_valid_item};
 ghost use Rattle.nbfx_values.specs.Positions.{position_of};
 ghost use Rattle.line_notation.specs.Placing.{IsHeld, IsOpen, Places, PlacesRead, is_held};
-ghost use Rattle.line_notation.specs.Standing as spec;
-ghost use Rattle.line_notation.specs.Standing.{is_passed_over, kind_of, on, outcome, placed, placed_array, placed_item, with_attribute};
+ghost use Rattle.line_notation.specs.LineReaderState as spec;
+ghost use Rattle.line_notation.specs.LineReaderState.{is_passed_over, kind_of, on, outcome, placed, placed_array, placed_item, with_attribute};
 
 use crate::line::{Keyword, Line};
 use crate::lines::read_behind;

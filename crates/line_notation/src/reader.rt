@@ -3,7 +3,7 @@ ghost use Rattle.std.specs.Prelude.{◌≡◌, [], Ok, Err, IsErrOf};
 ghost use Rattle.nbfx_values.specs.Documents.{IsDocument};
 ghost use Rattle.line_notation.specs.Between.{IsUnrefused, is_between, next_line};
 ghost use Rattle.line_notation.specs.Placing.{fault_of};
-ghost use Rattle.line_notation.specs.Standing.{HasFailed, HasReadFew, StandsBehind, UnlessMemory, after, answer, ended, ending};
+ghost use Rattle.line_notation.specs.LineReaderState.{HasFailed, HasReadFew, StandsBehind, UnlessMemory, after, answer, ended, ending};
 
 use crate::placing::{Leads, Refusal, read_placed};
 use nbfx_values::{ArrayItem, Doc, DocBuilder, Memory};
@@ -105,7 +105,7 @@ pub struct LineReader {
 impl Model for LineReader {
     ghost use Rattle.std.specs.Prelude.{◌≤◌, ◌^◌};
     ghost use Rattle.line_notation.specs.Placing.{IsOpen};
-    ghost use Rattle.line_notation.specs.Standing.{Standing, standing_kept};
+    ghost use Rattle.line_notation.specs.LineReaderState.{Standing, standing_kept};
 
     ghost Value = { Standing };
 
@@ -149,6 +149,13 @@ impl LineReader {
         if self.is_between() {
             self.builder.begin_in(doc);
         }
+    }
+
+    /// Makes room for so many items more of the unfinished document.
+    pub fn reserve(&mut self, count: usize) -> Result<(), Memory>
+        ensures { self.new ≡ self.old }
+    {
+        self.builder.reserve(count)
     }
 
     /// Reads one line more. A fault stays: each further line has the same.

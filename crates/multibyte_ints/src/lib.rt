@@ -23,6 +23,3 @@ pub use integer::{IntReader, IntStep};
 pub use text::{StringReader, StringStep};
 pub use unit_streams::Memory;
 pub use writing::{put_int, put_string};
-
-#[cfg(test)]
-mod tests;

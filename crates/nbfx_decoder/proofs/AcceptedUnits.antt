@@ -21,7 +21,7 @@ use Rattle.nbfx_values.proofs.Walks.{position_of-document}
 use Rattle.nbfx_records.specs.declared.nodes.Node.{Node}
 use Rattle.nbfx_records.specs.declared.nodes.RecordFault.TheVariants.{TrailingBytes}
 use Rattle.nbfx_records.specs.declared.nodes.NodePlace.TheVariants.{AfterRoot}
-use Rattle.nbfx_records.specs.Reading.{node_at}
+use Rattle.nbfx_records.specs.RecordAtFront.{node_at}
 use Rattle.nbfx_records.specs.Shapes.{shape_at}
 use Rattle.nbfx_records.proofs.MeaningFacts.{meanings_are_found}
 use Rattle.nbfx_records.proofs.NodeBytes.{records_are_read}

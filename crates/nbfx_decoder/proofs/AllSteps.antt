@@ -16,7 +16,7 @@ use Rattle.nbfx_decoder.specs.declared.faults.UnitFault.{UnitFault}
 use Rattle.nbfx_decoder.specs.declared.faults.UnitFault.TheVariants.{Refused, Memory}
 use Rattle.nbfx_decoder.specs.Payload.{Settings, payload}
 use Rattle.nbfx_decoder.specs.Units.{HasStrings}
-use Rattle.nbfx_decoder.specs.Standing.{Reached, situation_of, from_of}
+use Rattle.nbfx_decoder.specs.DecoderState.{Reached, situation_of, from_of}
 use Rattle.nbfx_decoder.specs.Taking.{TakeAnswers, AllAnswers}
 
 -- so many bytes of y are taken behind p

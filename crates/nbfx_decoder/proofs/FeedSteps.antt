@@ -11,10 +11,11 @@ use Rattle.nbfx_decoder.specs.declared.faults.UnitFault.{UnitFault}
 use Rattle.nbfx_decoder.specs.declared.faults.UnitFault.TheVariants.{Refused, Memory}
 use Rattle.nbfx_decoder.specs.Answers.{ShowsFault}
 use Rattle.nbfx_decoder.specs.Payload.{refusal, payload}
-use Rattle.nbfx_decoder.specs.Standing.{IsPlacedAt, settings_of, taken_of, situation_of, from_of}
-use Rattle.nbfx_decoder.specs.Standing.{StandsFor, FailedBehind, FailedWithin, ShownBy, FeedAnswers}
+use Rattle.nbfx_decoder.specs.DecoderState.{IsPlacedAt, settings_of, taken_of, situation_of}
+use Rattle.nbfx_decoder.specs.DecoderState.{from_of, StandsFor, FailedBehind, FailedWithin, ShownBy}
+use Rattle.nbfx_decoder.specs.DecoderState.{FeedAnswers}
 use Rattle.nbfx_decoder.specs.Taking.{AllAnswers}
-use Rattle.nbfx_decoder.specs.Units.{HasStrings, Keeps, KeepsSettings}
+use Rattle.nbfx_decoder.specs.Units.{HasStrings, KeepsTable, KeepsSettings}
 use Rattle.nbfx_decoder.proofs.AllSteps.{going_unrefused}
 use Rattle.nbfx_decoder.proofs.Keeping.{keeps_settings, settings_through, strings_kept}
 use Rattle.nbfx_decoder.proofs.StandsFacts.{settings_kept, stands_as, stands_of, failed_of}
@@ -46,7 +47,7 @@ module _ (d mid : Decoder) (strings : List (List ℕ)) (p y : List ℕ) (h : Sta
   module _ (new : Decoder) (fault : UnitFault) (told : DecodeFault)
       (shows : ShowsFault mid.units.from fault told) (failure : new.failure ≡ Some told)
       (no_bytes : new.begun ≡ []) (no_items : new.units.document ≡ [])
-      (from : new.units.from ≡ mid.units.from) (same : Keeps mid.units new.units) where
+      (from : new.units.from ≡ mid.units.from) (same : KeepsTable mid.units new.units) where
     all_kept : KeepsSettings d.units new.units
     all_kept = settings_through kept (keeps_settings same)
 

@@ -3,7 +3,7 @@ use Rattle.std.proofs.Common.{◌≡◌, ℕ, ◌+◌, ◌-◌, ◌≤◌, List,
 use Rattle.std.proofs.Common.{arith, length-append, length-drop}
 use Rattle.std.proofs.lemmas.List.{length-take-le}
 use Rattle.nbfx_decoder.specs.declared.decoder.Decoder.{Decoder}
-use Rattle.nbfx_decoder.specs.Standing.{settings_of, taken_of, StandsFor}
+use Rattle.nbfx_decoder.specs.DecoderState.{settings_of, taken_of, StandsFor}
 use Rattle.nbfx_decoder.proofs.StandsFacts.{taken_is}
 
 -- it has fed so many bytes

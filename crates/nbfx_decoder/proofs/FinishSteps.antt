@@ -17,7 +17,7 @@ use Rattle.nbfx_records.specs.declared.nodes.Node.{Node}
 use Rattle.nbfx_records.specs.declared.nodes.RecordFault.{RecordFault}
 use Rattle.nbfx_records.specs.declared.nodes.NodePlace.TheVariants.{AfterRoot}
 use Rattle.nbfx_records.specs.Shapes.{shape_at}
-use Rattle.nbfx_records.specs.Reading.{node_at}
+use Rattle.nbfx_records.specs.RecordAtFront.{node_at}
 use Rattle.nbfx_decoder.specs.declared.decoder.Decoder.{Decoder}
 use Rattle.nbfx_decoder.specs.declared.faults.DecodeFault.{DecodeFault}
 use Rattle.nbfx_decoder.specs.declared.faults.DecodeFault.TheVariants as decode_faults
@@ -29,9 +29,9 @@ use Rattle.nbfx_decoder.specs.Sections.{first_section}
 use Rattle.nbfx_decoder.specs.Faults.{reason_of}
 use Rattle.nbfx_decoder.specs.Payload.{Settings, Situation, PayloadUnit, node, place_of, unit_of}
 use Rattle.nbfx_decoder.specs.Payload.{unit_in, refusal, after, cut_at, payload}
-use Rattle.nbfx_decoder.specs.Standing.{IsPlacedAt, settings_of, situation_of, from_of, begun_of}
-use Rattle.nbfx_decoder.specs.Standing.{StandsFor, FailedBehind, FinishAnswers}
-use Rattle.nbfx_decoder.specs.Units.{Keeps}
+use Rattle.nbfx_decoder.specs.DecoderState.{IsPlacedAt, settings_of, situation_of, from_of}
+use Rattle.nbfx_decoder.specs.DecoderState.{begun_of, StandsFor, FailedBehind, FinishAnswers}
+use Rattle.nbfx_decoder.specs.Units.{KeepsTable}
 use Rattle.nbfx_decoder.specs.Laws.{MayBegin, IsUnrefused, IsWholePayload}
 use Rattle.nbfx_decoder.proofs.Keeping.{keeps_settings, strings_kept}
 use Rattle.nbfx_decoder.proofs.Readable.{readable}
@@ -116,7 +116,7 @@ module _ (d : Decoder) (strings : List (List ℕ)) (p : List ℕ) (h : StandsFor
     ]
 
     -- and the next payload may come
-    pub stands_anew : (new : Decoder) → Keeps d.units new.units → new.units.document ≡ []
+    pub stands_anew : (new : Decoder) → KeepsTable d.units new.units → new.units.document ≡ []
         → new.units.section ≡ first_section d.units.kind → new.units.from ≡ 0 → new.begun ≡ d.begun
         → new.failure ≡ d.failure
         → StandsFor new (situation_of (settings_of d) strings p).strings []
@@ -153,7 +153,7 @@ module _ (d : Decoder) (strings : List (List ℕ)) (p : List ℕ) (h : StandsFor
 
     -- it fails for good then
     pub finish_failed : (new : Decoder) (told : DecodeFault) → new.failure ≡ Some told → new.begun
-        ≡ [] → new.units.document ≡ [] → Keeps d.units new.units
+        ≡ [] → new.units.document ≡ [] → KeepsTable d.units new.units
         → IsPlacedAt (from_of (settings_of d) strings p) told new.units.from
         → FailedBehind new told strings p
     finish_failed new told failure no_bytes no_items same place =

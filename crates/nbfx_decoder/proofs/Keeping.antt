@@ -3,10 +3,10 @@ use Rattle.std.proofs.Common.{◌≡◌, ℕ, List, ap, ◌∙◌}
 use Rattle.nbfx_values.specs.QuotasOf.{limits_of}
 use Rattle.nbfx_decoder.specs.declared.units.UnitReader.{UnitReader}
 use Rattle.nbfx_decoder.specs.Payload.{Settings, Situation}
-use Rattle.nbfx_decoder.specs.Units.{HasStrings, IsAt, Keeps, KeepsSettings, Stays}
+use Rattle.nbfx_decoder.specs.Units.{HasStrings, IsAt, KeepsTable, KeepsSettings, Stays}
 
 -- what keeps all of it keeps its settings
-pub keeps_settings : {old new : UnitReader} → Keeps old new → KeepsSettings old new
+pub keeps_settings : {old new : UnitReader} → KeepsTable old new → KeepsSettings old new
 keeps_settings same = record { statics = same.statics; quotas = same.quotas; kind = same.kind }
 
 -- what keeps them twice keeps them
@@ -21,7 +21,8 @@ settings_through first then = record {
 
 -- its strings stay, wherever its unit begins
 pub strings_kept : {old new : UnitReader} {x : Settings} {strings : List (List ℕ)} {at from : ℕ}
-    → Keeps old new → HasStrings old x strings at → new.from ≡ from → HasStrings new x strings from
+    → KeepsTable old new → HasStrings old x strings at → new.from ≡ from
+    → HasStrings new x strings from
 strings_kept same set from = record {
   statics = ap (λ s. s.now) same.statics ∙ set.statics;
   kind = same.kind ∙ set.kind;

@@ -14,7 +14,7 @@ use Rattle.nbfx_values.specs.declared.session.Kind.{Kind}
 use Rattle.nbfx_records.specs.Kinds.{record_kind}
 use Rattle.nbfx_records.specs.Shapes.{array_at, record_at, shape_at}
 use Rattle.nbfx_records.specs.Contents.{scalar_of, contents}
-use Rattle.nbfx_records.specs.Reading.{node_at}
+use Rattle.nbfx_records.specs.RecordAtFront.{node_at}
 use Rattle.nbfx_decoder.specs.Payload.{Settings, after, refused, unit_in}
 use Rattle.nbfx_decoder.specs.Tables.{head_at, table_string_at}
 

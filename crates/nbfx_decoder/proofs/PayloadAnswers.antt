@@ -20,7 +20,7 @@ use Rattle.nbfx_decoder.specs.Laws.{FinishedWhereWhole, GoesOnUnrefused, GoesOnW
 use Rattle.nbfx_decoder.specs.Laws.{IsUnrefused, IsWholePayload, MayBegin, NothingIsRefused}
 use Rattle.nbfx_decoder.specs.Laws.{OffendsWhereShown, ShowsNothing, ShowsWithin}
 use Rattle.nbfx_decoder.specs.Payload.{NoEvent, Settings, payload, refusal}
-use Rattle.nbfx_decoder.specs.Standing.{FinishAnswers, situation_of}
+use Rattle.nbfx_decoder.specs.DecoderState.{FinishAnswers, situation_of}
 use Rattle.nbfx_decoder.proofs.PayloadLaws.{accepted_strings, payloads_are_accepted}
 use Rattle.nbfx_decoder.proofs.PayloadReasons.{nothing_unrefused, refused_where_shown}
 use Rattle.nbfx_decoder.proofs.PayloadReasons.{unrefused_nothing}

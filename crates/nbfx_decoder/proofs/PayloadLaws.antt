@@ -24,7 +24,7 @@ use Rattle.nbfx_decoder.specs.Laws.{IsDecoded, MayBegin, PayloadsAreAccepted, Sp
 use Rattle.nbfx_decoder.specs.Laws.{table_before}
 use Rattle.nbfx_decoder.specs.Payload.{Settings, Situation, beginning, cut_at, payload}
 use Rattle.nbfx_records.specs.Payloads.{IsAdmitted, IsPayload}
-use Rattle.nbfx_decoder.specs.Standing.{begun_of, from_of, situation_of}
+use Rattle.nbfx_decoder.specs.DecoderState.{begun_of, from_of, situation_of}
 use Rattle.nbfx_decoder.proofs.AcceptedUnits.{AreAll, ends_after, nothing_begun, units_are_payload}
 use Rattle.nbfx_decoder.proofs.PayloadPasses.{behind_payload, payload_passes}
 use Rattle.nbfx_decoder.proofs.Readable.{readable}

@@ -23,7 +23,7 @@ use Rattle.nbfx_records.specs.declared.nodes.RecordFault.{RecordFault}
 use Rattle.nbfx_records.specs.declared.nodes.RecordFault.TheVariants as faults
 use Rattle.nbfx_records.specs.Meaning.{items_of}
 use Rattle.nbfx_records.specs.Places.{Stands}
-use Rattle.nbfx_records.specs.Reading.{node_at}
+use Rattle.nbfx_records.specs.RecordAtFront.{node_at}
 use Rattle.nbfx_records.specs.Records.{IsNode}
 use Rattle.nbfx_records.proofs.FaultCauses.{wrong_by_text, wrong_by_value}
 use Rattle.nbfx_records.proofs.MeaningFacts.{meanings_are_found, nothing_without_names}
@@ -37,7 +37,7 @@ use Rattle.nbfx_decoder.specs.Payload.{Refusal, Settings, Situation, PayloadUnit
 use Rattle.nbfx_decoder.specs.Payload.{table_string, node, cut_at, payload, reason_in, refusal}
 use Rattle.nbfx_decoder.specs.Payload.{refusal_from, refused, room_for, table_in, unit_in, unit_of}
 use Rattle.nbfx_decoder.specs.Reasons.{IsCutAt, Shows, ShowsAtNode, ShowsFrom, node_place}
-use Rattle.nbfx_decoder.specs.Standing.{from_of, situation_of}
+use Rattle.nbfx_decoder.specs.DecoderState.{from_of, situation_of}
 use Rattle.nbfx_decoder.specs.Tables.{table_integer, table_string_at}
 use Rattle.nbfx_decoder.proofs.NodeReasons.{node_shows, part_wrong}
 use Rattle.nbfx_decoder.proofs.Readable.{readable}

@@ -25,7 +25,7 @@ use Rattle.nbfx_records.specs.Answers.{StopsBy}
 use Rattle.nbfx_records.specs.Asked as asked
 use Rattle.nbfx_records.specs.Contents.{contents}
 use Rattle.nbfx_records.specs.Places.{Stands}
-use Rattle.nbfx_records.specs.Reading.{node_at}
+use Rattle.nbfx_records.specs.RecordAtFront.{node_at}
 use Rattle.nbfx_records.specs.Cursor.{IsWhole, Stops}
 use Rattle.nbfx_records.specs.Judged.{Makes}
 use Rattle.nbfx_records.specs.Meaning.{items_of}
@@ -45,7 +45,7 @@ use Rattle.nbfx_decoder.specs.declared.units.UnitReader.{UnitReader}
 use Rattle.nbfx_decoder.specs.Payload.{Settings, Situation, node, refused, unit_in}
 use Rattle.nbfx_decoder.specs.declared.units.UnitRead.TheVariants as units_read
 use Rattle.nbfx_decoder.specs.Units.{HasShape, IsAdded, IsAt, Judged, Judges, MayAdd, MayMake}
-use Rattle.nbfx_decoder.specs.Units.{RefusedAs, unfit, unnamed_in, too_much_in, Keeps}
+use Rattle.nbfx_decoder.specs.Units.{RefusedAs, unfit, unnamed_in, too_much_in, KeepsTable}
 use Rattle.nbfx_decoder.specs.Units.{KeepsSettings, Reads, SayAnswers, StandsAt, UnitAnswers}
 use Rattle.nbfx_decoder.specs.Units.{names_in, place_in}
 use Rattle.nbfx_decoder.specs.Faults.{stopped, unmade}
@@ -252,7 +252,8 @@ reads_fault r new bytes fault res e said kept = by res (err_from_is_err_and res 
 pub reads_done : (r put new : UnitReader) (bytes : List ℕ) (used : ℕ)
     → ((x : Settings) (z : Situation) (from : ℕ) → IsAt r x z from → SayAnswers x z from bytes used
     put)
-    → (0 < used) × (used ≤ length bytes) → KeepsSettings r put → put.from ≡ r.from → Keeps put new
+    → (0 < used) × (used ≤ length bytes) → KeepsSettings r put → put.from ≡ r.from
+    → KeepsTable put new
     → new.from ≡ put.from + used → new.section ≡ put.section → new.document ≡ put.document
     → Reads r new bytes (Ok (units_read.Done used))
 reads_done r put new bytes used said size kept same keeps from section items =

@@ -6,9 +6,9 @@ use Rattle.nbfx_decoder.specs.declared.decoder.Decoder.{Decoder}
 use Rattle.nbfx_decoder.specs.declared.faults.DecodeFault.{DecodeFault}
 use Rattle.nbfx_decoder.specs.Payload.{Settings, payload}
 use Rattle.nbfx_decoder.specs.Values.{values_of}
-use Rattle.nbfx_decoder.specs.Standing.{IsPlacedAt, settings_of, situation_of, from_of, begun_of}
-use Rattle.nbfx_decoder.specs.Standing.{StandsFor, Failed, FailedBehind}
-use Rattle.nbfx_decoder.specs.Units.{HasStrings, Keeps}
+use Rattle.nbfx_decoder.specs.DecoderState.{IsPlacedAt, settings_of, situation_of, from_of}
+use Rattle.nbfx_decoder.specs.DecoderState.{begun_of, StandsFor, Failed, FailedBehind}
+use Rattle.nbfx_decoder.specs.Units.{HasStrings, KeepsTable}
 use Rattle.string_tables.specs.SessionStrings.{used_cost}
 use Rattle.nbfx_decoder.specs.Bounds.{KeepsWithin}
 use Rattle.nbfx_decoder.proofs.Keeping.{keeps_settings, strings_kept}
@@ -103,7 +103,7 @@ module _ (d : Decoder) (fault : DecodeFault) (strings : List (List ℕ)) (p : Li
 -- nothing of it changes where a document's room is used again
 module _ (d new : Decoder) (items : new.units.document ≡ d.units.document)
     (section : new.units.section ≡ d.units.section) (from : new.units.from ≡ d.units.from)
-    (same : Keeps d.units new.units)
+    (same : KeepsTable d.units new.units)
     (bytes : new.begun ≡ d.begun) (wants : new.wants ≡ d.wants) (failure : new.failure ≡ d.failure)
   where
     pub settings_stay : settings_of new ≡ settings_of d

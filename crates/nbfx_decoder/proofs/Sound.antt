@@ -27,7 +27,7 @@ use Rattle.nbfx_records.proofs.ValidFacts.{records_are_valid}
 use Rattle.nbfx_decoder.specs.Bounds.{KeepsWithin, NamesTexts}
 use Rattle.nbfx_decoder.specs.Payload.{Settings, Situation, PayloadUnit, table_size, table_string}
 use Rattle.nbfx_decoder.specs.Payload.{node, after, payload, place_of, room_for, table_in}
-use Rattle.nbfx_decoder.specs.Standing.{from_of, situation_of}
+use Rattle.nbfx_decoder.specs.DecoderState.{from_of, situation_of}
 use Rattle.nbfx_decoder.specs.Values.{item_values}
 use Rattle.nbfx_decoder.proofs.Counts.{node_fits, node_items}
 use Rattle.nbfx_decoder.proofs.Places.{open_within_depth, stands_behind, stands_depth}

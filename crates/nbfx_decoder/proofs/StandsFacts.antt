@@ -12,8 +12,8 @@ use Rattle.nbfx_values.specs.QuotasOf.{limits_of}
 use Rattle.nbfx_decoder.specs.declared.decoder.Decoder.{Decoder}
 use Rattle.nbfx_decoder.specs.declared.faults.DecodeFault.{DecodeFault}
 use Rattle.nbfx_decoder.specs.Payload.{Settings, Situation, NoEvent, Refusal, beginning, payload}
-use Rattle.nbfx_decoder.specs.Standing.{settings_of, failure_of, taken_of, situation_of, Reached}
-use Rattle.nbfx_decoder.specs.Standing.{StandsSo, StandsFor, Failed, FailedBehind}
+use Rattle.nbfx_decoder.specs.DecoderState.{settings_of, failure_of, taken_of, situation_of}
+use Rattle.nbfx_decoder.specs.DecoderState.{Reached, StandsSo, StandsFor, Failed, FailedBehind}
 use Rattle.nbfx_decoder.specs.Units.{IsAt, KeepsSettings}
 use Rattle.string_tables.specs.SessionStrings.{used_cost}
 use Rattle.nbfx_decoder.proofs.AllSteps.{going_unrefused}

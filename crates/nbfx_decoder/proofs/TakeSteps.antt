@@ -29,7 +29,7 @@ use Rattle.nbfx_decoder.specs.Payload.{Settings, Situation, PayloadUnit, table_s
 use Rattle.nbfx_decoder.specs.Payload.{node, NoEvent, Refusal, refusal, refusal_from, unit_in}
 use Rattle.nbfx_decoder.specs.Payload.{after, refused, payload}
 use Rattle.nbfx_decoder.specs.Units.{AwaitsBytes, HasStrings, IsAt, IsUnitRefused, UnitAnswers}
-use Rattle.nbfx_decoder.specs.Standing.{Reached, situation_of, from_of, begun_of}
+use Rattle.nbfx_decoder.specs.DecoderState.{Reached, situation_of, from_of, begun_of}
 use Rattle.nbfx_decoder.specs.Taking.{TakeAnswers}
 use Rattle.nbfx_decoder.proofs.Readable.{readable, reads_unit}
 use Rattle.nbfx_decoder.proofs.Waits.{waits_now}

@@ -12,7 +12,7 @@ use Rattle.nbfx_values.specs.declared.refusals.Reason.{Reason}
 use Rattle.nbfx_values.specs.declared.refusals.Reason.TheVariants.{TooMuchContent, UnknownString}
 use Rattle.nbfx_records.specs.declared.nodes.Node.{Node}
 use Rattle.nbfx_records.specs.Meaning.{items_of}
-use Rattle.nbfx_records.specs.Reading.{node_at}
+use Rattle.nbfx_records.specs.RecordAtFront.{node_at}
 use Rattle.nbfx_decoder.specs.declared.section.Section.{Section}
 use Rattle.nbfx_decoder.specs.declared.section.Section.TheVariants.{TableSize, Strings, Nodes}
 use Rattle.nbfx_decoder.specs.Faults.{reason_of}

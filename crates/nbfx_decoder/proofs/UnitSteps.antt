@@ -39,7 +39,7 @@ use Rattle.nbfx_records.proofs.NodeBytes.{records_are_read}
 use Rattle.nbfx_records.specs.Meaning.{items_of}
 use Rattle.nbfx_records.specs.Places.{Stands}
 use Rattle.nbfx_records.proofs.MeaningFacts.{meanings_are_found}
-use Rattle.nbfx_records.specs.Reading.{node_at}
+use Rattle.nbfx_records.specs.RecordAtFront.{node_at}
 use Rattle.nbfx_records.specs.Answers.{WaitsFor as NodeWaitsFor}
 use Rattle.nbfx_decoder.specs.declared.section.Section.{Section}
 use Rattle.nbfx_decoder.specs.declared.section.Section.TheVariants.{TableSize, Strings, Nodes}
@@ -53,7 +53,7 @@ use Rattle.nbfx_decoder.specs.Tables.{TableString, table_string_at}
 use Rattle.nbfx_decoder.specs.Payload.{Settings, Situation, table_size, table_string, node, refusal}
 use Rattle.nbfx_decoder.specs.Payload.{place_of, room_for, unit_of, unit_in, table_in, reason_in}
 use Rattle.nbfx_decoder.specs.Payload.{added, after, refused}
-use Rattle.nbfx_decoder.specs.Units.{AwaitsBytes, Keeps, IsAt, StringStands, UnitAnswers}
+use Rattle.nbfx_decoder.specs.Units.{AwaitsBytes, KeepsTable, IsAt, StringStands, UnitAnswers}
 use Rattle.nbfx_decoder.proofs.Keeping.{strings_kept}
 use Rattle.nbfx_decoder.proofs.Readable.{reads_string, no_string}
 use Rattle.nbfx_decoder.proofs.Places.{stands_behind}
@@ -123,7 +123,7 @@ module _ (r : UnitReader) (x : Settings) (z : Situation) (from : ℕ) (at : IsAt
     pub size_waits : int_at b ≡ begun → AwaitsBytes (unit_in x z from) b (length b + 1)
     size_waits e = waits_one (unit_in x z from) b (size_here begun e)
 
-    pub behind_size : (new : UnitReader) (n k : ℕ) → Keeps r new → new.from ≡ r.from + k
+    pub behind_size : (new : UnitReader) (n k : ℕ) → KeepsTable r new → new.from ≡ r.from + k
         → new.section ≡ section_of n → new.document ≡ r.document
         → IsAt new x (after x z (table_size n)) (from + k)
     unfolding after
@@ -362,7 +362,7 @@ leads_somewhere table depth before n more stands found valid none = by_position 
 
 -- behind some bytes more it is in the same situation
 pub passed : (r : UnitReader) (x : Settings) (z : Situation) (from k : ℕ) → IsAt r x z from
-    → (new : UnitReader) → Keeps r new → new.from ≡ r.from + k → new.section ≡ r.section
+    → (new : UnitReader) → KeepsTable r new → new.from ≡ r.from + k → new.section ≡ r.section
     → new.document ≡ r.document → IsAt new x z (from + k)
 passed r x z from k at new kept gone section items = record {
   set = strings_kept kept at.set (gone ∙ ap (λ m. m + k) at.set.from_is);

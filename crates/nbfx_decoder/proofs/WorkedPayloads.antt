@@ -11,7 +11,7 @@ use Rattle.nbfx_values.specs.declared.scalars.Scalar.TheVariants.{Number, Unique
 use Rattle.nbfx_values.specs.declared.scalars.Value.TheVariants.{One}
 use Rattle.nbfx_values.specs.declared.session.Kind.TheVariants.{Plain, Session}
 use Rattle.nbfx_decoder.specs.Payload.{Settings, payload}
-use Rattle.nbfx_decoder.specs.Standing.{situation_of}
+use Rattle.nbfx_decoder.specs.DecoderState.{situation_of}
 use Rattle.nbfx_decoder.proofs.OnLiterals.{payloads_on_literals, narrow, usual}
 
 -- the identifier of the worked messages

@@ -14,7 +14,7 @@ use Rattle.nbfx_decoder.specs.Bounds.{KeepsWithin, NamesTexts}
 use Rattle.nbfx_decoder.specs.Payload.{Settings, payload, refusal, table_in}
 use Rattle.nbfx_decoder.specs.Reasons.{IsCutAt, ShowsFrom}
 use Rattle.nbfx_records.specs.Payloads.{IsAdmitted, IsPayload, IsWithin}
-use Rattle.nbfx_decoder.specs.Standing.{FinishAnswers, from_of, situation_of}
+use Rattle.nbfx_decoder.specs.DecoderState.{FinishAnswers, from_of, situation_of}
 
 -- as a whole payload the bytes have no offence: behind them stand these items, and these strings
 -- behind those of before

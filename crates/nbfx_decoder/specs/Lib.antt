@@ -1,4 +1,4 @@
--- The public contracts cite these, up to Laws and with Units, which Standing stands on; Meant,
+-- The public contracts cite these, up to Laws and with Units, which DecoderState stands on; Meant,
 -- Measuring, Taking and Answers are for private calls.
 pub mod Sections
 pub mod Faults
@@ -6,7 +6,7 @@ pub mod Tables
 pub mod Payload
 pub mod Values
 pub mod Bounds
-pub mod Standing
+pub mod DecoderState
 pub mod Reasons
 pub mod Laws
 pub mod Meant

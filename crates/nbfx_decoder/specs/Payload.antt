@@ -20,7 +20,7 @@ use Rattle.string_tables.specs.StringTable.{StringTable}
 use Rattle.nbfx_records.specs.declared.nodes.Node.{Node}
 use Rattle.nbfx_records.specs.declared.nodes.NodePlace.{NodePlace}
 use Rattle.nbfx_records.specs.declared.nodes.NodePlace.TheVariants.{BeforeRoot, Within, AfterRoot}
-use Rattle.nbfx_records.specs.Reading.{node_at}
+use Rattle.nbfx_records.specs.RecordAtFront.{node_at}
 use Rattle.nbfx_records.specs.Meaning.{items_of}
 use Rattle.nbfx_decoder.specs.declared.section.Section.{Section}
 use Rattle.nbfx_decoder.specs.declared.section.Section.TheVariants.{TableSize, Strings, Nodes}

@@ -22,7 +22,7 @@ use Rattle.nbfx_records.specs.Records.{IsNode}
 use Rattle.nbfx_decoder.specs.declared.section.Section.{Section}
 use Rattle.nbfx_decoder.specs.declared.section.Section.TheVariants.{TableSize, Strings, Nodes}
 use Rattle.nbfx_decoder.specs.Payload.{Settings, Situation, payload, place_of, room_for, table_in}
-use Rattle.nbfx_decoder.specs.Standing.{from_of, situation_of}
+use Rattle.nbfx_decoder.specs.DecoderState.{from_of, situation_of}
 
 -- a length at the front of the bytes, within so many bytes of a table that are left
 pub record HasLength (left n : ℕ) (bytes : List ℕ) : Type 0 where

@@ -8,7 +8,7 @@ use Rattle.nbfx_decoder.specs.declared.faults.UnitFault.{UnitFault}
 use Rattle.nbfx_decoder.specs.declared.faults.UnitFault.TheVariants.{Refused, Memory}
 use Rattle.nbfx_decoder.specs.Payload.{Settings, refusal, payload}
 use Rattle.nbfx_decoder.specs.Units.{HasStrings, KeepsSettings}
-use Rattle.nbfx_decoder.specs.Standing.{Reached, situation_of, from_of}
+use Rattle.nbfx_decoder.specs.DecoderState.{Reached, situation_of, from_of}
 
 -- some of the bytes are used, and no more are taken
 pub record TakesSome (old new : Decoder) (bytes : List ℕ) (used : ℕ) : Type 0 where

@@ -1,5 +1,5 @@
--- What a reader of units answers. The public contracts cite of it, through Standing, where a unit
--- may come, what it waits for and the strings that it has read.
+-- What a reader of units answers. The public contracts cite of it, through DecoderState, where a
+-- unit may come, what it waits for and the strings that it has read.
 use Rattle.std.specs.Prelude.{◌≡◌, ⊤, ℕ, ◌+◌, ◌-◌, ◌<◌, ◌≤◌, ◌^◌, ◌⊎◌, max, List, ◌++◌, length}
 use Rattle.std.specs.Prelude.{Option, Some, None, Result, Ok, Err, IfOk, IfSome, IfNone, IsTrue}
 use Rattle.unit_streams.specs.Front.{Front, begun, whole, wrong}
@@ -87,7 +87,7 @@ pub record KeepsSettings (old new : UnitReader) : Type 0 where
   pub kind : new.kind ≡ old.kind
 
 -- what stays of a reader where it goes on: all but where it stands in the payload
-pub record Keeps (old new : UnitReader) : Type 0 where
+pub record KeepsTable (old new : UnitReader) : Type 0 where
   pub statics : new.statics ≡ old.statics
   pub quotas : new.quotas ≡ old.quotas
   pub kind : new.kind ≡ old.kind
@@ -113,9 +113,9 @@ Counts len (More wants) = len < wants
 Counts len (Done used) = (0 < used) × (used ≤ len)
 
 -- how many bytes the reader goes on by
-abbrev pub counted : UnitRead → ℕ
-counted (More wants) = 0
-counted (Done used) = used
+abbrev pub used_by : UnitRead → ℕ
+used_by (More wants) = 0
+used_by (Done used) = used
 
 -- the unit at the front is refused, which so many bytes show
 abbrev pub IsUnitRefused : Settings → Situation → ℕ → List ℕ → Reason → ℕ → Type 0
@@ -143,12 +143,12 @@ pub record Reads (old new : UnitReader) (bytes : List ℕ) (result : Result Unit
   pub answers : (x : Settings) (z : Situation) (from : ℕ) → IsAt old x z from
       → UnitAnswers x z from bytes new result
   pub counts : IfOk result (Counts (length bytes))
-  pub goes_on : IfOk result (λ read. new.from ≡ old.from + counted read)
+  pub goes_on : IfOk result (λ read. new.from ≡ old.from + used_by read)
   pub kept : KeepsSettings old new
 
 -- it stands where it stood
 pub record Stays (old new : UnitReader) : Type 0 where
-  pub kept : Keeps old new
+  pub kept : KeepsTable old new
   pub from_is : new.from ≡ old.from
   pub section : new.section ≡ old.section
   pub items : new.document ≡ old.document

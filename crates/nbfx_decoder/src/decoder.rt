@@ -24,7 +24,7 @@ pub struct Decoder<'s> {
     units: UnitReader<'s>,
     /// The bytes of the unit that has begun.
     begun: BegunBytes,
-    /// How many bytes in all it wants at least.
+    /// How many bytes in all it needs at least.
     wants: usize,
     failure: Option<DecodeFault>,
 }
@@ -33,10 +33,10 @@ impl<'s> Decoder<'s> {
     ghost use Rattle.nbfx_values.specs.declared.content.Item.{Item as Content};
     ghost use Rattle.nbfx_decoder.specs.Laws.{IsWholePayload};
     ghost use Rattle.nbfx_decoder.specs.Payload.{Settings};
-    ghost use Rattle.nbfx_decoder.specs.Standing.{settings_of, failure_of, taken_of, held_of, content_held_of, situation_of, from_of, begun_of, table_at, Reached, StandsFor, FailedBehind, FailedWithin, WhereItStands, WhereItFailed, IsPlacedAt, FeedAnswers, FinishAnswers};
+    ghost use Rattle.nbfx_decoder.specs.DecoderState.{settings_of, failure_of, taken_of, held_of, content_held_of, situation_of, from_of, begun_of, table_at, Reached, StandsFor, FailedBehind, FailedWithin, WhereItStands, WhereItFailed, IsPlacedAt, FeedAnswers, FinishAnswers};
     ghost use Rattle.nbfx_decoder.specs.Values.{values_of};
     ghost use Rattle.nbfx_decoder.specs.Taking.{AllAnswers, KeepsRest, TakeAnswers, TakesSome};
-    ghost use Rattle.nbfx_decoder.specs.Units.{Keeps, KeepsSettings};
+    ghost use Rattle.nbfx_decoder.specs.Units.{KeepsTable, KeepsSettings};
 
     /// A reader before the first payload, with no strings.
     pub fn new(alloc: Global, statics: &'s StaticTable, quotas: Quotas, kind: Kind) -> Decoder<'s>
@@ -128,7 +128,7 @@ impl<'s> Decoder<'s> {
 
     /// What it holds of the payload: in bytes, the unit that is incomplete, and the content of the
     /// items.
-    #[tactic(auto, unfolding(crate::specs::Standing::held_of, crate::specs::Standing::content_held_of))]
+    #[tactic(auto, unfolding(crate::specs::DecoderState::held_of, crate::specs::DecoderState::content_held_of))]
     pub fn kept(&self) -> Kept
         ensures held { result.raw ≡ held_of self.now }
         ensures content_held { result.content ≡ content_held_of self.now }
@@ -281,7 +281,7 @@ impl<'s> Decoder<'s> {
         ensures begun { self.new.begun ≡ [] }
         ensures items { self.new.units.document ≡ [] }
         ensures from { self.new.units.from ≡ self.old.units.from }
-        ensures kept { Keeps self.old.units self.new.units }
+        ensures kept { KeepsTable self.old.units self.new.units }
     {
         let at = self.units.from();
         let fault = match fault {

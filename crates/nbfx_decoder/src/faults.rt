@@ -48,7 +48,7 @@ pub(crate) fn refused<T>(reason: Reason, shown_by: usize) -> Result<T, UnitFault
     Err(UnitFault::Refused { reason, shown_by })
 }
 
-/// The reason of a node that no record is which may stand there.
+/// The reason for which no record that may stand there is read.
 pub(crate) fn reason_of(fault: RecordFault) -> Reason
     ensures { result ≡ spec.reason_of fault }
 {

@@ -27,7 +27,7 @@ pub fn situations()
     ensures texts { StringsStayTexts }
 {}
 
-/// The state of a payload is where its bytes so far have led it. No unit begins a longer one that
+/// The state of a payload depends only on the bytes read so far. No unit begins a longer one that
 /// may come in its place.
 pub fn units()
     ensures standings_go_on { (x : Settings) (strings : List (List ℕ))
@@ -67,7 +67,7 @@ pub fn reasons()
 {}
 
 /// What [`Decoder::feed`](crate::Decoder::feed) answers: a piece is refused just where some of its
-/// bytes show a reason after those before, and no fewer show any; it goes on where none do. Where
+/// bytes show a reason after those before, and no fewer show any, and is accepted if none do. Where
 /// no bytes of a payload have shown any, [`Decoder::finish`](crate::Decoder::finish) gives a
 /// document exactly where the bytes are a payload of that document, within what is admitted, and
 /// its strings are those that stand after it.

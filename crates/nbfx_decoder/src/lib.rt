@@ -7,7 +7,7 @@
 //! (`specs/Payloads`) which bytes are a payload of a document, by the standards' tables, and `laws`
 //! that both are one. A [`Decoder`] takes a payload's bytes in any pieces and holds of them the
 //! bytes of the unfinished unit alone; which bytes it has read and what it shows is in
-//! `specs/Standing`.
+//! `specs/DecoderState`.
 #![tactic(auto)]
 
 mod decoder;

@@ -11,7 +11,7 @@ use std::str;
 /// What stands at the front of some bytes.
 #[derive(Clone, Copy, Debug)]
 pub(crate) enum StringRead<'a> {
-    /// A string has begun, which wants so many bytes in all at least.
+    /// A string has begun, which needs at least so many bytes in all.
     More { wants: usize },
     /// A string of so many bytes.
     Done { text: &'a str, used: usize },
@@ -49,7 +49,7 @@ fn head_at(bytes: &[u8], left: usize, room: usize) -> Result<Option<Head>, UnitF
 }
 
 /// The string at the front of the bytes, of a table of which so many bytes are left, where the
-/// dictionary quota has so much room.
+/// dictionary quota admits so much more.
 pub(crate) fn string_at(bytes: &[u8], left: usize, room: usize) -> Result<StringRead<'_>, UnitFault>
     requires { 0 < left }
     ensures { StringStands room left bytes.now result }

@@ -28,7 +28,7 @@ use unit_streams::Memory;
 /// What was read at the front of some bytes.
 #[derive(Clone, Copy, Debug, PartialEq, Eq)]
 pub(crate) enum UnitRead {
-    /// A unit has begun, which wants so many bytes in all at least.
+    /// A unit has begun, which needs at least so many bytes in all.
     More { wants: usize },
     /// A unit of so many bytes, after which the reader is now.
     Done { used: usize },
@@ -52,7 +52,7 @@ pub(crate) struct UnitReader<'s> {
 impl<'s> UnitReader<'s> {
     ghost use Rattle.nbfx_records.specs.declared.nodes.Node.{Node as Made};
     ghost use Rattle.nbfx_decoder.specs.Payload.{Settings, Situation, beginning};
-    ghost use Rattle.nbfx_decoder.specs.Units.{IsAt, Keeps, KeepsSettings, Counts, counted, place_in, IsAdded, IsSingle, HasShape, MayFollow, Reads, StandsAt, Stays, UnitAnswers, names_in};
+    ghost use Rattle.nbfx_decoder.specs.Units.{IsAt, KeepsTable, KeepsSettings, Counts, used_by, place_in, IsAdded, IsSingle, HasShape, MayFollow, Reads, StandsAt, Stays, UnitAnswers, names_in};
 
     /// Before a payload's first byte, with no strings.
     pub(crate) fn new(alloc: Global, statics: &'s StaticTable, quotas: Quotas, kind: Kind) -> Self
@@ -78,7 +78,7 @@ impl<'s> UnitReader<'s> {
         ensures answers { (x : Settings) (z : Situation) (from : ℕ) → IsAt self.old x z from
             → UnitAnswers x z from bytes.now self.new result }
         ensures counts { IfOk result (Counts (length bytes.now)) }
-        ensures from { IfOk result (λ read. self.new.from ≡ self.old.from + counted read) }
+        ensures from { IfOk result (λ read. self.new.from ≡ self.old.from + used_by read) }
         ensures kept { KeepsSettings self.old self.new }
     {
         match self.section {
@@ -95,7 +95,7 @@ impl<'s> UnitReader<'s> {
         ensures answers { (x : Settings) (z : Situation) (from : ℕ) → IsAt self.old x z from
             → UnitAnswers x z from begun.old self.new result }
         ensures counts { IfOk result (Counts (length begun.old)) }
-        ensures from { IfOk result (λ read. self.new.from ≡ self.old.from + counted read) }
+        ensures from { IfOk result (λ read. self.new.from ≡ self.old.from + used_by read) }
         ensures kept { KeepsSettings self.old self.new }
         ensures unchanged { begun.new ≡ begun.old }
     {
@@ -114,7 +114,7 @@ impl<'s> UnitReader<'s> {
         ensures from { self.new.from ≡ self.old.from + used }
         ensures section { self.new.section ≡ self.old.section }
         ensures items { self.new.document ≡ self.old.document }
-        ensures kept { Keeps self.old self.new }
+        ensures kept { KeepsTable self.old self.new }
     {
         self.from += used as u32;
         UnitRead::Done { used }
@@ -127,7 +127,7 @@ impl<'s> UnitReader<'s> {
         ensures answers { (x : Settings) (z : Situation) (from : ℕ) → IsAt self.old x z from
             → UnitAnswers x z from bytes.now self.new result }
         ensures counts { IfOk result (Counts (length bytes.now)) }
-        ensures from { IfOk result (λ read. self.new.from ≡ self.old.from + counted read) }
+        ensures from { IfOk result (λ read. self.new.from ≡ self.old.from + used_by read) }
         ensures kept { KeepsSettings self.old self.new }
     {
         match read_int(bytes) {
@@ -149,7 +149,7 @@ impl<'s> UnitReader<'s> {
         ensures answers { (x : Settings) (z : Situation) (from : ℕ) → IsAt self.old x z from
             → UnitAnswers x z from bytes.now self.new result }
         ensures counts { IfOk result (Counts (length bytes.now)) }
-        ensures from { IfOk result (λ read. self.new.from ≡ self.old.from + counted read) }
+        ensures from { IfOk result (λ read. self.new.from ≡ self.old.from + used_by read) }
         ensures kept { KeepsSettings self.old self.new }
     {
         let room = self.quotas.dictionary.saturating_sub(self.table.used());
@@ -191,7 +191,7 @@ impl<'s> UnitReader<'s> {
             → IsAt self.old x z from → IsAdded x z from node self.new }
         ensures section { self.new.section ≡ self.old.section }
         ensures from { self.new.from ≡ self.old.from }
-        ensures kept { Keeps self.old self.new }
+        ensures kept { KeepsTable self.old self.new }
         ensures stays { result ≡ false → Stays self.old self.new }
     {
         match self.names().meant(node) {
@@ -281,7 +281,7 @@ impl<'s> UnitReader<'s> {
             → OnOk result (IsAdded x z from n self.new) }
         ensures section { self.new.section ≡ self.old.section }
         ensures from { self.new.from ≡ self.old.from }
-        ensures kept { Keeps self.old self.new }
+        ensures kept { KeepsTable self.old self.new }
         ensures stays { OnErr result (Stays self.old self.new) }
     {
         match push(&mut self.document, self.quotas.content as u64, meant) {
@@ -300,7 +300,7 @@ impl<'s> UnitReader<'s> {
             × (self.new.section ≡ first_section self.old.kind) × (self.new.from ≡ 0)) }
         ensures unchanged { IfNone result ((self.new.from ≡ self.old.from)
             × (self.new.document ≡ self.old.document)) }
-        ensures kept { Keeps self.old self.new }
+        ensures kept { KeepsTable self.old self.new }
     {
         let doc = self.document.finish()?;
         self.section = Section::first(self.kind);
@@ -312,7 +312,7 @@ impl<'s> UnitReader<'s> {
     pub(crate) fn give_up(&mut self)
         ensures items { self.new.document ≡ [] }
         ensures from { self.new.from ≡ self.old.from }
-        ensures kept { Keeps self.old self.new }
+        ensures kept { KeepsTable self.old self.new }
     {
         self.document = DocBuilder::new(self.alloc);
     }
@@ -345,12 +345,12 @@ impl<'s> UnitReader<'s> {
         &self.table
     }
 
-    /// Where no item has come, the items of the next payload come in the room of this document.
+    /// If no item has come yet, the next payload's items reuse this document's memory.
     pub(crate) fn reuse(&mut self, doc: Doc)
         ensures items { self.new.document ≡ self.old.document }
         ensures section { self.new.section ≡ self.old.section }
         ensures from { self.new.from ≡ self.old.from }
-        ensures kept { Keeps self.old self.new }
+        ensures kept { KeepsTable self.old self.new }
     {
         if self.document.items().len() == 0 {
             self.document.begin_in(doc);

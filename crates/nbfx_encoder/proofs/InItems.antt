@@ -16,7 +16,8 @@ use Rattle.string_tables.specs.StringTable.{StringTable}
 use Rattle.nbfx_records.specs.declared.nodes.Node.{Node}
 use Rattle.nbfx_records.specs.Chosen.{chosen_bytes}
 use Rattle.nbfx_encoder.specs.declared.speller.Speller.{Speller}
-use Rattle.nbfx_encoder.specs.Inside.{CantFirst, HasWritten, Keeps, PutFirst, names_of, writing_of}
+use Rattle.nbfx_encoder.specs.Inside.{AddsStrings, CantFirst, HasWritten, PutFirst, names_of}
+use Rattle.nbfx_encoder.specs.Inside.{writing_of}
 use Rattle.nbfx_encoder.specs.Placing.{Placed, Writing}
 use Rattle.nbfx_encoder.specs.Sound.{IsSound}
 use Rattle.nbfx_encoder.specs.Spelling.{Said, in_records, items_said, spell, spell_from, spell_said}
@@ -56,7 +57,7 @@ pub record AlongItems (start now : Speller) (items : List Item) (at : ℕ) : Typ
   pub spelled : spell (writing_of start) (names_of start) items
       ≡ before done (spell_from (writing_of start) (names_of now) at (in_records (drop at items)))
   pub nodes : now.nodes.items ≡ start.nodes.items ++ flat_map chosen_bytes done
-  pub keeps : Keeps start now
+  pub keeps : AddsStrings start now
   pub sound : IsSound (writing_of now) (names_of now)
   pub within : at ≤ length items
 
@@ -82,7 +83,7 @@ items_first start items sound = record {
 
 -- behind one more record
 pub items_more : (start now next : Speller) (items : List Item) (at count : ℕ)
-    → AlongItems start now items at → PutFirst (drop at items) count now next → Keeps now next
+    → AlongItems start now items at → PutFirst (drop at items) count now next → AddsStrings now next
     → AlongItems start next items (at + count)
 items_more start now next items at count along put keeps =
     let w = keeps_writing start now along.keeps in

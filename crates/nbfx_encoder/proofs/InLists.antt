@@ -7,7 +7,7 @@ use Rattle.std.proofs.lemmas.List.{drop_all, drop_more}
 use Rattle.std.proofs.lemmas.List.Concat.{flat_map-append}
 use Rattle.string_tables.specs.StringTable.{StringTable}
 use Rattle.nbfx_encoder.specs.declared.speller.Speller.{Speller}
-use Rattle.nbfx_encoder.specs.Inside.{Keeps, Wrote, names_of, writing_of}
+use Rattle.nbfx_encoder.specs.Inside.{AddsStrings, Wrote, names_of, writing_of}
 use Rattle.nbfx_encoder.specs.Placing.{Placed, Writing, spell_each}
 use Rattle.nbfx_encoder.specs.Sound.{IsSound}
 
@@ -37,7 +37,7 @@ pub one_not : {A B : Type 0} (spell : StringTable → A → Option (Placed B)) (
 one_not spell table x xs done is = rw is refl
 
 -- what calls leave as it is they leave one behind the other
-pub keeps_on : (a b c : Speller) → Keeps a b → Keeps b c → Keeps a c
+pub keeps_on : (a b c : Speller) → AddsStrings a b → AddsStrings b c → AddsStrings a c
 keeps_on a b c first second = record {
   statics = second.statics ∙ first.statics;
   kind = second.kind ∙ first.kind;
@@ -48,10 +48,11 @@ keeps_on a b c first second = record {
   cost = λ within. second.cost (first.cost within);
 }
 
-pub keeps_writing : (old new : Speller) → Keeps old new → writing_of new ≡ writing_of old
+pub keeps_writing : (old new : Speller) → AddsStrings old new → writing_of new ≡ writing_of old
 keeps_writing old new keeps = rw (keeps.kind, keeps.limit) refl
 
-pub keeps_sound : (old new : Speller) → Keeps old new → IsSound (writing_of old) (names_of old)
+pub keeps_sound : (old new : Speller) → AddsStrings old new
+    → IsSound (writing_of old) (names_of old)
     → IsSound (writing_of new) (names_of new)
 keeps_sound old new keeps sound = record {
   statics = rw keeps.statics sound.statics;
@@ -66,7 +67,7 @@ pub record Along {A B : Type 0} (spell : Writing → StringTable → A → Optio
   pub spelled : spell_each (spell (writing_of start)) (names_of start) xs
       ≡ behind done (spell_each (spell (writing_of start)) (names_of now) left)
   pub nodes : now.nodes.items ≡ start.nodes.items ++ flat_map bytes done
-  pub keeps : Keeps start now
+  pub keeps : AddsStrings start now
   pub sound : IsSound (writing_of now) (names_of now)
 
 -- before the first
@@ -97,7 +98,7 @@ along_first spell bytes start xs sound = record {
 pub along_more : {A B : Type 0} (spell : Writing → StringTable → A → Option (Placed B))
     (bytes : B → List ℕ) (start now next : Speller) (xs : List A) (i : ℕ) (x : A)
     → Along spell bytes start now xs (drop i xs) → i < length xs → x ≡ get_or xs i x
-    → Wrote (spell (writing_of now) (names_of now) x) bytes now next → Keeps now next
+    → Wrote (spell (writing_of now) (names_of now) x) bytes now next → AddsStrings now next
     → Along spell bytes start next xs (drop (i + 1) xs)
 along_more spell bytes start now next xs i x along lt is wrote keeps =
     let w = keeps_writing start now along.keeps in

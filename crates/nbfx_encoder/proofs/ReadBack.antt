@@ -8,7 +8,7 @@ use Rattle.string_tables.specs.SessionStrings.{used_cost}
 use Rattle.string_tables.specs.StaticStrings.{IsStaticMap}
 use Rattle.string_tables.specs.StringTable.{StringTable}
 use Rattle.nbfx_encoder.specs.declared.encoder.Encoder.{Encoder}
-use Rattle.nbfx_encoder.specs.Reading.{AdmitsAsMuch, IsRead}
+use Rattle.nbfx_encoder.specs.ReadBack.{AdmitsAsMuch, IsRead}
 use Rattle.nbfx_encoder.specs.Inside.{SpelledPayload, names_of, writing_of}
 use Rattle.nbfx_encoder.specs.Spelling.{Fits, chosen, within_payload, writing}
 use Rattle.nbfx_encoder.specs.EncoderState.{kind_in, limits_in, names_in}

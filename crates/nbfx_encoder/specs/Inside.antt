@@ -27,7 +27,7 @@ abbrev pub names_of : Speller → StringTable
 names_of s = record { statics = s.statics.now; strings = s.table.strings }
 
 -- what a call leaves as it is; strings may come behind those before
-pub record Keeps (old new : Speller) : Type 0 where
+pub record AddsStrings (old new : Speller) : Type 0 where
   pub statics : new.statics ≡ old.statics
   pub kind : new.kind ≡ old.kind
   pub limit : new.table.limit ≡ old.table.limit

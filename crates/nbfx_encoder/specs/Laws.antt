@@ -10,7 +10,7 @@ use Rattle.string_tables.specs.StringTable.{StringTable}
 use Rattle.nbfx_values.specs.declared.session.Mode.{Mode}
 use Rattle.nbfx_encoder.specs.Envelopes.{behind_bytes, envelope_then, envelopes_from}
 use Rattle.nbfx_encoder.specs.Placing.{Placed}
-use Rattle.nbfx_encoder.specs.Reading.{AdmitsAsMuch, IsRead}
+use Rattle.nbfx_encoder.specs.ReadBack.{AdmitsAsMuch, IsRead}
 use Rattle.nbfx_encoder.specs.Spelling.{Fits, encoded}
 
 -- What is written of a document that fits is a payload of it, within the limits of any reader that

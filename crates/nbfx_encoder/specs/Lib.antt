@@ -4,7 +4,7 @@ pub mod Spelling
 pub mod Refusals
 pub mod EncoderState
 pub mod Envelopes
-pub mod Reading
+pub mod ReadBack
 pub mod Laws
 pub mod Sending
 -- for the proof: the parts of a writer

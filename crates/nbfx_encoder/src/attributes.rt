@@ -16,7 +16,7 @@ use nbfx_records::{
 use nbfx_values::{ArrayItem, AttrItem, Value};
 
 impl<'s> Speller<'s> {
-    ghost use Rattle.nbfx_encoder.specs.Inside.{Answers, Keeps, names_of, writing_of};
+    ghost use Rattle.nbfx_encoder.specs.Inside.{Answers, AddsStrings, names_of, writing_of};
     ghost use Rattle.nbfx_encoder.specs.Sound.{IsSound};
 
     // Appends an attribute, whose name is placed before its value.
@@ -31,7 +31,7 @@ impl<'s> Speller<'s> {
         requires few { attribute_content (AttrItem.Attr prefix.now local.now value.now) < 2 ^ 31 }
         ensures spelled { Answers (spec.spell_part (writing_of self.old) (names_of self.old)
             (AttrItem.Attr prefix.now local.now value.now)) part_bytes result self.old self.new }
-        ensures kept { Keeps self.old self.new }
+        ensures kept { AddsStrings self.old self.new }
     {
         let name = self.place(local)?;
         put_attribute_start(prefix, name, &mut self.nodes)?;
@@ -45,7 +45,7 @@ impl<'s> Speller<'s> {
         requires few { attribute_content (AttrItem.Xmlns prefix.now uri.now) < 2 ^ 31 }
         ensures spelled { Answers (spec.spell_part (writing_of self.old) (names_of self.old)
             (AttrItem.Xmlns prefix.now uri.now)) part_bytes result self.old self.new }
-        ensures kept { Keeps self.old self.new }
+        ensures kept { AddsStrings self.old self.new }
     {
         let name = self.place(uri)?;
         put_declaration(prefix, name, &mut self.nodes)?;
@@ -58,7 +58,7 @@ impl<'s> Speller<'s> {
         requires few { attribute_content part.now < 2 ^ 31 }
         ensures spelled { Answers (spec.spell_part (writing_of self.old) (names_of self.old) part.now)
             part_bytes result self.old self.new }
-        ensures kept { Keeps self.old self.new }
+        ensures kept { AddsStrings self.old self.new }
     {
         match part {
             AttrItem::Xmlns { prefix, uri } => self.put_xmlns(prefix.as_str(), uri.as_str()),
@@ -78,7 +78,7 @@ impl<'s> Speller<'s> {
         ensures spelled { Answers
             (spec.spell_each (spec.spell_part (writing_of self.old)) (names_of self.old) parts.now)
             (flat_map part_bytes) result self.old self.new }
-        ensures kept { Keeps self.old self.new }
+        ensures kept { AddsStrings self.old self.new }
     {
         for part in parts {
             self.put_part(part)?;
@@ -94,7 +94,7 @@ impl<'s> Speller<'s> {
         ensures spelled { Answers
             (spec.spell_array (writing_of self.old) (names_of self.old) array.now)
             array_bytes result self.old self.new }
-        ensures kept { Keeps self.old self.new }
+        ensures kept { AddsStrings self.old self.new }
     {
         put_array_start(&mut self.nodes)?;
         let name = self.place(array.local.as_str())?;

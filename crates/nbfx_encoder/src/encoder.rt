@@ -11,8 +11,8 @@ ghost use Rattle.session_dictionary.specs.Marks.{IsMarkOf};
 ghost use Rattle.string_tables.specs.SessionStrings.{used_cost};
 ghost use Rattle.string_tables.specs.StringTable.{StringTable};
 ghost use Rattle.nbfx_values.specs.QuotasOf.{limits_of};
-ghost use Rattle.nbfx_encoder.specs.Inside.{Keeps, SpellsPayload, SpellsWithin, names_of, writing_of};
-ghost use Rattle.nbfx_encoder.specs.Reading.{AdmitsAsMuch, AppendsPayload, IsRead};
+ghost use Rattle.nbfx_encoder.specs.Inside.{AddsStrings, SpellsPayload, SpellsWithin, names_of, writing_of};
+ghost use Rattle.nbfx_encoder.specs.ReadBack.{AdmitsAsMuch, AppendsPayload, IsRead};
 ghost use Rattle.nbfx_encoder.specs.Sound.{IsSound};
 ghost use Rattle.nbfx_encoder.specs.Spelling.{chosen, encoded, opening_bytes, within_payload};
 
@@ -38,7 +38,7 @@ pub struct Encoder<'s> {
     ghost cost: { used_cost speller.table.strings ≤ quotas.dictionary },
 }
 
-/// What stands in an encoder's rooms to be written: the place before the strings that it brings,
+/// What stands in an encoder's buffers to be written: the place before the strings that it brings,
 /// and how many bytes it has.
 #[derive(Clone, Copy, Debug, PartialEq, Eq)]
 pub(crate) struct Prepared {
@@ -132,7 +132,7 @@ impl<'s> Encoder<'s> {
         ensures spelled { SpellsPayload
             (chosen (writing_of self.old.speller) (names_of self.old.speller) items.now)
             result (payload_in self.new) (names_of self.new.speller) }
-        ensures kept { Keeps self.old.speller self.new.speller }
+        ensures kept { AddsStrings self.old.speller self.new.speller }
         ensures quotas { self.new.quotas ≡ self.old.quotas }
     {
         self.speller.nodes.clear();
@@ -155,7 +155,7 @@ impl<'s> Encoder<'s> {
             (chosen (writing_of self.old.speller) (names_of self.old.speller) items.now))
             result (payload_in self.new) (names_of self.new.speller) }
         ensures small { IfOk result (λ size. size ≤ self.old.quotas.payload) }
-        ensures kept { Keeps self.old.speller self.new.speller }
+        ensures kept { AddsStrings self.old.speller self.new.speller }
         ensures quotas { self.new.quotas ≡ self.old.quotas }
     {
         let size = self.spell(items, mark)?;
@@ -176,7 +176,7 @@ impl<'s> Encoder<'s> {
         self.speller.table.back_to(mark);
     }
 
-    /// Judges a document, and puts its payload into the rooms. Where it is refused the strings are
+    /// Judges a document, and puts its payload into the buffers. Where it is refused the strings are
     /// as before.
     pub(crate) fn prepare(&mut self, doc: &Doc) -> Result<Prepared, EncodeFault>
         ensures prepared { IfOk result (λ prepared. HasPrepared
@@ -236,7 +236,7 @@ impl<'s> Encoder<'s> {
         }
     }
 
-    /// Appends the payload that the rooms hold.
+    /// Appends the payload that the buffers hold.
     pub(crate) fn put_payload(&self, out: &mut Vec<u8>) -> Result<(), Memory>
         ensures { Puts result out.old.items out.new.items (payload_in self.now) }
     {

@@ -44,7 +44,7 @@ fn said(put: Result<(), SpellFault>, count: usize, at: usize) -> Result<usize, E
 }
 
 impl<'s> Speller<'s> {
-    ghost use Rattle.nbfx_encoder.specs.Inside.{Answers, HasSpelled, Keeps, PutsRecord, names_of, writing_of};
+    ghost use Rattle.nbfx_encoder.specs.Inside.{Answers, HasSpelled, AddsStrings, PutsRecord, names_of, writing_of};
     ghost use Rattle.nbfx_encoder.specs.Sound.{IsSound};
 
     // Appends the beginning of an element.
@@ -54,7 +54,7 @@ impl<'s> Speller<'s> {
         requires few { item_content (Item.Start prefix.now local.now) < 2 ^ 31 }
         ensures spelled { Answers (spell_item (writing_of self.old) (names_of self.old)
             (Item.Start prefix.now local.now)) chosen_bytes result self.old self.new }
-        ensures kept { Keeps self.old self.new }
+        ensures kept { AddsStrings self.old self.new }
     {
         let name = self.place(local)?;
         put_element(prefix, name, &mut self.nodes)?;
@@ -68,7 +68,7 @@ impl<'s> Speller<'s> {
         requires few { item_content item.now < 2 ^ 31 }
         ensures spelled { Answers (spell_item (writing_of self.old) (names_of self.old) item.now)
             chosen_bytes result self.old self.new }
-        ensures kept { Keeps self.old self.new }
+        ensures kept { AddsStrings self.old self.new }
     {
         match item {
             Item::Start { prefix, local } => self.put_start(prefix.as_str(), local.as_str()),
@@ -99,7 +99,7 @@ impl<'s> Speller<'s> {
         requires valid { IsTrue (list_all is_valid_item items.now) }
         requires few { content_of items.now < 2 ^ 31 }
         ensures put { PutsRecord items.now at result self.old self.new }
-        ensures kept { Keeps self.old self.new }
+        ensures kept { AddsStrings self.old self.new }
     {
         match last_text(items) {
             Some(value) => said(self.put_value(value, true), 2, at),
@@ -114,7 +114,7 @@ impl<'s> Speller<'s> {
         requires few { content_of items.now < 2 ^ 31 }
         ensures spelled { HasSpelled (spell (writing_of self.old) (names_of self.old) items.now)
             result self.old self.new }
-        ensures kept { Keeps self.old self.new }
+        ensures kept { AddsStrings self.old self.new }
     {
         let mut at = 0;
         while at < items.len() {

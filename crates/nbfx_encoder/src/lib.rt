@@ -12,6 +12,3 @@ mod speller;
 pub use encoder::Encoder;
 pub use faults::EncodeFault;
 pub use sender::{SendFault, SendState, Sender, Side};
-
-#[cfg(test)]
-mod tests;

@@ -8,7 +8,7 @@ ghost use Rattle.nbfx_records.specs.Putting.{Puts};
 ghost use Rattle.string_tables.specs.SessionStrings.{used_cost};
 ghost use Rattle.nmf_records.specs.Writing.{frame_bytes_of, has_text, size_told};
 ghost use Rattle.nbfx_encoder.specs.Envelopes.{envelope_end, envelope_head};
-ghost use Rattle.nbfx_encoder.specs.Reading.{AdmitsAsMuch, AppendsEnvelope};
+ghost use Rattle.nbfx_encoder.specs.ReadBack.{AdmitsAsMuch, AppendsEnvelope};
 ghost use Rattle.nbfx_encoder.specs.EncoderState.{payload_in};
 ghost use Rattle.nbfx_encoder.specs.Spelling.{encoded};
 

@@ -45,7 +45,7 @@ pub(crate) struct Speller<'s> {
 }
 
 impl<'s> Speller<'s> {
-    ghost use Rattle.nbfx_encoder.specs.Inside.{Answers, Chooses, Keeps, names_of, writing_of};
+    ghost use Rattle.nbfx_encoder.specs.Inside.{Answers, Chooses, AddsStrings, names_of, writing_of};
     ghost use Rattle.nbfx_encoder.specs.Sound.{IsSound};
 
     // The identifier of a text.
@@ -62,7 +62,7 @@ impl<'s> Speller<'s> {
     pub(crate) fn place<'t>(&mut self, text: &'t str) -> Result<NamePart<'t>, Memory>
         ensures placed { IfOk result (λ name. spec.place (writing_of self.old) (names_of self.old) text.now
             ≡ (name_seen name, names_of self.new)) }
-        ensures kept { Keeps self.old self.new }
+        ensures kept { AddsStrings self.old self.new }
         ensures nodes { self.new.nodes ≡ self.old.nodes }
     {
         if let Some(id) = self.id(text) {
@@ -96,7 +96,7 @@ impl<'s> Speller<'s> {
     fn choice<'v>(&mut self, value: &'v Scalar) -> Result<ScalarChoice<'v>, SpellFault>
         ensures spelled { Chooses (spec.spell_scalar (writing_of self.old) (names_of self.old) value.now)
             result (names_of self.new) }
-        ensures kept { Keeps self.old self.new }
+        ensures kept { AddsStrings self.old self.new }
         ensures nodes { self.new.nodes ≡ self.old.nodes }
     {
         match value {
@@ -117,7 +117,7 @@ impl<'s> Speller<'s> {
         ensures spelled { Answers
             (spec.spell_scalar (writing_of self.old) (names_of self.old) value.now)
             (chosen.scalar_bytes ends) result self.old self.new }
-        ensures kept { Keeps self.old self.new }
+        ensures kept { AddsStrings self.old self.new }
     {
         let choice = self.choice(value)?;
         put_scalar(choice, ends, &mut self.nodes)?;
@@ -132,7 +132,7 @@ impl<'s> Speller<'s> {
         ensures spelled { Answers
             (spec.spell_each (spec.spell_scalar (writing_of self.old)) (names_of self.old) values.now)
             (flat_map (chosen.scalar_bytes false)) result self.old self.new }
-        ensures kept { Keeps self.old self.new }
+        ensures kept { AddsStrings self.old self.new }
     {
         for value in values {
             self.put_scalar(value, false)?;
@@ -148,7 +148,7 @@ impl<'s> Speller<'s> {
         ensures spelled { Answers
             (spec.spell_value (writing_of self.old) (names_of self.old) value.now)
             (chosen.value_bytes ends) result self.old self.new }
-        ensures kept { Keeps self.old self.new }
+        ensures kept { AddsStrings self.old self.new }
     {
         match value {
             Value::One(value) => self.put_scalar(value, ends),

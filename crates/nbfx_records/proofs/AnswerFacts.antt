@@ -13,7 +13,7 @@ use Rattle.nbfx_records.specs.Answers.{StopsBy, WaitsFor}
 use Rattle.nbfx_records.specs.Contents.{contents}
 use Rattle.nbfx_records.specs.Asked as asked
 use Rattle.nbfx_records.specs.Cursor.{IsWhole, Stops}
-use Rattle.nbfx_records.specs.Reading.{node_at}
+use Rattle.nbfx_records.specs.RecordAtFront.{node_at}
 use Rattle.nbfx_records.specs.Shapes.{Shape, shape_at}
 use Rattle.nbfx_records.proofs.CursorFacts.{further_whole, further_begun, further_wrong}
 

@@ -18,7 +18,7 @@ use Rattle.nbfx_records.specs.declared.kinds.NameForm.TheVariants.{Inlined, Iden
 use Rattle.nbfx_records.specs.declared.kinds.RecordKind.TheVariants as records
 use Rattle.nbfx_records.specs.Kinds.{record_kind}
 use Rattle.nbfx_records.specs.Shapes.{AttributeShape, attributes, declares, NamedShape, named_shape}
-use Rattle.nbfx_records.specs.Contents.{name_is_text, value_is_text, attribute_is_text, value_of}
+use Rattle.nbfx_records.specs.Contents.{name_is_text, value_is_text, attribute_is_text, shape_value}
 use Rattle.nbfx_records.specs.Contents.{attribute_value}
 use Rattle.nbfx_records.specs.Records.{IsAttributeHead, IsDeclarationHead, IsElementHead, IsElement}
 use Rattle.nbfx_records.specs.Records.{IsAttrNode}
@@ -188,7 +188,7 @@ attribute_there : (form : PrefixForm) (name_form : NameForm) (shape : AttributeS
     → AttributeIs form name_form shape rest → attribute_is_text shape ≡ true → attribute_value shape
     ≡ Some node → IsAttrNode node bytes
 attribute_there form name_form shape node byte rest bytes begins joined a t v =
-    let found = mapped_some (attribute_nodes.Attribute a.prefix a.name) (value_of a.value) node
+    let found = mapped_some (attribute_nodes.Attribute a.prefix a.name) (shape_value a.value) node
     (ap attribute_value a.shape_is ∙ v) in
     let texts = and_parts (is_utf8 a.prefix) (name_is_text a.name && value_is_text a.value)
     (ap attribute_is_text a.shape_is ∙ t) in

@@ -45,7 +45,7 @@ use Rattle.nbfx_records.specs.Chosen.{part_bytes, prefix_bytes, prefix_form}
 use Rattle.nbfx_records.specs.Chosen.{value_bytes}
 use Rattle.nbfx_records.specs.Contents.{array_of, attribute_is_text, attribute_node}
 use Rattle.nbfx_records.specs.Contents.{attribute_value, each, is_text, name_is_text, node_of}
-use Rattle.nbfx_records.specs.Contents.{scalar_value, value_is_text, value_of}
+use Rattle.nbfx_records.specs.Contents.{scalar_value, value_is_text, shape_value}
 use Rattle.nbfx_records.specs.Kinds.{record_kind, text_kind_in}
 use Rattle.nbfx_records.specs.Laws.{ChosenIsShortest}
 use Rattle.nbfx_records.specs.Records.{AreCells, SpellsAs}
@@ -141,7 +141,7 @@ part_long : (kind : RecordKind) (shape : AttributeShape) (node : AttrNode) (rest
     → attribute_value shape ≡ Some node → Plain (scalars_of_attribute shape)
     → length (part_bytes node) ≤ suc (length rest)
 part_long (records.Attribute form name_form) shape node rest are real a t v plain =
-    let found = mapped_some (attribute_nodes.Attribute a.prefix a.name) (value_of a.value) node
+    let found = mapped_some (attribute_nodes.Attribute a.prefix a.name) (shape_value a.value) node
     (ap attribute_value a.shape_is ∙ v) in
     let texts = and_parts (is_utf8 a.prefix) (name_is_text a.name && value_is_text a.value)
     (ap attribute_is_text a.shape_is ∙ t) in
@@ -344,7 +344,7 @@ text_long : (kind : TextKind) (ends : Bool) (shape : Shape) (node : Node) (rest 
     → IsBytes rest → TextIs kind ends shape rest → is_text shape ≡ true → node_of shape ≡ Some node
     → Plain (scalars_in shape) → LongAs node (suc (length rest))
 text_long texts.StartList ends shape node rest are (list, many, same) t n plain =
-    let found = mapped_some (λ v. Text v list.last) (value_of (several list.items)) node
+    let found = mapped_some (λ v. Text v list.last) (shape_value (several list.items)) node
     (ap node_of same ∙ n) in
     let values = mapped_some ListOf (each scalar_value list.items) found.0 found.1 in
     let long = list_long list.last values.0 rest (items_long true list.last list.items values.0 rest
@@ -353,7 +353,8 @@ text_long texts.StartList ends shape node rest are (list, many, same) t n plain 
     node_as node (Text (ListOf values.0) list.last) (suc (length rest))
     (ap (λ v. Text v list.last) values.2 ∙ found.2) long
 text_long kind ends shape node rest are (scalar, is, same) t n plain =
-    let found = mapped_some (λ v. Text v ends) (value_of (one scalar)) node (ap node_of same ∙ n) in
+    let found = mapped_some (λ v. Text v ends) (shape_value (one scalar)) node
+    (ap node_of same ∙ n) in
     let value = mapped_some One (scalar_value scalar) found.0 found.1 in
     let plains = and_parts (not (is_utf16 scalar)) true
     (ap (λ s. list_all (λ x. not (is_utf16 x)) (scalars_in s)) same ∙ plain) in

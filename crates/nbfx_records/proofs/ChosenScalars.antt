@@ -29,7 +29,7 @@ use Rattle.nbfx_records.specs.declared.kinds.TextKind.TheVariants as texts
 use Rattle.nbfx_records.specs.declared.nodes.RawScalar.{RawScalar}
 use Rattle.nbfx_records.specs.declared.nodes.RawScalar.TheVariants.{Known, Dictionary, QName}
 use Rattle.nbfx_records.specs.Chosen.{TextRecord, binary, characters, chosen_known, chosen_number}
-use Rattle.nbfx_records.specs.Chosen.{chosen_scalar, chosen_text, counted, counted_body}
+use Rattle.nbfx_records.specs.Chosen.{chosen_scalar, chosen_text, with_length, counted_body}
 use Rattle.nbfx_records.specs.Chosen.{decimal_body, least_form, signed, sized}
 use Rattle.nbfx_records.specs.Records.{IsCounted, IsDecimal, IsFixed, IsNumberOf, SpellsAs}
 use Rattle.nbfx_records.specs.TypeBytes.{text_byte}
@@ -196,7 +196,7 @@ by_form P n one two four =
     cond_both (nat_lt n (2 ^ 16)) _ _ P (λ e. two (ltb-true n (2 ^ 16) e)) (λ wider. four))
 
 pub characters_text : (s : List ℕ) → is_utf8 s ≡ true → length s < 2 ^ 31
-    → IsTextOf (Known (TextOf s)) (counted characters s)
+    → IsTextOf (Known (TextOf s)) (with_length characters s)
 characters_text s valid lt =
     let utf8 = IsUtf8-from_is_utf8 s valid in
     by_form (λ form. IsTextOf (Known (TextOf s))
@@ -206,7 +206,7 @@ characters_text s valid lt =
     ((s, utf8, refl, counted_32 0x9c s lt), short_body 0x9c s lt)
 
 pub binary_text : (content : List ℕ) → length content < 2 ^ 31 → IsTextOf (Known (Bytes content))
-    (counted binary content)
+    (with_length binary content)
 binary_text content lt =
     by_form (λ form. IsTextOf (Known (Bytes content))
     (record { kind = binary form; body = counted_body form content })) (length content)

@@ -32,7 +32,7 @@ use Rattle.nbfx_records.specs.Contents.{attribute_is_text, attribute_node, array
 use Rattle.nbfx_records.specs.Contents.{attribute_value, cell_values, cells, decimal_of, each}
 use Rattle.nbfx_records.specs.Contents.{is_chars, identifier_of, is_text, name_is_text, node_of}
 use Rattle.nbfx_records.specs.Contents.{scalar_is_text, scalar_of, scalar_value, truth_of, units_of}
-use Rattle.nbfx_records.specs.Contents.{utf16_text, value_is_text, value_of}
+use Rattle.nbfx_records.specs.Contents.{utf16_text, value_is_text, shape_value}
 use Rattle.nbfx_records.specs.Kinds.{text_kind_in, width_of}
 use Rattle.nbfx_records.specs.Shapes.{ArrayShape, AttributeShape, ScalarShape, Shape, ValueShape}
 use Rattle.nbfx_records.specs.Shapes.{adds, attributes, begins_element, bytes_of, comments}
@@ -283,7 +283,8 @@ singles [] = refl
 singles (s ∷ scalars) = flat_map-cons (λ x. x ∷ []) s scalars ∙ ap (λ rest. s ∷ rest)
     (singles scalars)
 
-value_none : (value : ValueShape) → NoneFor scalar_value (value_of value) (scalars_of_value value)
+value_none : (value : ValueShape)
+    → NoneFor scalar_value (shape_value value) (scalars_of_value value)
 value_none (one scalar) = mapped_none scalar_value One (scalar_value scalar) (scalar ∷ [])
     (looked_up scalar_value scalar)
 value_none (several scalars) =
@@ -294,7 +295,7 @@ value_none (several scalars) =
 attribute_none : (attribute : AttributeShape) → NoneFor scalar_value (attribute_value attribute)
     (scalars_of_attribute attribute)
 attribute_none (attributes prefix name value) = mapped_none scalar_value
-    (attribute_nodes.Attribute prefix name) (value_of value) (scalars_of_value value)
+    (attribute_nodes.Attribute prefix name) (shape_value value) (scalars_of_value value)
     (value_none value)
 attribute_none (declares prefix uri) = there scalar_value (attribute_nodes.Xmlns prefix uri)
 
@@ -338,7 +339,7 @@ shape_none (begins_element prefix name) = there scalar_value (nodes.Element pref
 shape_none (adds attribute) = mapped_none scalar_value attribute_node (attribute_value attribute)
     (scalars_of_attribute attribute) (attribute_none attribute)
 shape_none (has_text value ends) = mapped_none scalar_value (λ v. nodes.Text v ends)
-    (value_of value) (scalars_of_value value) (value_none value)
+    (shape_value value) (scalars_of_value value) (value_none value)
 shape_none (repeats array) = mapped_none scalar_value nodes.Array (array_of array)
     (flat_map scalars_of_attribute array.attributes ++ scalars_of_cells array) (array_none array)
 

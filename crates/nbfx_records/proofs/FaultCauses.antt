@@ -22,7 +22,7 @@ use Rattle.nbfx_records.specs.Causes.{value_type}
 use Rattle.nbfx_records.specs.Contents.{contents, is_text, node_of}
 use Rattle.nbfx_records.specs.Kinds.{array_kind, record_kind}
 use Rattle.nbfx_records.specs.Laws.{WrongByPart, WrongByText, WrongByValue}
-use Rattle.nbfx_records.specs.Reading.{node_at}
+use Rattle.nbfx_records.specs.RecordAtFront.{node_at}
 use Rattle.nbfx_records.specs.Shapes.{Shape, ends_list, is_attribute, is_element, misplaced, opens}
 use Rattle.nbfx_records.specs.Shapes.{shape_at}
 use Rattle.nbfx_records.proofs.CauseFacts.{carried}

@@ -32,7 +32,7 @@ use Rattle.nbfx_records.specs.Shapes.{adds, repeats, misplaced, opens, is_attrib
 use Rattle.nbfx_records.specs.Shapes.{shape_at}
 use Rattle.nbfx_records.specs.Contents.{name_is_text, is_text, attribute_value, array_of}
 use Rattle.nbfx_records.specs.Contents.{attribute_node, node_of, contents}
-use Rattle.nbfx_records.specs.Reading.{node_at}
+use Rattle.nbfx_records.specs.RecordAtFront.{node_at}
 use Rattle.nbfx_records.specs.Records.{IsAttrNode, IsArray, IsNode}
 use Rattle.nbfx_records.specs.Places.{Stands}
 use Rattle.nbfx_records.specs.Laws.{RecordsAreRead, NoRecordGoesOn}

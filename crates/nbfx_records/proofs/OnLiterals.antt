@@ -13,7 +13,7 @@ use Rattle.nbfx_records.specs.Chosen.{chosen_bytes}
 use Rattle.nbfx_records.specs.Kinds.{record_kind}
 use Rattle.nbfx_records.specs.Shapes.{array_at, record_at, shape_at}
 use Rattle.nbfx_records.specs.Contents.{scalar_of, contents}
-use Rattle.nbfx_records.specs.Reading.{node_at}
+use Rattle.nbfx_records.specs.RecordAtFront.{node_at}
 
 unfoldable pub records_on_literals : ⊤
 unfolding encode_utf8 utf16_chars chars is_utf8 ◌>>=◌ many repeated int_at int_ending_at value_of

@@ -24,7 +24,7 @@ use Rattle.nbfx_records.specs.Asked as asked
 use Rattle.nbfx_records.specs.Contents.{contents}
 use Rattle.nbfx_records.specs.Cursor.{IsWhole, Stops}
 use Rattle.nbfx_records.specs.Judged.{Makes}
-use Rattle.nbfx_records.specs.Reading.{node_at}
+use Rattle.nbfx_records.specs.RecordAtFront.{node_at}
 use Rattle.nbfx_records.specs.Shapes.{Shape, shape_at}
 use Rattle.nbfx_records.specs.Valid.{is_valid_node}
 use Rattle.nbfx_records.proofs.AnswerFacts.{stops_by, waits_begun, whole_node, whole_wrong}

@@ -28,7 +28,7 @@ use Rattle.nbfx_records.specs.declared.kinds.RecordKind.TheVariants as records
 use Rattle.nbfx_records.specs.Kinds.{record_kind, body_of, array_kind}
 use Rattle.nbfx_records.specs.Kinds.{width_of}
 use Rattle.nbfx_records.specs.Contents.{contents}
-use Rattle.nbfx_records.specs.Reading.{node_at}
+use Rattle.nbfx_records.specs.RecordAtFront.{node_at}
 use Rattle.nbfx_records.specs.Shapes.{one, has_text, array_turn, an_integer, a_string, prefix_at}
 use Rattle.nbfx_records.specs.Shapes.{name_at, said_length, given_or, a_length, counted_bytes}
 use Rattle.nbfx_records.specs.Shapes.{body_at, scalar_at, turn_of, list_turn, list_at}

@@ -44,7 +44,7 @@ use Rattle.nbfx_records.specs.declared.nodes.NodePlace.{NodePlace}
 use Rattle.nbfx_records.specs.Contents.{units_of, utf16_text}
 use Rattle.nbfx_records.specs.Kinds.{text_kind_in}
 use Rattle.nbfx_records.specs.Laws.{RecordsAreValid}
-use Rattle.nbfx_records.specs.Reading.{node_at}
+use Rattle.nbfx_records.specs.RecordAtFront.{node_at}
 use Rattle.nbfx_records.specs.Records.{AreAttrNodes, AreCells, IsArray, IsAttrNode, IsBinary}
 use Rattle.nbfx_records.specs.Records.{IsChars, IsCounted, IsDecimal, IsElement, IsFixed, IsName}
 use Rattle.nbfx_records.specs.Records.{IsUnicode, SpellsAs, SpellsLast, SpellsList, SpellScalars}

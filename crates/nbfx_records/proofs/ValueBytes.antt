@@ -17,8 +17,8 @@ use Rattle.nbfx_records.specs.declared.kinds.RecordKind.TheVariants as records
 use Rattle.nbfx_records.specs.Kinds.{record_kind}
 use Rattle.nbfx_records.specs.Shapes.{ScalarShape, ValueShape, one, several, Shape, has_text}
 use Rattle.nbfx_records.specs.Shapes.{ends_list}
-use Rattle.nbfx_records.specs.Contents.{scalar_is_text, value_is_text, scalar_value, each, value_of}
-use Rattle.nbfx_records.specs.Contents.{is_text, node_of}
+use Rattle.nbfx_records.specs.Contents.{scalar_is_text, value_is_text, scalar_value, each}
+use Rattle.nbfx_records.specs.Contents.{shape_value, is_text, node_of}
 use Rattle.nbfx_records.specs.Records.{SpellsAs, SpellsScalar, SpellScalars, SpellsList}
 use Rattle.nbfx_records.specs.Records.{SpellsValue, SpellsLast}
 use Rattle.nbfx_records.proofs.PartBytes.{ScalarIs, TurnIs, IsTurn}
@@ -247,10 +247,10 @@ one_there kind scalar value byte rest bytes is joined h t v = own
 -- the value of an attribute
 value_cases : (shape : ValueShape) (value : RawValue) (byte : ℕ) (rest bytes : List ℕ) → bytes
     ≡ byte ∷ rest → (k : Option RecordKind) → record_kind byte ≡ k → ValueIs k shape rest
-    → value_is_text shape ≡ true → value_of shape ≡ Some value → SpellsValue value bytes
+    → value_is_text shape ≡ true → shape_value shape ≡ Some value → SpellsValue value bytes
 value_cases shape value byte rest bytes joined (Some (records.Text texts.StartList false)) e
     (list, are, same) t v =
-    let found = mapped_some ListOf (each scalar_value list.items) value (ap value_of same ∙ v) in
+    let found = mapped_some ListOf (each scalar_value list.items) value (ap shape_value same ∙ v) in
     let it = list_there false list.last list.items found.0 byte rest bytes
     (byte_is byte (records.Text texts.StartList false) e).0 joined are (ap value_is_text same ∙ t)
     found.1 in
@@ -262,7 +262,7 @@ value_cases shape value byte rest bytes joined (Some (records.Text texts.StartLi
     closed true values it none = cc (none refl)
 value_cases shape value byte rest bytes joined (Some (records.Text kind false)) e (scalar, is, same)
     t v =
-    let found = mapped_some One (scalar_value scalar) value (ap value_of same ∙ v) in
+    let found = mapped_some One (scalar_value scalar) value (ap shape_value same ∙ v) in
     subst (λ (w : RawValue). SpellsValue w bytes) found.2
     (one_there kind scalar found.0 byte rest bytes (byte_is byte (records.Text kind false) e).0
     joined is (ap value_is_text same ∙ t) found.1)
@@ -270,7 +270,7 @@ value_cases shape value byte rest bytes joined None e h t v = absurd h
 value_cases shape value byte rest bytes joined (Some _) e h t v = absurd h
 
 pub value_there : (shape : ValueShape) (value : RawValue) (bytes : List ℕ) → IsValue shape bytes
-    → value_is_text shape ≡ true → value_of shape ≡ Some value → SpellsValue value bytes
+    → value_is_text shape ≡ true → shape_value shape ≡ Some value → SpellsValue value bytes
 value_there shape value bytes is t v = value_cases shape value is.byte is.rest bytes is.joined
     (record_kind is.byte) refl is.behind t v
 
@@ -285,7 +285,7 @@ pub record IsRead (value : RawValue) (bytes : List ℕ) : Type 0 where
   pub shape : ValueShape
   pub is : IsValue shape bytes
   pub is_text : value_is_text shape ≡ true
-  pub says : value_of shape ≡ Some value
+  pub says : shape_value shape ≡ Some value
 
 list_kind : record_kind 0xa4 ≡ Some (records.Text texts.StartList false)
 unfolding record_kind
@@ -354,7 +354,7 @@ pub text_there : (kind : TextKind) (ends : Bool) (shape : Shape) (node : Node) (
     × (Text value closes ≡ node) × SpellsText value closes bytes
 text_there texts.StartList true shape node byte rest bytes is real joined h t n = cc
 text_there texts.StartList false shape node byte rest bytes is real joined (list, are, same) t n =
-    let found = mapped_some (λ v. Text v list.last) (value_of (several list.items)) node
+    let found = mapped_some (λ v. Text v list.last) (shape_value (several list.items)) node
     (ap node_of same ∙ n) in
     let values = mapped_some ListOf (each scalar_value list.items) found.0 found.1 in
     let it = list_there true list.last list.items values.0 byte rest bytes is joined are
@@ -366,7 +366,8 @@ text_there texts.StartList false shape node byte rest bytes is real joined (list
           values.0 bytes it.0,
     )
 text_there kind ends shape node byte rest bytes is real joined (scalar, h, same) t n =
-    let found = mapped_some (λ v. Text v ends) (value_of (one scalar)) node (ap node_of same ∙ n) in
+    let found = mapped_some (λ v. Text v ends) (shape_value (one scalar)) node
+    (ap node_of same ∙ n) in
     let value = mapped_some One (scalar_value scalar) found.0 found.1 in (
       One value.0,
       ends,

@@ -21,7 +21,7 @@ use Rattle.nbfx_records.specs.Chosen.{is_utf16}
 use Rattle.nbfx_records.specs.Chosen.{scalar_bytes}
 use Rattle.nbfx_records.specs.Chosen.{value_bytes}
 use Rattle.nbfx_records.specs.Contents.{each}
-use Rattle.nbfx_records.specs.Contents.{scalar_is_text, scalar_value, value_is_text, value_of}
+use Rattle.nbfx_records.specs.Contents.{scalar_is_text, scalar_value, value_is_text, shape_value}
 use Rattle.nbfx_records.specs.Kinds.{record_kind}
 use Rattle.nbfx_records.specs.Shapes.{ScalarShape}
 use Rattle.nbfx_records.specs.Shapes.{ValueShape, bytes_of, named_by, qualified_by}
@@ -127,17 +127,17 @@ value_as ends value other most e le = subst (λ (v : RawValue). length (value_by
 
 value_by : (shape : ValueShape) (value : RawValue) (byte : ℕ) (rest : List ℕ)
     (k : Option RecordKind) → IsBytes rest → ValueIs k shape rest → value_is_text shape ≡ true
-    → value_of shape ≡ Some value → Plain (scalars_of_value shape)
+    → shape_value shape ≡ Some value → Plain (scalars_of_value shape)
     → length (value_bytes false value) ≤ suc (length rest)
 value_by shape value byte rest (Some (records.Text texts.StartList false)) are (list, many, same) t
     v plain =
-    let found = mapped_some ListOf (each scalar_value list.items) value (ap value_of same ∙ v) in
+    let found = mapped_some ListOf (each scalar_value list.items) value (ap shape_value same ∙ v) in
     value_as false value (ListOf found.0) (suc (length rest)) found.2
     (list_long false found.0 rest (items_long false list.last list.items found.0 rest are many
     (ap value_is_text same ∙ t) found.1
     (ap (λ s. list_all (λ x. not (is_utf16 x)) (scalars_of_value s)) same ∙ plain)))
 value_by shape value byte rest (Some (records.Text kind false)) are (scalar, is, same) t v plain =
-    let found = mapped_some One (scalar_value scalar) value (ap value_of same ∙ v) in
+    let found = mapped_some One (scalar_value scalar) value (ap shape_value same ∙ v) in
     let plains = and_parts (not (is_utf16 scalar)) true
     (ap (λ s. list_all (λ x. not (is_utf16 x)) (scalars_of_value s)) same ∙ plain) in
     value_as false value (One found.0) (suc (length rest)) found.2
@@ -146,7 +146,7 @@ value_by shape value byte rest None are h t v plain = absurd h
 value_by shape value byte rest (Some _) are h t v plain = absurd h
 
 pub value_long : (shape : ValueShape) (value : RawValue) (bytes : List ℕ) → IsBytes bytes
-    → IsValue shape bytes → value_is_text shape ≡ true → value_of shape ≡ Some value
+    → IsValue shape bytes → value_is_text shape ≡ true → shape_value shape ≡ Some value
     → Plain (scalars_of_value shape) → length (value_bytes false value) ≤ length bytes
 value_long shape value bytes are is t v plain =
     let long = value_by shape value is.byte is.rest (record_kind is.byte)

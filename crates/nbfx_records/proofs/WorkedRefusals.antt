@@ -9,7 +9,7 @@ use Rattle.nbfx_records.specs.declared.nodes.RecordFault.TheVariants.{BadInt, Ba
 use Rattle.nbfx_records.specs.declared.nodes.RecordFault.TheVariants.{BadValue}
 use Rattle.nbfx_records.specs.declared.nodes.NodePlace.{NodePlace}
 use Rattle.nbfx_records.specs.declared.nodes.NodePlace.TheVariants.{BeforeRoot, Within, AfterRoot}
-use Rattle.nbfx_records.specs.Reading.{node_at}
+use Rattle.nbfx_records.specs.RecordAtFront.{node_at}
 use Rattle.nbfx_records.proofs.OnLiterals.{records_on_literals}
 
 abbrev within : NodePlace

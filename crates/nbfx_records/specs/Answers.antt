@@ -10,7 +10,7 @@ use Rattle.nbfx_records.specs.declared.reader.NodeStep.TheVariants.{More, Done}
 use Rattle.nbfx_records.specs.declared.nodes.NodeFault.{NodeFault}
 use Rattle.nbfx_records.specs.declared.nodes.NodeFault.TheVariants.{Record, Memory}
 use Rattle.nbfx_records.specs.Asked as asked
-use Rattle.nbfx_records.specs.Reading.{node_at}
+use Rattle.nbfx_records.specs.RecordAtFront.{node_at}
 use Rattle.nbfx_records.specs.Valid.{is_valid_node}
 
 -- Fewer than so many bytes in all decide nothing, however they go on: so many are asked for where

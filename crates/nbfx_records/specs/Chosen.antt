@@ -88,14 +88,14 @@ binary FourBytes = texts.Bytes32
 abbrev pub counted_body : LengthForm → List ℕ → List ℕ
 counted_body form content = to_le_bytes (width_in form) (length content) ++ content
 
-abbrev pub counted : (LengthForm → TextKind) → List ℕ → TextRecord
-counted kind content =
+abbrev pub with_length : (LengthForm → TextKind) → List ℕ → TextRecord
+with_length kind content =
     let form = least_form (length content) in
     record { kind = kind form; body = counted_body form content }
 
 abbrev pub chosen_text : List ℕ → TextRecord
 chosen_text [] = bare texts.Empty
-chosen_text s = counted characters s
+chosen_text s = with_length characters s
 
 -- of a value that names no string; none is a QName
 abbrev pub chosen_known : Scalar → TextRecord
@@ -108,7 +108,7 @@ chosen_known (Decimal d) = record { kind = texts.Decimal; body = decimal_body d 
 chosen_known (DateTime pattern) = sized texts.DateTime w64 pattern
 chosen_known (TimeSpan span) = signed texts.TimeSpan w64 span
 chosen_known (TextOf s) = chosen_text s
-chosen_known (Bytes content) = counted binary content
+chosen_known (Bytes content) = with_length binary content
 chosen_known (UniqueId identifier) = record { kind = texts.UniqueId; body = identifier }
 chosen_known (Uuid identifier) = record { kind = texts.Uuid; body = identifier }
 chosen_known (NamedBy letter name) = bare texts.QNameDictionary

@@ -175,13 +175,13 @@ abbrev pub each : {A B : Type 0} → (A → Option B) → List A → Option (Lis
 each f [] = Some []
 each f (x ∷ xs) = option_and_then (λ y. option_map (λ ys. y ∷ ys) (each f xs)) (f x)
 
-abbrev pub value_of : ValueShape → Option RawValue
-value_of (one scalar) = option_map One (scalar_value scalar)
-value_of (several values) = option_map ListOf (each scalar_value values)
+abbrev pub shape_value : ValueShape → Option RawValue
+shape_value (one scalar) = option_map One (scalar_value scalar)
+shape_value (several values) = option_map ListOf (each scalar_value values)
 
 abbrev pub attribute_value : AttributeShape → Option AttrNode
 attribute_value (attributes prefix name value) =
-    option_map (attribute_nodes.Attribute prefix name) (value_of value)
+    option_map (attribute_nodes.Attribute prefix name) (shape_value value)
 attribute_value (declares prefix uri) = Some (attribute_nodes.Xmlns prefix uri)
 
 -- so many values of so many bytes each
@@ -212,7 +212,7 @@ node_of ends_element = Some nodes.EndElement
 node_of (comments bytes) = Some (nodes.Comment bytes)
 node_of (begins_element prefix name) = Some (nodes.Element prefix name)
 node_of (adds attribute) = option_map attribute_node (attribute_value attribute)
-node_of (has_text value ends) = option_map (λ v. nodes.Text v ends) (value_of value)
+node_of (has_text value ends) = option_map (λ v. nodes.Text v ends) (shape_value value)
 node_of (repeats array) = option_map nodes.Array (array_of array)
 
 -- the parts of a record, judged
@@ -233,7 +233,7 @@ abbrev pub scalars_judged : List ScalarShape → Result (List RawScalar) RecordF
 scalars_judged scalars = judge (list_all scalar_is_text scalars) (each scalar_value scalars)
 
 abbrev pub value_judged : ValueShape → Result RawValue RecordFault
-value_judged value = judge (value_is_text value) (value_of value)
+value_judged value = judge (value_is_text value) (shape_value value)
 
 abbrev pub attribute_judged : AttributeShape → Result AttrNode RecordFault
 attribute_judged attribute = judge (attribute_is_text attribute) (attribute_value attribute)

@@ -16,7 +16,7 @@ use Rattle.nbfx_records.specs.Chosen.{chosen_bytes, is_utf16}
 use Rattle.nbfx_records.specs.Contents.{contents}
 use Rattle.nbfx_records.specs.Meaning.{Means, identifiers, items_of}
 use Rattle.nbfx_records.specs.Places.{Stands}
-use Rattle.nbfx_records.specs.Reading.{node_at}
+use Rattle.nbfx_records.specs.RecordAtFront.{node_at}
 use Rattle.nbfx_records.specs.Records.{IsNode}
 use Rattle.nbfx_records.specs.Shapes.{Shape, shape_at}
 use Rattle.nbfx_records.specs.Valid.{fits_node, is_valid_node}

@@ -2,7 +2,7 @@
 pub mod Kinds
 pub mod Shapes
 pub mod Contents
-pub mod Reading
+pub mod RecordAtFront
 -- what they are,
 pub mod Records
 pub mod Places
@@ -20,7 +20,7 @@ pub mod Asked
 pub mod Payloads
 -- what calls answer, and laws.
 pub mod Answers
-pub mod Standing
+pub mod NodeReaderState
 pub mod Resuming
 pub mod Laws
 pub mod WritingLaws

@@ -3,7 +3,7 @@
 
 ghost use Rattle.unit_streams.specs.Front.{ReadsFront};
 ghost use Rattle.nbfx_records.specs.declared.nodes.NodePlace.{NodePlace};
-ghost use Rattle.nbfx_records.specs.Reading.{node_at};
+ghost use Rattle.nbfx_records.specs.RecordAtFront.{node_at};
 ghost use Rattle.nbfx_records.specs.WritingLaws.{MeaningsStay, RecordsJoin, RecordsStay, SaidMayBeWritten, StringsAreOnce, WrittenAreRecords, WrittenAreStrings, WrittenIsTable};
 ghost use Rattle.nbfx_records.specs.Laws.{NothingIsBegun, RecordsAreRead, NoRecordGoesOn, RecordsAreValid, WrongByPart, WrongByText, WrongByValue, ChosenIsRecord, ChosenIsRead, ChosenIsShortest, MeaningsAreFound, NothingWithoutNames, MeansOnce, MeaningsAreValid};
 

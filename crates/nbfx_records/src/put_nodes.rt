@@ -105,7 +105,7 @@ fn put(node: &Node, out: &mut Vec<u8>) -> Result<(), Memory>
     }
 }
 
-/// Appends the record of a node, in its chosen spelling. Want of memory leaves the bytes as they
+/// Appends the record of a node, in its chosen spelling. Out of memory, it leaves the bytes as they
 /// were.
 pub fn put_node(node: &Node, out: &mut Vec<u8>) -> Result<(), Memory>
     requires valid { IsTrue (is_valid_node node.now) }

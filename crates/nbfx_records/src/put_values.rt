@@ -146,7 +146,7 @@ fn put_characters(text: &str, ends: bool, out: &mut Vec<u8>) -> Result<(), Memor
 fn put_binary(content: &[u8], ends: bool, out: &mut Vec<u8>) -> Result<(), Memory>
     requires { length content.now < 2 ^ 31 }
     ensures { Puts result out.old.items out.new.items
-        (spec.record_bytes ends (spec.counted spec.binary content.now)) }
+        (spec.record_bytes ends (spec.with_length spec.binary content.now)) }
 {
     let form = least_form(content.len());
     put_kind(RecordKind::Text(binary(form), ends), out)?;

@@ -2,9 +2,9 @@
 
 ghost use Rattle.std.specs.Prelude.{◌≡◌, ◌-◌, ◌<◌, [], length, max, min, take, IfErr, IfOk, None, OnOk, Some};
 ghost use Rattle.unit_streams.specs.Front.{begun};
-ghost use Rattle.nbfx_records.specs.Reading.{node_at};
+ghost use Rattle.nbfx_records.specs.RecordAtFront.{node_at};
 ghost use Rattle.nbfx_records.specs.Answers.{FeedAnswers, IsLeft, StepIsValid};
-ghost use Rattle.nbfx_records.specs.Standing.{begun_of, failure_of};
+ghost use Rattle.nbfx_records.specs.NodeReaderState.{begun_of, failure_of};
 
 use crate::begun_bytes::BegunBytes;
 use crate::building::node;
@@ -28,7 +28,7 @@ pub enum NodeStep {
 pub struct NodeReader {
     alloc: Global,
     begun: BegunBytes,
-    /// How many bytes in all the record that has begun wants at least.
+    /// How many bytes in all the record that has begun needs at least.
     wants: usize,
     failure: Option<NodeFault>,
 }

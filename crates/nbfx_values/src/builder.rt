@@ -203,6 +203,13 @@ impl DocBuilder {
         Some(doc)
     }
 
+    /// Makes room for so many items more. The items stay.
+    pub fn reserve(&mut self, count: usize) -> Result<(), Memory>
+        ensures { self.new ≡ self.old }
+    {
+        self.items.reserve(count)
+    }
+
     /// Begins another document, which reuses the memory of one that is no longer needed. What the
     /// builder had is dropped.
     pub fn begin_in(&mut self, doc: Doc)

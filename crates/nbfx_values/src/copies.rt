@@ -1,4 +1,4 @@
-//! Copies, which may want memory.
+//! Copies, which may run out of memory.
 
 ghost use Rattle.std.specs.Prelude.{◌≡◌, IfOk};
 

@@ -45,7 +45,7 @@ pub fn a_position_counts_the_open()
         → open_count position ≡ opened_by 0 items }
 {}
 
-/// No document goes on as another one.
+/// No document is the beginning of a longer one.
 pub fn no_document_goes_on()
     ensures { (items more : List Item) → IsDocument items → IsDocument (items ++ more) → more ≡ [] }
 {}

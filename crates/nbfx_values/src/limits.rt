@@ -38,7 +38,7 @@ impl Quotas {
     ghost use Rattle.nbfx_values.specs.Limits.{IsGood, limits, usual_limits};
     ghost use Rattle.nbfx_values.specs.QuotasOf.{limits_of};
 
-    /// The quotas of a stack that nobody has set otherwise.
+    /// The default quotas.
     pub fn usual() -> Quotas
         ensures { limits_of result ≡ usual_limits }
     {
@@ -52,7 +52,7 @@ impl Quotas {
         }
     }
 
-    /// The quotas with these values, where they are Good.
+    /// The quotas with these values, if these are valid.
     pub fn of(
         payload: u32,
         depth: u32,

@@ -79,6 +79,16 @@ impl<T> Sequence<T> {
 }
 
 impl<T: Drop> Sequence<T> {
+    /// Makes room for so many values more. The values stay.
+    pub fn reserve(&mut self, count: usize) -> Result<(), Memory>
+        ensures { self.new ≡ self.old }
+    {
+        match self.items.reserve(count) {
+            Ok(()) => Ok(()),
+            Err(_) => Err(Memory),
+        }
+    }
+
     /// Takes all values out. Their memory stays allocated.
     pub fn clear(&mut self)
         ensures { self.new ≡ [] }
@@ -86,7 +96,7 @@ impl<T: Drop> Sequence<T> {
         self.items.clear();
     }
 
-    /// Puts one more value at the end. Want of memory drops it and leaves the list.
+    /// Puts one more value at the end. Out of memory, it drops the value and leaves the list.
     #[inline(always)]
     pub fn push(&mut self, one: T) -> Result<(), Memory>
         ensures pushed { OnOk result (self.new ≡ self.old ++ one ∷ []) }
@@ -100,7 +110,7 @@ impl<T: Drop> Sequence<T> {
         Ok(())
     }
 
-    /// Puts two more values at the end. Want of memory drops them and leaves the list.
+    /// Puts two more values at the end. Out of memory, it drops them and leaves the list.
     #[inline(always)]
     pub fn push_two(&mut self, first: T, second: T) -> Result<(), Memory>
         ensures pushed { OnOk result (self.new ≡ self.old ++ first ∷ second ∷ []) }

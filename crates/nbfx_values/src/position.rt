@@ -17,7 +17,7 @@ pub enum Position {
         /// Whether a declaration or an attribute may stand next.
         attributes: bool,
     },
-    /// Behind the root.
+    /// After the root.
     After,
 }
 

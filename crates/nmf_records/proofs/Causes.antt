@@ -20,8 +20,8 @@ use Rattle.nmf_records.specs.declared.frame.Expect.TheVariants.{Types, Chunk}
 use Rattle.nmf_records.specs.declared.frame.FrameFault.{FrameFault}
 use Rattle.nmf_records.specs.declared.frame.FrameFault.TheVariants as faults
 use Rattle.nmf_records.specs.Records.{Read}
-use Rattle.nmf_records.specs.Reading.{size_at, text_at, version_at, byte_at, typed_at, allows}
-use Rattle.nmf_records.specs.Reading.{frame_at, as_size, as_text}
+use Rattle.nmf_records.specs.RecordFronts.{size_at, text_frame_at, version_at, byte_at, typed_at}
+use Rattle.nmf_records.specs.RecordFronts.{allows, frame_at, as_size, as_text}
 use Rattle.nmf_records.specs.Laws.{BeginsUnknown, BeginsUnexpected, has_integer, IntegerComes}
 use Rattle.nmf_records.specs.Laws.{HasLongText, HasBadText}
 use Rattle.nmf_records.proofs.Typed.{type_known}
@@ -97,7 +97,7 @@ module _ (limit types kind : ℕ) (bytes : List ℕ) (may : allows types kind �
 
   -- a text is wrong by its integer, its length or its bytes
   text_causes : (frame : Frame) → ((kind == VIA) || (kind == FAULT)) ≡ true → has_integer kind
-      ≡ true → Of (text_at limit frame bytes)
+      ≡ true → Of (text_frame_at limit frame bytes)
   text_causes frame text has = by_string (string_at limit bytes) refl
     where
       by_string : (y : Front (List ℕ) StringFault) → string_at limit bytes ≡ y

@@ -22,8 +22,8 @@ use Rattle.nmf_records.specs.declared.frame.Expect.{Expect}
 use Rattle.nmf_records.specs.declared.frame.Expect.TheVariants.{Types, Chunk}
 use Rattle.nmf_records.specs.declared.frame.FrameFault.{FrameFault}
 use Rattle.nmf_records.specs.declared.frame.FrameFault.TheVariants as faults
-use Rattle.nmf_records.specs.Reading.{text_at, typed_at, allows, record_at, frame_at, as_text}
-use Rattle.nmf_records.specs.Reading.{begins_text}
+use Rattle.nmf_records.specs.RecordFronts.{text_frame_at, typed_at, allows, allowed_at, frame_at}
+use Rattle.nmf_records.specs.RecordFronts.{as_text, begins_text}
 use Rattle.nmf_records.specs.Laws.{BeginsUnknown, BeginsUnexpected, has_no_frame, has_integer}
 use Rattle.nmf_records.specs.Laws.{IntegerComes, HasLongText, HasBadText}
 use Rattle.nmf_records.proofs.Typed.{allowed_reads}
@@ -52,7 +52,7 @@ no_frame_at limit kind rest e =
 
 -- a known type whose bit is not set
 not_due_at : (limit types kind : ℕ) (rest : List ℕ) → kind ≤ GREATEST → allows types kind ≡ false
-    → record_at limit types (kind ∷ rest) ≡ wrong (faults.Unexpected kind) 1
+    → allowed_at limit types (kind ∷ rest) ≡ wrong (faults.Unexpected kind) 1
 not_due_at limit types kind rest le e = let known : nat_lt GREATEST kind
     ≡ false = grind (arith, nat_tests) in rw (known, e) refl
 
@@ -73,7 +73,7 @@ unexpected_comes limit Chunk bytes t h = absurd h
 -- a record with an integer that is wrong
 int_behind_type : (limit types kind : ℕ) (rest : List ℕ) → kind ≤ GREATEST → allows types kind
     ≡ true → has_integer kind ≡ true → int_at rest ≡ wrong tt 5
-    → record_at limit types (kind ∷ rest) ≡ wrong faults.BadInt 6
+    → allowed_at limit types (kind ∷ rest) ≡ wrong faults.BadInt 6
 int_behind_type limit types kind rest le may has e =
     allowed_reads limit types kind rest le may
     ∙ elim (or_cases (kind == VIA) ((kind == SIZED_ENVELOPE) || (kind == FAULT)) has) [
@@ -111,7 +111,7 @@ bad_int_comes_at limit (Types types) (kind ∷ rest) k at h =
 -- a text that may come is read as one
 text_comes : (limit : ℕ) (expect : Expect) (kind : ℕ) (rest : List ℕ) → begins_text expect
     (kind ∷ rest) ≡ true
-    → (frame : Frame) × (frame_at limit expect (kind ∷ rest) ≡ text_at limit frame rest)
+    → (frame : Frame) × (frame_at limit expect (kind ∷ rest) ≡ text_frame_at limit frame rest)
 text_comes limit (Types types) kind rest begins =
     let parts = and_parts (allows types kind) ((kind == VIA) || (kind == FAULT)) begins in
     elim (or_cases (kind == VIA) (kind == FAULT) parts.1) [

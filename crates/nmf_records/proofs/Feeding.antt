@@ -14,7 +14,7 @@ use Rattle.nmf_records.specs.declared.stage.Stage.{Stage}
 use Rattle.nmf_records.specs.declared.stage.Stage.TheVariants as stages
 use Rattle.nmf_records.specs.declared.reader.FrameReader.{FrameReader}
 use Rattle.nmf_records.specs.Records.{Read}
-use Rattle.nmf_records.specs.Reading.{frame_at, begins_text}
+use Rattle.nmf_records.specs.RecordFronts.{frame_at, begins_text}
 use Rattle.nmf_records.specs.Reader.{StandsFor, ShowsText, HoldsText, text_after, text_read}
 use Rattle.nmf_records.specs.Reader.{limit_of, pending_of, failure_of, refusal_in, HasShape}
 use Rattle.nmf_records.specs.Reader.{kind_of_text}

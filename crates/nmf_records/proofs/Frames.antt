@@ -21,8 +21,9 @@ use Rattle.nmf_records.specs.declared.frame.Expect.TheVariants.{Types, Chunk}
 use Rattle.nmf_records.specs.declared.frame.FrameFault.{FrameFault}
 use Rattle.nmf_records.specs.declared.frame.FrameFault.TheVariants as faults
 use Rattle.nmf_records.specs.Records.{Read}
-use Rattle.nmf_records.specs.Reading.{with_text, bare, fault_of, size_at, text_at, version_at}
-use Rattle.nmf_records.specs.Reading.{byte_at, typed_at, allows, record_at, frame_at}
+use Rattle.nmf_records.specs.RecordFronts.{with_text, bare, fault_of, size_at, text_frame_at}
+use Rattle.nmf_records.specs.RecordFronts.{version_at, byte_at, typed_at, allows, allowed_at}
+use Rattle.nmf_records.specs.RecordFronts.{frame_at}
 
 -- what is read behind a type byte is read byte by byte
 abbrev PeelsBehindType : (List ℕ → Front Read FrameFault) → Type 0
@@ -32,7 +33,7 @@ size_peels : (frame : ℕ → Frame) → PeelsBehindType (size_at 1 frame)
 size_peels frame = after_byte_peels (λ size. bare (frame size)) (λ _. faults.BadInt) int_at
     int_peels
 
-text_peels : (limit : ℕ) (frame : Frame) → PeelsBehindType (text_at limit frame)
+text_peels : (limit : ℕ) (frame : Frame) → PeelsBehindType (text_frame_at limit frame)
 text_peels limit frame = after_byte_peels (with_text frame) fault_of (string_at limit)
     (string_peels limit)
 
@@ -90,9 +91,9 @@ typed_peels limit kind =
     choice_peels (kind == PREAMBLE_END) _ _ (decided_byte_peels _ refl)
     (decided_byte_peels _ refl))))))))))
 
-record_peels : (limit types : ℕ) → IsPeeling (record_at limit types)
+record_peels : (limit types : ℕ) → IsPeeling (allowed_at limit types)
 record_peels limit types =
-    by_first_peels (record_at limit types) refl (λ kind.
+    by_first_peels (allowed_at limit types) refl (λ kind.
     choice_peels (nat_lt GREATEST kind) _ _ (decided_byte_peels _ refl) (
     choice_peels (allows types kind) _ _ (typed_peels limit kind) (decided_byte_peels _ refl)))
 

@@ -14,7 +14,7 @@ use Rattle.nmf_records.specs.declared.frame.FrameRefusal.{FrameRefusal}
 use Rattle.nmf_records.specs.declared.frame.FrameStep.TheVariants.{Done}
 use Rattle.nmf_records.specs.declared.reader.FrameReader.{FrameReader}
 use Rattle.nmf_records.specs.declared.stage.Stage.TheVariants as stages
-use Rattle.nmf_records.specs.Reading.{allows, as_size, bare, begins_text, frame_at}
+use Rattle.nmf_records.specs.RecordFronts.{allows, as_size, bare, begins_text, frame_at}
 use Rattle.nmf_records.specs.Reader.{FrameAnswers, ShowsText, StandsFor, failure_of, limit_of}
 use Rattle.nmf_records.specs.Reader.{shown_behind, size_bytes}
 use Rattle.nmf_records.proofs.Feeding.{no_refusal}

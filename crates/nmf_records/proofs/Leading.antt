@@ -20,7 +20,7 @@ use Rattle.nmf_records.specs.declared.stage.Stage.TheVariants as stages
 use Rattle.nmf_records.specs.declared.stage.Progress.{Progress}
 use Rattle.nmf_records.specs.declared.stage.Progress.TheVariants.{Going, Done, Wrong}
 use Rattle.nmf_records.specs.declared.reader.FrameReader.{FrameReader}
-use Rattle.nmf_records.specs.Reading.{bare, size_at, frame_at, as_size}
+use Rattle.nmf_records.specs.RecordFronts.{bare, size_at, frame_at, as_size}
 use Rattle.nmf_records.specs.Steps.{HasNoText, Meets, GoesTo, sized}
 use Rattle.nmf_records.specs.Reader.{HoldsText, HasShape, size_bytes}
 use Rattle.nmf_records.specs.Advancing.{Progresses, BeginsAnew, ReadsBytes, SizeAnswers}

@@ -1,8 +1,8 @@
 -- the definitions on literals
 mod Worked
 mod WorkedScripts
--- records (specs/Records, Reading): by their type, byte by byte, as what bytes there are; the cause
--- of each fault; how long they are
+-- records (specs/Records, RecordFronts): by their type, byte by byte, as what bytes there are; the
+-- cause of each fault; how long they are
 pub mod Typed
 pub mod TypeCases
 pub mod Frames

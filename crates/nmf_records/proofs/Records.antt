@@ -20,9 +20,9 @@ use Rattle.nmf_records.specs.declared.frame.Expect.{Expect}
 use Rattle.nmf_records.specs.declared.frame.Expect.TheVariants.{Types, Chunk}
 use Rattle.nmf_records.specs.declared.frame.FrameFault.{FrameFault}
 use Rattle.nmf_records.specs.Records.{Read, type_of, IsTextRecord, IsRecordOf, IsRecord}
-use Rattle.nmf_records.specs.Reading.{with_text, size_at, text_at, version_at, byte_at, lone}
-use Rattle.nmf_records.specs.Reading.{typed_at, allows, allows_type, MayCome, frame_at, as_size}
-use Rattle.nmf_records.specs.Reading.{as_text}
+use Rattle.nmf_records.specs.RecordFronts.{with_text, size_at, text_frame_at, version_at, byte_at}
+use Rattle.nmf_records.specs.RecordFronts.{lone, typed_at, allows, allows_type, MayCome, frame_at}
+use Rattle.nmf_records.specs.RecordFronts.{as_size, as_text}
 use Rattle.nmf_records.proofs.Frames.{frames_front}
 use Rattle.nmf_records.proofs.Typed.{type_known}
 use Rattle.nmf_records.proofs.TypeCases.{by_type, read_by_type}
@@ -66,7 +66,7 @@ module _ (limit types kind : ℕ) (bytes : List ℕ) (may : allows types kind �
   -- a record with a text is its bytes
   read_text : (frame : Frame) (n : ℕ) → kind ≡ n → type_of frame ≡ Some n
       → ((text b : List ℕ) → IsTextRecord n text b → IsRecordOf frame text b)
-      → Of (text_at limit frame bytes)
+      → Of (text_frame_at limit frame bytes)
   read_text frame n e is record_of = by_string (string_at limit bytes) refl
     where
       by_string : (y : Front (List ℕ) StringFault) → string_at limit bytes ≡ y
@@ -177,7 +177,8 @@ read_record limit expect bytes read n e = OfWhole_at (IsReadOf limit expect byte
 -- a Via's or a Fault's bytes are read as it
 text_record_read : (limit : ℕ) (expect : Expect) (frame : Frame) (kind : ℕ) (text b : List ℕ) → kind
     ≤ GREATEST → type_of frame ≡ Some kind
-    → ((c : List ℕ) → typed_at limit kind c ≡ text_at limit frame c) → IsTextRecord kind text b
+    → ((c : List ℕ) → typed_at limit kind c ≡ text_frame_at limit frame c)
+    → IsTextRecord kind text b
     → MayCome expect frame → length text ≤ limit
     → frame_at limit expect b ≡ whole (with_text frame text) (length b)
 text_record_read limit expect frame kind text b le is reads h may low =

@@ -6,7 +6,7 @@ use Rattle.nmf_records.specs.declared.frame.Frame.TheVariants as frames
 use Rattle.nmf_records.specs.declared.script.Direction.{Direction}
 use Rattle.nmf_records.specs.declared.script.Due.{Due}
 use Rattle.nmf_records.specs.declared.script.Due.TheVariants as dues
-use Rattle.nmf_records.specs.Reading.{MayCome}
+use Rattle.nmf_records.specs.RecordFronts.{MayCome}
 use Rattle.nmf_records.specs.Script.{first, may_come, leads, may_end, due_behind, NamesMode}
 use Rattle.nmf_records.specs.Script.{LeadsToEnd}
 

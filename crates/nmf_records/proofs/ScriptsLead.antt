@@ -13,7 +13,7 @@ use Rattle.nmf_records.specs.declared.script.Direction.TheVariants.{FromInitiato
 use Rattle.nmf_records.specs.declared.script.Due.{Due}
 use Rattle.nmf_records.specs.declared.script.Due.TheVariants as dues
 use Rattle.nmf_records.specs.Records.{type_of}
-use Rattle.nmf_records.specs.Reading.{MayCome}
+use Rattle.nmf_records.specs.RecordFronts.{MayCome}
 use Rattle.nmf_records.specs.Script.{first, may_come, leads, behind_preamble, IsUnsized}
 use Rattle.nmf_records.specs.Script.{AreEnvelopes, IsInitiatorsScript, IsAnswer, IsScript}
 use Rattle.nmf_records.proofs.ScriptWays.{Follows, nothing_comes}

@@ -6,9 +6,9 @@ use Rattle.nmf_records.specs.declared.frame.Expect.{Expect}
 use Rattle.nmf_records.specs.declared.stage.Progress.{Progress}
 use Rattle.nmf_records.specs.declared.stage.Progress.TheVariants.{Going, Done, Wrong}
 use Rattle.nmf_records.specs.declared.reader.FrameReader.{FrameReader}
-use Rattle.nmf_records.specs.Reading.{frame_at}
+use Rattle.nmf_records.specs.RecordFronts.{frame_at}
 use Rattle.nmf_records.specs.Reader.{StandsFor, limit_of, pending_of, failure_of}
-use Rattle.nmf_records.specs.Advancing.{Progresses, Steps, Keeps, stage_after, pending_after}
+use Rattle.nmf_records.specs.Advancing.{Progresses, Steps, KeepsFault, stage_after, pending_after}
 use Rattle.unit_streams.proofs.Peeling.{extent}
 use Rattle.unit_streams.proofs.Taken.{taken_len}
 use Rattle.nmf_records.proofs.Frames.{frame_peels}
@@ -63,7 +63,7 @@ settled_steps limit expect p bytes n mid new (Wrong fault) within lim counted le
 
 -- and keeps a fault
 pub settled_keeps : (mid new : FrameReader) (n : ℕ) (progress : Progress) → IsSettled mid new n
-    progress → Keeps new progress
+    progress → KeepsFault new progress
 unfolding failure_of pending_of
 settled_keeps mid new n (Going stage) s = tt
 settled_keeps mid new n (Done frame) s = tt

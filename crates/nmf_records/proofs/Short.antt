@@ -23,8 +23,9 @@ use Rattle.nmf_records.specs.declared.frame.Expect.TheVariants.{Types, Chunk}
 use Rattle.nmf_records.specs.declared.frame.FrameFault.{FrameFault}
 use Rattle.nmf_records.specs.declared.frame.FrameFault.TheVariants as faults
 use Rattle.nmf_records.specs.Records.{Read}
-use Rattle.nmf_records.specs.Reading.{with_text, bare, fault_of, size_at, text_at, version_at}
-use Rattle.nmf_records.specs.Reading.{byte_at, lone, typed_at, allows, record_at, frame_at}
+use Rattle.nmf_records.specs.RecordFronts.{with_text, bare, fault_of, size_at, text_frame_at}
+use Rattle.nmf_records.specs.RecordFronts.{version_at, byte_at, lone, typed_at, allows, allowed_at}
+use Rattle.nmf_records.specs.RecordFronts.{frame_at}
 use Rattle.nmf_records.proofs.Frames.{frame_peels}
 
 -- the most bytes that a text within the limit can have: an integer is below 2^31
@@ -59,7 +60,7 @@ size_short limit n le frame b e =
     omega arith
 
 -- a text is
-text_short : (limit : ℕ) (frame : Frame) → IsShort limit 1 (text_at limit frame)
+text_short : (limit : ℕ) (frame : Frame) → IsShort limit 1 (text_frame_at limit frame)
 text_short limit frame b e = string_short limit b
     (behind_begun 1 (with_text frame) fault_of (string_at limit b) e)
 
@@ -106,7 +107,7 @@ typed_short limit kind =
     (wrong_short limit (faults.Unexpected kind)))))))))))
 
 -- whether or not it may come
-behind_type : (limit types kind : ℕ) → IsShort limit 1 (λ b. record_at limit types (kind ∷ b))
+behind_type : (limit types kind : ℕ) → IsShort limit 1 (λ b. allowed_at limit types (kind ∷ b))
 behind_type limit types kind =
     choice_short limit (nat_lt GREATEST kind) _ _ (wrong_short limit faults.UnknownRecord) (
     choice_short limit (allows types kind) _ _ (typed_short limit kind)

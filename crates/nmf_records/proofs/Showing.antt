@@ -24,8 +24,8 @@ use Rattle.nmf_records.specs.declared.stage.Progress.{Progress}
 use Rattle.nmf_records.specs.declared.stage.Progress.TheVariants.{Going, Done, Wrong}
 use Rattle.nmf_records.specs.declared.reader.FrameReader.{FrameReader}
 use Rattle.nmf_records.specs.Records.{Read}
-use Rattle.nmf_records.specs.Reading.{with_text, allows, fault_of, text_at, frame_at, as_text}
-use Rattle.nmf_records.specs.Reading.{begins_text}
+use Rattle.nmf_records.specs.RecordFronts.{with_text, allows, fault_of, text_frame_at, frame_at}
+use Rattle.nmf_records.specs.RecordFronts.{as_text, begins_text}
 use Rattle.nmf_records.specs.Steps.{Meets, is_text_start, texted}
 use Rattle.nmf_records.specs.Reader.{ShowsText, text_after, text_read, limit_of, HasShape}
 use Rattle.nmf_records.specs.Reader.{kind_of_text}
@@ -122,7 +122,7 @@ read_text frame (wrong r k) = refl
 -- a text that has begun is read as one, however it goes on
 pub text_reads : (limit : ℕ) (expect : Expect) (text : TextRecord) (q c : List ℕ)
     → frame_at limit expect (kind_of_text text ∷ q) ≡ begun
-    → frame_at limit expect (kind_of_text text ∷ c) ≡ text_at limit (texted text) c
+    → frame_at limit expect (kind_of_text text ∷ c) ≡ text_frame_at limit (texted text) c
 text_reads limit expect texts.Via q c h = begun_reads limit expect VIA q c (omega arith) h
 text_reads limit expect texts.Fault q c h = begun_reads limit expect FAULT q c (omega arith) h
 
@@ -155,7 +155,7 @@ text_leads limit expect text p c mid progress h shape int answers =
     (text_reads limit expect text (drop 1 p) (drop 1 p ++ c) h') answers)
   where
     by_progress : (q : List ℕ) (progress : Progress) → frame_at limit expect (kind_of_text text ∷ q)
-        ≡ text_at limit (texted text) q
+        ≡ text_frame_at limit (texted text) q
         → TextAnswers limit text q mid.text progress → Progresses limit expect
         (kind_of_text text ∷ q) mid progress
     by_progress q (Going stage) reads answers =

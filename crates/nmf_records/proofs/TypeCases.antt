@@ -18,8 +18,8 @@ use Rattle.nmf_records.specs.declared.frame.Expect.TheVariants.{Types, Chunk}
 use Rattle.nmf_records.specs.declared.frame.FrameFault.{FrameFault}
 use Rattle.nmf_records.specs.declared.frame.FrameFault.TheVariants as faults
 use Rattle.nmf_records.specs.Records.{Read, type_of}
-use Rattle.nmf_records.specs.Reading.{size_at, text_at, version_at, byte_at, lone, typed_at, allows}
-use Rattle.nmf_records.specs.Reading.{allows_type, MayCome, frame_at}
+use Rattle.nmf_records.specs.RecordFronts.{size_at, text_frame_at, version_at, byte_at, lone}
+use Rattle.nmf_records.specs.RecordFronts.{typed_at, allows, allows_type, MayCome, frame_at}
 use Rattle.nmf_records.specs.Laws.{has_no_frame}
 use Rattle.nmf_records.proofs.Typed.{allowed_reads}
 
@@ -28,12 +28,12 @@ pub record ByType (limit kind : ℕ) (bytes : List ℕ) (P : Front Read FrameFau
   where
     pub version : kind ≡ VERSION → P (version_at bytes)
     pub mode : kind ≡ MODE → P (byte_at frames.Mode bytes)
-    pub via : kind ≡ VIA → P (text_at limit frames.Via bytes)
+    pub via : kind ≡ VIA → P (text_frame_at limit frames.Via bytes)
     pub encoding : kind ≡ KNOWN_ENCODING → P (byte_at frames.KnownEncoding bytes)
     pub unsized_envelope : kind ≡ UNSIZED_ENVELOPE → P (lone frames.UnsizedEnvelope)
     pub sized_envelope : kind ≡ SIZED_ENVELOPE → P (size_at 1 frames.SizedEnvelope bytes)
     pub end : kind ≡ END → P (lone frames.End)
-    pub fault : kind ≡ FAULT → P (text_at limit frames.Fault bytes)
+    pub fault : kind ≡ FAULT → P (text_frame_at limit frames.Fault bytes)
     pub preamble_ack : kind ≡ PREAMBLE_ACK → P (lone frames.PreambleAck)
     pub preamble_end : kind ≡ PREAMBLE_END → P (lone frames.PreambleEnd)
     pub other : has_no_frame kind ≡ true → P (wrong (faults.Unexpected kind) 1)

@@ -10,7 +10,7 @@ use Rattle.nmf_records.specs.declared.frame.Expect.{Expect}
 use Rattle.nmf_records.specs.declared.frame.Expect.TheVariants.{Types, Chunk}
 use Rattle.nmf_records.specs.declared.frame.Frame.TheVariants as frames
 use Rattle.nmf_records.specs.declared.frame.FrameFault.TheVariants as faults
-use Rattle.nmf_records.specs.Reading.{bare, allows, typed_at, record_at, frame_at}
+use Rattle.nmf_records.specs.RecordFronts.{bare, allows, typed_at, allowed_at, frame_at}
 
 -- a type byte that is not above the greatest passes the test for one that is
 known_type : (kind : ℕ) → kind ≤ GREATEST → nat_lt GREATEST kind ≡ false
@@ -22,7 +22,7 @@ type_known kind e = grind (arith, nat_tests)
 
 -- a known type that may come is read by its type
 pub allowed_reads : (limit types kind : ℕ) (c : List ℕ) → kind ≤ GREATEST → allows types kind ≡ true
-    → record_at limit types (kind ∷ c) ≡ typed_at limit kind c
+    → allowed_at limit types (kind ∷ c) ≡ typed_at limit kind c
 allowed_reads limit types kind c le may = let known : nat_lt GREATEST kind ≡ false = known_type kind
     le in rw (known, may) refl
 
@@ -49,7 +49,7 @@ begun_may_come limit (Types types) kind q le h = (types, refl, may (allows types
 
   at_false : allows types kind ≡ false → ⊥
   at_false e =
-      let w : record_at limit types (kind ∷ q) ≡ wrong (faults.Unexpected kind) 1 = rw (known, e)
+      let w : allowed_at limit types (kind ∷ q) ≡ wrong (faults.Unexpected kind) 1 = rw (known, e)
       refl in
       cc
 

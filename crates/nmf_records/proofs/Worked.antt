@@ -15,7 +15,7 @@ use Rattle.nmf_records.specs.declared.frame.Expect.TheVariants as expects
 use Rattle.nmf_records.specs.declared.frame.FrameFault.{FrameFault}
 use Rattle.nmf_records.specs.declared.frame.FrameFault.TheVariants as faults
 use Rattle.nmf_records.specs.Records.{Read}
-use Rattle.nmf_records.specs.Reading.{bare, frame_at}
+use Rattle.nmf_records.specs.RecordFronts.{bare, frame_at}
 
 -- a record of this type may come, or one with a text
 abbrev due : ℕ → Expect

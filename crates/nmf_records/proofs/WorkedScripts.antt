@@ -10,7 +10,7 @@ use Rattle.nmf_records.specs.declared.frame.Frame.TheVariants.{PreambleAck, Prea
 use Rattle.nmf_records.specs.declared.frame.Expect.TheVariants as expects
 use Rattle.nmf_records.specs.declared.script.Direction.TheVariants.{FromInitiator, FromReceiver}
 use Rattle.nmf_records.specs.declared.script.Due.TheVariants as dues
-use Rattle.nmf_records.specs.Reading.{comes}
+use Rattle.nmf_records.specs.RecordFronts.{comes}
 use Rattle.nmf_records.specs.Script.{first, may_come, may_end, due_behind, IsScript}
 
 -- a preamble in each mode

@@ -10,7 +10,7 @@ use Rattle.nmf_records.specs.declared.frame.Frame.TheVariants.{UnsizedEnvelope, 
 use Rattle.nmf_records.specs.declared.frame.Frame.TheVariants.{SizedEnvelope, End, Fault}
 use Rattle.nmf_records.specs.declared.frame.Frame.TheVariants.{PreambleAck, PreambleEnd}
 use Rattle.nmf_records.specs.Records.{Read}
-use Rattle.nmf_records.specs.Reading.{bare, with_text}
+use Rattle.nmf_records.specs.RecordFronts.{bare, with_text}
 use Rattle.nmf_records.specs.Writing.{fault_text_of, frame_bytes}
 
 -- a record and its bytes

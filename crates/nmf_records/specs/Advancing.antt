@@ -17,7 +17,7 @@ use Rattle.nmf_records.specs.declared.stage.Stage.TheVariants as stages
 use Rattle.nmf_records.specs.declared.stage.Progress.{Progress}
 use Rattle.nmf_records.specs.declared.stage.Progress.TheVariants as progress
 use Rattle.nmf_records.specs.declared.reader.FrameReader.{FrameReader}
-use Rattle.nmf_records.specs.Reading.{with_text, fault_of, frame_at}
+use Rattle.nmf_records.specs.RecordFronts.{with_text, fault_of, frame_at}
 use Rattle.nmf_records.specs.Steps.{sized, texted}
 use Rattle.nmf_records.specs.Reader.{StandsFor, HoldsText, pending_of, failure_of, HasShape}
 use Rattle.nmf_records.specs.Reader.{size_bytes}
@@ -76,10 +76,10 @@ Moves n (progress.Going stage) = 0 < n
 Moves n _ = Unit {0}
 
 -- a fault is kept, and how many bytes show it
-abbrev pub Keeps : FrameReader → Progress → Type 0
-Keeps new (progress.Wrong fault) =
+abbrev pub KeepsFault : FrameReader → Progress → Type 0
+KeepsFault new (progress.Wrong fault) =
     failure_of new ≡ Some (record { fault = fault; shown_by = pending_of new })
-Keeps new _ = Unit {0}
+KeepsFault new _ = Unit {0}
 
 -- the stage behind what some bytes led to
 abbrev pub stage_after : Progress → Stage

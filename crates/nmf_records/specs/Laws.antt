@@ -13,7 +13,7 @@ use Rattle.nmf_records.specs.declared.frame.Expect.TheVariants.{Types, Chunk}
 use Rattle.nmf_records.specs.declared.frame.FrameFault.{FrameFault}
 use Rattle.nmf_records.specs.declared.frame.FrameFault.TheVariants as faults
 use Rattle.nmf_records.specs.Records.{Read, IsRecord}
-use Rattle.nmf_records.specs.Reading.{allows, MayCome, frame_at, begins_text}
+use Rattle.nmf_records.specs.RecordFronts.{allows, MayCome, frame_at, begins_text}
 use Rattle.nbfx_values.specs.declared.session.Mode.{Mode}
 use Rattle.nmf_records.specs.declared.frame.Frame.{Frame}
 use Rattle.nmf_records.specs.declared.script.Direction.{Direction}

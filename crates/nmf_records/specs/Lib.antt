@@ -1,6 +1,6 @@
 -- cited by public contracts
 pub mod Records
-pub mod Reading
+pub mod RecordFronts
 pub mod Reader
 pub mod Script
 pub mod Laws

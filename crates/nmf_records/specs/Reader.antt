@@ -24,7 +24,7 @@ use Rattle.nmf_records.specs.declared.stage.Stage.{Stage}
 use Rattle.nmf_records.specs.declared.stage.Stage.TheVariants as stages
 use Rattle.nmf_records.specs.declared.reader.FrameReader.{FrameReader}
 use Rattle.nmf_records.specs.Records.{Read}
-use Rattle.nmf_records.specs.Reading.{with_text, frame_at, begins_text}
+use Rattle.nmf_records.specs.RecordFronts.{with_text, frame_at, begins_text}
 
 -- the greatest length of a text that the reader takes
 unfoldable pub limit_of : FrameReader → ℕ

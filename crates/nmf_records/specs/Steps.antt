@@ -1,6 +1,6 @@
 -- What the steps of a reader say of the bytes so far, from stage to stage.
 use Rattle.std.specs.Prelude.{◌≡◌, ℕ, List, [], drop, Bool, true, false}
-use Rattle.nmf_records.specs.Reading.{with_text}
+use Rattle.nmf_records.specs.RecordFronts.{with_text}
 use Rattle.unit_streams.specs.Front.{Front, begun, whole, wrong}
 use Rattle.nmf_records.specs.declared.frame.Frame.{Frame}
 use Rattle.nmf_records.specs.declared.frame.Frame.TheVariants as frames

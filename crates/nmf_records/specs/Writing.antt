@@ -19,7 +19,7 @@ use Rattle.nmf_records.specs.declared.frame.Frame.TheVariants.{SizedEnvelope, En
 use Rattle.nmf_records.specs.declared.frame.Frame.TheVariants.{PreambleAck, PreambleEnd}
 use Rattle.nmf_records.specs.declared.frame.Expect.{Expect}
 use Rattle.nmf_records.specs.Records.{Read, IsRecord}
-use Rattle.nmf_records.specs.Reading.{MayCome, frame_at}
+use Rattle.nmf_records.specs.RecordFronts.{MayCome, frame_at}
 
 -- a record of a text, of this type
 abbrev pub text_frame_bytes : ℕ → List ℕ → List ℕ

@@ -2,7 +2,7 @@
 
 ghost use Rattle.std.specs.Prelude.{◌≡◌, ℕ, List, [], ◌∷◌, IfSome, true, false};
 ghost use Rattle.unit_streams.specs.Front.{whole};
-ghost use Rattle.nmf_records.specs.Reading.{bare, begins_text, frame_at};
+ghost use Rattle.nmf_records.specs.RecordFronts.{bare, begins_text, frame_at};
 
 use crate::frame::{Expect, Frame};
 use crate::record_types::SIZED_ENVELOPE;

@@ -4,7 +4,7 @@
 ghost use Rattle.std.specs.Prelude.{ℕ};
 ghost use Rattle.unit_streams.specs.Front.{ReadsFront};
 ghost use Rattle.nmf_records.specs.declared.frame.Expect.{Expect};
-ghost use Rattle.nmf_records.specs.Reading.{frame_at};
+ghost use Rattle.nmf_records.specs.RecordFronts.{frame_at};
 ghost use Rattle.nmf_records.specs.Writing.{WrittenAreRecords, WrittenAreRead};
 ghost use Rattle.nmf_records.specs.Laws.{RecordsAreRead, NoRecordGoesOn, BegunIsShort, WholeIsShort, WrongIsShort, UnknownByType, UnexpectedByType, BadByInteger, BadByLength, BadByText, ScriptsLeadToEnd, NoScriptGoesOn};
 

@@ -4,7 +4,7 @@
 //! The one idea is the record at the front of some bytes: whole with so many of them, wrong from so
 //! many on, or only begun. What a record's bytes are is `IsRecord` of `specs/Records.antt`, one row
 //! for each record. What stands at the front of any bytes, where some types may come, is `frame_at`
-//! of `specs/Reading.antt`. `laws` has that the two are one, and the cause of each fault.
+//! of `specs/RecordFronts.antt`. `laws` has that the two are one, and the cause of each fault.
 //!
 //! A reader takes the bytes in any pieces and keeps none but a text's. `FrameReader::feed` is
 //! proved to answer what stands at the front of all bytes since the last record: the record at the
@@ -36,6 +36,3 @@ pub use frame::{Expect, Frame, FrameFault, FrameRefusal, FrameStep};
 pub use reader::FrameReader;
 pub use script::{Direction, Due};
 pub use writing::{put_head, put_text_frame};
-
-#[cfg(test)]
-mod tests;

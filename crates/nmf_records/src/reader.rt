@@ -5,7 +5,7 @@ ghost use Rattle.multibyte_ints.specs.Reader.{StandsFor as IntStandsFor};
 ghost use Rattle.nmf_records.specs.declared.frame.Expect.{Expect as Expected};
 ghost use Rattle.nmf_records.specs.Steps.{is_text_start};
 ghost use Rattle.nmf_records.specs.Reader.{StandsFor, ShowsText, FrameAnswers, AfterPiece, limit_of, held_of, pending_of, failure_of, shown_behind};
-ghost use Rattle.nmf_records.specs.Advancing.{SizeAnswers, TextAnswers, Progresses, ReadsBytes, BeginsAnew, Steps, Moves, Keeps, stage_after, pending_after};
+ghost use Rattle.nmf_records.specs.Advancing.{SizeAnswers, TextAnswers, Progresses, ReadsBytes, BeginsAnew, Steps, Moves, KeepsFault, stage_after, pending_after};
 ghost use Rattle.unit_streams.specs.Front.{begun};
 ghost use Rattle.multibyte_ints.specs.Text.{string_at};
 ghost use Rattle.multibyte_ints.specs.TextReader.{StringStandsFor};
@@ -152,7 +152,7 @@ impl FrameReader {
             → ShowsText self.new
             (shown_behind (limit_of self.old) expect (p ++ take result.0 bytes.now) s) }
         ensures limit { limit_of self.new ≡ limit_of self.old }
-        ensures kept { Keeps self.new result.1 }
+        ensures kept { KeepsFault self.new result.1 }
     {
         let (n, progress) = self.read_some(bytes, expect);
         self.settle(n, progress);

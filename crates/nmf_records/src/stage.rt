@@ -5,7 +5,7 @@ ghost use Rattle.unit_streams.specs.Front.{begun};
 ghost use Rattle.nmf_records.specs.declared.record_types.TheConstants.{VIA, FAULT, GREATEST};
 ghost use Rattle.nmf_records.specs.declared.frame.Expect.{Expect};
 ghost use Rattle.nmf_records.specs.declared.frame.Expect.TheVariants.{Types};
-ghost use Rattle.nmf_records.specs.Reading.{frame_at, record_at, typed_at, allows, begins_text};
+ghost use Rattle.nmf_records.specs.RecordFronts.{frame_at, allowed_at, typed_at, allows, begins_text};
 ghost use Rattle.nmf_records.specs.Reader.{HasShape};
 ghost use Rattle.nmf_records.specs.Steps.{Meets, GoesTo, sized, texted, is_text_start, progress_of};
 
@@ -115,7 +115,7 @@ pub fn allows(types: u16, kind: u8) -> bool
 
 /// What a type byte leads to, where a record whose type has its bit set may come.
 pub fn after_type(types: u16, kind: u8) -> Progress
-    ensures reads { (limit : ℕ) → Meets (record_at limit types (kind ∷ [])) 1 result }
+    ensures reads { (limit : ℕ) → Meets (allowed_at limit types (kind ∷ [])) 1 result }
     ensures goes { GoesTo (Types types) (kind ∷ []) result }
     ensures text { is_text_start result ≡ begins_text (Types types) (kind ∷ []) }
 {

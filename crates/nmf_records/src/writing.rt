@@ -2,7 +2,7 @@
 
 ghost use Rattle.std.specs.Prelude.{◌≡◌, ℕ, ◌+◌, ◌^◌, ◌<◌, ◌≤◌, ◌∷◌, ◌++◌, ◌⊎◌, length, take, drop, false, OnOk, OnErr};
 ghost use Rattle.multibyte_ints.specs.Integer.{shortest};
-ghost use Rattle.nmf_records.specs.Reading.{bare};
+ghost use Rattle.nmf_records.specs.RecordFronts.{bare};
 ghost use Rattle.nmf_records.specs.Writing.{frame_bytes, has_text, size_told, text_frame_bytes};
 
 use crate::frame::Frame;

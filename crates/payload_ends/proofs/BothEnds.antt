@@ -12,12 +12,12 @@ use Rattle.string_tables.specs.StringTable.{StringTable}
 use Rattle.string_tables.proofs.SessionFacts.{used_cost-append}
 use Rattle.nbfx_records.specs.Payloads.{IsWithin}
 use Rattle.nbfx_encoder.specs.declared.encoder.Encoder.{Encoder}
-use Rattle.nbfx_encoder.specs.Reading.{AppendsPayload, IsRead}
+use Rattle.nbfx_encoder.specs.ReadBack.{AppendsPayload, IsRead}
 use Rattle.nbfx_encoder.specs.EncoderState.{KeepsSettings, kind_in, names_in}
 use Rattle.nbfx_decoder.specs.declared.decoder.Decoder.{Decoder}
 use Rattle.nbfx_decoder.specs.Laws.{IsWholePayload, MayBegin, PayloadsAreAccepted, table_before}
 use Rattle.nbfx_decoder.specs.Payload.{NoEvent, Refusal, Settings, payload}
-use Rattle.nbfx_decoder.specs.Standing.{StandsFor, settings_of, situation_of}
+use Rattle.nbfx_decoder.specs.DecoderState.{StandsFor, settings_of, situation_of}
 use Rattle.nbfx_decoder.proofs.Readable.{readable}
 use Rattle.payload_ends.specs.Level.{AreLevel}
 

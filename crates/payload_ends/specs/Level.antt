@@ -3,12 +3,12 @@ use Rattle.std.specs.Prelude.{◌≡◌, ⊤, ℕ, List, [], Some}
 use Rattle.nbfx_values.specs.Limits.{IsGood}
 use Rattle.nbfx_values.specs.declared.content.Item.{Item}
 use Rattle.nbfx_encoder.specs.declared.encoder.Encoder.{Encoder}
-use Rattle.nbfx_encoder.specs.Reading.{AdmitsAsMuch}
+use Rattle.nbfx_encoder.specs.ReadBack.{AdmitsAsMuch}
 use Rattle.nbfx_encoder.specs.Spelling.{encoded}
 use Rattle.nbfx_encoder.specs.EncoderState.{Refuses, Writes, kind_in, limits_in, names_in}
 use Rattle.nbfx_decoder.specs.declared.decoder.Decoder.{Decoder}
 use Rattle.nbfx_decoder.specs.declared.faults.DecodeFault.TheVariants as faults
-use Rattle.nbfx_decoder.specs.Standing.{StandsFor, failure_of, settings_of}
+use Rattle.nbfx_decoder.specs.DecoderState.{StandsFor, failure_of, settings_of}
 use Rattle.payload_ends.specs.declared.carrying.CarryFault.{CarryFault}
 use Rattle.payload_ends.specs.declared.carrying.CarryFault.TheVariants.{Unsent, Memory}
 

@@ -2,11 +2,11 @@
 
 ghost use Rattle.std.specs.Prelude.{◌≡◌, [], IfErr, IfOk, IsErrOf, OnOk};
 ghost use Rattle.nbfx_values.specs.QuotasOf.{limits_of};
-ghost use Rattle.nbfx_encoder.specs.Reading.{AdmitsAsMuch};
+ghost use Rattle.nbfx_encoder.specs.ReadBack.{AdmitsAsMuch};
 ghost use Rattle.nbfx_encoder.specs.Spelling.{encoded};
 ghost use Rattle.nbfx_encoder.specs.EncoderState.{KeepsSettings, Writes};
 ghost use Rattle.nbfx_encoder.specs.EncoderState.{kind_in, limits_in, names_in};
-ghost use Rattle.nbfx_decoder.specs.Standing.{settings_of, table_at};
+ghost use Rattle.nbfx_decoder.specs.DecoderState.{settings_of, table_at};
 ghost use Rattle.payload_ends.specs.Level.{AreLevel, IsLost, IsUnsent};
 
 use nbfx_decoder::{DecodeFault, Decoder};

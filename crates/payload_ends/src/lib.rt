@@ -9,6 +9,3 @@
 mod carrying;
 
 pub use carrying::{CarryFault, carry, new_ends, tables};
-
-#[cfg(test)]
-mod tests;

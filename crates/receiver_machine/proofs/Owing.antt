@@ -2,7 +2,7 @@
 use Rattle.std.proofs.Common.{◌≡◌, ℕ, List, Option, Some, None, Result, Ok, Err, refl, sym, ap, ◌∙◌}
 use Rattle.std.specs.Prelude.{◌++◌, take, IfOk, IfErr}
 use Rattle.stream_reader.specs.declared.reader.ReadRefusal.{ReadRefusal}
-use Rattle.stream_reader.specs.Standing as reader_standing
+use Rattle.stream_reader.specs.StreamReaderState as reader_standing
 use Rattle.stream_reader.specs.declared.reader.StreamReader.{StreamReader}
 use Rattle.stream_reader.specs.declared.reader.StreamStep.{StreamStep}
 use Rattle.stream_reader.specs.declared.reader.StreamStep.TheVariants as steps
@@ -11,7 +11,7 @@ use Rattle.receiver_machine.specs.declared.receiver.Receiver.{Receiver}
 use Rattle.receiver_machine.specs.Owed.{after_answer, after_step, bytes_of, owed_after, owed_behind}
 use Rattle.receiver_machine.specs.Owed.{owed_for}
 use Rattle.stream_reader.proofs.ReaderFacts.{failure_as, not_failed}
-use Rattle.receiver_machine.specs.Standing.{StandsFor, failure_of, owed_unless}
+use Rattle.receiver_machine.specs.ReceiverState.{StandsFor, failure_of, owed_unless}
 
 -- a reader that stands hasn't failed
 pub unfailed : (r : StreamReader) (p : List ℕ) → reader_standing.StandsFor r p

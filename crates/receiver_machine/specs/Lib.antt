@@ -1,3 +1,3 @@
 -- Public contracts cite both.
 pub mod Owed
-pub mod Standing
+pub mod ReceiverState

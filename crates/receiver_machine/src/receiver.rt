@@ -1,5 +1,5 @@
 //! An initiator's stream, in any pieces.
-#![tactic(auto, unfolding(crate::specs::Standing::settings_of, crate::specs::Standing::taken_of, crate::specs::Standing::messages_of, crate::specs::Standing::failure_of, crate::specs::Standing::held_of, crate::specs::Standing::content_held_of, crate::specs::Standing::owed_of, crate::specs::Standing::ShowsText, crate::specs::Standing::ShowsStrings, crate::specs::Standing::StandsFor, crate::specs::Standing::FailedBehind))]
+#![tactic(auto, unfolding(crate::specs::ReceiverState::settings_of, crate::specs::ReceiverState::taken_of, crate::specs::ReceiverState::messages_of, crate::specs::ReceiverState::failure_of, crate::specs::ReceiverState::held_of, crate::specs::ReceiverState::content_held_of, crate::specs::ReceiverState::owed_of, crate::specs::ReceiverState::ShowsText, crate::specs::ReceiverState::ShowsStrings, crate::specs::ReceiverState::StandsFor, crate::specs::ReceiverState::FailedBehind))]
 
 ghost use Rattle.std.specs.Prelude.{◌≡◌, ℕ, ◌+◌, ◌≤◌, List, [], ◌++◌, length, take, IfOk, IfErr, OnOk, IsErrOf, Ok, Err, Some, false, true};
 ghost use Rattle.unit_streams.specs.Grammar.{standing};
@@ -29,11 +29,11 @@ pub struct Receiver<'s> {
 impl<'s> Receiver<'s> {
     ghost use Rattle.nbfx_values.specs.declared.refusals.Offence.{Offence as Refused};
     ghost use Rattle.stream_reader.specs.declared.reader.ReadRefusal.{ReadRefusal as Failure};
-    ghost use Rattle.stream_reader.specs.Standing.{HasPayloads, begun_in, items_in};
+    ghost use Rattle.stream_reader.specs.StreamReaderState.{HasPayloads, begun_in, items_in};
     ghost use Rattle.stream_reader.specs.Saying.{Says, Repeats};
     ghost use Rattle.receiver_machine.specs.Owed.{owed_at_end, owed_behind, owed_for};
     ghost use Rattle.stream_reader.specs.Calls.{told_at_end};
-    ghost use Rattle.receiver_machine.specs.Standing.{owed_of, settings_of, taken_of, held_of, content_held_of, messages_of, failure_of, StandsFor, FailedBehind, ShowsText, ShowsStrings, WhereItStands, WhereItFailed, FailsBy};
+    ghost use Rattle.receiver_machine.specs.ReceiverState.{owed_of, settings_of, taken_of, held_of, content_held_of, messages_of, failure_of, StandsFor, FailedBehind, ShowsText, ShowsStrings, WhereItStands, WhereItFailed, FailsBy};
 
     /// A receiver before the first byte, which serves this endpoint. It allocates all that it needs
     /// up to the preamble's end.

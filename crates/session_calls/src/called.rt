@@ -75,7 +75,7 @@ fn outcome_status(outcome: &CallOutcome) -> u8
 }
 
 impl Called {
-    /// The status of a run that ends so: want of memory goes first, then a failed end of the
+    /// The status of a run that ends so: running out of memory goes first, then a failed end of the
     /// connection, a document that doesn't fit, a failed output, and what the peer sent.
     pub fn status(&self) -> u8
         ensures { result ≡ status_of self.now }
@@ -88,8 +88,8 @@ impl Called {
         }
     }
 
-    /// The fault of the documents that is the cause of the status, and that a note tells. Where
-    /// there is none, the note goes with the status by itself.
+    /// The fault of the documents that is the cause of the status, and that a note says. Where there
+    /// is none, the note goes with the status by itself.
     pub fn fault(&self) -> Option<InputFault>
         ensures { result ≡ fault_of self.now }
     {

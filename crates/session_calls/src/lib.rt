@@ -2,7 +2,7 @@
 //!
 //! The one idea: a call is one connection of a client (`client`), of which everything is known from
 //! its documents and the peer's bytes. What surrounds it is little, and is said apart from it: the
-//! documents come in two lists, of which a line tells how many were sent; the connection is made
+//! documents come in two lists, of which a line says how many were sent; the connection is made
 //! only where they may be sent, and is closed however it ends; and the report is gathered, so that
 //! it is written by few calls. Envelopes aren't: each is written before it counts as sent.
 //!
@@ -18,6 +18,3 @@ mod tags;
 
 pub use called::Called;
 pub use places::call_place;
-
-#[cfg(test)]
-mod tests;

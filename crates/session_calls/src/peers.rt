@@ -119,7 +119,7 @@ fn call_peer<S: Source, K: Sink, O: Sink>(
 }
 
 /// Calls the peer whose bytes the source gives and the sink takes, and writes the report of that,
-/// which is gathered in a room. What goes to the peer isn't. Answers what became of it with the
+/// which is gathered in a buffer. What goes to the peer isn't. Answers what became of it with the
 /// output.
 pub fn call_gathered<S: Source, K: Sink, O: Sink>(
     alloc: Global,

@@ -13,6 +13,3 @@ mod table;
 mod texts;
 
 pub use table::{AddFault, Mark, SessionTable};
-
-#[cfg(test)]
-mod tests;

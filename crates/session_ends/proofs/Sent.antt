@@ -20,7 +20,7 @@ use Rattle.nbfx_decoder.specs.Payload.{payload}
 use Rattle.nbfx_decoder.proofs.Readable.{readable}
 use Rattle.nbfx_encoder.specs.Envelopes.{UnfitAt, envelope, envelope_then, envelopes_from}
 use Rattle.nbfx_encoder.specs.Placing.{Placed}
-use Rattle.nbfx_encoder.specs.Reading.{AdmitsAsMuch, IsRead}
+use Rattle.nbfx_encoder.specs.ReadBack.{AdmitsAsMuch, IsRead}
 use Rattle.nbfx_encoder.specs.Spelling.{Fits, Unfit, encoded}
 use Rattle.nbfx_encoder.proofs.LawFacts.{Parted, parted, writes_what_fits}
 use Rattle.nbfx_encoder.proofs.Payloads.{chosen_is_payload}

@@ -23,7 +23,7 @@ use Rattle.nmf_records.specs.declared.frame.Frame.TheVariants as frames
 use Rattle.nmf_records.specs.declared.script.Due.TheVariants as dues
 use Rattle.nmf_records.specs.declared.script.Direction.{Direction}
 use Rattle.nmf_records.specs.declared.script.Direction.TheVariants.{FromInitiator, FromReceiver}
-use Rattle.nmf_records.specs.Reading.{MayCome, bare}
+use Rattle.nmf_records.specs.RecordFronts.{MayCome, bare}
 use Rattle.nmf_records.specs.Script.{may_come}
 use Rattle.nbfx_decoder.specs.Laws.{IsWholePayload}
 use Rattle.stream_reader.specs.Sessions.{Carried, CarriesAll, IsBare, IsPreamble, IsSized}

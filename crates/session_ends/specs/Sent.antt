@@ -13,7 +13,7 @@ use Rattle.nmf_records.specs.declared.frame.Frame.TheVariants.{End}
 use Rattle.nmf_records.specs.Writing.{frame_bytes_of}
 use Rattle.nbfx_encoder.specs.Envelopes.{envelopes_from}
 use Rattle.nbfx_encoder.specs.Placing.{Placed}
-use Rattle.nbfx_encoder.specs.Reading.{AdmitsAsMuch}
+use Rattle.nbfx_encoder.specs.ReadBack.{AdmitsAsMuch}
 use Rattle.stream_reader.specs.Sessions.{Carried, CarriesAll, IsPreamble, IsSession, conversation}
 use Rattle.stream_reader.specs.Stream.{Settings, initiators}
 

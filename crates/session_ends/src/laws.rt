@@ -8,7 +8,7 @@ pub fn envelopes()
     ensures { SentAreCarried }
 {}
 
-/// Behind a preamble that the reader takes, and before an End record, they are a session of just
+/// After a preamble that the reader accepts, and before an End record, they are a session of just
 /// these documents, where it is within the reader's session quota.
 pub fn sessions()
     ensures { SentAreSessions }

@@ -16,7 +16,7 @@ use Rattle.stream_reader.specs.Stream.{Settings, StreamEvent, is_over_in, stream
 use Rattle.stream_reader.proofs.Ending.{first_on}
 use Rattle.stream_reader.proofs.Grammar.{readable}
 use Rattle.receiver_machine.specs.declared.receiver.Receiver.{Receiver}
-use Rattle.receiver_machine.specs.Standing.{StandsFor, settings_of}
+use Rattle.receiver_machine.specs.ReceiverState.{StandsFor, settings_of}
 use Rattle.session_ends.proofs.Steps.{IsTakenWhole}
 use Rattle.session_generator.specs.declared.ends.GenFault.{GenFault}
 use Rattle.session_generator.specs.declared.ends.GenFault.TheVariants.{SessionTooLong, Memory}

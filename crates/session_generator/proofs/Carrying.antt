@@ -24,7 +24,7 @@ use Rattle.stream_reader.specs.Sessions.{conversation}
 use Rattle.stream_reader.specs.Stream.{Settings, any_initiators, stream, strings_in}
 use Rattle.stream_reader.proofs.SessionEnds.{closed_offence}
 use Rattle.receiver_machine.specs.declared.receiver.Receiver.{Receiver}
-use Rattle.receiver_machine.specs.Standing.{StandsFor, settings_of}
+use Rattle.receiver_machine.specs.ReceiverState.{StandsFor, settings_of}
 use Rattle.session_ends.specs.Sent.{session_bytes}
 use Rattle.session_ends.proofs.Steps.{IsTakenWhole}
 use Rattle.session_generator.specs.declared.ends.Ends.{Ends}

@@ -23,7 +23,7 @@ use Rattle.nbfx_encoder.specs.declared.sender.Side.TheVariants.{Initiator}
 use Rattle.stream_reader.specs.Judging.{offence}
 use Rattle.stream_reader.specs.Stream.{any_initiators, stream}
 use Rattle.receiver_machine.specs.declared.receiver.Receiver.{Receiver}
-use Rattle.receiver_machine.specs.Standing.{StandsFor, settings_of}
+use Rattle.receiver_machine.specs.ReceiverState.{StandsFor, settings_of}
 use Rattle.session_ends.specs.Sent.{first_table}
 use Rattle.session_generator.specs.declared.ends.Ends.{Ends}
 use Rattle.session_generator.specs.declared.ends.GenFault.{GenFault}

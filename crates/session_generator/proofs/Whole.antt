@@ -18,7 +18,7 @@ use Rattle.string_tables.specs.StringTable.{StringTable}
 use Rattle.nbfx_decoder.specs.Laws.{IsWholePayload}
 use Rattle.nbfx_encoder.specs.Envelopes.{behind_bytes, envelope, envelope_then, envelopes_from}
 use Rattle.nbfx_encoder.specs.Placing.{Placed}
-use Rattle.nbfx_encoder.specs.Reading.{AdmitsAsMuch}
+use Rattle.nbfx_encoder.specs.ReadBack.{AdmitsAsMuch}
 use Rattle.nbfx_encoder.specs.Spelling.{encoded}
 use Rattle.nbfx_encoder.proofs.LawFacts.{sends_one_more, writes_what_fits}
 use Rattle.stream_reader.specs.Sessions.{Carried, IsPreamble, conversation, IsSession}

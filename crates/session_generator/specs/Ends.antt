@@ -14,7 +14,7 @@ use Rattle.nbfx_encoder.specs.declared.sender.SendState.TheVariants.{Closed}
 use Rattle.stream_reader.specs.Judging.{offence}
 use Rattle.stream_reader.specs.Sessions.{Carried, IsSession, conversation}
 use Rattle.stream_reader.specs.Stream.{any_initiators, stream, strings_in}
-use Rattle.receiver_machine.specs.Standing.{StandsFor, settings_of}
+use Rattle.receiver_machine.specs.ReceiverState.{StandsFor, settings_of}
 use Rattle.session_generator.specs.declared.ends.Ends.{Ends}
 use Rattle.session_generator.specs.declared.ends.GenFault.{GenFault}
 use Rattle.session_generator.specs.declared.ends.GenFault.TheVariants.{SessionTooLong, Memory}

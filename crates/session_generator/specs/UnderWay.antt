@@ -18,7 +18,7 @@ use Rattle.nbfx_encoder.specs.declared.sender.Side.TheVariants.{Initiator}
 use Rattle.stream_reader.specs.Judging.{offence}
 use Rattle.stream_reader.specs.Stream.{Settings, StreamEvent, any_initiators}
 use Rattle.receiver_machine.specs.declared.receiver.Receiver.{Receiver}
-use Rattle.receiver_machine.specs.Standing.{StandsFor, settings_of}
+use Rattle.receiver_machine.specs.ReceiverState.{StandsFor, settings_of}
 use Rattle.session_ends.specs.Sent.{AreDocuments, first_table}
 use Rattle.session_generator.specs.declared.ends.GenFault.{GenFault}
 use Rattle.session_generator.specs.declared.ends.GenFault.TheVariants.{SessionTooLong, Memory}

@@ -5,7 +5,7 @@ ghost use Rattle.unit_streams.specs.Grammar.{standing};
 ghost use Rattle.nbfx_values.specs.QuotasOf.{limits_of};
 ghost use Rattle.nbfx_encoder.specs.Sending.{names_in};
 ghost use Rattle.stream_reader.specs.Stream.{stream, strings_in};
-ghost use Rattle.receiver_machine.specs.Standing.{WhereItStands, settings_of};
+ghost use Rattle.receiver_machine.specs.ReceiverState.{WhereItStands, settings_of};
 ghost use Rattle.session_generator.specs.Documents.{documents};
 ghost use Rattle.session_generator.specs.Ends.{AreLevel, HaveSession, IsWhyNone};
 

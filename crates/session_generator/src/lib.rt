@@ -15,6 +15,3 @@ mod session;
 
 pub use ends::{Ends, GenFault};
 pub use generating::{generate, tables};
-
-#[cfg(test)]
-mod tests;

@@ -3,7 +3,7 @@
 ghost use Rattle.std.specs.Prelude.{◌≡◌, false};
 ghost use Rattle.unit_streams.specs.Judging.{answer, is_over_at};
 ghost use Rattle.stream_reader.specs.Stream.{stream};
-ghost use Rattle.receiver_machine.specs.Standing.{WhereItStands, settings_of};
+ghost use Rattle.receiver_machine.specs.ReceiverState.{WhereItStands, settings_of};
 ghost use Rattle.session_generator.specs.UnderWay.{IsReadSo};
 
 use crate::ends::GenFault;

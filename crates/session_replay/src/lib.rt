@@ -12,6 +12,3 @@ mod responding;
 
 pub use replaying::{Replayed, replay_stream};
 pub use responding::{Responder, read_actions};
-
-#[cfg(test)]
-mod tests;

@@ -20,7 +20,7 @@ use Rattle.stream_loop.specs.declared.reading_end.FeedFault.{FeedFault}
 use Rattle.stream_loop.proofs.Alike.{alike}
 use Rattle.stream_reader.specs.Saying.{said as said_by_reader, step_for}
 use Rattle.stream_reader.specs.declared.reader.ReadRefusal.{ReadRefusal}
-use Rattle.stream_reader.specs.Standing.{StandsFor, settings_of}
+use Rattle.stream_reader.specs.StreamReaderState.{StandsFor, settings_of}
 use Rattle.stream_reader.specs.Stream.{Settings, StreamEvent, opened, accepted, message, ended}
 use Rattle.stream_reader.specs.Stream.{peer_fault, stream}
 use Rattle.stream_reader.specs.declared.reader.StreamReader.{StreamReader}

@@ -8,7 +8,7 @@ use Rattle.nbfx_values.specs.Measures.{content_of}
 use Rattle.nbfx_values.specs.declared.refusals.Offence.{Offence}
 use Rattle.string_tables.specs.SessionStrings.{used_cost}
 use Rattle.stream_reader.specs.Saying.{step_for}
-use Rattle.stream_reader.specs.Standing.{StandsFor, settings_of}
+use Rattle.stream_reader.specs.StreamReaderState.{StandsFor, settings_of}
 use Rattle.stream_reader.specs.Stream.{StreamEvent, opened, accepted, message, ended, peer_fault}
 use Rattle.stream_reader.specs.Stream.{stream}
 use Rattle.stream_reader.specs.declared.reader.StreamReader.{StreamReader}

@@ -6,7 +6,7 @@ ghost use Rattle.nbfx_values.specs.Limits.{IsGood};
 ghost use Rattle.nbfx_values.specs.Measures.{content_of};
 ghost use Rattle.nbfx_values.specs.QuotasOf.{limits_of};
 ghost use Rattle.stream_reader.specs.Sides.{side_of};
-ghost use Rattle.stream_reader.specs.Standing.{StandsFor, settings_of};
+ghost use Rattle.stream_reader.specs.StreamReaderState.{StandsFor, settings_of};
 ghost use Rattle.stream_reader.specs.Stream.{stream};
 ghost use Rattle.session_report.specs.Saying.{SaysStep};
 
@@ -136,7 +136,7 @@ impl<'s> ReadingEnd for StreamEnd<'s> {
 
     type Refusal = Offence;
 
-    ghost use Rattle.stream_reader.specs.Standing.{settings_of, taken_of, StandsFor, counts_taken};
+    ghost use Rattle.stream_reader.specs.StreamReaderState.{settings_of, taken_of, StandsFor, counts_taken};
     ghost use Rattle.stream_reader.specs.Stream.{Situation as StreamSituation, StreamUnit, StreamEvent, ends as is_last, stream};
     ghost use Rattle.session_report.specs.Saying.{event_for};
 

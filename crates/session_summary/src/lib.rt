@@ -10,6 +10,3 @@
 mod summary;
 
 pub use summary::{Summary, summarize};
-
-#[cfg(test)]
-mod tests;

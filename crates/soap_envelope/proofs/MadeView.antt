@@ -17,8 +17,8 @@ use Rattle.soap_envelope.specs.Body.{behind_head, body_items, needed, self_stand
 use Rattle.soap_envelope.specs.Characters.{is_passed, text_of}
 use Rattle.soap_envelope.specs.Children.{children_from, close_from, is_start}
 use Rattle.soap_envelope.specs.Faults.{not_understood_block}
-use Rattle.soap_envelope.specs.Headers.{bad_header, bad_in_block, counted, counted_at, counts_as}
-use Rattle.soap_envelope.specs.Headers.{repeated_behind}
+use Rattle.soap_envelope.specs.Headers.{bad_header, bad_in_block, first_counted, counted_at}
+use Rattle.soap_envelope.specs.Headers.{counts_as, repeated_behind}
 use Rattle.soap_envelope.specs.Made.{StandsInReplies, action_seen, behind_names, behind_relates}
 use Rattle.soap_envelope.specs.Made.{made_view, name_seen, names_seen, relates_seen, reply_root}
 use Rattle.soap_envelope.specs.Made.{reply_scope}
@@ -118,7 +118,8 @@ relates-children (x ∷ texts) tail h = absurd cc
 
 -- of these blocks none but Action counts, and none is repeated
 names-uncounted : (local : List ℕ) (names : List Name) (at : ℕ)
-    → ((n : ℕ) → counts_as local (name_seen n) ≡ false) → counted local (names_seen at names) ≡ None
+    → ((n : ℕ) → counts_as local (name_seen n) ≡ false)
+    → first_counted local (names_seen at names) ≡ None
 names-uncounted local [] at h = refl
 names-uncounted local (name ∷ names) at h =
     rw (h at) (names-uncounted local names (at + 4) h)
@@ -145,21 +146,21 @@ module _ (action : List ℕ) (relates : List Item) (names : List Name) where
           names-unrepeated (action_seen ∷ relates_seen (text ∷ texts)) names
           (behind_relates (text ∷ texts))
 
-  uncounted-reply : counted (codes "ReplyTo") seen ≡ None
+  uncounted-reply : first_counted (codes "ReplyTo") seen ≡ None
   unfolding envelopes_on_literals
   uncounted-reply = by relates
     where
-      by : (texts : List Item) → counted (codes "ReplyTo")
+      by : (texts : List Item) → first_counted (codes "ReplyTo")
           (action_seen ∷ (relates_seen texts ++ names_seen (behind_relates texts) names)) ≡ None
       by [] = names-uncounted (codes "ReplyTo") names 8 (λ n. refl)
       by (text ∷ texts) =
           names-uncounted (codes "ReplyTo") names (behind_relates (text ∷ texts)) (λ n. refl)
 
-  uncounted-message : counted (codes "MessageID") seen ≡ None
+  uncounted-message : first_counted (codes "MessageID") seen ≡ None
   unfolding envelopes_on_literals
   uncounted-message = by relates
     where
-      by : (texts : List Item) → counted (codes "MessageID")
+      by : (texts : List Item) → first_counted (codes "MessageID")
           (action_seen ∷ (relates_seen texts ++ names_seen (behind_relates texts) names)) ≡ None
       by [] = names-uncounted (codes "MessageID") names 8 (λ n. refl)
       by (text ∷ texts) =

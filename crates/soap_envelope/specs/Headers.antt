@@ -22,11 +22,11 @@ abbrev pub counts_as : List ℕ → Block → Bool
 counts_as local b = b.targeted && is_named b.name addressing local
 
 -- the first that does
-abbrev pub counted : List ℕ → List Block → Option Block
-counted local blocks = find (counts_as local) blocks
+abbrev pub first_counted : List ℕ → List Block → Option Block
+first_counted local blocks = find (counts_as local) blocks
 
 abbrev pub counted_at : List ℕ → List Block → Option ℕ
-counted_at local blocks = option_map (λ (b : Block). b.from) (counted local blocks)
+counted_at local blocks = option_map (λ (b : Block). b.from) (first_counted local blocks)
 
 -- whether a block counts as one with content of characters alone, and as one that may stand once
 abbrev pub is_textual : Block → Bool

@@ -37,7 +37,7 @@ pub fn faults()
     ensures unfit { UnfitNamesAreUnfit }
 {}
 
-/// What is seen of a document depends on the namespaces that its prefixes stand for, and on no
+/// What is seen of a document depends on the namespaces that its prefixes are bound to, and on no
 /// prefix: documents with the same names and values, item by item, have the same blocks, action,
 /// reply address and MessageID, or are refused for the same reason at the same item. So are a
 /// document and the same with other prefixes for its namespaces. The content of Body keeps its

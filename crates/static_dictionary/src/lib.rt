@@ -16,8 +16,3 @@ mod table;
 
 pub use fault::{TableFault, TableKind};
 pub use table::StaticTable;
-
-#[cfg(test)]
-mod published;
-#[cfg(test)]
-mod tests;

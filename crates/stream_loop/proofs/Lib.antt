@@ -9,8 +9,6 @@ pub mod LoopSteps
 pub mod Finishing
 -- what holds however a report ends (specs/Laws)
 pub mod Fronts
--- the streams of the tests (specs/Toy)
-pub mod Toys
 -- for callers: two ways to say what is written, which are one; bytes that aren't too many
 pub mod Alike
 pub mod Bounds

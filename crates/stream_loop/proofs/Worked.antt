@@ -1,4 +1,4 @@
--- The streams of the tests and their reports, by computation alone.
+-- Small streams (specs/Toy) and their reports, by computation alone.
 use Rattle.std.proofs.Common.{◌≡◌, ℕ, List, [], ◌∷◌, map, Bool, Option, Some, None, refl}
 use Rattle.unit_streams.specs.Grammar.{Grammar, standing, peel, peeled}
 use Rattle.unit_streams.specs.Judging.{events, offence, history, history_from, event_at, refusal_at}

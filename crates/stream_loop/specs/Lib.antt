@@ -7,5 +7,5 @@ pub mod Reported
 pub mod Laws
 -- Private calls cite this one: what the parts of the loop answer.
 pub mod LoopParts
--- The tests cite this one.
+-- Worked examples cite this one.
 pub mod Toy

@@ -12,13 +12,14 @@
 //! output has gained exactly the report, and the reporter remembers what the stream's events leave.
 //! However it ends, the output has gained the first bytes of the report, and at least what is
 //! written of all pieces but the last. After a take that gave nothing the input isn't asked again.
-//! Each fault of the input and of the output is told apart from running out of memory, which may
+//! Each fault of the input and of the output is distinguished from running out of memory, which may
 //! happen with any stream.
 //!
 //! `specs/Answers` says how an end's answers are those of its grammar, and what a grammar has to
 //! keep so that its streams can be read to their end; `specs/Reported` what was read and written;
 //! `specs/Edges` what is seen of the input and the output; `specs/Laws` what follows, which
-//! [`laws`] carries. `specs/LoopParts` is for private calls, and `specs/Toy` for the tests.
+//! [`laws`] carries. `specs/LoopParts` is for private calls, and `specs/Toy` for worked
+//! examples.
 #![tactic(auto)]
 
 pub mod laws;
@@ -30,6 +31,3 @@ mod reporting;
 pub use reading_end::{FeedFault, ReadingEnd};
 pub use reporter::Reporter;
 pub use reporting::{Ending, report_stream};
-
-#[cfg(test)]
-mod tests;

@@ -47,7 +47,7 @@ pub trait ReadingEnd {
     /// How many bytes that are.
     ghost taken: { Self → ℕ };
 
-    /// A number of bytes after which no stream goes on.
+    /// A bound on a stream's length.
     ghost most: { Self → ℕ };
 
     /// Whether an event ends the stream.

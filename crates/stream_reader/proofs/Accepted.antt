@@ -21,7 +21,7 @@ use Rattle.nmf_records.specs.declared.script.Direction.TheVariants.{FromInitiato
 use Rattle.nmf_records.specs.declared.script.Due.{Due}
 use Rattle.nmf_records.specs.declared.script.Due.TheVariants as dues
 use Rattle.nmf_records.specs.Records.{IsRecordOf}
-use Rattle.nmf_records.specs.Reading.{MayCome}
+use Rattle.nmf_records.specs.RecordFronts.{MayCome}
 use Rattle.nmf_records.specs.Script.{may_come, behind_preamble}
 use Rattle.stream_reader.specs.Stream.{OpenPayload, sized, chunked, last_chunk, Settings}
 use Rattle.stream_reader.specs.Stream.{direction_of, serves, mode_of, kind_of, Situation, Stage}

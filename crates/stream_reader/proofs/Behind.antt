@@ -11,12 +11,12 @@ use Rattle.nmf_records.specs.declared.frame.Frame.TheVariants as frames
 use Rattle.nmf_records.specs.declared.script.Direction.{Direction}
 use Rattle.nmf_records.specs.declared.script.Due.{Due}
 use Rattle.nmf_records.specs.declared.script.Due.TheVariants as dues
-use Rattle.nmf_records.specs.Reading.{MayCome}
+use Rattle.nmf_records.specs.RecordFronts.{MayCome}
 use Rattle.nmf_records.specs.Script.{leads, may_come}
 use Rattle.nbfx_decoder.specs.Payload.{payload}
 use Rattle.nbfx_decoder.specs.declared.decoder.Decoder.{Decoder}
-use Rattle.nbfx_decoder.specs.Standing.{settings_of as decoder_settings}
-use Rattle.nbfx_decoder.specs.Standing.{StandsFor as DecoderStandsFor}
+use Rattle.nbfx_decoder.specs.DecoderState.{settings_of as decoder_settings}
+use Rattle.nbfx_decoder.specs.DecoderState.{StandsFor as DecoderStandsFor}
 use Rattle.stream_reader.specs.declared.awaited.Awaited.{Awaited}
 use Rattle.stream_reader.specs.declared.awaited.Awaited.TheVariants as awaits
 use Rattle.stream_reader.specs.declared.awaited.Closing.{Closing}
@@ -36,8 +36,8 @@ use Rattle.stream_reader.specs.Stream.{completed_record, kind_of, offence_at, on
 use Rattle.stream_reader.specs.Stream.{payload_begun, payload_by, payloads, reason_in}
 use Rattle.stream_reader.specs.Stream.{refused_payload, refused_record, strings_at, strings_in}
 use Rattle.stream_reader.specs.Stream.{with_chunk}
-use Rattle.stream_reader.specs.Standing.{Awaits, HasPart, IsIn, IsOpenSo, ReadsPayload, Recalls}
-use Rattle.stream_reader.specs.Standing.{ShowsTable, form_of}
+use Rattle.stream_reader.specs.StreamReaderState.{Awaits, HasPart, IsIn, IsOpenSo, ReadsPayload}
+use Rattle.stream_reader.specs.StreamReaderState.{Recalls, ShowsTable, form_of}
 use Rattle.stream_reader.specs.Stepping.{BehindAnswers, DecodesAfter, HasDecoded, IsDue, IsMoved}
 use Rattle.stream_reader.specs.Stepping.{MakesPayload, awaited_after, bare_step, begun_by}
 use Rattle.stream_reader.specs.Stepping.{begun_with, closing_after, due_of, joined_with, mode_after}

@@ -10,8 +10,9 @@ use Rattle.nbfx_values.specs.QuotasOf.{limits_of}
 use Rattle.nbfx_decoder.specs.Payload.{Settings}
 use Rattle.nbfx_decoder.specs.declared.decoder.Decoder.{Decoder}
 use Rattle.nbfx_decoder.specs.declared.faults.DecodeFault.{DecodeFault}
-use Rattle.nbfx_decoder.specs.Standing.{settings_of, failure_of, taken_of, situation_of, StandsFor}
-use Rattle.nbfx_decoder.specs.Standing.{FailedBehind, FailedWithin, WhereItStands, WhereItFailed}
+use Rattle.nbfx_decoder.specs.DecoderState.{settings_of, failure_of, taken_of, situation_of}
+use Rattle.nbfx_decoder.specs.DecoderState.{StandsFor, FailedBehind, FailedWithin, WhereItStands}
+use Rattle.nbfx_decoder.specs.DecoderState.{WhereItFailed}
 use Rattle.nbfx_decoder.proofs.Feeding.{may_feed}
 use Rattle.stream_reader.specs.declared.awaited.Awaited.{Awaited}
 use Rattle.stream_reader.specs.declared.awaited.Awaited.TheVariants as awaits

@@ -20,7 +20,7 @@ use Rattle.nbfx_values.specs.declared.refusals.Offence.{Offence}
 use Rattle.nbfx_decoder.specs.Payload.{Refusal}
 use Rattle.nmf_records.specs.declared.frame.Frame.TheVariants.{Chunk}
 use Rattle.nmf_records.specs.declared.script.Due.TheVariants as dues
-use Rattle.nmf_records.specs.Reading.{as_size, bare}
+use Rattle.nmf_records.specs.RecordFronts.{as_size, bare}
 use Rattle.unit_streams.specs.Parts.{seen}
 use Rattle.stream_reader.specs.Runs.{IsShort}
 use Rattle.stream_reader.specs.Stream.{OpenPayload, Settings, Situation, StreamEvent, chunk_due}

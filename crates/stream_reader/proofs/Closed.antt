@@ -21,7 +21,7 @@ use Rattle.nmf_records.specs.declared.script.Direction.TheVariants.{FromInitiato
 use Rattle.nmf_records.specs.declared.script.Due.{Due}
 use Rattle.nmf_records.specs.declared.script.Due.TheVariants as dues
 use Rattle.nmf_records.specs.Records.{IsRecordOf}
-use Rattle.nmf_records.specs.Reading.{MayCome}
+use Rattle.nmf_records.specs.RecordFronts.{MayCome}
 use Rattle.nmf_records.specs.Script.{behind_preamble, may_come}
 use Rattle.stream_reader.specs.Stream.{OpenPayload, Settings, Side, initiators, receivers}
 use Rattle.stream_reader.specs.Stream.{direction_of, Situation, Stage, beginning, record_due}

@@ -6,13 +6,13 @@ use Rattle.nmf_records.specs.declared.frame.FrameFault.{FrameFault}
 use Rattle.nmf_records.specs.declared.script.Due.{Due}
 use Rattle.nmf_records.specs.declared.script.Due.TheVariants as dues
 use Rattle.nmf_records.specs.Records.{Read, IsRecord}
-use Rattle.nmf_records.specs.Reading.{MayCome, frame_at}
+use Rattle.nmf_records.specs.RecordFronts.{MayCome, frame_at}
 use Rattle.nmf_records.specs.Script.{may_come}
 use Rattle.nmf_records.proofs.Frames.{frames_front}
 use Rattle.nmf_records.proofs.Records.{read_record}
 use Rattle.stream_reader.specs.Stream.{OpenPayload, Settings, direction_of, record_due, chunk_due}
 use Rattle.stream_reader.specs.Stream.{payload_open, StreamUnit, frame, payload_byte, reason_of}
-use Rattle.stream_reader.specs.Stream.{offence_at, record_at, payload_at, unit_in}
+use Rattle.stream_reader.specs.Stream.{offence_at, due_record_at, payload_at, unit_in}
 
 -- the record that a unit is
 pub record Comes (x : Settings) (due : Due) (bytes : List ℕ) (read : Read) (n : ℕ) : Type 0 where
@@ -50,7 +50,7 @@ module _ (x : Settings) (from : ℕ) (bytes : List ℕ) (u : StreamUnit) (n : �
       )
 
   -- where a record is due a record comes
-  pub record_comes : (due : Due) → record_at x due from bytes ≡ whole u n → (read : Read)
+  pub record_comes : (due : Due) → due_record_at x due from bytes ≡ whole u n → (read : Read)
       × (u ≡ frame read) × Comes x due bytes read n
   record_comes dues.Over e = cc
   record_comes due e = due_comes due e

@@ -10,11 +10,11 @@ use Rattle.nmf_records.specs.declared.script.Direction.TheVariants.{FromInitiato
 use Rattle.nmf_records.specs.declared.script.Due.{Due}
 use Rattle.nmf_records.specs.declared.script.Due.TheVariants as dues
 use Rattle.nmf_records.specs.Records.{Read, IsRecord}
-use Rattle.nmf_records.specs.Reading.{MayCome, frame_at}
+use Rattle.nmf_records.specs.RecordFronts.{MayCome, frame_at}
 use Rattle.nmf_records.specs.Script.{may_come}
 use Rattle.nmf_records.proofs.Records.{record_read}
 use Rattle.stream_reader.specs.Stream.{Settings, direction_of, record_due, frame, reason_of}
-use Rattle.stream_reader.specs.Stream.{offence_at, record_at, unit_in, is_over_in}
+use Rattle.stream_reader.specs.Stream.{offence_at, due_record_at, unit_in, is_over_in}
 
 -- which record is due where one of these types may come
 pub version_due : (direction : Direction) (due : Due) (major minor : ℕ)
@@ -89,7 +89,7 @@ refusing from due fault = offence_at from (reason_of due fault)
 -- where the session isn't over, what is read at a record is the framing's
 pub read_due : (x : Settings) (due : Due) (from : ℕ) (bytes : List ℕ) → is_over_in (record_due due)
     ≡ false
-    → record_at x due from bytes ≡ seen frame (refusing from due)
+    → due_record_at x due from bytes ≡ seen frame (refusing from due)
     (frame_at x.limits.via (may_come (direction_of x.side) due) bytes)
 read_due x dues.Over from bytes on = cc
 read_due x _ from bytes on = refl

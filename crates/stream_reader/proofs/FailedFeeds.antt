@@ -10,16 +10,16 @@ use Rattle.nmf_records.specs.Reader.{ShowsText as FramesShowText}
 use Rattle.nbfx_decoder.specs.Payload.{Refusal, payload, Settings as PayloadSettings}
 use Rattle.nbfx_decoder.specs.declared.decoder.Decoder.{Decoder}
 use Rattle.nbfx_decoder.specs.declared.faults.DecodeFault.{DecodeFault}
-use Rattle.nbfx_decoder.specs.Standing.{settings_of as decoder_settings, situation_of}
-use Rattle.nbfx_decoder.specs.Standing.{StandsFor as DecoderStandsFor}
-use Rattle.nbfx_decoder.specs.Standing.{FailedBehind as DecoderFailedBehind}
+use Rattle.nbfx_decoder.specs.DecoderState.{settings_of as decoder_settings, situation_of}
+use Rattle.nbfx_decoder.specs.DecoderState.{StandsFor as DecoderStandsFor}
+use Rattle.nbfx_decoder.specs.DecoderState.{FailedBehind as DecoderFailedBehind}
 use Rattle.nbfx_decoder.proofs.StandsFacts.{stands_as}
 use Rattle.unit_streams.proofs.Pending.{pending_unrefused}
 use Rattle.stream_reader.specs.declared.reader.ReadRefusal.{ReadRefusal}
 use Rattle.stream_reader.specs.declared.reader.StreamReader.{StreamReader}
 use Rattle.stream_reader.specs.Stream.{Settings, Situation, payloads, stream, strings_in}
-use Rattle.stream_reader.specs.Standing.{Failed, Reached, ShowsTable, ShowsStrings, ShowsText}
-use Rattle.stream_reader.specs.Standing.{failure_of, messages_of, taken_of}
+use Rattle.stream_reader.specs.StreamReaderState.{Failed, Reached, ShowsTable, ShowsStrings}
+use Rattle.stream_reader.specs.StreamReaderState.{ShowsText, failure_of, messages_of, taken_of}
 use Rattle.stream_reader.proofs.ReaderFacts.{cost_within}
 
 -- q shows what p does, but for the strings of these bytes of its payload

@@ -27,9 +27,10 @@ use Rattle.stream_reader.specs.declared.reader.StreamStep.TheVariants as steps
 use Rattle.stream_reader.specs.Stream.{Settings, Stage, StreamEvent, ends, open_from, offence_at}
 use Rattle.stream_reader.specs.Stream.{is_over_in, too_long, stream, strings_in}
 use Rattle.stream_reader.specs.Saying.{Says, step_for, said}
-use Rattle.stream_reader.specs.Standing.{DecideNothing, Failed, FailsBy, HasPayloads, Reached}
-use Rattle.stream_reader.specs.Standing.{ShowsTable, ShowsStrings, ShowsText, StandsFor, failure_of}
-use Rattle.stream_reader.specs.Standing.{messages_of, settings_of, taken_of}
+use Rattle.stream_reader.specs.StreamReaderState.{DecideNothing, Failed, FailsBy, HasPayloads}
+use Rattle.stream_reader.specs.StreamReaderState.{Reached, ShowsTable, ShowsStrings, ShowsText}
+use Rattle.stream_reader.specs.StreamReaderState.{StandsFor, failure_of, messages_of, settings_of}
+use Rattle.stream_reader.specs.StreamReaderState.{taken_of}
 use Rattle.stream_reader.specs.Stepping.{KeepsShown, UnitAnswers, taken_since}
 use Rattle.stream_reader.proofs.Grammar.{readable, short_enough}
 use Rattle.stream_reader.proofs.Ending.{tells}

@@ -23,7 +23,7 @@ use Rattle.nmf_records.specs.declared.script.Direction.TheVariants.{FromInitiato
 use Rattle.nmf_records.specs.declared.script.Due.{Due}
 use Rattle.nmf_records.specs.declared.script.Due.TheVariants as dues
 use Rattle.nmf_records.specs.Records.{IsRecordOf}
-use Rattle.nmf_records.specs.Reading.{bare, comes, with_text, MayCome}
+use Rattle.nmf_records.specs.RecordFronts.{bare, comes, with_text, MayCome}
 use Rattle.nmf_records.specs.Script.{behind_preamble, may_come}
 use Rattle.nbfx_decoder.specs.Laws.{IsDecoded, IsWholePayload}
 use Rattle.nbfx_decoder.proofs.PayloadLaws.{payloads_are_accepted}

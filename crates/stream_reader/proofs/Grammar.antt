@@ -13,12 +13,12 @@ use Rattle.nbfx_values.specs.declared.refusals.Reason.TheVariants.{SessionTooLon
 use Rattle.nbfx_values.specs.declared.session.Mode.{Mode}
 use Rattle.nmf_records.specs.declared.script.Due.{Due}
 use Rattle.nmf_records.specs.declared.script.Due.TheVariants as dues
-use Rattle.nmf_records.specs.Reading.{frame_at}
+use Rattle.nmf_records.specs.RecordFronts.{frame_at}
 use Rattle.nmf_records.specs.Script.{may_come}
 use Rattle.nmf_records.proofs.Frames.{frame_peels, frames_front}
 use Rattle.stream_reader.specs.Stream.{Settings, Stage, direction_of, record_due, chunk_due}
 use Rattle.stream_reader.specs.Stream.{payload_open, StreamUnit, frame, payload_byte, reason_of}
-use Rattle.stream_reader.specs.Stream.{offence_at, record_at, payload_at, unit_in, is_over_in}
+use Rattle.stream_reader.specs.Stream.{offence_at, due_record_at, payload_at, unit_in, is_over_in}
 use Rattle.stream_reader.specs.Stream.{open_from, too_long, cut_off, stream}
 
 -- where nothing is read
@@ -43,11 +43,11 @@ module _ (x : Settings) where
   nothing_due due from = ap (seen frame (λ fault. offence_at from (reason_of due fault)))
       (frame_peels x.limits.via (may_come (direction_of x.side) due)).nothing
 
-  reads_record : (due : Due) (from : ℕ) → ReadsFront (record_at x due from)
+  reads_record : (due : Due) (from : ℕ) → ReadsFront (due_record_at x due from)
   reads_record dues.Over from = reads_nothing
   reads_record due from = reads_due due from
 
-  nothing_recorded : (due : Due) (from : ℕ) → record_at x due from [] ≡ begun
+  nothing_recorded : (due : Due) (from : ℕ) → due_record_at x due from [] ≡ begun
   nothing_recorded dues.Over from = refl
   nothing_recorded due from = nothing_due due from
 

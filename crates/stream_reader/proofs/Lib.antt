@@ -39,8 +39,8 @@ pub mod ToSession
 pub mod ProperStages
 pub mod Accepted
 pub mod Closed
--- a reader (specs/Bounds, Standing, Stepping): its bounds, what it stands for, payloads (what it
--- does
+-- a reader (specs/Bounds, StreamReaderState, Stepping): its bounds, what it stands for, payloads
+-- (what it does
 -- behind bytes of one, bytes of one), records (what it does behind one, texts, bytes of one),
 -- pieces
 pub mod Bounded

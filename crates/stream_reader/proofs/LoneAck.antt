@@ -25,7 +25,7 @@ use Rattle.nmf_records.specs.declared.script.Direction.TheVariants.{FromInitiato
 use Rattle.nmf_records.specs.declared.script.Due.{Due}
 use Rattle.nmf_records.specs.declared.script.Due.TheVariants as dues
 use Rattle.nmf_records.specs.Records.{IsRecordOf}
-use Rattle.nmf_records.specs.Reading.{bare, comes, MayCome}
+use Rattle.nmf_records.specs.RecordFronts.{bare, comes, MayCome}
 use Rattle.nmf_records.specs.Script.{behind_preamble, first, may_come, may_end}
 use Rattle.stream_reader.specs.Stream.{OpenPayload, Form, sized, chunked, last_chunk, Settings}
 use Rattle.stream_reader.specs.Stream.{Side, initiators, receivers, direction_of, Situation, Stage}

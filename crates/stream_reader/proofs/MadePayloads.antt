@@ -15,7 +15,7 @@ use Rattle.nmf_records.specs.declared.frame.Frame.TheVariants as frames
 use Rattle.nmf_records.specs.declared.script.Direction.{Direction}
 use Rattle.nmf_records.specs.declared.script.Due.{Due}
 use Rattle.nmf_records.specs.declared.script.Due.TheVariants as dues
-use Rattle.nmf_records.specs.Reading.{MayCome}
+use Rattle.nmf_records.specs.RecordFronts.{MayCome}
 use Rattle.nmf_records.specs.Script.{may_come}
 use Rattle.nbfx_decoder.specs.Payload.{payload}
 use Rattle.nbfx_decoder.specs.declared.decoder.Decoder.{Decoder}
@@ -25,7 +25,7 @@ use Rattle.stream_reader.specs.declared.awaited.Form.TheVariants as forms
 use Rattle.stream_reader.specs.declared.awaited.PayloadLeft.{PayloadLeft}
 use Rattle.stream_reader.specs.Stream.{OpenPayload, Settings, Stage, record_due, chunk_due}
 use Rattle.stream_reader.specs.Stream.{payload_open, payloads, reason_in, too_large}
-use Rattle.stream_reader.specs.Standing.{Awaits, form_of}
+use Rattle.stream_reader.specs.StreamReaderState.{Awaits, form_of}
 use Rattle.stream_reader.specs.Stepping.{MakesPayload, begun_by, begun_with, due_of, with_size}
 use Rattle.stream_reader.specs.Bounds.{IsBounded}
 use Rattle.stream_reader.proofs.Bounded.{bounded_at}

@@ -17,10 +17,10 @@ use Rattle.nmf_records.specs.declared.script.Direction.{Direction}
 use Rattle.nbfx_decoder.specs.Payload.{Refusal, refusal, payload, Settings as PayloadSettings}
 use Rattle.nbfx_decoder.specs.declared.faults.DecodeFault.{DecodeFault}
 use Rattle.nbfx_decoder.specs.declared.faults.DecodeFault.TheVariants as faults
-use Rattle.nbfx_decoder.specs.Standing.{settings_of as decoder_settings, situation_of}
-use Rattle.nbfx_decoder.specs.Standing.{StandsFor as DecoderStandsFor}
-use Rattle.nbfx_decoder.specs.Standing.{FailedBehind as DecoderFailedBehind, FailedWithin}
-use Rattle.nbfx_decoder.specs.Standing.{FeedAnswers}
+use Rattle.nbfx_decoder.specs.DecoderState.{settings_of as decoder_settings, situation_of}
+use Rattle.nbfx_decoder.specs.DecoderState.{StandsFor as DecoderStandsFor}
+use Rattle.nbfx_decoder.specs.DecoderState.{FailedBehind as DecoderFailedBehind, FailedWithin}
+use Rattle.nbfx_decoder.specs.DecoderState.{FeedAnswers}
 use Rattle.stream_reader.specs.declared.awaited.Awaited.{Awaited}
 use Rattle.stream_reader.specs.declared.awaited.Awaited.TheVariants as awaits
 use Rattle.stream_reader.specs.declared.awaited.PayloadLeft.{PayloadLeft}
@@ -34,10 +34,10 @@ use Rattle.stream_reader.specs.Stream.{payload_open, direction_of, is_chunked, i
 use Rattle.stream_reader.specs.Stream.{behind_payload, completed_payload, offence_in, payload_in}
 use Rattle.stream_reader.specs.Stream.{payloads, refusal_in, refused_payload, stream, strings_at}
 use Rattle.stream_reader.specs.Stream.{strings_in, PayloadStanding}
-use Rattle.stream_reader.specs.Standing.{Awaits, DecideNothing, Failed, HasBegun, HasPart}
-use Rattle.stream_reader.specs.Standing.{HasPayloads, IsIn, Reached, ReadsPayload, ShowsTable}
-use Rattle.stream_reader.specs.Standing.{ShowsStrings, ShowsText, failure_of, form_of, messages_of}
-use Rattle.stream_reader.specs.Standing.{taken_of}
+use Rattle.stream_reader.specs.StreamReaderState.{Awaits, DecideNothing, Failed, HasBegun, HasPart}
+use Rattle.stream_reader.specs.StreamReaderState.{HasPayloads, IsIn, Reached, ReadsPayload}
+use Rattle.stream_reader.specs.StreamReaderState.{ShowsTable, ShowsStrings, ShowsText, failure_of}
+use Rattle.stream_reader.specs.StreamReaderState.{form_of, messages_of, taken_of}
 use Rattle.stream_reader.specs.Stepping.{BehindAnswers, HasDecoded, UnitAnswers, more_shown}
 use Rattle.stream_reader.specs.Stepping.{step_of, refusal_told}
 use Rattle.stream_reader.proofs.Ending.{payload_goes_on}

@@ -18,7 +18,7 @@ use Rattle.nmf_records.specs.declared.frame.Frame.TheVariants as frames
 use Rattle.nmf_records.specs.declared.script.Due.{Due}
 use Rattle.nmf_records.specs.declared.script.Due.TheVariants as dues
 use Rattle.nmf_records.specs.Records.{Read}
-use Rattle.nmf_records.specs.Reading.{bare, MayCome}
+use Rattle.nmf_records.specs.RecordFronts.{bare, MayCome}
 use Rattle.nmf_records.specs.Script.{may_come}
 use Rattle.nbfx_decoder.specs.Payload.{Refusal, refusal}
 use Rattle.nbfx_decoder.proofs.PayloadAnswers.{nothing_is_refused}

@@ -22,7 +22,7 @@ use Rattle.nmf_records.specs.declared.frame.FrameFault.{FrameFault}
 use Rattle.nmf_records.specs.declared.script.Due.{Due}
 use Rattle.nmf_records.specs.declared.script.Due.TheVariants as dues
 use Rattle.nmf_records.specs.Records.{Read, IsRecordOf}
-use Rattle.nmf_records.specs.Reading.{MayCome, frame_at}
+use Rattle.nmf_records.specs.RecordFronts.{MayCome, frame_at}
 use Rattle.nmf_records.specs.Script.{may_come}
 use Rattle.nbfx_decoder.specs.Payload.{Refusal, refusal}
 use Rattle.nbfx_decoder.proofs.PayloadAnswers.{nothing_is_refused}
@@ -32,9 +32,9 @@ use Rattle.stream_reader.specs.Stream.{Stage, record_due, chunk_due, payload_ope
 use Rattle.stream_reader.specs.Stream.{frame, direction_of, is_chunked, is_whole, is_over_in}
 use Rattle.stream_reader.specs.Stream.{offence_at, offence_in, on_open, on_payload, open_from}
 use Rattle.stream_reader.specs.Stream.{payload_at, payload_begun, payload_by, payloads, reason_in}
-use Rattle.stream_reader.specs.Stream.{reason_of, record_at, refusal_in, refused, refused_payload}
-use Rattle.stream_reader.specs.Stream.{refused_record, stream, too_long, unit_in, with_byte}
-use Rattle.stream_reader.specs.Stream.{with_chunk}
+use Rattle.stream_reader.specs.Stream.{reason_of, due_record_at, refusal_in, refused}
+use Rattle.stream_reader.specs.Stream.{refused_payload, refused_record, stream, too_long, unit_in}
+use Rattle.stream_reader.specs.Stream.{with_byte, with_chunk}
 use Rattle.stream_reader.specs.Sessions.{IsBare}
 use Rattle.stream_reader.specs.Reasons.{IsPart, HasPayload, ShowsInPayload}
 use Rattle.stream_reader.proofs.RightRecords.{right_size}
@@ -385,7 +385,7 @@ seen_apart due from number r (wrong fault k) n e =
     apart from (reason_of due fault) number r same
 
 record_apart : (x : Settings) (due : Due) (from : ℕ) (bytes : List ℕ) (number : ℕ) (r : Refusal)
-    (n : ℕ) → record_at x due from bytes ≡ wrong (offence_in number r) n → ⊥
+    (n : ℕ) → due_record_at x due from bytes ≡ wrong (offence_in number r) n → ⊥
 record_apart x dues.Over from bytes number r n e = cc
 record_apart x due from bytes number r n e =
     seen_apart due from number r (frame_at x.limits.via (may_come (direction_of x.side) due) bytes)

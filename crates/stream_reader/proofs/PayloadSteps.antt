@@ -13,9 +13,9 @@ use Rattle.nbfx_decoder.specs.Payload.{Refusal, refusal, payload, Settings as Pa
 use Rattle.nbfx_decoder.specs.declared.decoder.Decoder.{Decoder}
 use Rattle.nbfx_decoder.specs.declared.faults.DecodeFault.{DecodeFault}
 use Rattle.nbfx_decoder.specs.declared.faults.DecodeFault.TheVariants as faults
-use Rattle.nbfx_decoder.specs.Standing.{settings_of as decoder_settings, situation_of, table_at}
-use Rattle.nbfx_decoder.specs.Standing.{StandsFor as DecoderStandsFor}
-use Rattle.nbfx_decoder.specs.Standing.{FailedBehind as DecoderFailedBehind, FinishAnswers}
+use Rattle.nbfx_decoder.specs.DecoderState.{settings_of as decoder_settings, situation_of, table_at}
+use Rattle.nbfx_decoder.specs.DecoderState.{StandsFor as DecoderStandsFor}
+use Rattle.nbfx_decoder.specs.DecoderState.{FailedBehind as DecoderFailedBehind, FinishAnswers}
 use Rattle.nbfx_decoder.proofs.StandsFacts.{stands_as}
 use Rattle.nbfx_decoder.proofs.Readable.{readable as payload_readable}
 use Rattle.stream_reader.specs.declared.awaited.Awaited.{Awaited}
@@ -30,7 +30,7 @@ use Rattle.stream_reader.specs.Stream.{StreamEvent, message, record_due, chunk_d
 use Rattle.stream_reader.specs.Stream.{due_behind, is_chunked, is_over_in, behind_payload}
 use Rattle.stream_reader.specs.Stream.{completed_payload, offence_in, payload_in, payloads}
 use Rattle.stream_reader.specs.Stream.{refusal_in, refused_payload}
-use Rattle.stream_reader.specs.Standing.{Awaits, HasPart, Recalls}
+use Rattle.stream_reader.specs.StreamReaderState.{Awaits, HasPart, Recalls}
 use Rattle.stream_reader.specs.Stepping.{BehindAnswers, HasDecoded, due_after, is_chunked_form}
 use Rattle.stream_reader.specs.Stepping.{refusal_told}
 use Rattle.stream_reader.proofs.Ending.{form_on}

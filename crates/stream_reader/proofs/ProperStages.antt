@@ -9,7 +9,7 @@ use Rattle.nmf_records.specs.declared.script.Direction.{Direction}
 use Rattle.nmf_records.specs.declared.script.Direction.TheVariants.{FromInitiator, FromReceiver}
 use Rattle.nmf_records.specs.declared.script.Due.{Due}
 use Rattle.nmf_records.specs.declared.script.Due.TheVariants as dues
-use Rattle.nmf_records.specs.Reading.{MayCome}
+use Rattle.nmf_records.specs.RecordFronts.{MayCome}
 use Rattle.nmf_records.specs.Script.{may_come, behind_preamble}
 use Rattle.stream_reader.specs.Stream.{Form, sized, chunked, last_chunk}
 use Rattle.stream_reader.specs.Stream.{Stage}

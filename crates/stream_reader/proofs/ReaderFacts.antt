@@ -17,11 +17,11 @@ use Rattle.string_tables.specs.SessionStrings.{used_cost}
 use Rattle.nbfx_decoder.specs.Payload.{Settings as PayloadSettings, payload}
 use Rattle.nbfx_decoder.specs.declared.decoder.Decoder.{Decoder}
 use Rattle.nbfx_decoder.specs.declared.faults.DecodeFault.{DecodeFault}
-use Rattle.nbfx_decoder.specs.Standing.{settings_of as decoder_settings, situation_of, begun_of}
-use Rattle.nbfx_decoder.specs.Standing.{StandsFor as DecoderStandsFor}
-use Rattle.nbfx_decoder.specs.Standing.{FailedBehind as DecoderFailedBehind}
-use Rattle.nbfx_decoder.specs.Standing.{WhereItStands as WhereDecoderStands}
-use Rattle.nbfx_decoder.specs.Standing.{WhereItFailed as WhereDecoderFailed}
+use Rattle.nbfx_decoder.specs.DecoderState.{settings_of as decoder_settings, situation_of, begun_of}
+use Rattle.nbfx_decoder.specs.DecoderState.{StandsFor as DecoderStandsFor}
+use Rattle.nbfx_decoder.specs.DecoderState.{FailedBehind as DecoderFailedBehind}
+use Rattle.nbfx_decoder.specs.DecoderState.{WhereItStands as WhereDecoderStands}
+use Rattle.nbfx_decoder.specs.DecoderState.{WhereItFailed as WhereDecoderFailed}
 use Rattle.nbfx_decoder.proofs.StandsFacts.{stands_as}
 use Rattle.nbfx_decoder.proofs.Readable.{readable as payload_readable}
 use Rattle.nbfx_decoder.proofs.Sound.{keeps_within}
@@ -39,10 +39,10 @@ use Rattle.stream_reader.specs.Stream.{accepted, message, ended, peer_fault, rec
 use Rattle.stream_reader.specs.Stream.{payload_open, direction_of, is_over_in, may_end_in}
 use Rattle.stream_reader.specs.Stream.{offence_at, open_from, payloads, stream, strings_at}
 use Rattle.stream_reader.specs.Stream.{strings_in, PayloadStanding}
-use Rattle.stream_reader.specs.Standing.{Awaits, Failed, FailedBehind, HasPart, IsIn, Reached}
-use Rattle.stream_reader.specs.Standing.{ReadsPayload, Recalls, ShowsTable, ShowsStrings, ShowsText}
-use Rattle.stream_reader.specs.Standing.{begun_in, items_in, failure_of, messages_of, settings_of}
-use Rattle.stream_reader.specs.Standing.{taken_of}
+use Rattle.stream_reader.specs.StreamReaderState.{Awaits, Failed, FailedBehind, HasPart, IsIn}
+use Rattle.stream_reader.specs.StreamReaderState.{Reached, ReadsPayload, Recalls, ShowsTable}
+use Rattle.stream_reader.specs.StreamReaderState.{ShowsStrings, ShowsText, begun_in, items_in}
+use Rattle.stream_reader.specs.StreamReaderState.{failure_of, messages_of, settings_of, taken_of}
 use Rattle.stream_reader.specs.Stepping.{KeepsShown, closing_step, has_ended, may_end_at, opened_at}
 use Rattle.stream_reader.proofs.Grammar.{readable}
 use Rattle.stream_reader.specs.Stream.{cut_off}

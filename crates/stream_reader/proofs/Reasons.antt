@@ -25,7 +25,7 @@ use Rattle.nmf_records.specs.declared.frame.FrameFault.{FrameFault}
 use Rattle.nmf_records.specs.declared.script.Due.{Due}
 use Rattle.nmf_records.specs.declared.script.Due.TheVariants as dues
 use Rattle.nmf_records.specs.Records.{Read, IsRecord, IsRecordOf}
-use Rattle.nmf_records.specs.Reading.{MayCome, frame_at}
+use Rattle.nmf_records.specs.RecordFronts.{MayCome, frame_at}
 use Rattle.nmf_records.specs.Script.{may_come}
 use Rattle.nmf_records.proofs.Causes.{fault_cause}
 use Rattle.nmf_records.proofs.Faults.{fault_comes}
@@ -35,8 +35,8 @@ use Rattle.stream_reader.specs.Stream.{record_due, chunk_due, payload_open, Stre
 use Rattle.stream_reader.specs.Stream.{payload_byte, offence_at, offence_in, size_before, reason_of}
 use Rattle.stream_reader.specs.Stream.{reason_in, refusal_in, refused_payload, refused_record}
 use Rattle.stream_reader.specs.Stream.{on_payload, on_open, payload_by, with_byte, payload_at}
-use Rattle.stream_reader.specs.Stream.{unit_in, record_at, refused, is_over_in, open_from, too_long}
-use Rattle.stream_reader.specs.Stream.{stream}
+use Rattle.stream_reader.specs.Stream.{unit_in, due_record_at, refused, is_over_in, open_from}
+use Rattle.stream_reader.specs.Stream.{too_long, stream}
 use Rattle.stream_reader.specs.Reasons.{Shows, ShowsIn, ShowsFrom, IsTooLong}
 use Rattle.stream_reader.proofs.Grammar.{readable, quiet_over}
 use Rattle.stream_reader.proofs.Coming.{Comes, unit_of_record, unit_of_chunk}
@@ -197,7 +197,7 @@ module _ (x : Settings) (p before bytes : List ℕ) (joined : p ≡ before ++ by
   of_due : (stage : Stage) (due : Due) (from n : ℕ) (reason : Reason)
       → (standing (stream x) before).situation.stage ≡ stage
       → unit_in x stage (standing (stream x) before).from bytes
-      ≡ record_at x due (standing (stream x) before).from bytes
+      ≡ due_record_at x due (standing (stream x) before).from bytes
       → (is_over_in stage ≡ false → is_over_in (record_due due) ≡ false)
       → ((r : Reason) → Shows x due (size_before stage) bytes r → ShowsIn x stage bytes r)
       → unit_in x stage (standing (stream x) before).from bytes ≡ wrong (offence_at from reason) n
@@ -238,7 +238,7 @@ module _ (x : Settings) (p before bytes : List ℕ) (joined : p ≡ before ++ by
   of_fault : (stage : Stage) (due : Due) (reason : Reason)
       → (standing (stream x) before).situation.stage ≡ stage
       → unit_in x stage (standing (stream x) before).from bytes
-      ≡ record_at x due (standing (stream x) before).from bytes
+      ≡ due_record_at x due (standing (stream x) before).from bytes
       → is_over_in (record_due due) ≡ false → IsFaulty x due bytes reason
       → IsRefusedByBytes (stream x) p (offence_at (standing (stream x) before).from reason)
   of_fault stage due reason at is_record on (fault, n, cause, is) = record {

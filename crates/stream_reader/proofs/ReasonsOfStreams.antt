@@ -25,7 +25,7 @@ use Rattle.nbfx_decoder.specs.declared.section.Section.TheVariants.{TableSize, S
 use Rattle.nbfx_decoder.specs.Payload.{refusal, Settings as PayloadSettings}
 use Rattle.nbfx_decoder.specs.Payload.{Situation as PayloadSituation}
 use Rattle.nbfx_decoder.specs.Reasons.{Shows as ShowsInSection}
-use Rattle.nbfx_decoder.specs.Standing.{situation_of}
+use Rattle.nbfx_decoder.specs.DecoderState.{situation_of}
 use Rattle.nmf_records.specs.declared.script.Due.TheVariants as dues
 use Rattle.stream_reader.specs.Stream.{Settings, Situation, Stage, record_due, chunk_due}
 use Rattle.stream_reader.specs.Stream.{payload_open, StreamEvent, offence_at, offence_in, payloads}

@@ -17,7 +17,7 @@ use Rattle.nmf_records.specs.declared.script.Direction.{Direction}
 use Rattle.nmf_records.specs.declared.script.Direction.TheVariants.{FromInitiator, FromReceiver}
 use Rattle.nmf_records.specs.declared.script.Due.{Due}
 use Rattle.nmf_records.specs.declared.script.Due.TheVariants as dues
-use Rattle.nmf_records.specs.Reading.{MayCome, with_text, frame_at}
+use Rattle.nmf_records.specs.RecordFronts.{MayCome, with_text, frame_at}
 use Rattle.nmf_records.specs.Reader.{StandsFor as FrameStandsFor, ShowsText as FramesShowText}
 use Rattle.nmf_records.specs.Reader.{FrameAnswers, AfterPiece, shown_behind}
 use Rattle.nmf_records.specs.Script.{may_come}
@@ -30,7 +30,7 @@ use Rattle.stream_reader.specs.Stream.{payload_begun, payload_by, with_chunk, on
 use Rattle.stream_reader.specs.Stream.{after_record, completed_bare, completed_payload}
 use Rattle.stream_reader.specs.Stream.{completed_record, refused_payload, refused_record, after}
 use Rattle.stream_reader.specs.Stream.{refusal_in, offence_in}
-use Rattle.stream_reader.specs.Standing.{HasBegun, HasPayloads}
+use Rattle.stream_reader.specs.StreamReaderState.{HasBegun, HasPayloads}
 use Rattle.stream_reader.specs.Stepping.{due_of}
 use Rattle.stream_reader.proofs.MadePayloads.{size_large}
 use Rattle.stream_reader.proofs.DueRecords.{chunk_due as size_due, envelope_due}

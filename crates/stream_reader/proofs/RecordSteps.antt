@@ -25,13 +25,13 @@ use Rattle.nmf_records.specs.declared.reader.FrameReader.{FrameReader}
 use Rattle.nmf_records.specs.declared.frame.Expect.{Expect}
 use Rattle.nmf_records.specs.declared.script.Due.{Due}
 use Rattle.nmf_records.specs.declared.script.Due.TheVariants as dues
-use Rattle.nmf_records.specs.Reading.{MayCome, with_text, frame_at}
+use Rattle.nmf_records.specs.RecordFronts.{MayCome, with_text, frame_at}
 use Rattle.nmf_records.specs.Reader.{StandsFor as FrameStandsFor, ShowsText as FramesShowText}
 use Rattle.nmf_records.specs.Reader.{text_after, shown_behind}
 use Rattle.nmf_records.specs.Script.{may_come}
 use Rattle.nmf_records.proofs.Records.{read_record}
 use Rattle.nbfx_decoder.specs.declared.decoder.Decoder.{Decoder}
-use Rattle.nbfx_decoder.specs.Standing.{settings_of as decoder_settings}
+use Rattle.nbfx_decoder.specs.DecoderState.{settings_of as decoder_settings}
 use Rattle.stream_reader.specs.declared.awaited.Awaited.{Awaited}
 use Rattle.stream_reader.specs.declared.reader.ReadRefusal.{ReadRefusal}
 use Rattle.stream_reader.specs.declared.reader.ReadRefusal.TheVariants.{Offence as Refused, Memory}
@@ -43,9 +43,9 @@ use Rattle.stream_reader.specs.Stream.{opened, accepted, message, ended, peer_fa
 use Rattle.stream_reader.specs.Stream.{record_due, chunk_due, direction_of, reason_of, offence_at}
 use Rattle.stream_reader.specs.Stream.{unit_in, after_record, completed_record, refused_record}
 use Rattle.stream_reader.specs.Stream.{is_over_in, after, completed, refused, stream, strings_in}
-use Rattle.stream_reader.specs.Standing.{Awaits, IsIn, Reached, ReadsPayload, Recalls, HasBegun}
-use Rattle.stream_reader.specs.Standing.{HasPayloads, ShowsTable, ShowsText, ShowsStrings, taken_of}
-use Rattle.stream_reader.specs.Standing.{messages_of, failure_of}
+use Rattle.stream_reader.specs.StreamReaderState.{Awaits, IsIn, Reached, ReadsPayload, Recalls}
+use Rattle.stream_reader.specs.StreamReaderState.{HasBegun, HasPayloads, ShowsTable, ShowsText}
+use Rattle.stream_reader.specs.StreamReaderState.{ShowsStrings, taken_of, messages_of, failure_of}
 use Rattle.stream_reader.specs.Stepping.{UnitAnswers, BehindAnswers, due_of, step_of}
 use Rattle.stream_reader.proofs.MadePayloads.{reads_at}
 use Rattle.stream_reader.proofs.DueRecords.{read_due, refusing, encoding_due}

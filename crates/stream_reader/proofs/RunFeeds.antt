@@ -19,10 +19,10 @@ use Rattle.nmf_records.specs.Script.{may_come}
 use Rattle.nbfx_decoder.specs.Payload.{Refusal, refusal, payload, Settings as PayloadSettings}
 use Rattle.nbfx_decoder.specs.declared.faults.DecodeFault.{DecodeFault}
 use Rattle.nbfx_decoder.specs.declared.faults.DecodeFault.TheVariants as faults
-use Rattle.nbfx_decoder.specs.Standing.{settings_of as decoder_settings}
-use Rattle.nbfx_decoder.specs.Standing.{StandsFor as DecoderStandsFor}
-use Rattle.nbfx_decoder.specs.Standing.{FailedBehind as DecoderFailedBehind, FailedWithin}
-use Rattle.nbfx_decoder.specs.Standing.{FeedAnswers}
+use Rattle.nbfx_decoder.specs.DecoderState.{settings_of as decoder_settings}
+use Rattle.nbfx_decoder.specs.DecoderState.{StandsFor as DecoderStandsFor}
+use Rattle.nbfx_decoder.specs.DecoderState.{FailedBehind as DecoderFailedBehind, FailedWithin}
+use Rattle.nbfx_decoder.specs.DecoderState.{FeedAnswers}
 use Rattle.stream_reader.specs.declared.awaited.Awaited.{Awaited}
 use Rattle.stream_reader.specs.declared.awaited.Awaited.TheVariants as awaits
 use Rattle.stream_reader.specs.declared.awaited.PayloadLeft.{PayloadLeft}
@@ -38,8 +38,8 @@ use Rattle.stream_reader.specs.Stream.{record_due, chunk_due, payload_open, dire
 use Rattle.stream_reader.specs.Stream.{is_chunked, is_over_in, offence_in, payload_in, stream}
 use Rattle.stream_reader.specs.Stream.{strings_at}
 use Rattle.stream_reader.specs.Saying.{step_for}
-use Rattle.stream_reader.specs.Standing.{Awaits, Failed, HasBegun, HasPart, HasPayloads, IsIn}
-use Rattle.stream_reader.specs.Standing.{IsOpenSo, Reached, ReadsPayload, form_of}
+use Rattle.stream_reader.specs.StreamReaderState.{Awaits, Failed, HasBegun, HasPart, HasPayloads}
+use Rattle.stream_reader.specs.StreamReaderState.{IsIn, IsOpenSo, Reached, ReadsPayload, form_of}
 use Rattle.stream_reader.specs.Stepping.{UnitAnswers, more_shown, refusal_told}
 use Rattle.stream_reader.proofs.FailedFeeds.{StaysWith, failed_with, same_grammar, some_refused}
 use Rattle.stream_reader.proofs.FailedFeeds.{unrefused_so}

@@ -20,7 +20,7 @@ use Rattle.nmf_records.specs.declared.script.Due.TheVariants as dues
 use Rattle.nmf_records.specs.declared.record_types.TheConstants.{EXTENSIBLE_ENCODING}
 use Rattle.nmf_records.specs.declared.record_types.TheConstants.{UPGRADE_REQUEST}
 use Rattle.nmf_records.specs.Records.{Read, IsRecord, IsRecordOf}
-use Rattle.nmf_records.specs.Reading.{bare, with_text, MayCome}
+use Rattle.nmf_records.specs.RecordFronts.{bare, with_text, MayCome}
 use Rattle.nmf_records.specs.Script.{may_come}
 use Rattle.nmf_records.specs.Laws.{BeginsUnexpected}
 use Rattle.nmf_records.proofs.Causes.{HasCause}

@@ -23,7 +23,7 @@ use Rattle.nmf_records.specs.declared.frame.Frame.TheVariants as frames
 use Rattle.nmf_records.specs.declared.script.Direction.TheVariants.{FromReceiver}
 use Rattle.nmf_records.specs.declared.script.Due.TheVariants as dues
 use Rattle.nmf_records.specs.declared.script.Due.{Due}
-use Rattle.nmf_records.specs.Reading.{bare, MayCome}
+use Rattle.nmf_records.specs.RecordFronts.{bare, MayCome}
 use Rattle.nmf_records.specs.Script.{behind_preamble, may_come}
 use Rattle.stream_reader.specs.Stream.{Settings, Side, initiators, receivers, Situation, record_due}
 use Rattle.stream_reader.specs.Stream.{beginning, frame, StreamEvent, opened, accepted, ended}

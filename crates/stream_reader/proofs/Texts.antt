@@ -24,7 +24,7 @@ use Rattle.nmf_records.specs.declared.script.Direction.TheVariants.{FromInitiato
 use Rattle.nmf_records.specs.declared.script.Due.{Due}
 use Rattle.nmf_records.specs.declared.script.Due.TheVariants as dues
 use Rattle.nmf_records.specs.Records.{Read, IsRecordOf}
-use Rattle.nmf_records.specs.Reading.{MayCome, allows, frame_at, begins_text}
+use Rattle.nmf_records.specs.RecordFronts.{MayCome, allows, frame_at, begins_text}
 use Rattle.nmf_records.specs.Script.{behind_preamble, first, may_come}
 use Rattle.nmf_records.specs.Reader.{text_after, text_read}
 use Rattle.nmf_records.proofs.Records.{read_record}

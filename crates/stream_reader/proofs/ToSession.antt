@@ -26,7 +26,7 @@ use Rattle.nmf_records.specs.Records.{IsRecordOf}
 use Rattle.nmf_records.specs.Script.{behind_preamble}
 use Rattle.nbfx_decoder.specs.Laws.{IsUnrefused, IsWholePayload, MayBegin, ShowsNothing}
 use Rattle.nbfx_decoder.specs.Payload.{NoEvent, PayloadUnit, Refusal, Situation as PayloadSituation}
-use Rattle.nbfx_decoder.specs.Standing.{situation_of}
+use Rattle.nbfx_decoder.specs.DecoderState.{situation_of}
 use Rattle.nbfx_decoder.proofs.PayloadAnswers.{finished_where_whole, nothing_is_refused}
 use Rattle.nbfx_decoder.proofs.PayloadAnswers.{strings_behind}
 use Rattle.nbfx_decoder.proofs.PayloadReasons.{unrefused_nothing}

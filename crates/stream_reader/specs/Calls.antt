@@ -14,10 +14,10 @@ use Rattle.stream_reader.specs.declared.reader.ReadRefusal.TheVariants as refusa
 use Rattle.stream_reader.specs.declared.reader.StreamReader.{StreamReader}
 use Rattle.stream_reader.specs.declared.reader.StreamStep.{StreamStep}
 use Rattle.stream_reader.specs.Saying.{Says, Repeats}
-use Rattle.stream_reader.specs.Standing.{settings_of, taken_of, held_of, content_held_of}
-use Rattle.stream_reader.specs.Standing.{failure_of, StandsFor, FailedBehind, ShowsText}
-use Rattle.stream_reader.specs.Standing.{ShowsStrings, WhereItStands, WhereItFailed, FailsBy}
-use Rattle.stream_reader.specs.Standing.{HasPayloads, begun_in, items_in}
+use Rattle.stream_reader.specs.StreamReaderState.{settings_of, taken_of, held_of, content_held_of}
+use Rattle.stream_reader.specs.StreamReaderState.{failure_of, StandsFor, FailedBehind, ShowsText}
+use Rattle.stream_reader.specs.StreamReaderState.{ShowsStrings, WhereItStands, WhereItFailed}
+use Rattle.stream_reader.specs.StreamReaderState.{FailsBy, HasPayloads, begun_in, items_in}
 use Rattle.stream_reader.specs.Stream.{Situation, stream, strings_in}
 
 -- the situation behind the bytes p

@@ -7,7 +7,7 @@ pub mod Scripts
 pub mod Reasons
 pub mod Laws
 pub mod Saying
-pub mod Standing
+pub mod StreamReaderState
 pub mod Calls
 -- cited by a reader's own state and by private calls
 pub mod Bounds

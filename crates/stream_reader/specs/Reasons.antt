@@ -21,7 +21,7 @@ use Rattle.nmf_records.specs.declared.record_types.TheConstants.{SIZED_ENVELOPE,
 use Rattle.nmf_records.specs.declared.frame.Frame.TheVariants.{Via, SizedEnvelope, UnsizedEnvelope}
 use Rattle.nmf_records.specs.declared.frame.Frame.TheVariants.{Chunk}
 use Rattle.nmf_records.specs.Records.{IsRecordOf}
-use Rattle.nmf_records.specs.Reading.{MayCome}
+use Rattle.nmf_records.specs.RecordFronts.{MayCome}
 use Rattle.nmf_records.specs.Script.{may_come}
 use Rattle.nmf_records.specs.Laws.{BeginsUnknown, BeginsUnexpected, IntegerComes, HasLongText}
 use Rattle.nmf_records.specs.Laws.{HasBadText}

@@ -9,7 +9,7 @@ use Rattle.nmf_records.specs.declared.frame.Frame.{Frame}
 use Rattle.nmf_records.specs.declared.frame.Frame.TheVariants as frames
 use Rattle.nmf_records.specs.declared.script.Direction.{Direction}
 use Rattle.nmf_records.specs.Reader.{ShowsText as FramesShowText}
-use Rattle.nmf_records.specs.Reading.{MayCome}
+use Rattle.nmf_records.specs.RecordFronts.{MayCome}
 use Rattle.nmf_records.specs.Script.{leads, may_come, may_end}
 use Rattle.stream_reader.specs.declared.reader.ReadRefusal.{ReadRefusal}
 use Rattle.stream_reader.specs.declared.reader.ReadRefusal.TheVariants.{Offence as Refused, Memory}
@@ -28,8 +28,8 @@ use Rattle.stream_reader.specs.declared.awaited.Form.{Form}
 use Rattle.stream_reader.specs.declared.awaited.Form.TheVariants as forms
 use Rattle.stream_reader.specs.declared.awaited.PayloadLeft.{PayloadLeft}
 use Rattle.nbfx_decoder.specs.Payload.{refusal}
-use Rattle.nbfx_decoder.specs.Standing.{StandsFor as DecoderStandsFor}
-use Rattle.nbfx_decoder.specs.Standing.{settings_of as decoder_settings}
+use Rattle.nbfx_decoder.specs.DecoderState.{StandsFor as DecoderStandsFor}
+use Rattle.nbfx_decoder.specs.DecoderState.{settings_of as decoder_settings}
 use Rattle.nbfx_values.specs.QuotasOf.{limits_of}
 use Rattle.nbfx_values.specs.declared.session.Mode.{Mode}
 use Rattle.stream_reader.specs.Sides.{side_of}
@@ -38,9 +38,9 @@ use Rattle.stream_reader.specs.Stream.{completed_record, refused_record, directi
 use Rattle.stream_reader.specs.Stream.{is_chunked, is_over_in, kind_of, mode_of, offence_in}
 use Rattle.stream_reader.specs.Stream.{payloads, stream, strings_in}
 use Rattle.stream_reader.specs.Saying.{step_for}
-use Rattle.stream_reader.specs.Standing.{DecideNothing, Failed, HasPart, HasPayloads, IsIn}
-use Rattle.stream_reader.specs.Standing.{IsOpenSo, Reached, Recalls, ShowsTable, form_of}
-use Rattle.stream_reader.specs.Standing.{settings_of}
+use Rattle.stream_reader.specs.StreamReaderState.{DecideNothing, Failed, HasPart, HasPayloads, IsIn}
+use Rattle.stream_reader.specs.StreamReaderState.{IsOpenSo, Reached, Recalls, ShowsTable, form_of}
+use Rattle.stream_reader.specs.StreamReaderState.{settings_of}
 
 -- the step that an event is told by, where there is one
 abbrev pub step_of : Option StreamEvent → StreamStep
@@ -88,7 +88,7 @@ MakesPayload (awaits.Chunk p) from (frames.Chunk size) made =
 MakesPayload awaited from frame made = made ≡ None
 
 -- what stays of a reader behind a unit
-pub record Keeps (old new : StreamReader) : Type 0 where
+pub record KeepsFraming (old new : StreamReader) : Type 0 where
   pub side : new.side ≡ old.side
   pub statics : new.statics ≡ old.statics
   pub quotas : new.quotas ≡ old.quotas
@@ -97,7 +97,7 @@ pub record Keeps (old new : StreamReader) : Type 0 where
 
 -- and behind a record of no payload
 pub record KeepsParts (old new : StreamReader) : Type 0 where
-  pub keeps : Keeps old new
+  pub keeps : KeepsFraming old new
   pub messages : new.messages ≡ old.messages
   pub unit_from : new.unit_from ≡ old.unit_from
   pub failure : new.failure ≡ old.failure

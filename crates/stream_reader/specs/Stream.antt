@@ -37,7 +37,7 @@ use Rattle.nmf_records.specs.declared.script.Due.TheVariants as dues
 use Rattle.nmf_records.specs.declared.record_types.TheConstants.{EXTENSIBLE_ENCODING}
 use Rattle.nmf_records.specs.declared.record_types.TheConstants.{UPGRADE_REQUEST}
 use Rattle.nmf_records.specs.Records.{Read}
-use Rattle.nmf_records.specs.Reading.{frame_at}
+use Rattle.nmf_records.specs.RecordFronts.{frame_at}
 use Rattle.nmf_records.specs.Script.{first, may_come, leads, may_end}
 
 -- whose stream it is
@@ -239,9 +239,9 @@ abbrev pub payload_in : Settings → Situation → Grammar PayloadSituation Payl
 payload_in x z = payload (payloads x z.kind) z.strings
 
 -- the record at the front of some bytes, where one is due, or a chunk's size
-abbrev pub record_at : Settings → Due → ℕ → List ℕ → Front StreamUnit Offence
-record_at x dues.Over from bytes = begun
-record_at x due from bytes =
+abbrev pub due_record_at : Settings → Due → ℕ → List ℕ → Front StreamUnit Offence
+due_record_at x dues.Over from bytes = begun
+due_record_at x due from bytes =
     seen frame (λ fault. offence_at from (reason_of due fault))
     (frame_at x.limits.via (may_come (direction_of x.side) due) bytes)
 
@@ -250,8 +250,8 @@ payload_at bytes = seen payload_byte (λ o. o) (a_byte bytes)
 
 -- the unit at the front of some bytes
 unfoldable pub unit_in : Settings → Stage → ℕ → List ℕ → Front StreamUnit Offence
-unit_in x (record_due due) from bytes = record_at x due from bytes
-unit_in x (chunk_due p) from bytes = record_at x dues.Chunk from bytes
+unit_in x (record_due due) from bytes = due_record_at x due from bytes
+unit_in x (chunk_due p) from bytes = due_record_at x dues.Chunk from bytes
 unit_in x (payload_open p) from bytes = payload_at bytes
 
 -- what is due where a record is read
@@ -322,9 +322,9 @@ abbrev pub envelope_in : Settings → Situation → OpenPayload → Option Envel
 envelope_in x z p = envelope_unless z.messages p (refusal_in x z p)
 
 -- one document more
-abbrev pub counted : Option Envelope → ℕ → ℕ
-counted None n = n
-counted (Some envelope) n = n + 1
+abbrev pub messages_with : Option Envelope → ℕ → ℕ
+messages_with None n = n
+messages_with (Some envelope) n = n + 1
 
 -- the situation behind bytes of a payload of which none is to come: another chunk's size comes, or
 -- another record
@@ -333,7 +333,7 @@ behind_last x z p = if is_chunked p.form
     then record z { stage = chunk_due p }
     else record z {
       stage = record_due (due_behind p.form);
-      messages = counted (envelope_in x z p) z.messages;
+      messages = messages_with (envelope_in x z p) z.messages;
       strings = p.standing.situation.strings;
     }
 

@@ -6,7 +6,7 @@ ghost use Rattle.stream_reader.specs.Stepping.{begun_with, due_after, is_chunked
 use nbfx_decoder::DecodeFault;
 use nmf_records::Due;
 
-/// How a payload goes on after the bytes that are still to come.
+/// What follows the payload bytes that are still to come.
 #[derive(Clone, Copy, Debug, PartialEq, Eq)]
 pub(crate) enum Form {
     /// It ends, and a record of a session's messages comes.

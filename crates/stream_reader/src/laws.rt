@@ -8,7 +8,7 @@ ghost use Rattle.stream_reader.specs.Laws.{DocumentsFit, PayloadsFit, MessagesAr
 ghost use Rattle.stream_reader.specs.Scripts.{SessionsAreScripts};
 ghost use Rattle.stream_reader.specs.Sessions.{ClosedOrRefused, SessionsAreTold, SpellsOneSession};
 
-/// The state of a stream is where its bytes so far have led it. No unit, which is a record, the
+/// The state of a stream depends only on the bytes read so far. No unit, which is a record, the
 /// size of a chunk or a byte of a payload, begins a longer one that may come in its place, and
 /// nothing comes after the end. End and Fault end a stream, and nothing else does.
 pub fn units()

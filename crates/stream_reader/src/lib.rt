@@ -11,7 +11,7 @@
 //! reason for refusing a stream.
 //!
 //! A [`StreamReader`], set to a [`Side`], takes a stream in any pieces. Which bytes it has read and
-//! what it shows is in `specs/Standing`, how it says an event in `specs/Saying`.
+//! what it shows is in `specs/StreamReaderState`, how it says an event in `specs/Saying`.
 #![tactic(auto)]
 
 mod awaited;

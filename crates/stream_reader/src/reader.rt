@@ -95,7 +95,7 @@ pub struct StreamReader<'s> {
 impl<'s> StreamReader<'s> {
     ghost use Rattle.stream_reader.specs.declared.reader.ReadRefusal.{ReadRefusal as Failure};
     ghost use Rattle.stream_reader.specs.Saying.{Says, Repeats, said_at_end};
-    ghost use Rattle.stream_reader.specs.Standing.{settings_of, taken_of, held_of, content_held_of, messages_of, failure_of, StandsFor, FailedBehind, ShowsText, ShowsStrings, WhereItStands, WhereItFailed, FailsBy, HasPayloads, begun_in, items_in};
+    ghost use Rattle.stream_reader.specs.StreamReaderState.{settings_of, taken_of, held_of, content_held_of, messages_of, failure_of, StandsFor, FailedBehind, ShowsText, ShowsStrings, WhereItStands, WhereItFailed, FailsBy, HasPayloads, begun_in, items_in};
 
     /// A reader before the first byte. It allocates all that it needs before the first envelope.
     pub fn new(
@@ -287,7 +287,7 @@ impl<'s> StreamReader<'s> {
 
     /// What it holds of the input: in bytes, the framing's text and the unfinished unit of the
     /// payload, and the content of the document so far.
-    #[tactic(auto, unfolding(crate::specs::Standing::held_of, crate::specs::Standing::content_held_of))]
+    #[tactic(auto, unfolding(crate::specs::StreamReaderState::held_of, crate::specs::StreamReaderState::content_held_of))]
     pub fn kept(&self) -> Kept
         ensures held { result.raw ≡ held_of self.now }
         ensures content_held { result.content ≡ content_held_of self.now }

@@ -27,7 +27,7 @@ struct Gathered {
 }
 
 impl<'s> StreamReader<'s> {
-    ghost use Rattle.stream_reader.specs.Standing.{settings_of, failure_of, WhereItStands};
+    ghost use Rattle.stream_reader.specs.StreamReaderState.{settings_of, failure_of, WhereItStands};
     ghost use Rattle.stream_reader.specs.Stepping.{UnitAnswers};
 
     // Takes the short chunks that lie whole at the front of the bytes, or else bytes of the next

@@ -14,12 +14,12 @@ use nbfx_values::{Kind, Mode, Offence, Place, Reason};
 use nmf_records::{Due, Frame, FrameStep};
 
 impl<'s> StreamReader<'s> {
-    ghost use Rattle.nbfx_decoder.specs.Standing.{settings_of as decoder_settings, StandsFor as DecoderStandsFor};
+    ghost use Rattle.nbfx_decoder.specs.DecoderState.{settings_of as decoder_settings, StandsFor as DecoderStandsFor};
     ghost use Rattle.nmf_records.specs.declared.frame.Frame.{Frame as Record};
     ghost use Rattle.nmf_records.specs.Reader.{ShowsText as FramesShowText};
     ghost use Rattle.stream_reader.specs.Sides.{side_of};
-    ghost use Rattle.stream_reader.specs.Standing.{settings_of, failure_of, Awaits, WhereItStands};
-    ghost use Rattle.stream_reader.specs.Stepping.{UnitAnswers, BehindAnswers, HasDecoded, IsDue, DecodesAfter, IsMoved, Keeps, KeepsParts, KeepsShown, MakesPayload, RecordAnswers, awaited_after, bare_step, begun_by, closing_after, closing_step, is_chunked_form, mode_after, due_of, has_ended, may_end_at, opened_at, size_before_of, taken_since, refusal_told};
+    ghost use Rattle.stream_reader.specs.StreamReaderState.{settings_of, failure_of, Awaits, WhereItStands};
+    ghost use Rattle.stream_reader.specs.Stepping.{UnitAnswers, BehindAnswers, HasDecoded, IsDue, DecodesAfter, IsMoved, KeepsFraming, KeepsParts, KeepsShown, MakesPayload, RecordAnswers, awaited_after, bare_step, begun_by, closing_after, closing_step, is_chunked_form, mode_after, due_of, has_ended, may_end_at, opened_at, size_before_of, taken_since, refusal_told};
     ghost use Rattle.stream_reader.specs.Stream.{Settings, Situation, Stage, OpenPayload, behind_payload, completed, completed_payload, direction_of, frame as frame_unit, led, reason_in, refused_payload, after_record, completed_record, refused_record, payload_by};
 
     pub(crate) fn has_ended(&self) -> bool
@@ -191,7 +191,7 @@ impl<'s> StreamReader<'s> {
         ensures unchanged { result ≡ false → self.new ≡ self.old }
         ensures unit_from { self.new.unit_from ≡ self.old.unit_from }
         ensures unfailed { self.new.failure ≡ self.old.failure }
-        ensures keeps { Keeps self.old self.new }
+        ensures keeps { KeepsFraming self.old self.new }
     {
         if payload.left > 0 {
             return true;
@@ -213,7 +213,7 @@ impl<'s> StreamReader<'s> {
         ensures refused { IfErr result (λ refusal. failure_of self.new ≡ Some refusal) }
         ensures unit_from { OnOk result (self.new.unit_from ≡ self.old.unit_from) }
         ensures unfailed { OnOk result (self.new.failure ≡ self.old.failure) }
-        ensures keeps { Keeps self.old self.new }
+        ensures keeps { KeepsFraming self.old self.new }
     {
         if self.awaits_more(payload) {
             return Ok(StreamStep::More);
@@ -232,7 +232,7 @@ impl<'s> StreamReader<'s> {
         ensures refused { IfErr result (λ refusal. failure_of self.new ≡ Some refusal) }
         ensures unit_from { OnOk result (self.new.unit_from ≡ self.old.unit_from) }
         ensures unfailed { OnOk result (self.new.failure ≡ self.old.failure) }
-        ensures keeps { Keeps self.old self.new }
+        ensures keeps { KeepsFraming self.old self.new }
     {
         let doc = match self.decoder.finish() {
             Ok(doc) => doc,
@@ -296,7 +296,7 @@ impl<'s> StreamReader<'s> {
         ensures refused { IfErr result (λ refusal. failure_of self.new ≡ Some refusal) }
         ensures unit_from { OnOk result (self.new.unit_from ≡ self.old.taken) }
         ensures unfailed { OnOk result (self.new.failure ≡ self.old.failure) }
-        ensures keeps { Keeps self.old self.new }
+        ensures keeps { KeepsFraming self.old self.new }
     {
         if let Some(reason) = self.reason_in(frame) {
             return Err(self.refuse(self.unit_from, reason));

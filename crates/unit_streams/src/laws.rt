@@ -9,7 +9,7 @@ ghost use Rattle.unit_streams.specs.Laws.{StandingsGoOn, AnswersAreFirst, CutsCh
 ghost use Rattle.unit_streams.specs.Refusals.{RefusalsAreThree};
 ghost use Rattle.unit_streams.specs.Tellers.{Teller, Closes, PiecesAdd, EndsAdd, PrefixesTellFronts, OpenTellFronts};
 
-/// A stream stands where it stood before some bytes and went on by them.
+/// The state after a stream is the state after its first bytes, advanced by the rest.
 pub fn standings_go_on()
     ensures { (g : Grammar ℕ ℕ ℕ ℕ) → IsReadable g → StandingsGoOn g }
 {}

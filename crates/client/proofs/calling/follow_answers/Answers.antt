@@ -2,7 +2,7 @@ use Rattle.std.proofs.Common.{rules, List, map, refl}
 use Rattle.unit_streams.specs.Judging.{events_in, events_of}
 use Rattle.stream_loop.specs.Edges.{Input, input_at}
 use Rattle.stream_loop.proofs.LoopSteps.{first_pending}
-use Rattle.stream_reader.specs.Standing.{settings_of}
+use Rattle.stream_reader.specs.StreamReaderState.{settings_of}
 use Rattle.stream_reader.specs.Stream.{Settings, StreamEvent, ends, stream}
 use Rattle.stream_follower.proofs.Taking.{unbegun}
 use Rattle.session_report.proofs.Streams.{ends_within}

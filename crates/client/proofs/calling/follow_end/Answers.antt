@@ -1,6 +1,6 @@
 use Rattle.std.proofs.Common.{List, ap, map, refl}
 use Rattle.stream_loop.specs.Edges.{Input, input_at}
-use Rattle.stream_reader.specs.Standing.{settings_of}
+use Rattle.stream_reader.specs.StreamReaderState.{settings_of}
 use Rattle.stream_reader.specs.Stream.{StreamEvent, stream}
 use Rattle.stream_follower.proofs.Counts.{heard_some}
 use Rattle.stream_follower.proofs.Taking.{follows_as}

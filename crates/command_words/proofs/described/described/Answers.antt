@@ -2,7 +2,7 @@ use Rattle.std.proofs.Common.{◌<◌, ◌∙◌, ap, ap₂, length, slice_index
 use Rattle.std.proofs.lemmas.List.Sums.{fold_more}
 use Rattle.command_words.specs.declared.option_name.OptionName.TheVariants.{Static}
 use Rattle.command_words.specs.Commands.{options_of, word_of}
-use Rattle.command_words.specs.Reading.{app_without_options, with_option}
+use Rattle.command_words.specs.WordAnswers.{app_without_options, with_option}
 use Rattle.command_words.proofs.described.described.Goals as goal
 
 pub loop-option-preserved : goal.loop-option-preserved

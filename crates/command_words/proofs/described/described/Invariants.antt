@@ -2,7 +2,7 @@ use Rattle.std.proofs.Common.{◌≡◌, take}
 use Rattle.std.specs.Prelude.{fold}
 use Rattle.clap.specs.Simple.{app_of}
 use Rattle.command_words.specs.Commands.{options_of, word_of}
-use Rattle.command_words.specs.Reading.{app_without_options, with_option}
+use Rattle.command_words.specs.WordAnswers.{app_without_options, with_option}
 use Rattle.command_words.proofs.described.described.Given as goal
 
 abbrev pub invariant-loop-option : goal.invariant-loop-option

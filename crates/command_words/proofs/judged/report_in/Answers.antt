@@ -1,6 +1,6 @@
 use Rattle.std.proofs.Common.{◌≡◌, subst, sym}
 use Rattle.command_words.specs.declared.option_name.OptionName.TheVariants.{Encoding}
-use Rattle.command_words.specs.Reading.{found_values}
+use Rattle.command_words.specs.WordAnswers.{found_values}
 use Rattle.command_words.specs.Requests.{IsOrigin}
 use Rattle.command_words.specs.Values.{IsKind}
 use Rattle.command_words.proofs.ValueFacts.{kind-one}

@@ -1,5 +1,5 @@
 use Rattle.std.proofs.Common.{◌∙◌, ap, sym, true≢false}
-use Rattle.command_words.specs.Reading.{begins_plain}
+use Rattle.command_words.specs.WordAnswers.{begins_plain}
 use Rattle.command_words.proofs.NumberFacts.{decimal-plain, parsed-none, parsed-written}
 use Rattle.command_words.proofs.number.number_in.Goals as goal
 

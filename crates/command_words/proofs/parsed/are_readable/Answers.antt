@@ -1,5 +1,5 @@
 use Rattle.std.proofs.Common.{◌∙◌, inl, inr, string_bytes, subst, sym, true≢false}
-use Rattle.command_words.specs.Reading.{IsLoneHyphens, IsReadable}
+use Rattle.command_words.specs.WordAnswers.{IsLoneHyphens, IsReadable}
 use Rattle.command_words.proofs.ParsedFacts.{readable-more}
 use Rattle.command_words.proofs.parsed.are_readable.Goals as goal
 

@@ -3,7 +3,7 @@ use Rattle.std.proofs.Common.{sym, true≢false}
 use Rattle.std.proofs.lemmas.Bool.{cases_lt}
 use Rattle.std.proofs.lemmas.List.{get_or_default}
 use Rattle.command_words.specs.declared.option_name.OptionName.TheVariants.{Static}
-use Rattle.command_words.specs.Reading.{found_values}
+use Rattle.command_words.specs.WordAnswers.{found_values}
 use Rattle.command_words.proofs.parsed.have_values.Goals as goal
 
 pub loop-option-init : goal.loop-option-init

@@ -2,7 +2,7 @@ use Rattle.std.proofs.Common.{◌≡◌, ◌∙◌, ◌<◌, ◌^◌, ◌*◌, a
 use Rattle.std.specs.Prelude.{max}
 use Rattle.nbfx_values.specs.Limits.{Limits, limits}
 use Rattle.command_words.specs.declared.option_name.OptionName.TheVariants.{Content}
-use Rattle.command_words.specs.Reading.{found_values}
+use Rattle.command_words.specs.WordAnswers.{found_values}
 use Rattle.command_words.specs.Requests.{usual_content}
 use Rattle.command_words.specs.Values.{IsNumber}
 use Rattle.command_words.proofs.NumberFacts.{IsGood-content, limits-same, none-good, payload-same}

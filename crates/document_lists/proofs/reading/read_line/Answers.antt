@@ -1,7 +1,7 @@
 use Rattle.std.proofs.Common.{◌≡◌, ℕ, ◌+◌, ◌≤◌, List, ◌++◌, Ok, sym, ap, ◌∙◌, subst}
 use Rattle.std.proofs.lemmas.List.{append-nil}
 use Rattle.line_notation.specs.Between.{IsUnrefused, next_line}
-use Rattle.line_notation.specs.Standing.{Standing, after, answer, document_of}
+use Rattle.line_notation.specs.LineReaderState.{Standing, after, answer, document_of}
 use Rattle.line_notation.specs.declared.reader.LineStep.TheVariants.{Done, More}
 use Rattle.document_lines.proofs.Standings.{done_leads, more_leads, next_after}
 use Rattle.document_lists.proofs.reading.read_line.Goals as goal
@@ -31,19 +31,22 @@ returns-in-Ok-clause-reads c =
     let z = c.args.lines.now in
     let e : answer z c.args.line.now ≡ Ok (Done c.in-Ok-Done.doc) = sym c.in-Ok-Done.ensures.answer
     ∙ ap Ok c.in-Ok-Done.field-0-is in
+    let stands = c.in-Ok.ensures.lines ∙ c.in-Ok-Done.ensures.stands in
     let d = done_leads z c.args.line.now c.in-Ok-Done.doc e in (
-      c.in-Ok-Done.ensures.stands,
-      subst IsUnrefused (sym (c.in-Ok-Done.ensures.stands ∙ d.1)) tt,
-      c.in-Ok.ensures.pushed ∙ ap (λ a. c.args.docs.now ++ document_of a) (sym e),
+      stands,
+      subst IsUnrefused (sym (stands ∙ d.1)) tt,
+      c.in-Ok.ensures.added ∙ ap (λ a. c.args.docs.now ++ document_of a) (sym e),
     )
 
 pub returns-in-Ok-clause-next : goal.returns-in-Ok-clause-next
 returns-in-Ok-clause-next c =
-    next_behind c.args.lines.now c.line.new.self c.args.line.now c.in-Ok-Done.ensures.stands
+    next_behind c.args.lines.now c.keep.new.lines c.args.line.now
+    (c.in-Ok.ensures.lines ∙ c.in-Ok-Done.ensures.stands)
 
 pub returns-in-Err-clause-next : goal.returns-in-Err-clause-next
 returns-in-Err-clause-next c =
-    next_behind c.args.lines.now c.line.new.self c.args.line.now c.in-Ok-Done.ensures.stands
+    next_behind c.args.lines.now c.keep.new.lines c.args.line.now
+    (c.in-Err.ensures.lines ∙ c.in-Ok-Done.ensures.stands)
 
 pub returns-in-Err-Bad-clause-next : goal.returns-in-Err-Bad-clause-next
 returns-in-Err-Bad-clause-next c =

@@ -4,7 +4,7 @@ use Rattle.command_words.specs.Asking.{opening_of}
 use Rattle.command_words.specs.Tasks.{Opening}
 use Rattle.stream_loop.specs.Reported.{EndsAs}
 use Rattle.document_lines.specs.Input.{Settings, envelopes_and_end, lines_of_documents}
-use Rattle.document_lines.specs.Standing.{has_good_quotas, settings_of}
+use Rattle.document_lines.specs.DocumentReaderState.{has_good_quotas, settings_of}
 use Rattle.dump_replay.specs.Building.{preamble_of, with_preamble}
 use Rattle.dump_replay.proofs.Beginnings.{ends_behind}
 use Rattle.dump_replay.proofs.BuildEndings.{lines_end_within, unbegun}

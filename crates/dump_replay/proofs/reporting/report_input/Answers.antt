@@ -5,7 +5,7 @@ use Rattle.unit_streams.specs.Tellers.{Teller}
 use Rattle.stream_loop.specs.Answers.{written_by}
 use Rattle.stream_loop.specs.Reported.{EndsAs}
 use Rattle.stream_loop.specs.declared.reporting.Ending.TheVariants as endings
-use Rattle.stream_reader.specs.Standing.{settings_of}
+use Rattle.stream_reader.specs.StreamReaderState.{settings_of}
 use Rattle.stream_reader.specs.Stream.{Settings, Side, StreamEvent, ends, stream}
 use Rattle.session_report.specs.declared.reporter.LineReporter.{LineReporter}
 use Rattle.session_report.specs.declared.reporter.Outcome.{Outcome}

@@ -6,7 +6,7 @@ use Rattle.stream_loop.proofs.LoopSteps.{first_pending}
 use Rattle.stream_reader.specs.declared.side.Endpoint.{Endpoint}
 use Rattle.stream_reader.specs.Sides.{endpoint_of}
 use Rattle.stream_reader.specs.Stream.{Settings, StreamEvent, ends, stream}
-use Rattle.receiver_machine.specs.Standing.{has_good_quotas, settings_of}
+use Rattle.receiver_machine.specs.ReceiverState.{has_good_quotas, settings_of}
 use Rattle.stream_follower.proofs.Taking.{unbegun}
 use Rattle.duplex_server.specs.Owed.{Answering, answering, requests_to}
 use Rattle.duplex_server.specs.Replying.{HasHeard, answering_of}

@@ -1,5 +1,5 @@
 use Rattle.std.proofs.Common.{ap}
-use Rattle.line_notation.specs.Standing.{ending}
+use Rattle.line_notation.specs.LineReaderState.{ending}
 use Rattle.line_notation.proofs.LinesAre.{read-documents}
 use Rattle.line_notation.proofs.LinesRead.{documents-read}
 use Rattle.line_notation.proofs.laws.documents.Goals as goal

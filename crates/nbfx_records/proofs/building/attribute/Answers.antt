@@ -1,7 +1,7 @@
 use Rattle.std.proofs.Common.{Some}
 use Rattle.std.specs.Str.{is_utf8}
 use Rattle.nbfx_records.specs.declared.nodes.AttrNode.TheVariants as attribute_nodes
-use Rattle.nbfx_records.specs.Contents.{name_is_text, value_is_text, value_of}
+use Rattle.nbfx_records.specs.Contents.{name_is_text, value_is_text, shape_value}
 use Rattle.nbfx_records.specs.Views.{name_seen, prefix_seen, value_seen}
 use Rattle.nbfx_records.proofs.JudgedFacts.{exit, texts_of_made, unmade_otherwise}
 use Rattle.nbfx_records.proofs.building.attribute.Goals as goal
@@ -17,5 +17,5 @@ returns-in_err-value-in-Attribute c =
     c.in_ok-name-in-Attribute.ensures.made in
     rw (c.in-Attribute.is, in_prefix, in_name)
     (exit c.from_residual-in_err-value-in-Attribute.ensures.1
-    (unmade_otherwise (attribute_nodes.Attribute prefix name) (value_is_text value) (value_of value)
-    c.in_err-value-in-Attribute.ensures))
+    (unmade_otherwise (attribute_nodes.Attribute prefix name) (value_is_text value)
+    (shape_value value) c.in_err-value-in-Attribute.ensures))

@@ -3,7 +3,7 @@ use Rattle.std.specs.Str.{is_utf8}
 use Rattle.std.specs.Option.{option_map}
 use Rattle.nbfx_records.specs.declared.nodes.AttrNode.TheVariants as attribute_nodes
 use Rattle.nbfx_records.specs.Contents.{attribute_node, contents, name_is_text, value_is_text}
-use Rattle.nbfx_records.specs.Contents.{value_of}
+use Rattle.nbfx_records.specs.Contents.{shape_value}
 use Rattle.nbfx_records.specs.Views.{name_seen, prefix_seen, value_seen}
 use Rattle.nbfx_records.proofs.JudgedFacts.{exit, texts_of_made, unmade_otherwise}
 use Rattle.nbfx_records.proofs.building.attribute_node.Goals as goal
@@ -20,6 +20,6 @@ returns-in_err-value c =
     c.in_ok-name.ensures.made in
     rw (in_prefix, in_name) (exit c.from_residual-in_err-value.ensures.1
     (unmade_otherwise attribute_node (value_is_text value)
-    (option_map (attribute_nodes.Attribute prefix name) (value_of value))
-    (unmade_otherwise (attribute_nodes.Attribute prefix name) (value_is_text value) (value_of value)
-    c.in_err-value.ensures)))
+    (option_map (attribute_nodes.Attribute prefix name) (shape_value value))
+    (unmade_otherwise (attribute_nodes.Attribute prefix name) (value_is_text value)
+    (shape_value value) c.in_err-value.ensures)))

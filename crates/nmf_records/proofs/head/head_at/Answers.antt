@@ -2,7 +2,7 @@ use Rattle.std.proofs.Common.{sym, subst}
 use Rattle.std.specs.Prelude.{IfSome, ◌≡◌}
 use Rattle.unit_streams.specs.Front.{whole}
 use Rattle.nmf_records.specs.declared.frame.Expect.{Expect}
-use Rattle.nmf_records.specs.Reading.{bare, frame_at}
+use Rattle.nmf_records.specs.RecordFronts.{bare, frame_at}
 use Rattle.nmf_records.proofs.head.head_at.Goals as goal
 
 pub returns-in-Chunk-clause-reads : goal.returns-in-Chunk-clause-reads

@@ -1,7 +1,7 @@
 use Rattle.std.proofs.Common.{◌∙◌, [], arith, refl}
-use Rattle.nbfx_encoder.specs.Reading.{IsRead}
+use Rattle.nbfx_encoder.specs.ReadBack.{IsRead}
 use Rattle.nbfx_encoder.specs.EncoderState.{kind_in, names_in}
-use Rattle.nbfx_decoder.specs.Standing.{settings_of}
+use Rattle.nbfx_decoder.specs.DecoderState.{settings_of}
 use Rattle.payload_ends.proofs.BothEnds.{level-again, taken, whole, whole-again, written_read}
 use Rattle.payload_ends.proofs.carrying.carry.Goals as goal
 use Rattle.payload_ends.proofs.carrying.carry.Goals.{After-deref}

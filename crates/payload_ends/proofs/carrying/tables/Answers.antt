@@ -1,7 +1,7 @@
 use Rattle.std.proofs.Common.{[], ap, sym, ◌∙◌}
 use Rattle.session_dictionary.specs.Strings.{LimitedStrings}
 use Rattle.nbfx_encoder.specs.EncoderState.{names_in}
-use Rattle.nbfx_decoder.specs.Standing.{settings_of}
+use Rattle.nbfx_decoder.specs.DecoderState.{settings_of}
 use Rattle.payload_ends.proofs.BothEnds.{no_strings}
 use Rattle.payload_ends.proofs.carrying.tables.Goals as goal
 

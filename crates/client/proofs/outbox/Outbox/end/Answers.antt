@@ -2,7 +2,8 @@ use Rattle.std.proofs.Common.{[], ◌++◌, length, ap, ◌∙◌}
 use Rattle.nmf_records.specs.declared.frame.Frame.TheVariants.{End}
 use Rattle.nmf_records.specs.Writing.{frame_bytes_of}
 use Rattle.client.specs.Sending.{counted_up, out_of, whole_within}
-use Rattle.client.proofs.Gathered.{ends_so, gathers_end, stops_all}
+use Rattle.client.proofs.Gathered.{gathers_end}
+use Rattle.client.proofs.PutGathered.{ends_so, stops_all}
 use Rattle.client.proofs.outbox.Outbox.end.Goals as goal
 
 pub returns-then-is_err : goal.returns-then-is_err

@@ -1,6 +1,7 @@
 use Rattle.std.proofs.Common.{[], ◌∷◌, ◌++◌, sym, ◌∙◌, append_assoc}
 use Rattle.client.specs.Sending.{out_of}
-use Rattle.client.proofs.Gathered.{gathers_one, put_goes, stops_gathers, taken_back}
+use Rattle.client.proofs.Gathered.{gathers_one, taken_back}
+use Rattle.client.proofs.PutGathered.{put_goes, stops_gathers}
 use Rattle.client.proofs.outbox.Outbox.mark.Goals as goal
 
 pub returns-then-is_err : goal.returns-then-is_err

@@ -1,5 +1,5 @@
 use Rattle.std.proofs.Common.{refl}
-use Rattle.client.proofs.Gathered.{put_stops, starved}
+use Rattle.client.proofs.PutGathered.{put_stops, starved}
 use Rattle.client.proofs.outbox.Outbox.starve.Goals as goal
 
 pub returns-then-not-is_going : goal.returns-then-not-is_going

@@ -1,5 +1,5 @@
 use Rattle.std.proofs.Common.{rules}
-use Rattle.client.proofs.Gathered.{fitting_sent, written_stops}
+use Rattle.client.proofs.PutGathered.{fitting_sent, written_stops}
 use Rattle.client.proofs.Envelopes.{refused_so}
 use Rattle.nbfx_encoder.specs.Spelling.{encoded}
 use Rattle.client.proofs.outbox.Outbox.stop_at.Goals as goal

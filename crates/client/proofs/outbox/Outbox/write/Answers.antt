@@ -1,6 +1,6 @@
 use Rattle.std.proofs.Common.{ap, ◌∙◌}
 use Rattle.client.specs.Sending.{counted_up, whole_within}
-use Rattle.client.proofs.Gathered.{puts_gathered}
+use Rattle.client.proofs.PutGathered.{puts_gathered}
 use Rattle.client.proofs.outbox.Outbox.write.Goals as goal
 
 pub returns-clause-put : goal.returns-clause-put

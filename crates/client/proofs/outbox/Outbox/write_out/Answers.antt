@@ -1,5 +1,5 @@
 use Rattle.std.proofs.Common.{refl}
-use Rattle.client.proofs.Gathered.{put_written, written_out}
+use Rattle.client.proofs.PutGathered.{put_written, written_out}
 use Rattle.client.proofs.outbox.Outbox.write_out.Goals as goal
 
 pub returns-then-not-is_going-clause-written : goal.returns-then-not-is_going-clause-written

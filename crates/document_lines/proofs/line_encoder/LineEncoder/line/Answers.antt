@@ -1,5 +1,5 @@
 use Rattle.std.proofs.Common.{Ok, refl, sym, ap, ◌∙◌}
-use Rattle.line_notation.specs.Standing.{Standing, after, answer}
+use Rattle.line_notation.specs.LineReaderState.{Standing, after, answer}
 use Rattle.document_lines.proofs.Sending.{line_done, line_more}
 use Rattle.document_lines.proofs.Standings.{next_after}
 use Rattle.document_lines.proofs.line_encoder.LineEncoder.line.Goals as goal

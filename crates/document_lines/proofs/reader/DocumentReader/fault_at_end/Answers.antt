@@ -1,4 +1,4 @@
-use Rattle.document_lines.specs.Standing.{StandsFor, settings_of}
+use Rattle.document_lines.specs.DocumentReaderState.{StandsFor, settings_of}
 use Rattle.document_lines.proofs.LineSteps.{found_ending}
 use Rattle.document_lines.proofs.reader.DocumentReader.fault_at_end.Goals as goal
 

@@ -7,7 +7,8 @@ use Rattle.std.proofs.lemmas.List.{take-append-drop, length-take-le}
 use Rattle.nbfx_values.specs.declared.limits.Quotas.{Quotas}
 use Rattle.stream_loop.specs.declared.reading_end.FeedFault.{FeedFault}
 use Rattle.document_lines.specs.Input.{Settings}
-use Rattle.document_lines.specs.Standing.{StandsFor, UnitAnswers, WhereItStands, settings_of}
+use Rattle.document_lines.specs.DocumentReaderState.{StandsFor, UnitAnswers, WhereItStands}
+use Rattle.document_lines.specs.DocumentReaderState.{settings_of}
 use Rattle.document_lines.specs.declared.InputFault.{InputFault}
 use Rattle.document_lines.specs.declared.reader.DocumentReader.{DocumentReader}
 use Rattle.document_lines.proofs.FeedSteps.{Along, along_end, along_event, along_more}

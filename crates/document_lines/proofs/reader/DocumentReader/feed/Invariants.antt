@@ -1,5 +1,5 @@
 use Rattle.std.proofs.Common.{◌≡◌, ℕ, ◌+◌, ◌-◌, ◌≤◌, List}
-use Rattle.document_lines.specs.Standing.{StandsFor, settings_of}
+use Rattle.document_lines.specs.DocumentReaderState.{StandsFor, settings_of}
 use Rattle.document_lines.proofs.FeedSteps.{Along}
 use Rattle.document_lines.proofs.reader.DocumentReader.feed.Given as goal
 

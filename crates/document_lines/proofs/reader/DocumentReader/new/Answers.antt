@@ -7,7 +7,7 @@ use Rattle.nbfx_encoder.specs.Sending.{kind_in, names_in}
 use Rattle.string_tables.specs.StaticStrings.{Entry}
 use Rattle.string_tables.specs.StringTable.{StringTable}
 use Rattle.document_lines.specs.Input.{Settings, start_of}
-use Rattle.document_lines.specs.Standing.{IsAt, StandsFor, settings_of}
+use Rattle.document_lines.specs.DocumentReaderState.{IsAt, StandsFor, settings_of}
 use Rattle.document_lines.proofs.LineSteps.{starts}
 use Rattle.document_lines.proofs.reader.DocumentReader.new.Goals as goal
 

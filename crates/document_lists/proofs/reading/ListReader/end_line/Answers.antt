@@ -2,7 +2,7 @@ use Rattle.std.proofs.Common.{◌≡◌, List, ℕ, [], ◌++◌, sym, ◌∙◌
 use Rattle.std.proofs.lemmas.Bool.{eqb-true}
 use Rattle.std.proofs.lemmas.List.{nil_from_length}
 use Rattle.std.specs.Prelude.{vec_len}
-use Rattle.document_lists.specs.Reading.{ReadsLine}
+use Rattle.document_lists.specs.LineAnswers.{ReadsLine}
 use Rattle.document_lists.proofs.ReaderFacts.{line_read}
 use Rattle.document_lists.proofs.reading.ListReader.end_line.Goals as goal
 

@@ -1,7 +1,7 @@
 use Rattle.std.proofs.Common.{◌≡◌, Err, ap}
 use Rattle.stream_reader.specs.declared.reader.ReadRefusal.TheVariants.{Offence as Refused}
 use Rattle.stream_reader.proofs.EndTold.{ends_well, ends_refused}
-use Rattle.initiator_machine.specs.Standing.{reader_of}
+use Rattle.initiator_machine.specs.InitiatorState.{reader_of}
 use Rattle.initiator_machine.proofs.initiator.Initiator.end_of_input.Goals as goal
 
 pub unreachable-requires : goal.unreachable-requires

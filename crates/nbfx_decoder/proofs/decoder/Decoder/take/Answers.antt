@@ -1,7 +1,7 @@
 use Rattle.std.proofs.Common.{◌≡◌, ◌++◌, ◌∙◌, List, [], ℕ, Ok, length, sym, ap, subst, arith}
 use Rattle.nbfx_decoder.specs.declared.units.UnitRead.TheVariants.{Done}
 use Rattle.nbfx_decoder.specs.Units.{UnitAnswers}
-use Rattle.nbfx_decoder.specs.Standing.{situation_of, from_of, begun_of}
+use Rattle.nbfx_decoder.specs.DecoderState.{situation_of, from_of, begun_of}
 use Rattle.nbfx_decoder.proofs.TakeSteps.{no_bytes, takes_unit_of}
 use Rattle.nbfx_decoder.proofs.decoder.Decoder.take.Goals as goal
 

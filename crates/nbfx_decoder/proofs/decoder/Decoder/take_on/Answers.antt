@@ -2,7 +2,7 @@ use Rattle.std.proofs.Common.{◌≡◌, ◌+◌, ◌∙◌, Ok, length, take, r
 use Rattle.std.proofs.lemmas.List.{length-take-le}
 use Rattle.nbfx_decoder.specs.declared.units.UnitRead.TheVariants.{More, Done}
 use Rattle.nbfx_decoder.specs.Units.{Counts, UnitAnswers}
-use Rattle.nbfx_decoder.specs.Standing.{situation_of, from_of}
+use Rattle.nbfx_decoder.specs.DecoderState.{situation_of, from_of}
 use Rattle.nbfx_decoder.proofs.TakeSteps.{on_begun, on_more, on_done, on_fault}
 use Rattle.nbfx_decoder.proofs.decoder.Decoder.take_on.Goals as goal
 

@@ -3,7 +3,7 @@ use Rattle.std.proofs.Common.{arith}
 use Rattle.nbfx_decoder.specs.declared.units.UnitRead.TheVariants.{More, Done}
 use Rattle.nbfx_decoder.specs.Payload.{unit_in}
 use Rattle.nbfx_decoder.specs.Units.{UnitAnswers}
-use Rattle.nbfx_decoder.specs.Standing.{situation_of, from_of, begun_of}
+use Rattle.nbfx_decoder.specs.DecoderState.{situation_of, from_of, begun_of}
 use Rattle.nbfx_decoder.proofs.Waits.{waits_now}
 use Rattle.nbfx_decoder.proofs.TakeSteps.{takes_fault, takes_all, takes_unit_of}
 use Rattle.nbfx_decoder.proofs.decoder.Decoder.take_whole.Goals as goal

@@ -1,5 +1,5 @@
 use Rattle.std.proofs.Common.{◌≡◌, length, ap, subst, arith}
-use Rattle.nbfx_decoder.specs.Standing.{IsPlacedAt, from_of, settings_of}
+use Rattle.nbfx_decoder.specs.DecoderState.{IsPlacedAt, from_of, settings_of}
 use Rattle.nbfx_decoder.proofs.StandsFacts.{stands_as, taken_as, counts_taken, payload_small}
 use Rattle.nbfx_decoder.proofs.ShownFacts.{failed_bytes, failed_place}
 use Rattle.nbfx_decoder.proofs.decoder.Decoder.taken.Goals as goal

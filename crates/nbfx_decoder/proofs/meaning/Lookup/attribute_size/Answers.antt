@@ -2,7 +2,7 @@ use Rattle.std.proofs.Common.{◌+◌, Some, length}
 use Rattle.std.specs.Prelude.{◌&&◌}
 use Rattle.std.specs.Str.{is_utf8}
 use Rattle.nbfx_records.specs.declared.nodes.AttrNode.TheVariants as attribute_nodes
-use Rattle.nbfx_records.specs.Contents.{name_is_text, value_is_text, value_of}
+use Rattle.nbfx_records.specs.Contents.{name_is_text, value_is_text, shape_value}
 use Rattle.nbfx_records.specs.Meaning.{name_text}
 use Rattle.nbfx_records.specs.Views.{name_seen, prefix_seen, value_seen}
 use Rattle.nbfx_decoder.specs.Meant.{table_of}
@@ -18,7 +18,7 @@ returns-in_ok-value_size-in-Attribute c =
     let names = c.in_ok-names-in-Attribute.ensures.told in
     rw (c.in-Attribute.is, c.together.ensures) (record {
       told = attribute_measured (table_of c.args.self.now) prefix name names.0 (is_utf8 prefix)
-          (name_is_text name) (value_is_text value) (value_of value) names.1
+          (name_is_text name) (value_is_text value) (shape_value value) names.1
           c.in_ok-names-in-Attribute.names names.2 c.in_ok-value_size-in-Attribute.field-0
           c.in_ok-value_size-in-Attribute.ensures.told;
     })

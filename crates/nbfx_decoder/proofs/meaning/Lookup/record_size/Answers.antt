@@ -5,7 +5,7 @@ use Rattle.nbfx_values.specs.Measures.{capped}
 use Rattle.nbfx_records.specs.declared.nodes.Node.TheVariants as nodes
 use Rattle.nbfx_records.specs.Contents.{array_of, attribute_is_text, attribute_node}
 use Rattle.nbfx_records.specs.Contents.{attribute_value, contents, is_text, name_is_text}
-use Rattle.nbfx_records.specs.Contents.{value_is_text, value_of}
+use Rattle.nbfx_records.specs.Contents.{value_is_text, shape_value}
 use Rattle.nbfx_records.specs.Meaning.{name_text}
 use Rattle.nbfx_records.specs.Shapes.{repeats}
 use Rattle.nbfx_records.specs.Views.{array_seen, attribute_seen, name_seen, prefix_seen, value_seen}
@@ -63,7 +63,7 @@ returns-in-Text c =
     let ends = c.in-Text.field-1 in
     rw c.in-Text.is
     (record {
-      told = measured_as (λ raw. nodes.Text raw ends) (value_is_text v) (value_of v)
+      told = measured_as (λ raw. nodes.Text raw ends) (value_is_text v) (shape_value v)
           (weigh_value table) (weigh_node table) (text_weighed table ends) _ c.value_size.ensures.told;
     })
 

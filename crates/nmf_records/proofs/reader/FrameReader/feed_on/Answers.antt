@@ -4,7 +4,7 @@ use Rattle.std.proofs.lemmas.List.{append-nil, take_rest}
 use Rattle.unit_streams.specs.Front.{begun, whole, wrong}
 use Rattle.unit_streams.proofs.Taken.{all_taken}
 use Rattle.nmf_records.specs.declared.frame.FrameRefusal.{FrameRefusal}
-use Rattle.nmf_records.specs.Reading.{with_text, frame_at}
+use Rattle.nmf_records.specs.RecordFronts.{with_text, frame_at}
 use Rattle.nmf_records.specs.Reader.{StandsFor, ShowsText, text_after, limit_of}
 use Rattle.nmf_records.proofs.Feeding.{rest_of, along, len_along, after_after, begun_shows}
 use Rattle.nmf_records.proofs.Feeding.{begun_still, refusal_is, no_refusal, piece_decided}

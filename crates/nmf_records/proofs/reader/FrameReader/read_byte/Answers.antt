@@ -2,7 +2,7 @@ use Rattle.std.proofs.Common.{◌≡◌, [], ◌∷◌, ◌++◌, ap}
 use Rattle.multibyte_ints.specs.Reader.{StandsFor as IntStandsFor}
 use Rattle.nmf_records.specs.declared.stage.Stage.TheVariants as stages
 use Rattle.nmf_records.specs.declared.reader.FrameReader.{FrameReader}
-use Rattle.nmf_records.specs.Reading.{frame_at}
+use Rattle.nmf_records.specs.RecordFronts.{frame_at}
 use Rattle.nmf_records.specs.Reader.{StandsFor, limit_of, HasShape, size_bytes}
 use Rattle.nmf_records.proofs.Leading.{field_leads, size_byte_leads, only_type}
 use Rattle.nmf_records.proofs.Showing.{field_head, size_head, plain_shows, shows_same}

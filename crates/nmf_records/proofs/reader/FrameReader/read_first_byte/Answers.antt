@@ -4,7 +4,7 @@ use Rattle.nmf_records.specs.declared.frame.Expect.TheVariants as expects
 use Rattle.nmf_records.specs.declared.stage.SizeRecord.TheVariants as sizes
 use Rattle.nmf_records.specs.declared.reader.FrameReader.{FrameReader}
 use Rattle.nmf_records.specs.Steps.{is_text_start}
-use Rattle.nmf_records.specs.Reading.{frame_at}
+use Rattle.nmf_records.specs.RecordFronts.{frame_at}
 use Rattle.nmf_records.specs.Reader.{StandsFor, limit_of}
 use Rattle.multibyte_ints.proofs.IntegerBytes.{int_peels}
 use Rattle.nmf_records.proofs.Leading.{fixed_leads, size_leads}

@@ -4,7 +4,7 @@ use Rattle.multibyte_ints.specs.Reader.{StandsFor as IntStandsFor}
 use Rattle.multibyte_ints.specs.TextReader.{StringStandsFor}
 use Rattle.nmf_records.specs.declared.stage.Stage.TheVariants as stages
 use Rattle.nmf_records.specs.declared.reader.FrameReader.{FrameReader}
-use Rattle.nmf_records.specs.Reading.{frame_at}
+use Rattle.nmf_records.specs.RecordFronts.{frame_at}
 use Rattle.nmf_records.specs.Reader.{StandsFor, limit_of, HasShape, kind_of_text}
 use Rattle.nmf_records.proofs.Showing.{text_leads, text_shows, text_begun}
 use Rattle.nmf_records.proofs.reader.FrameReader.read_some.Goals as goal

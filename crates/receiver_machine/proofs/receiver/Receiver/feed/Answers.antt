@@ -1,5 +1,5 @@
-use Rattle.receiver_machine.specs.Standing.{settings_of, failure_of, StandsFor, FailedBehind}
-use Rattle.receiver_machine.specs.Standing.{owed_of}
+use Rattle.receiver_machine.specs.ReceiverState.{settings_of, failure_of, StandsFor, FailedBehind}
+use Rattle.receiver_machine.specs.ReceiverState.{owed_of}
 use Rattle.receiver_machine.proofs.Owing.{owed_fed, repeats_it}
 use Rattle.receiver_machine.proofs.receiver.Receiver.feed.Goals as goal
 

@@ -1,4 +1,4 @@
-use Rattle.receiver_machine.specs.Standing.{settings_of, StandsFor, owed_of}
+use Rattle.receiver_machine.specs.ReceiverState.{settings_of, StandsFor, owed_of}
 use Rattle.receiver_machine.proofs.Owing.{owed_unfailed, unfailed}
 use Rattle.receiver_machine.proofs.receiver.Receiver.new.Goals as goal
 

@@ -11,7 +11,7 @@ use Rattle.stream_reader.specs.declared.awaited.PayloadLeft.{PayloadLeft}
 use Rattle.stream_reader.specs.declared.reader.StreamReader.{StreamReader}
 use Rattle.stream_reader.specs.Bounds.{IsBounded}
 use Rattle.stream_reader.specs.Sides.{side_of}
-use Rattle.stream_reader.specs.Standing.{Awaits, failure_of, settings_of}
+use Rattle.stream_reader.specs.StreamReaderState.{Awaits, failure_of, settings_of}
 use Rattle.stream_reader.specs.Stepping.{IsDue, MakesPayload, RecordAnswers}
 use Rattle.stream_reader.specs.declared.reader.ReadRefusal.{ReadRefusal}
 use Rattle.stream_reader.specs.declared.reader.StreamStep.{StreamStep}

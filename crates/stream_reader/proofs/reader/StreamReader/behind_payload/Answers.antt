@@ -1,6 +1,6 @@
 use Rattle.std.proofs.Common.{subst}
 use Rattle.stream_reader.specs.declared.reader.StreamReader.{StreamReader}
-use Rattle.stream_reader.specs.Stepping.{Keeps}
+use Rattle.stream_reader.specs.Stepping.{KeepsFraming}
 use Rattle.stream_reader.proofs.PayloadSteps.{decoded_as}
 use Rattle.stream_reader.proofs.reader.StreamReader.behind_payload.Goals as goal
 
@@ -11,5 +11,5 @@ returns-clause-answers c = λ x z p h.
 
 pub returns-clause-keeps : goal.returns-clause-keeps
 returns-clause-keeps c =
-    subst (λ (s : StreamReader). Keeps s c.behind_last.new.self)
+    subst (λ (s : StreamReader). KeepsFraming s c.behind_last.new.self)
     (c.awaits_more.ensures.unchanged c.if-awaits_more.false) c.behind_last.ensures.keeps

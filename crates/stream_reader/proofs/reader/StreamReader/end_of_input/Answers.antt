@@ -4,7 +4,7 @@ use Rattle.stream_reader.specs.declared.reader.ReadRefusal.TheVariants.{Offence 
 use Rattle.stream_reader.specs.Saying.{said_at_end}
 use Rattle.stream_reader.specs.Sides.{side_of}
 use Rattle.stream_reader.specs.declared.reader.StreamReader.{StreamReader}
-use Rattle.stream_reader.specs.Standing.{StandsFor, failure_of, settings_of}
+use Rattle.stream_reader.specs.StreamReaderState.{StandsFor, failure_of, settings_of}
 use Rattle.stream_reader.specs.Stepping.{may_end_at}
 use Rattle.stream_reader.specs.Stream.{direction_of, offence_at}
 use Rattle.stream_reader.proofs.ReaderFacts.{not_failed, ending_is, failed_as_set, refused_shows}

@@ -13,7 +13,7 @@ use Rattle.stream_reader.specs.declared.reader.StreamStep.{StreamStep}
 use Rattle.stream_reader.specs.declared.reader.StreamStep.TheVariants as steps
 use Rattle.stream_reader.specs.Saying.{Repeats}
 use Rattle.stream_reader.specs.Stream.{Settings, offence_at, stream}
-use Rattle.stream_reader.specs.Standing.{Reached, StandsFor, failure_of, settings_of}
+use Rattle.stream_reader.specs.StreamReaderState.{Reached, StandsFor, failure_of, settings_of}
 use Rattle.stream_reader.specs.Stepping.{has_ended, taken_since, UnitAnswers}
 use Rattle.stream_reader.proofs.ReaderFacts.{not_failed, open_as_opened, over_as_ended}
 use Rattle.stream_reader.proofs.ReaderFacts.{refused_shows, repeats_end, same_settings}

@@ -3,15 +3,15 @@ use Rattle.std.proofs.Common.{subst, arith}
 use Rattle.std.proofs.Math.Logic.{∥∥₁_map}
 use Rattle.unit_streams.specs.Grammar.{standing}
 use Rattle.nbfx_decoder.specs.declared.decoder.Decoder.{Decoder}
-use Rattle.nbfx_decoder.specs.Standing.{settings_of as decoder_settings, FailedWithin, FeedAnswers}
-use Rattle.nbfx_decoder.specs.Standing.{StandsFor as DecoderStandsFor}
+use Rattle.nbfx_decoder.specs.DecoderState.{settings_of as decoder_settings, FailedWithin}
+use Rattle.nbfx_decoder.specs.DecoderState.{FeedAnswers, StandsFor as DecoderStandsFor}
 use Rattle.stream_reader.specs.declared.awaited.Awaited.{Awaited}
 use Rattle.stream_reader.specs.declared.awaited.Awaited.TheVariants as awaits
 use Rattle.stream_reader.specs.declared.awaited.PayloadLeft.{PayloadLeft}
 use Rattle.stream_reader.specs.declared.reader.StreamReader.{StreamReader}
 use Rattle.stream_reader.specs.Bounds.{IsBounded, size_of, to_come}
 use Rattle.stream_reader.specs.Runs.{place_in as place_of}
-use Rattle.stream_reader.specs.Standing.{StandsFor, failure_of, settings_of}
+use Rattle.stream_reader.specs.StreamReaderState.{StandsFor, failure_of, settings_of}
 use Rattle.stream_reader.specs.Stepping.{UnitAnswers}
 use Rattle.stream_reader.specs.Stream.{Settings, stream}
 use Rattle.stream_reader.proofs.Bounded.{bounded_at, bounded_fed, bounded_refused, failed_within}

@@ -6,14 +6,14 @@ use Rattle.nbfx_values.specs.Measures.{content_of}
 use Rattle.nbfx_values.specs.declared.limits.Kept.{Kept}
 use Rattle.nbfx_decoder.specs.declared.decoder.Decoder.{Decoder}
 use Rattle.nbfx_decoder.specs.declared.faults.DecodeFault.{DecodeFault}
-use Rattle.nbfx_decoder.specs.Standing.{settings_of as decoder_settings}
-use Rattle.nbfx_decoder.specs.Standing.{StandsFor as DecoderStandsFor}
-use Rattle.nbfx_decoder.specs.Standing.{FailedBehind as DecoderFailedBehind}
-use Rattle.nbfx_decoder.specs.Standing.{WhereItStands as WhereDecoderStands}
-use Rattle.nbfx_decoder.specs.Standing.{WhereItFailed as WhereDecoderFailed}
+use Rattle.nbfx_decoder.specs.DecoderState.{settings_of as decoder_settings}
+use Rattle.nbfx_decoder.specs.DecoderState.{StandsFor as DecoderStandsFor}
+use Rattle.nbfx_decoder.specs.DecoderState.{FailedBehind as DecoderFailedBehind}
+use Rattle.nbfx_decoder.specs.DecoderState.{WhereItStands as WhereDecoderStands}
+use Rattle.nbfx_decoder.specs.DecoderState.{WhereItFailed as WhereDecoderFailed}
 use Rattle.stream_reader.specs.Bounds.{IsBounded}
-use Rattle.stream_reader.specs.Standing.{FailedBehind, ShowsTable, ShowsStrings, StandsFor, held_of}
-use Rattle.stream_reader.specs.Standing.{settings_of}
+use Rattle.stream_reader.specs.StreamReaderState.{FailedBehind, ShowsTable, ShowsStrings, StandsFor}
+use Rattle.stream_reader.specs.StreamReaderState.{held_of, settings_of}
 use Rattle.stream_reader.proofs.ReaderFacts.{comes_in, shows_in}
 use Rattle.stream_reader.proofs.reader.StreamReader.kept.Goals as goal
 use Rattle.stream_reader.proofs.reader.StreamReader.kept.Goals.{After-saturating_add}

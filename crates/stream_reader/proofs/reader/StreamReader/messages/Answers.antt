@@ -1,5 +1,5 @@
 use Rattle.std.proofs.Common.{refl}
-use Rattle.stream_reader.specs.Standing.{StandsFor, FailedBehind, messages_of}
+use Rattle.stream_reader.specs.StreamReaderState.{StandsFor, FailedBehind, messages_of}
 use Rattle.stream_reader.proofs.reader.StreamReader.messages.Goals as goal
 
 pub returns-clause-counted : goal.returns-clause-counted

@@ -7,7 +7,7 @@ use Rattle.unit_streams.specs.Judging.{is_over_at}
 use Rattle.stream_reader.specs.Sides.{side_of}
 use Rattle.stream_reader.specs.Stream.{Settings, Situation, StreamEvent, beginning, direction_of}
 use Rattle.stream_reader.specs.Stream.{payloads, stream}
-use Rattle.stream_reader.specs.Standing.{StandsFor, settings_of}
+use Rattle.stream_reader.specs.StreamReaderState.{StandsFor, settings_of}
 use Rattle.stream_reader.proofs.Grammar.{readable}
 use Rattle.nbfx_decoder.specs.Payload.{Settings as PayloadSettings}
 use Rattle.stream_reader.proofs.Bounded.{bounded_new}

@@ -5,13 +5,13 @@ use Rattle.std.proofs.lemmas.Result.{err_from_is_err_and}
 use Rattle.std.proofs.Math.Logic.{∥∥₁_map}
 use Rattle.unit_streams.specs.Grammar.{standing}
 use Rattle.nbfx_decoder.specs.declared.decoder.Decoder.{Decoder}
-use Rattle.nbfx_decoder.specs.Standing.{settings_of as decoder_settings, FailedWithin}
+use Rattle.nbfx_decoder.specs.DecoderState.{settings_of as decoder_settings, FailedWithin}
 use Rattle.stream_reader.specs.declared.awaited.Awaited.TheVariants as awaits
 use Rattle.stream_reader.specs.declared.awaited.PayloadLeft.{PayloadLeft}
 use Rattle.stream_reader.specs.declared.reader.StreamReader.{StreamReader}
 use Rattle.stream_reader.specs.declared.reader.StreamStep.TheVariants.{More}
 use Rattle.stream_reader.specs.Bounds.{IsBounded, size_of, to_come}
-use Rattle.stream_reader.specs.Standing.{Reached, StandsFor, failure_of, settings_of}
+use Rattle.stream_reader.specs.StreamReaderState.{Reached, StandsFor, failure_of, settings_of}
 use Rattle.stream_reader.specs.Stream.{Settings, stream}
 use Rattle.stream_reader.proofs.Bounded.{bounded_fed, bounded_refused, failed_within, may_take}
 use Rattle.stream_reader.proofs.PayloadFeeds.{found, own, more_left, has_decoded, feed_took}

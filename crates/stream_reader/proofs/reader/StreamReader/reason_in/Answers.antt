@@ -7,7 +7,7 @@ use Rattle.stream_reader.specs.declared.awaited.Awaited.{Awaited}
 use Rattle.stream_reader.specs.declared.awaited.Awaited.TheVariants as awaits
 use Rattle.stream_reader.specs.declared.reader.StreamReader.{StreamReader}
 use Rattle.stream_reader.specs.Sides.{side_of}
-use Rattle.stream_reader.specs.Standing.{Awaits, settings_of}
+use Rattle.stream_reader.specs.StreamReaderState.{Awaits, settings_of}
 use Rattle.stream_reader.specs.Stepping.{size_before_of}
 use Rattle.stream_reader.specs.Stream.{Stage, record_due, chunk_due, payload_open, reason_in}
 use Rattle.stream_reader.specs.Stream.{serves, size_before, too_large}

@@ -8,7 +8,7 @@ use Rattle.unit_streams.proofs.Standing.{standing_length}
 use Rattle.nmf_records.specs.declared.frame.Expect.{Expect}
 use Rattle.nmf_records.specs.declared.frame.Frame.{Frame}
 use Rattle.nmf_records.specs.declared.reader.FrameReader.{FrameReader}
-use Rattle.nmf_records.specs.Reading.{frame_at, with_text}
+use Rattle.nmf_records.specs.RecordFronts.{frame_at, with_text}
 use Rattle.nmf_records.specs.Reader.{limit_of, shown_behind, ShowsText as FramesShowText}
 use Rattle.nmf_records.specs.Reader.{StandsFor as FrameStandsFor}
 use Rattle.nmf_records.specs.Script.{may_come}
@@ -18,7 +18,7 @@ use Rattle.stream_reader.specs.declared.reader.StreamReader.{StreamReader}
 use Rattle.stream_reader.specs.Sides.{side_of}
 use Rattle.stream_reader.specs.Stream.{Settings, Situation, direction_of, offence_at, reason_of}
 use Rattle.stream_reader.specs.Stream.{stream}
-use Rattle.stream_reader.specs.Standing.{Reached, StandsFor, failure_of, settings_of}
+use Rattle.stream_reader.specs.StreamReaderState.{Reached, StandsFor, failure_of, settings_of}
 use Rattle.stream_reader.specs.Stepping.{IsDue, due_of}
 use Rattle.stream_reader.proofs.Grammar.{readable}
 use Rattle.stream_reader.proofs.ReaderFacts.{failure_as, same_settings}

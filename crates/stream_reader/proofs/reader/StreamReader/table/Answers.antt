@@ -6,13 +6,13 @@ use Rattle.session_dictionary.specs.Strings.{LimitedStrings}
 use Rattle.string_tables.specs.SessionStrings.{used_cost}
 use Rattle.nbfx_decoder.specs.declared.decoder.Decoder.{Decoder}
 use Rattle.nbfx_decoder.specs.declared.faults.DecodeFault.{DecodeFault}
-use Rattle.nbfx_decoder.specs.Standing.{StandsFor as DecoderStandsFor}
-use Rattle.nbfx_decoder.specs.Standing.{FailedBehind as DecoderFailedBehind}
-use Rattle.nbfx_decoder.specs.Standing.{WhereItStands as WhereDecoderStands}
-use Rattle.nbfx_decoder.specs.Standing.{WhereItFailed as WhereDecoderFailed, table_at}
+use Rattle.nbfx_decoder.specs.DecoderState.{StandsFor as DecoderStandsFor}
+use Rattle.nbfx_decoder.specs.DecoderState.{FailedBehind as DecoderFailedBehind}
+use Rattle.nbfx_decoder.specs.DecoderState.{WhereItStands as WhereDecoderStands}
+use Rattle.nbfx_decoder.specs.DecoderState.{WhereItFailed as WhereDecoderFailed, table_at}
 use Rattle.stream_reader.specs.Bounds.{IsBounded}
-use Rattle.stream_reader.specs.Standing.{ShowsTable, ShowsStrings, StandsFor, FailedBehind}
-use Rattle.stream_reader.specs.Standing.{settings_of}
+use Rattle.stream_reader.specs.StreamReaderState.{ShowsTable, ShowsStrings, StandsFor, FailedBehind}
+use Rattle.stream_reader.specs.StreamReaderState.{settings_of}
 use Rattle.stream_reader.proofs.ReaderFacts.{shows_in}
 use Rattle.stream_reader.proofs.reader.StreamReader.table.Goals as goal
 use Rattle.stream_reader.proofs.reader.StreamReader.table.Goals.{After-table}

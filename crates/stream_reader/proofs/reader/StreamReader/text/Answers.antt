@@ -1,4 +1,4 @@
-use Rattle.stream_reader.specs.Standing.{StandsFor, FailedBehind, ShowsText}
+use Rattle.stream_reader.specs.StreamReaderState.{StandsFor, FailedBehind, ShowsText}
 use Rattle.stream_reader.proofs.reader.StreamReader.text.Goals as goal
 
 pub returns-clause-shown : goal.returns-clause-shown

@@ -12,10 +12,11 @@ use Rattle.nbfx_values.specs.declared.content.Item.{Item}
 use Rattle.string_tables.specs.SessionStrings.{used_cost}
 use Rattle.nbfx_decoder.specs.declared.decoder.Decoder.{Decoder}
 use Rattle.nbfx_decoder.specs.declared.faults.DecodeFault.{DecodeFault}
-use Rattle.nbfx_decoder.specs.Standing.{settings_of as decoder_settings, held_of as decoder_held_of}
-use Rattle.nbfx_decoder.specs.Standing.{content_held_of as decoder_content_held_of, situation_of}
-use Rattle.nbfx_decoder.specs.Standing.{StandsFor as DecoderStandsFor}
-use Rattle.nbfx_decoder.specs.Standing.{FailedBehind as DecoderFailedBehind}
+use Rattle.nbfx_decoder.specs.DecoderState.{settings_of as decoder_settings}
+use Rattle.nbfx_decoder.specs.DecoderState.{held_of as decoder_held_of}
+use Rattle.nbfx_decoder.specs.DecoderState.{content_held_of as decoder_content_held_of}
+use Rattle.nbfx_decoder.specs.DecoderState.{situation_of, StandsFor as DecoderStandsFor}
+use Rattle.nbfx_decoder.specs.DecoderState.{FailedBehind as DecoderFailedBehind}
 use Rattle.nmf_records.specs.declared.frame.Expect.{Expect}
 use Rattle.nmf_records.specs.declared.reader.FrameReader.{FrameReader}
 use Rattle.nmf_records.specs.declared.script.Direction.{Direction}

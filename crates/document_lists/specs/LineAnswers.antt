@@ -2,7 +2,8 @@
 use Rattle.std.specs.Prelude.{◌≡◌, ⊤, ℕ, List, ◌++◌, Result, Ok, Err}
 use Rattle.line_notation.specs.Between.{IsUnrefused}
 use Rattle.line_notation.specs.Lines.{cut}
-use Rattle.line_notation.specs.Standing.{Standing, after, answer, document_of, failed, standing}
+use Rattle.line_notation.specs.LineReaderState.{Standing, after, answer, document_of, failed}
+use Rattle.line_notation.specs.LineReaderState.{standing}
 use Rattle.line_notation.specs.declared.reader.LineFault.TheVariants.{Bad}
 use Rattle.line_notation.specs.declared.reader.LineKind.{LineKind}
 use Rattle.nbfx_values.specs.declared.content.Item.{Item}

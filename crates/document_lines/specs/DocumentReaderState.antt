@@ -5,7 +5,7 @@ use Rattle.unit_streams.specs.Grammar.{standing}
 use Rattle.unit_streams.specs.Judging.{event_at, refusal_at}
 use Rattle.unit_streams.specs.Going.{IsGoing, IsQuiet, IsQuietBefore}
 use Rattle.line_notation.specs.Between.{IsUnrefused, is_between}
-use Rattle.line_notation.specs.Standing.{after, answer}
+use Rattle.line_notation.specs.LineReaderState.{after, answer}
 use Rattle.nbfx_values.specs.Limits.{IsGood}
 use Rattle.nbfx_values.specs.QuotasOf.{limits_of}
 use Rattle.nbfx_values.specs.declared.session.Mode.{Mode}

@@ -45,8 +45,8 @@ abbrev pub as_text : Frame → Front (List ℕ) StringFault → Front Read Frame
 as_text frame string = further 1 (seen (with_text frame) fault_of string)
 
 -- a text behind a type byte
-abbrev pub text_at : ℕ → Frame → List ℕ → Front Read FrameFault
-text_at limit frame bytes = as_text frame (string_at limit bytes)
+abbrev pub text_frame_at : ℕ → Frame → List ℕ → Front Read FrameFault
+text_frame_at limit frame bytes = as_text frame (string_at limit bytes)
 
 -- two bytes behind a type byte
 abbrev pub version_at : List ℕ → Front Read FrameFault
@@ -68,12 +68,12 @@ abbrev pub typed_at : ℕ → ℕ → List ℕ → Front Read FrameFault
 typed_at limit kind bytes =
     if kind == VERSION then version_at bytes
     else (if kind == MODE then byte_at frames.Mode bytes
-    else (if kind == VIA then text_at limit frames.Via bytes
+    else (if kind == VIA then text_frame_at limit frames.Via bytes
     else (if kind == KNOWN_ENCODING then byte_at frames.KnownEncoding bytes
     else (if kind == UNSIZED_ENVELOPE then lone frames.UnsizedEnvelope
     else (if kind == SIZED_ENVELOPE then size_at 1 frames.SizedEnvelope bytes
     else (if kind == END then lone frames.End
-    else (if kind == FAULT then text_at limit frames.Fault bytes
+    else (if kind == FAULT then text_frame_at limit frames.Fault bytes
     else (if kind == PREAMBLE_ACK then lone frames.PreambleAck
     else (if kind == PREAMBLE_END then lone frames.PreambleEnd
     else wrong (faults.Unexpected kind) 1)))))))))
@@ -96,15 +96,15 @@ abbrev pub MayCome : Expect → Frame → Type 0
 MayCome expect frame = comes expect frame ≡ true
 
 -- a record, where the types with their bits set may come
-abbrev pub record_at : ℕ → ℕ → List ℕ → Front Read FrameFault
-record_at limit types [] = begun
-record_at limit types (kind ∷ bytes) =
+abbrev pub allowed_at : ℕ → ℕ → List ℕ → Front Read FrameFault
+allowed_at limit types [] = begun
+allowed_at limit types (kind ∷ bytes) =
     if nat_lt GREATEST kind then wrong faults.UnknownRecord 1
     else (if allows types kind then typed_at limit kind bytes else wrong (faults.Unexpected kind) 1)
 
 -- the front of the bytes, where this may come and texts are at most so long
 abbrev pub frame_at : ℕ → Expect → List ℕ → Front Read FrameFault
-frame_at limit (expects.Types types) bytes = record_at limit types bytes
+frame_at limit (expects.Types types) bytes = allowed_at limit types bytes
 frame_at limit expects.Chunk bytes = size_at 0 frames.Chunk bytes
 
 -- a Via or a Fault has begun

@@ -4,7 +4,7 @@ use Rattle.unit_streams.specs.Judging.{Answer}
 use Rattle.nbfx_values.specs.Limits.{IsGood}
 use Rattle.nbfx_values.specs.declared.refusals.Offence.{Offence}
 use Rattle.stream_reader.specs.declared.reader.ReadRefusal.{ReadRefusal}
-use Rattle.stream_reader.specs.Standing as reader
+use Rattle.stream_reader.specs.StreamReaderState as reader
 use Rattle.stream_reader.specs.Stream.{Settings, StreamEvent}
 use Rattle.receiver_machine.specs.declared.owed.Owed.{Owed}
 use Rattle.receiver_machine.specs.declared.receiver.Receiver.{Receiver}
