@@ -17,7 +17,7 @@ use Rattle.action_dispatch.specs.declared.judging.Judged.TheVariants.{Unanswered
 use Rattle.action_dispatch.specs.declared.planning.Plan.{Plan}
 use Rattle.action_dispatch.specs.declared.planning.Plan.TheVariants.{Answered}
 use Rattle.action_dispatch.specs.Answers.{RelatesToTexts, Serves, answer_to, answered_by, asked}
-use Rattle.action_dispatch.specs.Answers.{judged, refused}
+use Rattle.action_dispatch.specs.Answers.{judged, refusal_answer}
 use Rattle.action_dispatch.specs.Planning.{IsFor, Plans, answer_by_plan, planned, planned_of}
 use Rattle.action_dispatch.specs.Refusals.{refusal_of}
 
@@ -50,7 +50,7 @@ module _ (quota : ℕ) (doc : List Item) where
 
   -- of a document without one
   pub plans_refused : (fault : SoapFault) (answer : Answer) → view doc ≡ Err fault
-      → answer ≡ refused (refusal_of fault) [] → RelatesToTexts answer
+      → answer ≡ refusal_answer (refusal_of fault) [] → RelatesToTexts answer
       → Plans quota doc (Answered answer)
   plans_refused fault answer viewed is texts = record {
     leads = λ serves. is ∙ ap (answered_by quota serves) (sym viewed);

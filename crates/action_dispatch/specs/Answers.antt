@@ -71,31 +71,31 @@ judged v =
     (unless_foreign (not_understood known v.blocks) (by_action v.action to))
 
 -- the answer that a request with this identifier isn't served
-abbrev pub refused : Refusal → (relates : List Item) → Answer
-refused refusal relates = Reply (fault_of refusal relates) relates
+abbrev pub refusal_answer : Refusal → (relates : List Item) → Answer
+refusal_answer refusal relates = Reply (fault_of refusal relates) relates
 
 -- the answer where the service says this
 abbrev pub answer_by : (action : List ℕ) → (relates : List Item) → Served → Answer
 answer_by action relates (said.Reply body) = Reply (reply_items action relates body) relates
 answer_by action relates said.Nothing = Nothing
-answer_by action relates said.Unknown = refused UnknownAction relates
-answer_by action relates (said.Refuse reason) = refused (ByService reason) relates
+answer_by action relates said.Unknown = refusal_answer UnknownAction relates
+answer_by action relates (said.Refuse reason) = refusal_answer (ByService reason) relates
 
 -- the answer where the service is asked for an action, with the content of Body where that fits
 abbrev pub asked : Serves → (action : List ℕ) → (relates : List Item) → Option (List Item) → Answer
-asked serves action relates None = refused Unfit relates
+asked serves action relates None = refusal_answer Unfit relates
 asked serves action relates (Some body) = answer_by action relates (serves action body)
 
 -- the answer to a request that was judged, which has this content of Body
 abbrev pub answer_to : ℕ → Serves → (body relates : List Item) → Judged → Answer
 answer_to quota serves body relates Unanswered = Nothing
 answer_to quota serves body relates (Refused refusal) =
-    refused (fitting_refusal quota refusal) relates
+    refusal_answer (fitting_refusal quota refusal) relates
 answer_to quota serves body relates (Asked action) =
     asked serves action relates (fitting quota body)
 
 abbrev pub answered_by : ℕ → Serves → Result View SoapFault → Answer
-answered_by quota serves (Err fault) = refused (refusal_of fault) []
+answered_by quota serves (Err fault) = refusal_answer (refusal_of fault) []
 answered_by quota serves (Ok v) = answer_to quota serves v.body v.message_id (judged v)
 
 -- the answer to the request that is this document, where this is the quota on content

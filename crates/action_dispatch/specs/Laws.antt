@@ -5,7 +5,7 @@ use Rattle.soap_envelope.specs.Fitting.{fits}
 use Rattle.soap_envelope.specs.View.{View, view}
 use Rattle.action_dispatch.specs.declared.judging.Judged.TheVariants.{Asked}
 use Rattle.action_dispatch.specs.declared.refusals.Refusal.TheVariants.{Unfit}
-use Rattle.action_dispatch.specs.Answers.{Serves, answer_by, answered, judged, refused}
+use Rattle.action_dispatch.specs.Answers.{Serves, answer_by, answered, judged, refusal_answer}
 
 -- A request that is to be served, and whose content of Body fits the quota, is answered by what the
 -- service says to its action and that content.
@@ -19,4 +19,4 @@ AsksWhereContentFits = (quota : ℕ) (serves : Serves) (items : List Item) (v : 
 abbrev pub AsksNoServiceElse : Type 0
 AsksNoServiceElse = (quota : ℕ) (serves : Serves) (items : List Item) (v : View)
     (action : List ℕ) → view items ≡ Ok v → judged v ≡ Asked action → fits quota v.body ≡ false
-    → answered quota serves items ≡ refused Unfit v.message_id
+    → answered quota serves items ≡ refusal_answer Unfit v.message_id

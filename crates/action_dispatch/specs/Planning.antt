@@ -13,14 +13,15 @@ use Rattle.action_dispatch.specs.declared.judging.Judged.{Judged}
 use Rattle.action_dispatch.specs.declared.judging.Judged.TheVariants.{Unanswered, Refused, Asked}
 use Rattle.action_dispatch.specs.declared.planning.Plan.{Plan}
 use Rattle.action_dispatch.specs.declared.planning.Plan.TheVariants.{Answered, Asks}
-use Rattle.action_dispatch.specs.Answers.{RelatesToTexts, Serves, answered, asked, judged, refused}
+use Rattle.action_dispatch.specs.Answers.{RelatesToTexts, Serves, answered, asked, judged}
+use Rattle.action_dispatch.specs.Answers.{refusal_answer}
 use Rattle.action_dispatch.specs.Refusals.{fitting as fitting_refusal}
 
 -- for a request that was judged, which has this identifier and this place of Body
 abbrev pub planned : ℕ → Judged → (relates : List Item) → (body_at : ℕ) → Plan
 planned quota Unanswered relates body_at = Answered Nothing
 planned quota (Refused refusal) relates body_at =
-    Answered (refused (fitting_refusal quota refusal) relates)
+    Answered (refusal_answer (fitting_refusal quota refusal) relates)
 planned quota (Asked action) relates body_at = Asks action relates body_at
 
 abbrev pub planned_of : ℕ → View → Plan

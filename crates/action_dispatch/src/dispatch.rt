@@ -11,7 +11,7 @@ ghost use Rattle.action_dispatch.specs.Answers.{RelatesToTexts, answered};
 ghost use Rattle.action_dispatch.specs.Services.{MayStand};
 
 use crate::answers::Answer;
-use crate::planning::{Plan, plan_for, refused};
+use crate::planning::{Plan, plan_for, refusal_answer};
 use crate::refusals::Refusal;
 use crate::service::{Served, Service};
 use nbfx_values::{Copied, Doc, Items, Quotas};
@@ -33,8 +33,8 @@ fn answer_by(alloc: Global, action: &str, relates: Items, said: Served) -> Resul
             Ok(Answer::Reply { doc, relates })
         }
         Served::Nothing => Ok(Answer::Nothing),
-        Served::Unknown => refused(alloc, Refusal::UnknownAction, relates),
-        Served::Refuse(reason) => refused(alloc, Refusal::ByService(reason), relates),
+        Served::Unknown => refusal_answer(alloc, Refusal::UnknownAction, relates),
+        Served::Refuse(reason) => refusal_answer(alloc, Refusal::ByService(reason), relates),
     }
 }
 
@@ -59,7 +59,7 @@ fn answer_asked<V: Service>(
             let said = service.serve_owned(alloc, action, body)?;
             answer_by(alloc, action, relates, said)
         }
-        None => refused(alloc, Refusal::Unfit, relates),
+        None => refusal_answer(alloc, Refusal::Unfit, relates),
     }
 }
 

@@ -30,9 +30,14 @@ pub(crate) enum Plan {
 }
 
 /// The answer that a request isn't served.
-pub(crate) fn refused(alloc: Global, refusal: Refusal<'_>, relates: Items) -> Result<Answer, Memory>
+pub(crate) fn refusal_answer(
+    alloc: Global,
+    refusal: Refusal<'_>,
+    relates: Items,
+) -> Result<Answer, Memory>
     requires { AreTexts relates }
-    ensures refused { IfOk result (λ answer. answer ≡ answers.refused refusal.entry relates) }
+    ensures refused { IfOk result
+        (λ answer. answer ≡ answers.refusal_answer refusal.entry relates) }
     ensures texts { IfOk result RelatesToTexts }
 {
     let doc = refusal.doc(alloc, &relates)?;
@@ -55,7 +60,7 @@ fn plan_judged(
     match judged {
         Judged::Unanswered => Ok(Plan::Answered(Answer::Nothing)),
         Judged::Refused(refusal) => {
-            let answer = refused(alloc, refusal.fitting(quotas), relates)?;
+            let answer = refusal_answer(alloc, refusal.fitting(quotas), relates)?;
             Ok(Plan::Answered(answer))
         }
         Judged::Asked(action) => Ok(Plan::Asks {
@@ -86,7 +91,7 @@ pub(crate) fn plan_for(alloc: Global, quotas: &Quotas, doc: &Doc) -> Result<Plan
         Ok(envelope) => plan_viewed(alloc, quotas, envelope),
         Err(SoapFault::Memory) => Err(Memory),
         Err(fault) => {
-            let answer = refused(alloc, Refusal::of(fault), Items::new(alloc))?;
+            let answer = refusal_answer(alloc, Refusal::of(fault), Items::new(alloc))?;
             Ok(Plan::Answered(answer))
         }
     }

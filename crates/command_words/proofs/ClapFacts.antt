@@ -14,7 +14,7 @@ use Rattle.clap.specs.declared.error.Error.{Error}
 use Rattle.clap.specs.declared.error.kind.ErrorKind.TheVariants.{OutOfMemory}
 use Rattle.command_words.specs.declared.action.Action.{Action}
 use Rattle.command_words.specs.declared.option_name.OptionName.{OptionName}
-use Rattle.command_words.specs.Options.{Given, IsOnce, SpellOptions, Text, option_text, value_of}
+use Rattle.command_words.specs.Options.{Given, IsOnce, SpellOptions, Text, option_text, given_for}
 use Rattle.command_words.specs.Commands.{options_of, word_of}
 use Rattle.command_words.specs.WordAnswers.{HasTaken, IsReadable, app_for, app_with, found_values}
 use Rattle.command_words.specs.Requests.{GiveOptions}
@@ -64,7 +64,7 @@ module _ (name : Text) (options : List OptionName) (words : List Text) where
       → HasMatchesOf (app_with name options) words matches
       → (given : List Given) × SpellOptions words given × (are_known options given ≡ true)
       × IsOnce given
-      × ((option : OptionName) → found_values matches option ≡ value_of given option)
+      × ((option : OptionName) → found_values matches option ≡ given_for given option)
   parse-takes matches readable none has =
       let told = reading-sound name options words [] resting tt readable (passes-from_fault none) in
       let simple =

@@ -17,7 +17,7 @@ use Rattle.command_words.specs.declared.option_name.OptionName.TheVariants.{Payl
 use Rattle.command_words.specs.declared.option_name.OptionName.TheVariants.{Dictionary, Content}
 use Rattle.command_words.specs.declared.option_name.OptionName.TheVariants.{Session}
 use Rattle.command_words.specs.Options.{Given, IsOnce, Text, is_empty, is_option, option_text}
-use Rattle.command_words.specs.Options.{value_of}
+use Rattle.command_words.specs.Options.{given_for}
 
 -- ---- options by their texts
 
@@ -93,10 +93,10 @@ is_option-flips one other e = go (cases_Bool (is_option other one))
 -- the options of `given` come one after the other behind `seen`, each for the first time
 pub IsNew : List Given → List Given → Type 0
 IsNew seen [] = Unit {0}
-IsNew seen (given ∷ more) = (value_of seen given.0 ≡ None) × IsNew (seen ++ given ∷ []) more
+IsNew seen (given ∷ more) = (given_for seen given.0 ≡ None) × IsNew (seen ++ given ∷ []) more
 
 pub IsNew-head : (seen : List Given) (given : Given) (more : List Given) → IsNew seen (given ∷ more)
-    → value_of seen given.0 ≡ None
+    → given_for seen given.0 ≡ None
 unfolding IsNew
 IsNew-head seen given more new = new.0
 
@@ -105,7 +105,7 @@ pub IsNew-tail : (seen : List Given) (given : Given) (more : List Given) → IsN
 unfolding IsNew
 IsNew-tail seen given more new = new.1
 
-pub IsNew-cons : (seen : List Given) (given : Given) (more : List Given) → value_of seen given.0
+pub IsNew-cons : (seen : List Given) (given : Given) (more : List Given) → given_for seen given.0
     ≡ None → IsNew (seen ++ given ∷ []) more → IsNew seen (given ∷ more)
 unfolding IsNew
 IsNew-cons seen given more first rest = (first, rest)
@@ -115,36 +115,36 @@ unfolding IsNew
 IsNew-nil seen = tt
 
 -- one more option leaves no value to another
-value_of-push : (seen : List Given) (given : Given) (option : OptionName) → value_of seen option
+given_for-push : (seen : List Given) (given : Given) (option : OptionName) → given_for seen option
     ≡ None → is_option given.0 option ≡ false
-    → value_of (seen ++ given ∷ []) option ≡ None
-value_of-push [] given option none other = rw other refl
-value_of-push (one ∷ seen) given option none other =
+    → given_for (seen ++ given ∷ []) option ≡ None
+given_for-push [] given option none other = rw other refl
+given_for-push (one ∷ seen) given option none other =
     elim (cases_Bool (is_option one.0 option)) [
       | inl same ↦ cc (rw same at none)
-      | inr different ↦ rw different (value_of-push seen given option (rw different at none) other)
+      | inr different ↦ rw different (given_for-push seen given option (rw different at none) other)
     ]
 
-value_of-front : (seen : List Given) (given : Given) (option : OptionName)
-    → value_of (seen ++ given ∷ []) option ≡ None
-    → (value_of seen option ≡ None) × (is_option given.0 option ≡ false)
-value_of-front [] given option none =
+given_for-front : (seen : List Given) (given : Given) (option : OptionName)
+    → given_for (seen ++ given ∷ []) option ≡ None
+    → (given_for seen option ≡ None) × (is_option given.0 option ≡ false)
+given_for-front [] given option none =
     elim (cases_Bool (is_option given.0 option)) [
       | inl same ↦ cc (rw same at none)
       | inr different ↦ (refl, different)
     ]
-value_of-front (one ∷ seen) given option none =
+given_for-front (one ∷ seen) given option none =
     elim (cases_Bool (is_option one.0 option)) [
       | inl same ↦ cc (rw same at none)
       | inr different ↦
-          let rest = value_of-front seen given option (rw different at none) in
+          let rest = given_for-front seen given option (rw different at none) in
           (rw different rest.0, rest.1)
     ]
 
 -- none of the options has a value in `seen`
 AreAbsent : List Given → List Given → Type 0
 AreAbsent seen [] = Unit {0}
-AreAbsent seen (given ∷ more) = (value_of seen given.0 ≡ None) × AreAbsent seen more
+AreAbsent seen (given ∷ more) = (given_for seen given.0 ≡ None) × AreAbsent seen more
 
 absent-nil : (given : List Given) → AreAbsent [] given
 unfolding AreAbsent
@@ -152,24 +152,24 @@ absent-nil [] = tt
 absent-nil (one ∷ given) = (refl, absent-nil given)
 
 absent-push : (seen : List Given) (one : Given) (given : List Given) → AreAbsent seen given
-    → value_of given one.0 ≡ None → AreAbsent (seen ++ one ∷ []) given
+    → given_for given one.0 ≡ None → AreAbsent (seen ++ one ∷ []) given
 unfolding AreAbsent
 absent-push seen one [] absent none = tt
 absent-push seen one (other ∷ given) absent none =
     elim (cases_Bool (is_option other.0 one.0)) [
       | inl same ↦ cc (rw same at none)
       | inr different ↦ (
-        value_of-push seen one other.0 absent.0 (is_option-flips other.0 one.0 different),
+        given_for-push seen one other.0 absent.0 (is_option-flips other.0 one.0 different),
         absent-push seen one given absent.1 (rw different at none),
       )
     ]
 
 absent-front : (seen : List Given) (one : Given) (given : List Given) → AreAbsent (seen ++ one ∷ [])
-    given → AreAbsent seen given × (value_of given one.0 ≡ None)
+    given → AreAbsent seen given × (given_for given one.0 ≡ None)
 unfolding AreAbsent
 absent-front seen one [] absent = (tt, refl)
 absent-front seen one (other ∷ given) absent =
-    let here = value_of-front seen one other.0 absent.0 in
+    let here = given_for-front seen one other.0 absent.0 in
     let rest = absent-front seen one given absent.1 in
     ((here.0, rest.0), rw (is_option-flips one.0 other.0 here.1) rest.1)
 
@@ -207,7 +207,7 @@ not_empty (byte ∷ rest) some = refl
 pub full-from_values : (options : List OptionName) (given : List Given) → IsOnce given
     → list_all (λ one. list_any (is_option one.0) options) given ≡ true
     → ((option : OptionName) → list_any (is_option option) options ≡ true
-    → value_of given option ≢ Some [])
+    → given_for given option ≢ Some [])
     → list_all (λ one. not (is_empty one.1)) given ≡ true
 full-from_values options [] once known full = refl
 full-from_values options (one ∷ given) once known full =
@@ -218,13 +218,13 @@ full-from_values options (one ∷ given) once known full =
     elim (cases_Bool (is_option one.0 option)) [
       | inl same ↦
           let is : one.0 ≡ option = same-is_option one.0 option same in
-          cc (sym once.0 ∙ ap (value_of given) is ∙ e)
+          cc (sym once.0 ∙ ap (given_for given) is ∙ e)
       | inr other ↦ full option is_known (rw other e)
     ]) in
     rw (first, rest) refl
 
 pub full-no_empty : (given : List Given) (option : OptionName)
-    → list_all (λ one. not (is_empty one.1)) given ≡ true → value_of given option ≢ Some []
+    → list_all (λ one. not (is_empty one.1)) given ≡ true → given_for given option ≢ Some []
 full-no_empty [] option full e = cc e
 full-no_empty (one ∷ given) option full e =
     let parts = both (not (is_empty one.1)) _ full in

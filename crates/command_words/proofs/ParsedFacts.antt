@@ -12,7 +12,7 @@ use Rattle.command_words.specs.declared.action.Action.{Action}
 use Rattle.command_words.specs.declared.words.WordsFault.TheVariants.{Memory, NotUnderstood}
 use Rattle.command_words.specs.Commands.{options_of, word_of}
 use Rattle.command_words.specs.Options.{Given, SpellOptions, Text, begins_with_hyphen, dashed}
-use Rattle.command_words.specs.Options.{value_of}
+use Rattle.command_words.specs.Options.{given_for}
 use Rattle.command_words.specs.WordAnswers.{HasFound, HasTaken, IsLoneHyphens, IsReadable}
 use Rattle.command_words.specs.WordAnswers.{found_values}
 use Rattle.command_words.specs.Requests.{AskFor, Asked, GiveOptions, IsRequest, Values}
@@ -135,12 +135,12 @@ pub empty-refused : (action : Action) (words : List Text) (matches : ArgMatches)
 empty-refused action words matches taken (k, option, lt, at, empty) given gives =
     let same = spells-one given taken.given words gives.spelled taken.spelled in
     full-no_empty given option gives.full
-    (ap (λ g. value_of g option) same ∙ sym (taken.values option) ∙ empty)
+    (ap (λ g. given_for g option) same ∙ sym (taken.values option) ∙ empty)
 
 -- the options that were found, as those of a request
 values-same : (action : Action) (words : List Text) (matches : ArgMatches)
     (found : HasFound action words matches)
-    → ◌≡◌ {A = Values} (value_of found.given) (found_values matches)
+    → ◌≡◌ {A = Values} (given_for found.given) (found_values matches)
 values-same action words matches found = λ i option. sym (found.values option) i
 
 pub request-from_found : (words options : List Text) (program : Text) (action : Action)
@@ -169,8 +169,8 @@ request-asks words options program action matches asked is found request =
     let same_options : request.options ≡ options = cc same in
     let spelled = subst (λ ws. SpellOptions ws request.given) same_options request.gives.spelled in
     let given = spells-one request.given found.given options spelled found.gives.spelled in
-    let values = ap value_of given ∙ values-same action options matches found in
+    let values = ap given_for given ∙ values-same action options matches found in
     let same_action : request.action ≡ action =
     word_of-injective request.action action (cc same) in
-    let meant = subst (λ a. AskFor a (value_of request.given) asked) same_action request.meant in
+    let meant = subst (λ a. AskFor a (given_for request.given) asked) same_action request.meant in
     subst (λ value. AskFor action value asked) values meant

@@ -14,7 +14,7 @@ use Rattle.clap.specs.Faults.{settle_fault, turn_fault, walk_fault}
 use Rattle.command_words.specs.declared.option_name.OptionName.{OptionName}
 use Rattle.command_words.specs.Options.{BeginsApart, BeginsJoined, Given, SpellOptions, Text}
 use Rattle.command_words.specs.Options.{begins_with_hyphen, dashed, is_option, option_text}
-use Rattle.command_words.specs.Options.{value_of}
+use Rattle.command_words.specs.Options.{given_for}
 use Rattle.command_words.specs.WordAnswers.{IsReadable}
 use Rattle.command_words.proofs.OptionFacts.{IsNew, IsNew-cons, IsNew-head, IsNew-nil, IsNew-tail}
 use Rattle.command_words.proofs.RuleFacts.{arg_by_long-is, row_for, built_rules, shape}
@@ -253,7 +253,7 @@ module _ (name : Text) (options : List OptionName) where
   -- an option that is known and new, however it is spelled
   passes-given : (seen : List Given) (state : State) (words rest : List Text) (given : Given)
       → Fits options state → Rests seen state
-      → list_any (is_option given.0) options ≡ true → value_of (whole seen state) given.0 ≡ None
+      → list_any (is_option given.0) options ≡ true → given_for (whole seen state) given.0 ≡ None
       → BeginsApart words given rest ⊎ BeginsJoined words given rest
       → (begins_with_hyphen given.1 ≡ false → Passes name options
       (walk_at (whole seen state) (holding given)) rest)

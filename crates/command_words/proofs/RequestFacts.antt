@@ -12,7 +12,7 @@ use Rattle.command_words.specs.declared.action.Action.{Action}
 use Rattle.command_words.specs.declared.action.Action.TheVariants.{Check, Dump, Build, Replay}
 use Rattle.command_words.specs.declared.action.Action.TheVariants.{Serve, Call, Gen}
 use Rattle.command_words.specs.Commands.{options_of, word_of}
-use Rattle.command_words.specs.Options.{Given, IsOnce, Text, is_empty, is_option, value_of}
+use Rattle.command_words.specs.Options.{Given, IsOnce, Text, is_empty, is_option, given_for}
 use Rattle.command_words.specs.Requests.{Asked, IsRequest}
 use Rattle.command_words.proofs.AskingFacts.{asked_in, asked-complete, asked-sound}
 use Rattle.command_words.proofs.OptionFacts.{bytes_eq-same}
@@ -65,7 +65,7 @@ action-complete action =
 
 abbrev is_once : List Given → Bool
 is_once [] = true
-is_once (given ∷ more) = not (is_some (value_of more given.0)) && is_once more
+is_once (given ∷ more) = not (is_some (given_for more given.0)) && is_once more
 
 none-once : (value : Option Text) → not (is_some value) ≡ true → value ≡ None
 none-once None e = refl
@@ -75,7 +75,7 @@ once-sound : (given : List Given) → is_once given ≡ true → IsOnce given
 once-sound [] e = tt
 once-sound (one ∷ given) e =
     let parts = both _ _ e in
-    (none-once (value_of given one.0) parts.0, once-sound given parts.1)
+    (none-once (given_for given one.0) parts.0, once-sound given parts.1)
 
 once-complete : (given : List Given) → IsOnce given → is_once given ≡ true
 once-complete [] once = refl
@@ -87,7 +87,7 @@ are_given action given = list_all (λ one. list_any (is_option one.0) (options_o
 
 abbrev request_of : Action → List Given → Option Asked
 request_of action given =
-    if are_given action given then asked_in action (value_of given) else None
+    if are_given action given then asked_in action (given_for given) else None
 
 -- ---- requests
 
@@ -106,7 +106,7 @@ request-complete words asked is =
     rw (gives.known, once-complete is.given gives.once, gives.full) refl in
     ap request_in is.command
     ∙ rw (action-complete is.action, given_in-complete is.given is.options gives.spelled, passes)
-    (asked-complete is.action (value_of is.given) asked is.meant)
+    (asked-complete is.action (given_for is.given) asked is.meant)
 
 request_of-sound : (program : Text) (action : Action) (options : List Text) (given : List Given)
     (asked : Asked) → given_in options None ≡ Some given → request_of action given ≡ Some asked
@@ -129,7 +129,7 @@ request_of-sound program action options given asked spelled e =
               once = once-sound given once.0;
               full = once.1;
             };
-            meant = asked-sound action (value_of given) asked (rw passes at e);
+            meant = asked-sound action (given_for given) asked (rw passes at e);
           }
     ]
 

@@ -16,7 +16,7 @@ use Rattle.clap.specs.Faults.{check_fault, defaults_fault, is_free_app, is_simpl
 use Rattle.clap.specs.declared.builder.value_parser.Reading.TheVariants as reading
 use Rattle.clap.specs.declared.parser.matches.ValueSource.TheVariants.{CommandLine}
 use Rattle.command_words.specs.declared.option_name.OptionName.{OptionName}
-use Rattle.command_words.specs.Options.{Given, Text, is_option, option_text, value_of}
+use Rattle.command_words.specs.Options.{Given, Text, is_option, option_text, given_for}
 use Rattle.command_words.specs.WordAnswers.{app_with, app_without_options, option_rule, with_option}
 use Rattle.command_words.proofs.OptionFacts.{is_option-flips, is_option-same, same-is_option}
 
@@ -151,7 +151,7 @@ row_for given = record {
 }
 
 pub has_row-given : (seen : List Given) (option : OptionName) → has_row (option_text option)
-    (map row_for seen) ≡ is_some (value_of seen option)
+    (map row_for seen) ≡ is_some (given_for seen option)
 has_row-given [] option = refl
 has_row-given (given ∷ seen) option =
     elim (cases_Bool (is_option given.0 option)) [
@@ -160,7 +160,7 @@ has_row-given (given ∷ seen) option =
     ]
 
 pub first_of-given : (given : List Given) (option : OptionName) → first_of (option_text option)
-    (map row_for given) ≡ value_of given option
+    (map row_for given) ≡ given_for given option
 first_of-given [] option = refl
 first_of-given (one ∷ given) option =
     elim (cases_Bool (is_option one.0 option)) [
@@ -180,7 +180,7 @@ at_row-new id change missing (row ∷ rows) none =
     ]
 
 -- an option that is used for the first time
-pub used-new : (seen : List Given) (given : Given) → value_of seen given.0 ≡ None
+pub used-new : (seen : List Given) (given : Given) → given_for seen given.0 ≡ None
     → used (built_rule given.0) (given.1 ∷ []) (map row_for seen) ≡ map row_for (seen ++ given ∷ [])
 used-new seen given new =
     let none : has_row (option_text given.0) (map row_for seen) ≡ false = has_row-given seen given.0

@@ -11,7 +11,7 @@ use Rattle.clap.specs.Walk.{Held, Waiting, arg_by_long, has_row, idle, option, p
 use Rattle.clap.specs.Walk.{settled_rows, subcommand_met, used, walked}
 use Rattle.clap.specs.Faults.{flags_fault, settle_fault, turn_fault, use_fault}
 use Rattle.command_words.specs.declared.option_name.OptionName.{OptionName}
-use Rattle.command_words.specs.Options.{Given, Text, is_option, option_text, value_of}
+use Rattle.command_words.specs.Options.{Given, Text, is_option, option_text, given_for}
 use Rattle.command_words.proofs.OptionFacts.{bytes_eq-same}
 use Rattle.command_words.proofs.RuleFacts.{arg_by_id-known, arg_by_index-none, arg_by_long-known}
 use Rattle.command_words.proofs.RuleFacts.{arg_by_short-none, built_rule, has_row-given, row_for}
@@ -113,7 +113,7 @@ module _ (name : Text) (options : List OptionName) (seen : List Given) (state : 
       pub joined-tells : Fits options state → turn_fault (shape name options) []
           (walk_at seen state)
           word ≡ []
-          → Rests seen state × (value_of (whole seen state) given.0 ≡ None)
+          → Rests seen state × (given_for (whole seen state) given.0 ≡ None)
       joined-tells fits e =
           let parts = or_else-empty (settle_fault (built_rules options) false (held_at seen state))
           _
@@ -124,12 +124,12 @@ module _ (name : Text) (options : List OptionName) (seen : List Given) (state : 
             | inl there ↦ cc (rw there at once)
             | inr missing ↦ (
               rests,
-              none-from_is_some (value_of (whole seen state) given.0)
+              none-from_is_some (given_for (whole seen state) given.0)
                   (sym (has_row-given (whole seen state) given.0) ∙ missing),
             )
           ]
 
-      pub joined-passes : Fits options state → Rests seen state → value_of (whole seen state)
+      pub joined-passes : Fits options state → Rests seen state → given_for (whole seen state)
           given.0
           ≡ None
           → turn_fault (shape name options) [] (walk_at seen state) word ≡ []
@@ -155,8 +155,8 @@ module _ (name : Text) (options : List OptionName) (seen : List Given) (state : 
         arg_by_long-known options given.0 known,
       ) refl
 
-      pub joined-walks : Fits options state → Rests seen state → value_of (whole seen state) given.0
-          ≡ None
+      pub joined-walks : Fits options state → Rests seen state
+          → given_for (whole seen state) given.0 ≡ None
           → walked (built_rules options) [] (walk_at seen state) word
           ≡ walk_at (whole seen state ++ given ∷ []) resting
       joined-walks fits rests new =

@@ -9,7 +9,7 @@ use Rattle.clap.specs.Walk.{Held, Row, Waiting, Walk, has_row, idle, option, set
 use Rattle.clap.specs.Faults.{settle_fault}
 use Rattle.command_words.specs.declared.option_name.OptionName.{OptionName}
 use Rattle.command_words.specs.Options.{Given, Text, begins_with_hyphen, is_option, option_text}
-use Rattle.command_words.specs.Options.{value_of}
+use Rattle.command_words.specs.Options.{given_for}
 use Rattle.command_words.proofs.RuleFacts.{arg_by_id-known, has_row-given, row_for, built_rules}
 use Rattle.command_words.proofs.RuleFacts.{used-new}
 
@@ -68,7 +68,7 @@ whole seen (naming name) = seen
 -- the next option may come
 abbrev pub Rests : List Given → State → Type 0
 Rests seen resting = Unit {0}
-Rests seen (holding given) = value_of seen given.0 ≡ None
+Rests seen (holding given) = given_for seen given.0 ≡ None
 Rests seen (naming name) = ⊥
 
 -- the state is that of known options
@@ -92,12 +92,12 @@ module _ (options : List OptionName) where
       let used = rw (arg_by_id-known options given.0 fits.0) at e in
       elim (cases_Bool (has_row (option_text given.0) (map row_for seen))) [
         | inl there ↦ cc (rw there at used)
-        | inr missing ↦ none-from_is_some (value_of seen given.0)
+        | inr missing ↦ none-from_is_some (given_for seen given.0)
             (sym (has_row-given seen given.0) ∙ missing)
       ]
   settle-rests seen (naming name) fits e = cc (rw (arg_by_id-known options name fits) at e)
 
-  pub missing_row : (seen : List Given) (name : OptionName) → value_of seen name ≡ None
+  pub missing_row : (seen : List Given) (name : OptionName) → given_for seen name ≡ None
       → has_row (option_text name) (map row_for seen) ≡ false
   missing_row seen name new = has_row-given seen name ∙ ap is_some new
 

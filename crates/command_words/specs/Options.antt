@@ -52,15 +52,15 @@ abbrev pub Given : Type 0
 Given = OptionName × Text
 
 -- the value that an option is given first
-abbrev pub value_of : List Given → OptionName → Option Text
-value_of [] option = None
-value_of (given ∷ more) option =
-    if is_option given.0 option then Some given.1 else value_of more option
+abbrev pub given_for : List Given → OptionName → Option Text
+given_for [] option = None
+given_for (given ∷ more) option =
+    if is_option given.0 option then Some given.1 else given_for more option
 
 -- no option is given twice
 abbrev pub IsOnce : List Given → Type 0
 IsOnce [] = ⊤
-IsOnce (given ∷ more) = (value_of more given.0 ≡ None) × IsOnce more
+IsOnce (given ∷ more) = (given_for more given.0 ≡ None) × IsOnce more
 
 abbrev pub is_empty : Text → Bool
 is_empty [] = true

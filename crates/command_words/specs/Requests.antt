@@ -24,7 +24,7 @@ use Rattle.command_words.specs.declared.task.Detail.TheVariants.{Summary, Whole}
 use Rattle.command_words.specs.declared.task.Origin.{Origin}
 use Rattle.command_words.specs.declared.task.Origin.TheVariants.{Initiator, Receiver}
 use Rattle.command_words.specs.Options.{Given, HaveValues, IsOnce, SpellOptions, Text, is_option}
-use Rattle.command_words.specs.Options.{value_of}
+use Rattle.command_words.specs.Options.{given_for}
 use Rattle.command_words.specs.Commands.{options_of, word_of}
 use Rattle.command_words.specs.Tasks.{Opening, Serving, Task, report, build, replay, serve, call}
 use Rattle.command_words.specs.Tasks.{generate}
@@ -167,4 +167,4 @@ pub record IsRequest (words : List Text) (asked : Asked) : Type 0 where
   pub given : List Given
   pub command : words ≡ program ∷ word_of action ∷ options
   pub gives : GiveOptions action options given
-  pub meant : AskFor action (value_of given) asked
+  pub meant : AskFor action (given_for given) asked

@@ -9,7 +9,7 @@ use Rattle.clap.specs.declared.parser.matches.ArgMatches.{ArgMatches}
 use Rattle.command_words.specs.declared.action.Action.{Action}
 use Rattle.command_words.specs.declared.option_name.OptionName.{OptionName}
 use Rattle.command_words.specs.Commands.{options_of, word_of}
-use Rattle.command_words.specs.Options.{Given, IsOnce, SpellOptions, Text, option_text, value_of}
+use Rattle.command_words.specs.Options.{Given, IsOnce, SpellOptions, Text, option_text, given_for}
 use Rattle.command_words.specs.Requests.{AreOptionsOf, GiveOptions}
 
 -- ---- words that are given to clap
@@ -65,10 +65,10 @@ pub record HasTaken (action : Action) (words : List Text) (matches : ArgMatches)
   pub spelled : SpellOptions words given
   pub known : AreOptionsOf action given
   pub once : IsOnce given
-  pub values : (option : OptionName) → found_values matches option ≡ value_of given option
+  pub values : (option : OptionName) → found_values matches option ≡ given_for given option
 
 -- the words give options, with the values that a parse found
 pub record HasFound (action : Action) (words : List Text) (matches : ArgMatches) : Type 0 where
   pub given : List Given
   pub gives : GiveOptions action words given
-  pub values : (option : OptionName) → found_values matches option ≡ value_of given option
+  pub values : (option : OptionName) → found_values matches option ≡ given_for given option

@@ -13,7 +13,7 @@ use crate::action::Action;
 use crate::naming::{kind_in, mode_in, mode_named};
 use crate::number::{number_in, number_within};
 use crate::option_name::OptionName;
-use crate::parsed::value_of;
+use crate::parsed::given_for;
 use crate::quotas::quotas_of;
 use crate::request::Request;
 use crate::task::{Detail, Opening, Origin, Serving, Task};
@@ -46,8 +46,8 @@ fn report_in<'w>(detail: Detail, matches: &ArgMatches<'w>) -> Option<Task<'w>>
     ensures none { IfNone result ((task : AskedTask)
         → ¬ AskToReport detail (found_values matches.now) task) }
 {
-    let kind = kind_in(value_of(matches, OptionName::Encoding))?;
-    let origin = origin_in(value_of(matches, OptionName::Replies), kind)?;
+    let kind = kind_in(given_for(matches, OptionName::Encoding))?;
+    let origin = origin_in(given_for(matches, OptionName::Replies), kind)?;
     Some(Task::Report { detail, origin })
 }
 
@@ -65,12 +65,12 @@ fn opening_in<'w>(matches: &ArgMatches<'w>) -> Option<Opening<'w>>
     ensures none { IfNone result ((opening : AskedOpening)
         → ¬ IsOpening (found_values matches.now) opening) }
 {
-    let via = value_of(matches, OptionName::Via)?;
+    let via = given_for(matches, OptionName::Via)?;
     if !is_short(via) {
         return None;
     }
-    let mode = mode_in(value_of(matches, OptionName::Mode))?;
-    let kind = kind_in(value_of(matches, OptionName::Encoding))?;
+    let mode = mode_in(given_for(matches, OptionName::Mode))?;
+    let kind = kind_in(given_for(matches, OptionName::Encoding))?;
     Some(Opening { via, mode, kind })
 }
 
@@ -88,8 +88,8 @@ fn serving_in<'w>(matches: &ArgMatches<'w>) -> Serving<'w>
     ensures { serving_of result ≡ serving_in (found_values matches.now) }
 {
     Serving {
-        endpoint: value_of(matches, OptionName::Endpoint),
-        actions: value_of(matches, OptionName::Actions),
+        endpoint: given_for(matches, OptionName::Endpoint),
+        actions: given_for(matches, OptionName::Actions),
     }
 }
 
@@ -99,8 +99,8 @@ fn serve_in<'w>(matches: &ArgMatches<'w>) -> Option<Task<'w>>
     ensures none { IfNone result ((task : AskedTask)
         → ¬ AskToServe (found_values matches.now) task) }
 {
-    let listen = value_of(matches, OptionName::Listen)?;
-    let number = value_of(matches, OptionName::Connections);
+    let listen = given_for(matches, OptionName::Listen)?;
+    let number = given_for(matches, OptionName::Connections);
     let connections = number_within(number, MOST_CONNECTIONS, 1, MOST_CONNECTIONS)?;
     let serving = serving_in(matches);
     Some(Task::Serve {
@@ -116,9 +116,9 @@ fn call_in<'w>(matches: &ArgMatches<'w>) -> Option<Task<'w>>
     ensures none { IfNone result ((task : AskedTask)
         → ¬ AskToCall (found_values matches.now) task) }
 {
-    let connect = value_of(matches, OptionName::Connect)?;
+    let connect = given_for(matches, OptionName::Connect)?;
     let opening = opening_in(matches)?;
-    let second = value_of(matches, OptionName::Second);
+    let second = given_for(matches, OptionName::Second);
     Some(Task::Call {
         connect,
         opening,
@@ -133,8 +133,8 @@ fn generate_in<'w>(matches: &ArgMatches<'w>) -> Option<Task<'w>>
     ensures none { IfNone result ((task : AskedTask)
         → ¬ AskToGenerate (found_values matches.now) task) }
 {
-    let seed = number_in(value_of(matches, OptionName::Seed)?)?;
-    let count = value_of(matches, OptionName::Count)?;
+    let seed = number_in(given_for(matches, OptionName::Seed)?)?;
+    let count = given_for(matches, OptionName::Count)?;
     let count = number_within(Some(count), 0, 0, MOST_DOCUMENTS)?;
     Some(Task::Generate { seed, count })
 }
@@ -164,7 +164,7 @@ pub fn judged<'w>(action: Action, matches: &ArgMatches<'w>) -> Option<Request<'w
     ensures none { IfNone result ((asked : Asked)
         → ¬ AskFor action (found_values matches.now) asked) }
 {
-    let statics = value_of(matches, OptionName::Static)?;
+    let statics = given_for(matches, OptionName::Static)?;
     let quotas = quotas_of(matches)?;
     let task = task_in(action, matches)?;
     Some(Request {

@@ -47,7 +47,7 @@ fn fault_of(error: &Error) -> WordsFault
 }
 
 /// The value that an option was given.
-pub fn value_of<'w>(matches: &ArgMatches<'w>, option: OptionName) -> Option<&'w str>
+pub fn given_for<'w>(matches: &ArgMatches<'w>, option: OptionName) -> Option<&'w str>
     ensures { text_behind result ≡ found_values matches.now option }
 {
     matches.get_str(option_text(option))
@@ -93,7 +93,7 @@ fn have_values(action: Action, matches: &ArgMatches<'_>) -> bool
         (Any (λ option. found_values matches.now option ≡ Some []) (options_of action)) }
 {
     for option in options_of(action) {
-        if is_empty(value_of(matches, *option)) {
+        if is_empty(given_for(matches, *option)) {
             return false;
         }
     }

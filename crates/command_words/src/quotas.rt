@@ -8,7 +8,7 @@ ghost use Rattle.command_words.specs.Requests.{AreLimits};
 
 use crate::number::{number_or, small_or};
 use crate::option_name::OptionName;
-use crate::parsed::value_of;
+use crate::parsed::given_for;
 use clap::ArgMatches;
 use nbfx_values::Quotas;
 
@@ -21,16 +21,19 @@ pub fn quotas_of(matches: &ArgMatches<'_>) -> Option<Quotas>
 {
     let usual = Quotas::usual();
     let payload = small_or(
-        value_of(matches, OptionName::Payload),
+        given_for(matches, OptionName::Payload),
         u64::from(usual.payload),
     )?;
-    let depth = small_or(value_of(matches, OptionName::Depth), u64::from(usual.depth))?;
+    let depth = small_or(
+        given_for(matches, OptionName::Depth),
+        u64::from(usual.depth),
+    )?;
     let dictionary = small_or(
-        value_of(matches, OptionName::Dictionary),
+        given_for(matches, OptionName::Dictionary),
         u64::from(usual.dictionary),
     )?;
     let usual_content = u64::from(usual.content).max(4 * u64::from(payload));
-    let content = small_or(value_of(matches, OptionName::Content), usual_content)?;
-    let session = number_or(value_of(matches, OptionName::Session), usual.session)?;
+    let content = small_or(given_for(matches, OptionName::Content), usual_content)?;
+    let session = number_or(given_for(matches, OptionName::Session), usual.session)?;
     Quotas::of(payload, depth, dictionary, content, usual.via, session)
 }

@@ -6,7 +6,7 @@ use Rattle.io_edges.specs.Store.{Store}
 use Rattle.nbfx_values.specs.Limits.{Limits}
 use Rattle.string_tables.specs.StaticStrings.{Entry}
 use Rattle.stream_loop.specs.Edges.{Input, Output}
-use Rattle.command_words.specs.Options.{value_of}
+use Rattle.command_words.specs.Options.{given_for}
 use Rattle.command_words.specs.Requests.{AskForTask, Asked, IsRequest, Values}
 use Rattle.command_words.specs.Tasks.{Serving, Task, serve}
 use Rattle.command_words.specs.declared.action.Action.{Action}
@@ -32,7 +32,7 @@ possible_so Gen value t h = subst IsPossible (sym h.is) tt
 
 pub possible : (words : List (List ℕ)) (asked : Asked) → IsRequest words asked
     → IsPossible asked.task
-possible words asked h = possible_so h.action (value_of h.given) asked.task h.meant.task
+possible words asked h = possible_so h.action (given_for h.given) asked.task h.meant.task
 
 -- words that aren't read
 pub not_read : (fault : WordsFault) (names : List (List ℕ)) (n : ℕ) → n ≡ status_of_words fault

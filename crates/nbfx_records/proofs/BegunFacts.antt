@@ -25,7 +25,7 @@ use Rattle.nbfx_records.specs.Kinds.{record_kind}
 use Rattle.nbfx_records.specs.Shapes.{Shape, NamedShape, ScalarShape, adds, attribute_at}
 use Rattle.nbfx_records.specs.Shapes.{begins_element, declaration_at, element_at, ends_element}
 use Rattle.nbfx_records.specs.Shapes.{has_text, misplaced, one, placed, record_at, scalar_at}
-use Rattle.nbfx_records.specs.Shapes.{shape_at, text_at, unless_misplaced}
+use Rattle.nbfx_records.specs.Shapes.{shape_at, content_at, unless_misplaced}
 use Rattle.nbfx_records.specs.Views.{attribute_seen, named_seen, record_seen, scalar_seen}
 use Rattle.nbfx_records.proofs.CursorFacts.{given_tells, seen_stops, seen_tells, then_tells}
 
@@ -90,13 +90,13 @@ module _ (prefix : PrefixForm) (name : NameForm) {bytes : List ℕ} where
   declaration_tells r h = seen_told adds r h
 
 -- a text that is no list has one value
-text_of_one : (kind : TextKind) (ends : Bool) → (kind ≡ texts.StartList → ⊥) → text_at kind ends
+text_of_one : (kind : TextKind) (ends : Bool) → (kind ≡ texts.StartList → ⊥) → content_at kind ends
     ≡ λ bytes. seen (λ scalar. has_text (one scalar) ends) (λ fault. fault) (scalar_at kind bytes)
 text_of_one texts.StartList ends other = absurd (other refl)
 text_of_one _ ends other = refl
 
-asked_of_one : (kind : TextKind) (ends : Bool) → (kind ≡ texts.StartList → ⊥) → asked.text_at kind
-    ends ≡ asked.scalar_at kind
+asked_of_one : (kind : TextKind) (ends : Bool) → (kind ≡ texts.StartList → ⊥)
+    → asked.content_at kind ends ≡ asked.scalar_at kind
 asked_of_one texts.StartList ends other = absurd (other refl)
 asked_of_one _ ends other = refl
 
@@ -111,7 +111,7 @@ text_tells kind ends other {bytes} r h =
     let one_seen = seen_told (λ (scalar : ScalarShape). has_text (one scalar) ends) r h in
     let read = subst (λ (f : Reader Shape RecordFault). Tells view f (asked.scalar_at kind) bytes 1
     r) (sym (text_of_one kind ends other)) one_seen in
-    subst (λ (f : List ℕ → ℕ → Type 0). Tells view (text_at kind ends) f bytes 1 r)
+    subst (λ (f : List ℕ → ℕ → Type 0). Tells view (content_at kind ends) f bytes 1 r)
     (sym (asked_of_one kind ends other)) read
 
 -- the first byte is one byte, so one kind at most begins there

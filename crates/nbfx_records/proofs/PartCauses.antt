@@ -40,7 +40,8 @@ use Rattle.nbfx_records.specs.Shapes.{declaration_at, declares, element_at, elem
 use Rattle.nbfx_records.specs.Shapes.{ends_element, ends_list, given_or, has_text, is_attribute}
 use Rattle.nbfx_records.specs.Shapes.{list_at, list_turn, misplaced, name_at, named_by, named_shape}
 use Rattle.nbfx_records.specs.Shapes.{one, opens, placed, prefix_at, qualified_by, record_at}
-use Rattle.nbfx_records.specs.Shapes.{repeats, said_length, scalar_at, several, shape_at, text_at}
+use Rattle.nbfx_records.specs.Shapes.{content_at, repeats, said_length, scalar_at, several}
+use Rattle.nbfx_records.specs.Shapes.{shape_at}
 use Rattle.nbfx_records.specs.Shapes.{turn_of, unless_misplaced, value_at, value_of_kind}
 use Rattle.nbfx_records.specs.Causes.{Behind, InArray, InAttribute, InBody, InCells, InCellsOf}
 use Rattle.nbfx_records.specs.Causes.{InElement, InElementOf, InItem, InList, InNamed, InPartOf}
@@ -380,7 +381,7 @@ array_just =
 
 -- a record behind its type byte; the end of a list begins none
 text_just : (kind : TextKind) (ends : Bool) → ends_list (records.Text kind ends) ≡ false
-    → WrongJust (text_at kind ends) (InText true kind)
+    → WrongJust (content_at kind ends) (InText true kind)
 text_just texts.StartList ends plain = wrong_seen (λ list. has_text (several list.items) list.last)
     (list_at true) (InList true) (list_just true)
 text_just texts.EndList ends plain = cc plain

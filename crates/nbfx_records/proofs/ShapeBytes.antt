@@ -30,7 +30,7 @@ use Rattle.nbfx_records.specs.Shapes.{scalar_at, list_at, value_of_kind, value_a
 use Rattle.nbfx_records.specs.Shapes.{declaration_at, array_part, array_turn, array_parts}
 use Rattle.nbfx_records.specs.Shapes.{array_values, element_at, element_of, array_element}
 use Rattle.nbfx_records.specs.Shapes.{CellsShape, cells_shape, cells_of, array_cells, array_shape}
-use Rattle.nbfx_records.specs.Shapes.{array_at, text_at, record_at, misplaced, unless_misplaced}
+use Rattle.nbfx_records.specs.Shapes.{array_at, content_at, record_at, misplaced, unless_misplaced}
 use Rattle.nbfx_records.specs.Shapes.{placed, shape_at}
 use Rattle.nbfx_records.proofs.ShapeFronts.{reads_array_turn}
 use Rattle.nbfx_records.proofs.PartBytes.{just_as, just_then_as, just_integer, IsRawString}
@@ -349,7 +349,7 @@ TextIs texts.StartList ends shape b = (list : Many ScalarShape Bool) × ListIs t
 TextIs kind ends shape b = (scalar : ScalarShape) × ScalarIs kind scalar b
     × (has_text (one scalar) ends ≡ shape)
 
-just_text : (kind : TextKind) (ends : Bool) → ReadsJust (text_at kind ends) (TextIs kind ends)
+just_text : (kind : TextKind) (ends : Bool) → ReadsJust (content_at kind ends) (TextIs kind ends)
 just_text texts.StartList ends = just_seen (λ list. has_text (several list.items) list.last)
     (λ fault. fault) (list_at true) (ListIs true) (just_list true)
 just_text kind ends = just_seen (λ scalar. has_text (one scalar) ends) (λ fault. fault)

@@ -34,7 +34,7 @@ use Rattle.nbfx_records.specs.Shapes.{name_at, said_length, given_or, a_length, 
 use Rattle.nbfx_records.specs.Shapes.{body_at, scalar_at, turn_of, list_turn, list_at}
 use Rattle.nbfx_records.specs.Shapes.{value_of_kind, value_at, attribute_at, declaration_at}
 use Rattle.nbfx_records.specs.Shapes.{array_part, array_parts, array_values, element_at, element_of}
-use Rattle.nbfx_records.specs.Shapes.{array_element, cells_of, array_cells, array_at, text_at}
+use Rattle.nbfx_records.specs.Shapes.{array_element, cells_of, array_cells, array_at, content_at}
 use Rattle.nbfx_records.specs.Shapes.{record_at, unless_misplaced, placed, shape_at}
 
 pub reads_integer : ReadsFront an_integer
@@ -163,7 +163,7 @@ reads_array =
     (λ parts. reads_seen _ _ array_cells
     (reads_then a_byte _ reads_byte (λ byte. reads_cells_of (array_kind byte)))))
 
-pub reads_text : (kind : TextKind) (ends : Bool) → ReadsFront (text_at kind ends)
+pub reads_text : (kind : TextKind) (ends : Bool) → ReadsFront (content_at kind ends)
 reads_text texts.StartList ends = reads_seen _ _ (list_at true) (reads_list true)
 reads_text kind ends = reads_seen (λ scalar. has_text (one scalar) ends) (λ fault. fault)
     (scalar_at kind) (reads_scalar kind)

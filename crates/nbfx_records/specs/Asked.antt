@@ -159,9 +159,9 @@ array_at =
     (λ _. Either shapes.array_parts array_parts (λ _. array_cells))
 
 -- a record
-abbrev pub text_at : TextKind → Bool → List ℕ → ℕ → Type 0
-text_at texts.StartList ends = list_at true
-text_at kind ends = scalar_at kind
+abbrev pub content_at : TextKind → Bool → List ℕ → ℕ → Type 0
+content_at texts.StartList ends = list_at true
+content_at kind ends = scalar_at kind
 
 abbrev pub record_at : RecordKind → List ℕ → ℕ → Type 0
 record_at records.EndElement = nothing
@@ -170,7 +170,7 @@ record_at records.Array = array_at
 record_at (records.Attribute prefix name) = attribute_at prefix name
 record_at (records.Declaration prefix uri) = declaration_at prefix uri
 record_at (records.Element prefix name) = element_at prefix name
-record_at (records.Text kind ends) = text_at kind ends
+record_at (records.Text kind ends) = content_at kind ends
 
 abbrev pub unless_misplaced : Option RecordFault → RecordKind → List ℕ → ℕ → Type 0
 unless_misplaced None kind = record_at kind

@@ -264,10 +264,10 @@ array_at =
     seen (array_shape it parts.items) (λ fault. fault) (array_cells bytes)
 
 -- what follows the type byte of a text, and whether it ends the element that holds it
-abbrev pub text_at : TextKind → Bool → Reader Shape RecordFault
-text_at texts.StartList ends bytes =
+abbrev pub content_at : TextKind → Bool → Reader Shape RecordFault
+content_at texts.StartList ends bytes =
     seen (λ list. has_text (several list.items) list.last) (λ fault. fault) (list_at true bytes)
-text_at kind ends bytes =
+content_at kind ends bytes =
     seen (λ scalar. has_text (one scalar) ends) (λ fault. fault) (scalar_at kind bytes)
 
 -- what follows the type byte of a record
@@ -283,7 +283,7 @@ record_at (records.Element prefix name) =
     λ bytes.
     seen (λ (it : NamedShape). begins_element it.prefix it.name) (λ fault. fault)
     (element_at prefix name bytes)
-record_at (records.Text kind ends) = text_at kind ends
+record_at (records.Text kind ends) = content_at kind ends
 
 -- a record that opens an element
 abbrev pub opens : RecordKind → Bool

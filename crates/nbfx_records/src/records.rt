@@ -39,8 +39,8 @@ fn list_record<'a>(
 ) -> Result<(RecordPart<'a>, usize), Stop>
     requires within { at ≤ length bytes.now }
     requires fits { Fits resume.old bytes.now }
-    ensures tells { Tells record_seen (spec.text_at TextKind.StartList ends)
-        (asked.text_at TextKind.StartList ends) bytes.now at result }
+    ensures tells { Tells record_seen (spec.content_at TextKind.StartList ends)
+        (asked.content_at TextKind.StartList ends) bytes.now at result }
     ensures sound { IfOk result (λ read. IsSoundRecord read.0) }
     ensures kept { OnMore result (KeepsOf (RecordKind.Text TextKind.StartList ends) at
         resume.new bytes.now) }
@@ -55,7 +55,7 @@ fn list_record<'a>(
 
 // What follows the type byte of a text.
 #[inline(always)]
-fn text_at<'a>(
+fn content_at<'a>(
     kind: TextKind,
     ends: bool,
     bytes: &'a [u8],
@@ -64,8 +64,8 @@ fn text_at<'a>(
 ) -> Result<(RecordPart<'a>, usize), Stop>
     requires within { at ≤ length bytes.now }
     requires fits { Fits resume.old bytes.now }
-    ensures tells { Tells record_seen (spec.text_at kind ends)
-        (asked.text_at kind ends) bytes.now at result }
+    ensures tells { Tells record_seen (spec.content_at kind ends)
+        (asked.content_at kind ends) bytes.now at result }
     ensures sound { IfOk result (λ read. IsSoundRecord read.0) }
     ensures kept { OnMore result (KeepsOf (RecordKind.Text kind ends) at resume.new bytes.now) }
     ensures fits { Fits resume.new bytes.now }
@@ -195,7 +195,7 @@ fn record_at<'a>(
         RecordKind::Attribute(prefix, name) => attribute_record(prefix, name, bytes, at, resume),
         RecordKind::Declaration(prefix, uri) => declaration_record(prefix, uri, bytes, at),
         RecordKind::Element(prefix, name) => element_record(prefix, name, bytes, at),
-        RecordKind::Text(kind, ends) => text_at(kind, ends, bytes, at, resume),
+        RecordKind::Text(kind, ends) => content_at(kind, ends, bytes, at, resume),
     }
 }
 

@@ -36,10 +36,7 @@ impl TextOrder {
 fn compare(texts: &Texts, first: u32, second: u32) -> Ordering
     ensures { result ≡ by_text texts.now first second }
 {
-    match texts
-        .text_at(first as usize)
-        .cmp(texts.text_at(second as usize))
-    {
+    match texts.nth(first as usize).cmp(texts.nth(second as usize)) {
         Ordering::Equal => first.cmp(&second),
         order => order,
     }
@@ -137,7 +134,7 @@ pub(crate) fn cut_off(positions: &mut Vec<u32>, cuts: &mut Vec<usize>, bound: u3
 fn is_before(texts: &Texts, position: u32, text: &str) -> bool
     ensures { result ≡ is_lt (slice_cmp nat_cmp (text_of texts.now position) text.now) }
 {
-    texts.text_at(position as usize).cmp(text).is_lt()
+    texts.nth(position as usize).cmp(text).is_lt()
 }
 
 // The first position in a run that has a text.
@@ -148,7 +145,7 @@ fn first_in(texts: &Texts, run: &[u32], text: &str) -> Option<u32>
 {
     let place = run.partition_point(|position| is_before(texts, *position, text));
     let position = *run.get(place)?;
-    if texts.text_at(position as usize) == text {
+    if texts.nth(position as usize) == text {
         Some(position)
     } else {
         None
@@ -199,7 +196,7 @@ pub(crate) fn first_walked(texts: &Texts, text: &str) -> Option<u32>
         ((other : ℕ) → other < length texts.now → text_of texts.now other ≢ text.now) }
 {
     for position in 0..texts.len() {
-        if texts.text_at(position) == text {
+        if texts.nth(position) == text {
             return Some(position as u32);
         }
     }

@@ -197,7 +197,7 @@ fn put_texts(texts: &Texts, from: usize, out: &mut Vec<u8>) -> Result<(), Memory
 {
     let start = out.len();
     for place in from..texts.len() {
-        if put_string(texts.text_at(place), out).is_err() {
+        if put_string(texts.nth(place), out).is_err() {
             out.truncate(start);
             return Err(Memory);
         }

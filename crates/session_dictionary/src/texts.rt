@@ -56,7 +56,7 @@ impl Texts {
     }
 
     // The text at a place, and the empty one where there is none.
-    pub(crate) fn text_at(&self, place: usize) -> &str
+    pub(crate) fn nth(&self, place: usize) -> &str
         ensures { result.now ≡ slice_index_or self.now place [] }
     {
         match self.get(place) {

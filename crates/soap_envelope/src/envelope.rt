@@ -111,7 +111,7 @@ fn fault_in(header: &Header<'_>) -> Option<SoapFault>
 }
 
 // The characters of the element at a place, if there is one.
-fn text_at(alloc: Global, items: &[Item], at: Option<usize>) -> Result<Option<Txt>, Memory>
+fn item_text(alloc: Global, items: &[Item], at: Option<usize>) -> Result<Option<Txt>, Memory>
     requires { IsTrue (list_all is_valid_item items.now) }
     ensures { IfOk result (λ text. text ≡ option_map (characters.text_of items.now) at) }
 {
@@ -154,9 +154,9 @@ fn envelope_with<'d>(
     requires blocks { blocks ≡ blocks_of items.now parts.header }
     ensures { IfOk result (λ e. e ≡ spec.viewed items.now parts) }
 {
-    let action = text_at(alloc, items, counted_at(blocks.as_slice(), "Action"))?;
+    let action = item_text(alloc, items, counted_at(blocks.as_slice(), "Action"))?;
     let address = reply_address_at(alloc, items, scopes, blocks.as_slice())?;
-    let reply_address = text_at(alloc, items, address)?;
+    let reply_address = item_text(alloc, items, address)?;
     let message = counted_at(blocks.as_slice(), "MessageID");
     Ok(Envelope {
         items,

@@ -24,13 +24,13 @@ abbrev at : ℕ → Why → Refusal
 at place why = record { place = place; why = why }
 
 -- Texts of at most nine bytes behind their length, until one is empty.
-abbrev text_at : ℕ → List ℕ → Front (List ℕ) Refusal
-text_at from [] = begun
-text_at from (n ∷ bytes) = if nat_lt 9 n then wrong (at from too_long) 1 else if nat_lt
+abbrev letters_at : ℕ → List ℕ → Front (List ℕ) Refusal
+letters_at from [] = begun
+letters_at from (n ∷ bytes) = if nat_lt 9 n then wrong (at from too_long) 1 else if nat_lt
     (length bytes) n then begun else whole (take n bytes) (n + 1)
 
 abbrev unit_at : Bool → ℕ → List ℕ → Front (List ℕ) Refusal
-unit_at false from bytes = text_at from bytes
+unit_at false from bytes = letters_at from bytes
 unit_at true from bytes = begun
 
 -- One that is the byte 0 alone is refused, and so is a stream of ten bytes that hasn't ended.

@@ -11,9 +11,9 @@ returns-in_err-origin-clause-none c =
     rw c.from_residual-in_err-origin.ensures
     (λ task asks.
     let kind = c.in_ok-kind.kind in
-    let named = subst (λ v. IsKind v kind) c.value_of.ensures c.in_ok-kind.ensures.named in
+    let named = subst (λ v. IsKind v kind) c.given_for.ensures c.in_ok-kind.ensures.named in
     let encoding = found_values c.args.matches.now Encoding in
     let same : asks.kind ≡ kind = kind-one encoding asks.kind kind asks.encoding named in
     c.in_err-origin.ensures.none asks.origin
-    (subst (λ v. IsOrigin v kind asks.origin) (sym c.value_of-2.ensures)
+    (subst (λ v. IsOrigin v kind asks.origin) (sym c.given_for-2.ensures)
     (subst (λ k. IsOrigin _ k asks.origin) same asks.replies)))

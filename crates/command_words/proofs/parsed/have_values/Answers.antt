@@ -19,7 +19,7 @@ loop-option-preserved c k d lt e =
           let here : k ≡ at = omega arith in
           let same = ap (λ n. slice_index_or items n d) here
           ∙ get_or_default items at d Static c.loop-option-test.true in
-          let empty = c.value_of.ensures ∙ ap (found_values c.args.matches.now) (sym same) ∙ e in
+          let empty = c.given_for.ensures ∙ ap (found_values c.args.matches.now) (sym same) ∙ e in
           true≢false (sym (c.is_empty.ensures.1 empty) ∙ c.if-is_empty.false)
     ]
 

@@ -14,7 +14,8 @@ returns-in_err-content-clause-none c =
     let usual = c.usual-usual.ensures in
     let payload = c.in_ok-payload.payload in
     let payload_small : payload < 2 ^ 64 = omega arith in
-    let payload_read = rw (c.value_of.ensures, c.from.ensures, ap (λ (l : Limits). l.payload) usual)
+    let payload_read =
+    rw (c.given_for.ensures, c.from.ensures, ap (λ (l : Limits). l.payload) usual)
     at c.in_ok-payload.ensures.written in
     let content_usual : c.max-usual_content.result ≡ usual_content payload =
     c.max-usual_content.ensures ∙ ap₂ (λ least n. max least (4 * n))
@@ -23,7 +24,7 @@ returns-in_err-content-clause-none c =
     (λ l are good.
     let same = payload-same value l payload are good payload_small payload_read in
     c.in_err-content.ensures.none l.content (IsGood-content l good)
-    (subst (λ text. IsNumber text c.max-usual_content.result l.content) (sym c.value_of-4.ensures)
+    (subst (λ text. IsNumber text c.max-usual_content.result l.content) (sym c.given_for-4.ensures)
     (subst (λ n. IsNumber (value Content) n l.content) (sym (content_usual ∙ ap usual_content same))
     are.content)))
 
@@ -40,16 +41,18 @@ returns-clause-none c =
     let dictionary_small : c.in_ok-dictionary.dictionary < 2 ^ 64 = omega arith in
     let content_small : c.in_ok-content.content < 2 ^ 64 = omega arith in
     let session_small : c.in_ok-session.session < 2 ^ 64 = omega arith in
-    let payload_read = rw (c.value_of.ensures, c.from.ensures, ap (λ (l : Limits). l.payload) usual)
+    let payload_read =
+    rw (c.given_for.ensures, c.from.ensures, ap (λ (l : Limits). l.payload) usual)
     at c.in_ok-payload.ensures.written in
-    let depth_read = rw (c.value_of-2.ensures, c.from-2.ensures, ap (λ (l : Limits). l.depth) usual)
+    let depth_read =
+    rw (c.given_for-2.ensures, c.from-2.ensures, ap (λ (l : Limits). l.depth) usual)
     at c.in_ok-depth.ensures.written in
     let dictionary_read =
-    rw (c.value_of-3.ensures, c.from-3.ensures, ap (λ (l : Limits). l.dictionary) usual) at
+    rw (c.given_for-3.ensures, c.from-3.ensures, ap (λ (l : Limits). l.dictionary) usual) at
     c.in_ok-dictionary.ensures.written in
-    let content_read = rw (c.value_of-4.ensures, content_usual) at c.in_ok-content.ensures.written
+    let content_read = rw (c.given_for-4.ensures, content_usual) at c.in_ok-content.ensures.written
     in
-    let session_read = rw (c.value_of-5.ensures, ap (λ (l : Limits). l.session) usual) at
+    let session_read = rw (c.given_for-5.ensures, ap (λ (l : Limits). l.session) usual) at
     c.in_ok-session.ensures.written in
     none-good c.of.result value
     (limits payload c.in_ok-depth.depth c.in_ok-dictionary.dictionary c.in_ok-content.content

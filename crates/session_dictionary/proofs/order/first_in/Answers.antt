@@ -31,9 +31,9 @@ returns-then-eq-clause-found c =
     (λ f a r g k same. search rules) _ (refl, take_all (length text) text (omega arith)))
     (parted strings text c.args.run.now c.requires) in
     let found = c.in_ok-position.ensures.lookup in
-    let same = (bytes_decides c.text_at.result.now text).0 (sym c.eq.ensures ∙ c.if-eq.true) in
+    let same = (bytes_decides c.nth.result.now text).0 (sym c.eq.ensures ∙ c.if-eq.true) in
     first_found strings text c.args.run.now c.partition_point-place.result
-    c.in_ok-position.field-0.now c.requires point found.3.0 found.1 (sym c.text_at.ensures ∙ same)
+    c.in_ok-position.field-0.now c.requires point found.3.0 found.1 (sym c.nth.ensures ∙ same)
 
 pub returns-else-eq-clause-none : goal.returns-else-eq-clause-none
 returns-else-eq-clause-none c =
@@ -45,8 +45,8 @@ returns-else-eq-clause-none c =
     (λ f a r g k same. search rules) _ (refl, take_all (length text) text (omega arith)))
     (parted strings text c.args.run.now c.requires) in
     let found = c.in_ok-position.ensures.lookup in
-    let held = c.text_at.result.now in
+    let held = c.nth.result.now in
     none_found strings text c.args.run.now c.partition_point-place.result
     c.in_ok-position.field-0.now c.requires point found.3.0 found.1
     (λ has. both_ways (bytes_eq held text) (sym c.eq.ensures ∙ c.if-eq.false)
-    ((bytes_decides held text).1 (c.text_at.ensures ∙ has)))
+    ((bytes_decides held text).1 (c.nth.ensures ∙ has)))

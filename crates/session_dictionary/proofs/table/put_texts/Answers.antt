@@ -26,9 +26,9 @@ loop-place-preserved c =
     let high : c.loop-place.place < length texts =
     omega (arith, c.loop-place-test.true, c.len-place-end.ensures) in
     on_ok c.put_string.result c.if-is_err.ensures.negation c.put_string.ensures.written
-    ∙ ap (λ bytes. bytes ++ string_bytes_of c.text_at.result.now) c.loop-place.invariant
-    ∙ flat_map_more string_bytes_of c.args.out.now.items so_far c.text_at.result.now
+    ∙ ap (λ bytes. bytes ++ string_bytes_of c.nth.result.now) c.loop-place.invariant
+    ∙ flat_map_more string_bytes_of c.args.out.now.items so_far c.nth.result.now
     ∙ ap (λ text. c.args.out.now.items ++ flat_map string_bytes_of (so_far ++ text ∷ []))
-    c.text_at.ensures
+    c.nth.ensures
     ∙ ap (λ each. c.args.out.now.items ++ flat_map string_bytes_of each)
     (sym (one_more texts c.args.from c.loop-place.place c.loop-place.auto.place high))

@@ -1,6 +1,6 @@
 use Rattle.std.proofs.Common.{◌≡◌, ℕ, suc, zero, List, [], ◌∷◌, get_or, None, refl}
 use Rattle.std.specs.Prelude.{slice_get}
-use Rattle.session_dictionary.proofs.texts.Texts.text_at.Goals as goal
+use Rattle.session_dictionary.proofs.texts.Texts.nth.Goals as goal
 
 -- where there is nothing, the default stands
 none_there : (xs : List (List ℕ)) (i : ℕ) → None ≡ slice_get xs i → [] ≡ get_or xs i []
