@@ -4,6 +4,7 @@ use Rattle.std.proofs.Common.{map, refl, sym, ap, ◌∙◌, subst}
 use Rattle.std.specs.Prelude.{⊤}
 use Rattle.io_edges.specs.Faults.{CountsFaults}
 use Rattle.io_edges.proofs.Putting.{PutsAll-nothing}
+use Rattle.nbfx_values.specs.declared.content.Item.{Item}
 use Rattle.nbfx_values.specs.declared.refusals.Offence.{Offence}
 use Rattle.initiator_machine.specs.Opening.{opening_bytes}
 use Rattle.command_words.specs.declared.task.Detail.TheVariants.{Whole}
@@ -32,7 +33,10 @@ use Rattle.client.specs.declared.outcome.ClientOut.TheVariants as out
 use Rattle.client.specs.Called.{Calls, HasCalled, Sends, ack_along, answers_to}
 use Rattle.client.specs.Called.{closing_of, ending_of, inbound_by, reached_along}
 use Rattle.client.specs.Calling.{HasFollowed, HasHeard, SendsSo}
-use Rattle.client.specs.Sending.{WritesOut, sending_of}
+use Rattle.client.specs.declared.outgoing.Outgoing.{Outgoing}
+use Rattle.client.specs.Cuts.{sending_by}
+use Rattle.client.specs.Outgoing.{Carries}
+use Rattle.client.specs.Writing.{WritesOut}
 use Rattle.client.specs.Sent.{Sending, SendsAll}
 
 pub ending_again : (ending : Ending Offence) (outcome : Outcome)
@@ -69,24 +73,6 @@ module _ {K : Type 0} (written : K → Option (List ℕ)) (held : K → List ℕ
   sends_read first now (out.Unfit number fault) sent h = h
   sends_read first now out.WriteFault sent h = inr h
   sends_read first now out.Memory sent h = inr h
-
-  -- what was sent in all, where the opening was written so
-  pub opened_then : (opened : Outbound) (first mid now : K) (ack : Ack) (outbound : ClientOut)
-      (sent : ℕ) → WritesOut written held faults may_want opened opening first mid
-      → SendsSo written held faults may_want x opened mid ack outbound sent now
-      → Sends' ack outbound sent first now
-  opened_then outbounds.Done first mid now Awaited outbound sent wrote so =
-      rw (so.0, so.2) (so.1, wrote.0, wrote.1)
-  opened_then outbounds.Done first mid now Read outbound sent wrote so =
-      sends_read first now outbound sent (so first opening wrote.0)
-  opened_then outbounds.WriteFault first mid now Awaited outbound sent wrote so =
-      rw (so.0, so.2) (so.1, wrote)
-  opened_then outbounds.WriteFault first mid now Read outbound sent wrote so =
-      rw (so.0, so.2) (inl (so.1, wrote))
-  opened_then outbounds.Memory first mid now Awaited outbound sent wrote so =
-      rw (so.0, so.2) (so.1, wrote)
-  opened_then outbounds.Memory first mid now Read outbound sent wrote so =
-      rw (so.0, so.2) (inl (so.1, wrote))
 
   -- ---- counts
 
@@ -125,6 +111,35 @@ module _ {K : Type 0} (written : K → Option (List ℕ)) (held : K → List ℕ
   sends_counted Read out.Memory sent first now (inr h) =
       counts_as _ _ _ _ (λ e. cc) (λ e. cc) h.faults_counted
 
+-- of documents whose envelopes were made before
+module _ {K : Type 0} (written : K → Option (List ℕ)) (held : K → List ℕ) (faults : K → ℕ)
+    (may_want : K → Bool) (o : Outgoing) (documents : List (List Item))
+    (carries : Carries documents o) (via : List ℕ) where
+  abbrev x' : Sending
+  x' = sending_by o.settings documents
+
+  abbrev opening' : List ℕ
+  opening' = opening_bytes x'.mode x'.kind via
+
+  -- what was sent in all, where the opening was written so
+  pub opened_then : (opened : Outbound) (first mid now : K) (ack : Ack) (outbound : ClientOut)
+      (sent : ℕ) → WritesOut written held faults may_want opened opening' first mid
+      → SendsSo written held faults may_want o opened mid ack outbound sent now
+      → Sends written held faults may_want x' via ack outbound sent first now
+  opened_then outbounds.Done first mid now Awaited outbound sent wrote so =
+      rw (so.0, so.2) (so.1, wrote.0, wrote.1)
+  opened_then outbounds.Done first mid now Read outbound sent wrote so =
+      sends_read written held faults may_want x' via first now outbound sent
+      (so documents carries first opening' wrote.0)
+  opened_then outbounds.WriteFault first mid now Awaited outbound sent wrote so =
+      rw (so.0, so.2) (so.1, wrote)
+  opened_then outbounds.WriteFault first mid now Read outbound sent wrote so =
+      rw (so.0, so.2) (inl (so.1, wrote))
+  opened_then outbounds.Memory first mid now Awaited outbound sent wrote so =
+      rw (so.0, so.2) (so.1, wrote)
+  opened_then outbounds.Memory first mid now Read outbound sent wrote so =
+      rw (so.0, so.2) (inl (so.1, wrote))
+
 -- by the same settings
 pub followed_as : (s t : Settings) → s ≡ t → (Before Heard : List StreamEvent → Type 0)
     (i i' : Input) (ending : Ending Offence) → ((events : List StreamEvent) → Before events
@@ -133,35 +148,40 @@ followed_as s t same Before Heard i i' ending all h =
     follows_as (stream t) Before Heard i i' ending all
     (subst (λ (z : Settings). Follows (stream z) Before i i' ending) same h)
 
+-- by which settings a peer's stream is read, whatever is sent to it
+abbrev pub reads_for : Outgoing → Settings
+reads_for o = answers_to (sending_by o.settings [])
+
 -- what was heard, by the sink and the output as they are then
 pub followed_to : {K : Type 0} (k_written : K → Option (List ℕ)) (k_held : K → List ℕ)
     (k_faults : K → ℕ) (k_wants : K → Bool) {O : Type 0} (o_written : O → Option (List ℕ))
-    (o_held : O → List ℕ) (o_faults : O → ℕ) (o_wants : O → Bool) (x : Sending) (i i' : Input)
+    (o_held : O → List ℕ) (o_faults : O → ℕ) (o_wants : O → Bool) (o : Outgoing) (i i' : Input)
     (sink sink' : K) (output output' : O) (caller : Caller) (ending : Ending Offence)
-    → HasFollowed k_written k_held k_faults k_wants o_written o_held o_faults o_wants x i i' sink
+    → HasFollowed k_written k_held k_faults k_wants o_written o_held o_faults o_wants o i i' sink
     sink' output output' caller ending
-    → Follows (stream (answers_to x)) (λ events. HasHeard k_written k_held k_faults k_wants
+    → Follows (stream (reads_for o)) (λ events. HasHeard k_written k_held k_faults k_wants
     o_written
     o_held o_faults o_wants sink output (map event_for events) caller sink' output') i i' ending
-followed_to k_written k_held k_faults k_wants o_written o_held o_faults o_wants x i i' sink sink'
+followed_to k_written k_held k_faults k_wants o_written o_held o_faults o_wants o i i' sink sink'
     output output' caller ending h =
-    subst (λ k. Follows (stream (answers_to x)) (λ events. HasHeard k_written k_held k_faults
+    subst (λ k. Follows (stream (reads_for o)) (λ events. HasHeard k_written k_held k_faults
     k_wants o_written o_held o_faults o_wants sink output (map event_for events) caller k
     output') i i' ending) h.sink_is
-    (subst (λ o. Follows (stream (answers_to x)) (λ events. HasHeard k_written k_held k_faults
+    (subst (λ p. Follows (stream (reads_for o)) (λ events. HasHeard k_written k_held k_faults
     k_wants o_written o_held o_faults o_wants sink output (map event_for events) caller
-    h.last_sink o) i i' ending) h.output_is h.follows)
+    h.last_sink p) i i' ending) h.output_is h.follows)
 
 -- ---- a call in all
 
 module _ {K : Type 0} (k_written : K → Option (List ℕ)) (k_held : K → List ℕ) (k_faults : K → ℕ)
     (k_wants : K → Bool) {O : Type 0} (o_written : O → Option (List ℕ)) (o_held : O → List ℕ)
-    (o_faults : O → ℕ) (o_wants : O → Bool) (x : Sending) (via : List ℕ) (sink mid sink' : K)
+    (o_faults : O → ℕ) (o_wants : O → Bool) (o : Outgoing) (documents : List (List Item))
+    (carries : Carries documents o) (via : List ℕ) (sink mid sink' : K)
     (output output1 output' : O) (called : CallOutcome) (ending : Ending Offence)
     (opened : Outbound) (caller : Caller)
     (wrote : WritesOut k_written k_held k_faults k_wants opened
-    (opening_bytes x.mode x.kind via) sink mid)
-    (sending_is : sending_of caller.outgoing ≡ x) (opened_is : caller.opened ≡ opened)
+    (opening_bytes o.settings.mode o.settings.kind via) sink mid)
+    (outgoing_is : caller.outgoing ≡ o) (opened_is : caller.opened ≡ opened)
     (closed : (first : O) (events : List Event)
     → Writes o_written o_held o_faults o_wants (said_by Whole) caller.report first events
     caller.reached (λ s. ⊤) output1
@@ -169,6 +189,9 @@ module _ {K : Type 0} (k_written : K → Option (List ℕ)) (k_held : K → List
     (closing_of ending caller.reached) first events (λ s. ⊤) output')
     (inbound_is : called.inbound ≡ inbound_by ending caller.reached)
     (outbound_is : called.outbound ≡ caller.outbound) (sent_is : called.sent ≡ caller.sent) where
+  abbrev x : Sending
+  x = sending_by o.settings documents
+
   ending_is : ending ≡ ending_of called.inbound
   ending_is = sym (ap ending_of inbound_is ∙ ending_again ending caller.reached)
 
@@ -192,8 +215,8 @@ module _ {K : Type 0} (k_written : K → Option (List ℕ)) (k_held : K → List
         events) ending_is (subst (λ (r : Outcome). Wrote' ending r events) h.reached_is
         (closed output (map event_for events) h.reported));
     sends = rw (outbound_is, sent_is, ← h.ack_is)
-        (opened_then k_written k_held k_faults k_wants x via opened sink mid sink' caller.ack
-        caller.outbound caller.sent wrote (rw (sending_is, opened_is) at h.sends));
+        (opened_then k_written k_held k_faults k_wants o documents carries via opened sink mid sink'
+        caller.ack caller.outbound caller.sent wrote (rw (outgoing_is, opened_is) at h.sends));
   }
 
   pub calls : (i i' : Input) → Follows (stream (answers_to x)) Heard i i' ending

@@ -11,6 +11,7 @@ use Rattle.stream_follower.specs.declared.writing.Outbound.TheVariants as outbou
 use Rattle.stream_follower.specs.Writing.{Goes, PutsTo, Writes, Wrote, outbound_by}
 use Rattle.stream_follower.proofs.Written.{begins, closes, goes_by, pauses, stays_closed, stays_so}
 use Rattle.stream_follower.proofs.Written.{steps, stops_last, wanted_by}
+use Rattle.nbfx_values.specs.declared.content.Item.{Item}
 use Rattle.session_report.specs.declared.reading.Event.{Event}
 use Rattle.session_report.specs.declared.reading.Event.TheVariants as said
 use Rattle.session_report.specs.declared.reporter.Outcome.{Outcome}
@@ -22,8 +23,11 @@ use Rattle.client.specs.declared.caller.Caller.{Caller}
 use Rattle.client.specs.declared.outcome.ClientOut.{ClientOut}
 use Rattle.client.specs.Called.{ack_after, ack_along, reached_along}
 use Rattle.client.specs.Calling.{HasHeard, IsFresh, Reports, SendsSo}
-use Rattle.client.specs.Sent.{Sending, SendsAll}
-use Rattle.client.specs.Sending.{out_of, sending_of}
+use Rattle.client.specs.declared.outgoing.Outgoing.{Outgoing}
+use Rattle.client.specs.Cuts.{sending_by}
+use Rattle.client.specs.Outgoing.{Carries}
+use Rattle.client.specs.Sent.{SendsAll}
+use Rattle.client.specs.Writing.{out_of}
 
 -- ---- one event more
 
@@ -49,9 +53,9 @@ not_acked ack (said.Ended n) never = refl
 not_acked ack (said.PeerFault n text) never = refl
 
 module _ {K : Type 0} (written : K → Option (List ℕ)) (held : K → List ℕ) (faults : K → ℕ)
-    (may_want : K → Bool) (x : Sending) where
+    (may_want : K → Bool) (o : Outgoing) where
   abbrev So : Outbound → K → Ack → ClientOut → ℕ → K → Type 0
-  So = SendsSo written held faults may_want x
+  So = SendsSo written held faults may_want o
 
   -- before the first event
   pub sends_first : (opened : Outbound) (first : K) (outbound : ClientOut) (sent : ℕ)
@@ -71,11 +75,13 @@ module _ {K : Type 0} (written : K → Option (List ℕ)) (held : K → List ℕ
   -- where it is, the documents are sent
   pub sends_now : (opened : Outbound) (first : K) (outbound outbound' : ClientOut) (sent sent' : ℕ)
       (old new : K) → opened ≡ outbounds.Done
-      → ((start : K) (before : List ℕ) → PutsTo written held faults may_want start old before
-      (Ok tt) → SendsAll x written held faults may_want before start outbound' sent' new)
+      → ((documents : List (List Item)) → Carries documents o → (start : K) (before : List ℕ)
+      → PutsTo written held faults may_want start old before (Ok tt)
+      → SendsAll (sending_by o.settings documents) written held faults may_want before start
+      outbound' sent' new)
       → So opened first Awaited outbound sent old → So opened first Read outbound' sent' new
   sends_now outbounds.Done first outbound outbound' sent sent' old new is sends h =
-      λ start before puts. sends start before
+      λ documents carries start before puts. sends documents carries start before
       (subst (λ k. PutsTo written held faults may_want start k before (Ok tt)) (sym h.2) puts)
   sends_now outbounds.WriteFault first outbound outbound' sent sent' old new is sends h = cc
   sends_now outbounds.Memory first outbound outbound' sent sent' old new is sends h = cc
@@ -166,7 +172,7 @@ module _ {K : Type 0} (k_written : K → Option (List ℕ)) (k_held : K → List
     reported = rw (fresh.report_is, fresh.reached_is)
         (begins o_written o_held o_faults o_wants (said_by Whole) output);
     sends = rw fresh.ack_is (sends_first k_written k_held k_faults k_wants
-        (sending_of caller.outgoing) caller.opened sink caller.outbound caller.sent
+        caller.outgoing caller.opened sink caller.outbound caller.sent
         fresh.outbound_is fresh.sent_is);
   }
 
@@ -177,9 +183,9 @@ module _ {K : Type 0} (k_written : K → Option (List ℕ)) (k_held : K → List
       → mid.reached ≡ said_outcome old.reached event → mid.outgoing ≡ old.outgoing
       → mid.opened ≡ old.opened → mid.ack ≡ old.ack → mid.sent ≡ old.sent
       → mid.outbound ≡ old.outbound
-      → ((first : K) → So k_written k_held k_faults k_wants (sending_of mid.outgoing) mid.opened
+      → ((first : K) → So k_written k_held k_faults k_wants mid.outgoing mid.opened
       first mid.ack mid.outbound mid.sent sink1
-      → So k_written k_held k_faults k_wants (sending_of mid.outgoing) mid.opened first
+      → So k_written k_held k_faults k_wants mid.outgoing mid.opened first
       (ack_after mid.ack event) new.outbound new.sent sink2)
       → new.ack ≡ ack_after mid.ack event → new.outgoing ≡ mid.outgoing
       → new.opened ≡ mid.opened → new.reached ≡ mid.reached → new.report ≡ mid.report

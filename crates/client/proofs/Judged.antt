@@ -29,7 +29,8 @@ use Rattle.client.specs.declared.outcome.CallOutcome.{CallOutcome}
 use Rattle.client.specs.declared.outcome.ClientIn.{ClientIn}
 use Rattle.client.specs.declared.outcome.ClientIn.TheVariants.{Ended, Offended, PeerFault}
 use Rattle.client.specs.declared.outcome.ClientIn.TheVariants.{ReadFault, Memory}
-use Rattle.client.specs.Called.{Calls, HasCalled, IsAckOf, Judges, ReportsOf, WritesCall, ack_along}
+use Rattle.client.specs.Called.{Calls, HasCalled, IsAckOf, Judges, KnownCall, ReportsOf, WritesCall}
+use Rattle.client.specs.Called.{ack_along}
 use Rattle.client.specs.Called.{answers_to, dumped, ending_of, heard_of, inbound_by}
 use Rattle.client.specs.Called.{reached_along}
 use Rattle.client.specs.Sent.{Sending}
@@ -216,3 +217,23 @@ module _ {K : Type 0} (k_written : K → Option (List ℕ)) (k_held : K → List
         (ack_is d.events (Some o) (whole_of y i i' bytes left (Called called) (Some o) d))
     by ReadFault is d = so ReadFault _ d.heard tt
     by Memory is d = so Memory d.events d.heard tt
+
+-- all that is known of a call, by what was read, reported and sent
+pub knows : {K : Type 0} (k_written : K → Option (List ℕ)) (k_held : K → List ℕ) (k_faults : K → ℕ)
+    (k_wants : K → Bool) {O : Type 0} (o_written : O → Option (List ℕ)) (o_held : O → List ℕ)
+    (o_faults : O → ℕ) (o_wants : O → Bool) (x : Sending) (via : List ℕ) (i i' : Input)
+    (sink sink' : K) (output output' : O) (called : CallOutcome)
+    → Calls k_written k_held k_faults k_wants o_written o_held o_faults o_wants x via i i' sink
+    sink' output output' called
+    → KnownCall k_written k_held k_faults k_wants o_written o_held o_faults o_wants x via i i' sink
+    sink' output output' called
+knows k_written k_held k_faults k_wants o_written o_held o_faults o_wants x via i i' sink sink'
+    output output' called h = record {
+      judged = λ bytes left. judges k_written k_held k_faults k_wants o_written o_held o_faults
+          o_wants x via i i' sink sink' output output' bytes left called h;
+      reported = λ bytes w left told. reports k_written k_held k_faults k_wants o_written o_held
+          o_faults o_wants x via i i' sink sink' output output' bytes left called h w told;
+      written = λ bytes w left told. writes k_written k_held k_faults k_wants o_written o_held
+          o_faults o_wants x via i i' sink sink' output output' bytes left called h w told;
+      calls = h;
+    }

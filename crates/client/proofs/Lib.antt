@@ -1,10 +1,11 @@
 -- what is sent of literal documents and reported of literal answers
 mod Worked
--- what is gathered of documents, and what of that is put (src/outbox.rt)
-pub mod Gathered
-pub mod PutGathered
--- what is written of the opening, and what a half has sent (src/sending.rt, src/outbox.rt)
-pub mod Envelopes
+-- the envelopes that are made of documents (src/outgoing.rt)
+pub mod Made
+pub mod Adding
+-- what of them is put, and what is written of the opening (src/sending.rt)
+pub mod Put
+pub mod Opening
 -- what a caller has heard and reported (src/caller.rt)
 pub mod Hearing
 -- what is known when the stream is over (src/calling.rt)

@@ -20,7 +20,7 @@ use Rattle.stream_follower.specs.declared.following.Ending.TheVariants as ending
 use Rattle.stream_follower.specs.declared.writing.Outbound.{Outbound}
 use Rattle.stream_follower.specs.declared.writing.Outbound.TheVariants as outbounds
 use Rattle.stream_follower.specs.Followed.{Follows}
-use Rattle.stream_follower.specs.Writing.{IsCut, PutsTo, Wrote}
+use Rattle.stream_follower.specs.Writing.{HoldNothing, IsCut, PutsTo, Wrote}
 use Rattle.session_report.specs.declared.reading.Event.{Event}
 use Rattle.session_report.specs.declared.reading.Event.TheVariants as said
 use Rattle.session_report.specs.declared.reporter.Outcome.{Outcome}
@@ -218,3 +218,19 @@ module _ {K : Type 0} (k_written : K → Option (List ℕ)) (k_held : K → List
         (called.outbound ≡ out.WriteFault)
     pub reports_counted : CountsFaults (o_faults output) (o_faults output')
         (called.report ≡ outbounds.WriteFault)
+
+  -- All that is known of a call: of all that the peer sends, where the source tells that, how it is
+  -- judged, what is reported of it and what is written to the peer; and what was read, reported and
+  -- sent, however that ended.
+  pub record KnownCall (i i' : Input) (sink sink' : K) (output output' : O) (called : CallOutcome)
+      : Type 0 where
+    pub judged : (bytes : List ℕ) → i.left ≡ Some bytes → Judges x bytes called.inbound
+    pub reported : (bytes w : List ℕ) → i.left ≡ Some bytes → o_written output ≡ Some w
+        → (w' : List ℕ) × (o_written output' ≡ Some w')
+        × ReportsOf (dumped x bytes) (o_held output) w w' called.inbound called.report
+    pub written : (bytes w : List ℕ) → i.left ≡ Some bytes → k_written sink ≡ Some w
+        → (w' : List ℕ) × (k_written sink' ≡ Some w') × (ack : Ack)
+        × IsAckOf x bytes called.inbound ack
+        × WritesCall x (HoldNothing k_written k_held k_faults k_wants) via (k_held sink) w w' ack
+        called.outbound called.sent
+    pub calls : Calls i i' sink sink' output output' called

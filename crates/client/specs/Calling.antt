@@ -1,5 +1,6 @@
 -- What a caller has heard, reported and sent.
-use Rattle.std.specs.Prelude.{◌≡◌, ⊤, ℕ, List, Bool, Option, Ok, map}
+use Rattle.std.specs.Prelude.{◌≡◌, ⊤, ℕ, List, [], Bool, Option, Ok, map}
+use Rattle.nbfx_values.specs.declared.content.Item.{Item}
 use Rattle.nbfx_values.specs.declared.refusals.Offence.{Offence}
 use Rattle.stream_loop.specs.Edges.{Input}
 use Rattle.stream_reader.specs.Stream.{stream}
@@ -18,20 +19,26 @@ use Rattle.client.specs.declared.caller.Caller.{Caller}
 use Rattle.client.specs.declared.caller.Outputs.{Outputs}
 use Rattle.client.specs.declared.outcome.ClientOut.{ClientOut}
 use Rattle.client.specs.Called.{ack_along, answers_to, reached_along}
-use Rattle.client.specs.Sent.{Sending, SendsAll}
-use Rattle.client.specs.Sending.{out_of, sending_of}
+use Rattle.client.specs.declared.outgoing.Outgoing.{Outgoing}
+use Rattle.client.specs.Cuts.{sending_by}
+use Rattle.client.specs.Outgoing.{Carries}
+use Rattle.client.specs.Sent.{SendsAll}
+use Rattle.client.specs.Writing.{out_of}
 
 -- nothing was put since a sink was like the first
 abbrev pub StaysSent : {K : Type 0} → K → (o : Outbound) → ClientOut → (sent : ℕ) → K → Type 0
 StaysSent first opened outbound sent now = (outbound ≡ out_of opened) × (sent ≡ 0) × (now ≡ first)
 
 module _ {K : Type 0} (written : K → Option (List ℕ)) (held : K → List ℕ) (faults : K → ℕ)
-    (may_want : K → Bool) (x : Sending) where
-  -- what was put behind the opening, which was written so far, when the sink was like the first
+    (may_want : K → Bool) (o : Outgoing) where
+  -- What was put behind the opening, which was written so far, when the sink was like the first: of
+  -- the documents of which this is sent.
   abbrev pub SendsSo : (opened : Outbound) → (first : K) → Ack → ClientOut → (sent : ℕ) → K → Type 0
-  SendsSo outbounds.Done first Read outbound sent now = (start : K) (before : List ℕ)
+  SendsSo outbounds.Done first Read outbound sent now = (documents : List (List Item))
+      → Carries documents o → (start : K) (before : List ℕ)
       → PutsTo written held faults may_want start first before (Ok tt)
-      → SendsAll x written held faults may_want before start outbound sent now
+      → SendsAll (sending_by o.settings documents) written held faults may_want before start
+      outbound sent now
   SendsSo opened first ack outbound sent now = StaysSent first opened outbound sent now
 
 module _ {O : Type 0} (written : O → Option (List ℕ)) (held : O → List ℕ) (faults : O → ℕ)
@@ -53,8 +60,8 @@ module _ {K : Type 0} (k_written : K → Option (List ℕ)) (k_held : K → List
     pub reached_is : caller.reached ≡ reached_along events
     pub reported : Writes o_written o_held o_faults o_wants (said_by Whole) caller.report output
         events caller.reached (λ s. ⊤) output'
-    pub sends : SendsSo k_written k_held k_faults k_wants (sending_of caller.outgoing)
-        caller.opened sink caller.ack caller.outbound caller.sent sink'
+    pub sends : SendsSo k_written k_held k_faults k_wants caller.outgoing caller.opened sink
+        caller.ack caller.outbound caller.sent sink'
 
   -- the same of both outputs, by what holds them
   pub record IsAlong (first : Outputs K O) (events : List Event) (caller : Caller)
@@ -73,7 +80,7 @@ pub record IsFresh (caller : Caller) : Type 0 where
 
 module _ {K : Type 0} (k_written : K → Option (List ℕ)) (k_held : K → List ℕ) (k_faults : K → ℕ)
     (k_wants : K → Bool) {O : Type 0} (o_written : O → Option (List ℕ)) (o_held : O → List ℕ)
-    (o_faults : O → ℕ) (o_wants : O → Bool) (x : Sending) where
+    (o_faults : O → ℕ) (o_wants : O → Bool) (o : Outgoing) where
   -- the peer's stream was read so, and its events heard, when sink and output were like this
   pub record HasFollowed (i i' : Input) (sink sink' : K) (output output' : O) (caller : Caller)
       (ending : Ending Offence) : Type 0 where
@@ -81,6 +88,6 @@ module _ {K : Type 0} (k_written : K → Option (List ℕ)) (k_held : K → List
     pub last_output : O
     pub sink_is : last_sink ≡ sink'
     pub output_is : last_output ≡ output'
-    pub follows : Follows (stream (answers_to x)) (λ events. HasHeard k_written k_held k_faults
-        k_wants o_written o_held o_faults o_wants sink output (map event_for events) caller
-        last_sink last_output) i i' ending
+    pub follows : Follows (stream (answers_to (sending_by o.settings []))) (λ events. HasHeard
+        k_written k_held k_faults k_wants o_written o_held o_faults o_wants sink output
+        (map event_for events) caller last_sink last_output) i i' ending

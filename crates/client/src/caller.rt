@@ -8,16 +8,15 @@ ghost use Rattle.session_report.specs.declared.reading.Event.{Event as Heard};
 ghost use Rattle.session_report.specs.Saying.{said_by, said_lines, said_outcome};
 ghost use Rattle.client.specs.Called.{ack_after, closing_of};
 ghost use Rattle.client.specs.Calling.{IsFresh, Reports, SendsSo};
-ghost use Rattle.client.specs.Sending.{out_of, sending_of};
+ghost use Rattle.client.specs.Writing.{out_of};
 
 use crate::outcome::{ClientOut, client_out};
 use crate::outgoing::Outgoing;
-use crate::sending::send_documents;
+use crate::sending::send_envelopes;
 use command_words::Detail;
 use io_edges::{Sink, SinkFault};
 use nbfx_values::Offence;
 use session_report::{Event, LineReporter, Outcome};
-use std::alloc::Global;
 use stream_follower::{Ending, Listener, Outbound, flush};
 use stream_loop::Reporter;
 use unit_streams::Memory;
@@ -38,9 +37,8 @@ pub struct Outputs<'k, 'o, K, O> {
 
 /// Answers and reports the events of the peer's stream, and keeps what has become of the writing.
 #[derive(Drop)]
-pub struct Caller<'s, 'd> {
-    alloc: Global,
-    pub outgoing: Outgoing<'s, 'd>,
+pub struct Caller<'s> {
+    pub outgoing: Outgoing<'s>,
     // How the writing of the opening ended.
     opened: Outbound,
     ack: Ack,
@@ -103,15 +101,14 @@ fn put_last<O: Sink>(ending: Ending<Offence>, reached: Outcome, output: &mut O) 
     outbound_by(reporter.put_ending(&refusal, output))
 }
 
-impl<'s, 'd> Caller<'s, 'd> {
+impl<'s> Caller<'s> {
     /// Before the first event, where the writing of the opening ended so.
-    pub fn new(alloc: Global, outgoing: Outgoing<'s, 'd>, opened: Outbound) -> Self
+    pub fn new(outgoing: Outgoing<'s>, opened: Outbound) -> Self
         ensures outgoing { result.outgoing ≡ outgoing.entry }
         ensures opened { result.opened ≡ opened }
         ensures fresh { IsFresh result }
     {
         Caller {
-            alloc,
             outgoing,
             opened,
             ack: Ack::Awaited,
@@ -126,9 +123,9 @@ impl<'s, 'd> Caller<'s, 'd> {
     fn accept<K: Sink>(&mut self, sink: &mut K)
         requires { self.old.ack ≡ Ack.Awaited }
         ensures sends { (first : K) → SendsSo K.written K.held K.faults K.may_want
-            (sending_of self.old.outgoing) self.old.opened first Ack.Awaited self.old.outbound
+            self.old.outgoing self.old.opened first Ack.Awaited self.old.outbound
             self.old.sent sink.old
-            → SendsSo K.written K.held K.faults K.may_want (sending_of self.old.outgoing)
+            → SendsSo K.written K.held K.faults K.may_want self.old.outgoing
             self.old.opened first Ack.Read self.new.outbound self.new.sent sink.new }
         ensures ack { self.new.ack ≡ Ack.Read }
         ensures outgoing { self.new.outgoing ≡ self.old.outgoing }
@@ -140,7 +137,7 @@ impl<'s, 'd> Caller<'s, 'd> {
         if !self.opened.is_going() {
             return;
         }
-        let sent = send_documents(self.alloc, &self.outgoing, sink);
+        let sent = send_envelopes(&self.outgoing, sink);
         self.sent = sent.count;
         self.outbound = sent.outbound;
     }
@@ -148,9 +145,9 @@ impl<'s, 'd> Caller<'s, 'd> {
     // Answers an event.
     fn answer<K: Sink>(&mut self, event: &Event, sink: &mut K)
         ensures sends { (first : K) → SendsSo K.written K.held K.faults K.may_want
-            (sending_of self.old.outgoing) self.old.opened first self.old.ack self.old.outbound
+            self.old.outgoing self.old.opened first self.old.ack self.old.outbound
             self.old.sent sink.old
-            → SendsSo K.written K.held K.faults K.may_want (sending_of self.old.outgoing)
+            → SendsSo K.written K.held K.faults K.may_want self.old.outgoing
             self.old.opened first (ack_after self.old.ack event.now) self.new.outbound
             self.new.sent sink.new }
         ensures ack { self.new.ack ≡ ack_after self.old.ack event.now }
@@ -207,15 +204,14 @@ impl<'s, 'd> Caller<'s, 'd> {
     }
 }
 
-impl<'s, 'd, 'k, 'o, K: Sink, O: Sink> Listener<Event, Outputs<'k, 'o, K, O>> for Caller<'s, 'd> {
-    ghost use Rattle.client.specs.Sent.{Sending};
-    ghost use Rattle.client.specs.Sending.{sending_of};
+impl<'s, 'k, 'o, K: Sink, O: Sink> Listener<Event, Outputs<'k, 'o, K, O>> for Caller<'s> {
+    ghost use Rattle.client.specs.declared.outgoing.Outgoing.{Outgoing as Due};
     ghost use Rattle.client.specs.Calling.{IsAlong};
     ghost use Rattle.stream_follower.specs.declared.writing.Outbound.{Outbound as Stands};
 
-    ghost Settings = { Sending × Stands };
+    ghost Settings = { Due × Stands };
 
-    ghost settings = { λ caller. (sending_of caller.outgoing, caller.opened) };
+    ghost settings = { λ caller. (caller.outgoing, caller.opened) };
 
     ghost heard = { λ first events caller now. IsAlong K.written K.held K.faults K.may_want
         O.written O.held O.faults O.may_want first events caller now };

@@ -10,16 +10,18 @@ ghost use Rattle.stream_reader.specs.Stream.{stream};
 ghost use Rattle.stream_follower.specs.Followed.{Follows};
 ghost use Rattle.stream_follower.specs.Writing.{HoldNothing};
 ghost use Rattle.session_report.specs.Saying.{event_for};
-ghost use Rattle.client.specs.Called.{Calls, IsAckOf, Judges, ReportsOf, WritesCall};
+ghost use Rattle.client.specs.Called.{Calls, IsAckOf, Judges, KnownCall, ReportsOf, WritesCall};
 ghost use Rattle.client.specs.Called.{dumped, inbound_by};
 ghost use Rattle.client.specs.Calling.{HasFollowed, HasHeard, IsFresh};
 ghost use Rattle.client.specs.Sent.{sending};
-ghost use Rattle.client.specs.Sending.{sending_of};
+ghost use Rattle.client.specs.Cuts.{sending_by};
+ghost use Rattle.client.specs.Outgoing.{Carries};
+ghost use Rattle.nbfx_values.specs.declared.content.Item.{Item as Part};
 ghost use Rattle.client.specs.declared.caller.Ack.{Ack as Acknowledged};
 
 use crate::caller::{Caller, Outputs};
 use crate::outcome::{CallOutcome, ClientIn};
-use crate::outgoing::Outgoing;
+use crate::outgoing::{CallSettings, Envelopes, Outgoing};
 use crate::sending::send_opening;
 use io_edges::{Sink, Source};
 use nbfx_values::{Docs, Kind, Mode, Offence, Quotas};
@@ -47,7 +49,7 @@ fn inbound_by(ending: Ending<Offence>, reached: Outcome) -> ClientIn
 fn follow_end<S: Source, K: Sink, O: Sink>(
     alloc: Global,
     end: &mut StreamEnd<'_>,
-    caller: &mut Caller<'_, '_>,
+    caller: &mut Caller<'_>,
     source: &mut S,
     outputs: &mut Outputs<'_, '_, K, O>,
 ) -> Ending<Offence>
@@ -63,7 +65,7 @@ fn follow_end<S: Source, K: Sink, O: Sink>(
     ensures same_output { outputs.new.report.ghost_name ≡ outputs.old.report.ghost_name }
     ensures counted { CountsFaults (S.faults source.old) (S.faults source.new)
         (result ≡ Ending.ReadFault) }
-    ensures sending { sending_of caller.new.outgoing ≡ sending_of caller.old.outgoing }
+    ensures outgoing { caller.new.outgoing ≡ caller.old.outgoing }
     ensures opened { caller.new.opened ≡ caller.old.opened }
 {
     follow_stream(alloc, end, caller, source, outputs)
@@ -72,27 +74,29 @@ fn follow_end<S: Source, K: Sink, O: Sink>(
 // Reads the peer's stream, and has it answered and reported.
 fn follow_answers<S: Source, K: Sink, O: Sink>(
     alloc: Global,
-    caller: &mut Caller<'_, '_>,
+    caller: &mut Caller<'_>,
     source: &mut S,
     sink: &mut K,
     output: &mut O,
 ) -> Ending<Offence>
     requires { IsFresh caller.old }
     ensures follows { HasFollowed K.written K.held K.faults K.may_want O.written O.held O.faults
-        O.may_want (sending_of caller.old.outgoing)
+        O.may_want caller.old.outgoing
         (input_at S.left S.taken S.faults S.empty_takes source.old)
         (input_at S.left S.taken S.faults S.empty_takes source.new) sink.old sink.new output.old
         output.new caller.new result }
     ensures counted { CountsFaults (S.faults source.old) (S.faults source.new)
         (result ≡ Ending.ReadFault) }
-    ensures sending { sending_of caller.new.outgoing ≡ sending_of caller.old.outgoing }
+    ensures outgoing { caller.new.outgoing ≡ caller.old.outgoing }
     ensures opened { caller.new.opened ≡ caller.old.opened }
 {
-    let (statics, quotas) = (caller.outgoing.statics, caller.outgoing.quotas);
-    let side = Side::Receiver {
-        mode: caller.outgoing.mode,
-        kind: caller.outgoing.kind,
-    };
+    let CallSettings {
+        statics,
+        quotas,
+        mode,
+        kind,
+    } = caller.outgoing.settings;
+    let side = Side::Receiver { mode, kind };
     let Ok(mut end) = StreamEnd::new(alloc, statics, quotas, side) else {
         return Ending::Memory;
     };
@@ -103,24 +107,28 @@ fn follow_answers<S: Source, K: Sink, O: Sink>(
     follow_end(alloc, &mut end, caller, source, &mut outputs)
 }
 
-// Calls a connection.
-fn call_connection<S: Source, K: Sink, O: Sink>(
+/// Calls the peer whose bytes the source gives and the sink takes, as [`call_one`] does, with
+/// documents whose envelopes were made before. They are put together, a part at a time.
+pub fn call_prepared<S: Source, K: Sink, O: Sink>(
     alloc: Global,
     source: &mut S,
     sink: &mut K,
     output: &mut O,
-    outgoing: Outgoing<'_, '_>,
+    outgoing: Outgoing<'_>,
     via: &str,
 ) -> CallOutcome
-    requires { length via.now ≤ 2048 }
-    ensures { Calls K.written K.held K.faults K.may_want O.written O.held O.faults O.may_want
-        (sending_of outgoing.entry) via.now
+    requires via { length via.now ≤ 2048 }
+    requires carried { (documents : List (List Part)) × Carries documents outgoing }
+    ensures { (documents : List (List Part)) → Carries documents outgoing.entry
+        → KnownCall K.written K.held K.faults K.may_want O.written O.held O.faults O.may_want
+        (sending_by outgoing.entry.settings documents) via.now
         (input_at S.left S.taken S.faults S.empty_takes source.old)
         (input_at S.left S.taken S.faults S.empty_takes source.new) sink.old sink.new output.old
         output.new result }
 {
-    let opened = send_opening(alloc, outgoing.mode, outgoing.kind, via, sink);
-    let mut caller = Caller::new(alloc, outgoing, opened);
+    let CallSettings { mode, kind, .. } = outgoing.settings;
+    let opened = send_opening(alloc, mode, kind, via, sink);
+    let mut caller = Caller::new(outgoing, opened);
     let ending = follow_answers(alloc, &mut caller, source, sink, output);
     caller.close(ending, output);
     CallOutcome {
@@ -131,10 +139,25 @@ fn call_connection<S: Source, K: Sink, O: Sink>(
     }
 }
 
+// What is to be sent of these documents. Those for whose envelopes there is no memory aren't sent,
+// and the outcome of the call says so.
+fn outgoing_of<'s>(alloc: Global, settings: CallSettings<'s>, docs: &Docs) -> Outgoing<'s>
+    requires { MayBeSent settings.mode docs.now }
+    ensures carries { Carries docs.now result }
+    ensures settings { result.settings ≡ settings.entry }
+{
+    let mut envelopes = Envelopes::new(alloc, settings);
+    for doc in docs.as_slice() {
+        let _ = envelopes.add(doc);
+    }
+    envelopes.finish()
+}
+
 /// Calls the peer whose bytes the source gives and the sink takes: writes the opening of a session
 /// to this Via, reads to the peer's Preamble Ack, writes an envelope for each document and an End
 /// record, and reads to the end. The report of what is read goes to the output, with its documents;
-/// the lines of what came are written before more is taken.
+/// the lines of what came are written before more is taken. The envelopes of all documents are made
+/// before the opening is written, and are in memory until the call ends.
 ///
 /// Where no Ack is read nothing is written after the opening. After a failed write to the peer, at
 /// a document that doesn't fit, or when out of memory while writing, nothing more is put to the
@@ -178,12 +201,12 @@ pub fn call_one<S: Source, K: Sink, O: Sink>(
         (input_at S.left S.taken S.faults S.empty_takes source.new) sink.old sink.new output.old
         output.new result }
 {
-    let outgoing = Outgoing {
+    let settings = CallSettings {
         statics,
         quotas: *quotas,
         mode,
         kind,
-        docs,
     };
-    call_connection(alloc, source, sink, output, outgoing, via)
+    let outgoing = outgoing_of(alloc, settings, docs);
+    call_prepared(alloc, source, sink, output, outgoing, via)
 }

@@ -6,20 +6,21 @@
 //! The second is the report of a receiver's stream with its documents (`session_report`). They meet
 //! once: envelopes are sent when the peer's Preamble Ack was read, and not before.
 //!
-//! [`call_one`] does all on the calling thread: it sends the documents where it has read the Ack,
-//! and goes on reading then. Envelopes are gathered and written 64 KiB at a time, and those that
-//! were written whole count as sent (`outbox`). Its contract is in `specs/Called.antt`. A write
-//! that fails ends the writing and not the reading, and a report that can't be written ends
-//! neither.
+//! The envelopes are made first, in memory ([`Envelopes`]), so that the documents needn't be kept
+//! until they are sent. [`call_prepared`] does the rest on the calling thread: it sends the
+//! envelopes when it has read the Ack, and goes on reading then. Those that were written whole count
+//! as sent. [`call_one`] does both. Their contracts are in `specs/Outgoing.antt` and
+//! `specs/Called.antt`. A write that fails ends the writing and not the reading, and a report that
+//! can't be written ends neither.
 #![tactic(auto)]
 
 mod caller;
 mod calling;
-mod outbox;
 mod outcome;
 mod outgoing;
 mod sending;
 
-pub use calling::call_one;
+pub use calling::{call_one, call_prepared};
 pub use outcome::{CallOutcome, ClientIn, ClientOut};
+pub use outgoing::{CallSettings, Envelopes, Outgoing};
 pub use stream_follower::Outbound as Reported;

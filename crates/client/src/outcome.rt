@@ -1,7 +1,7 @@
 //! What became of a call.
 
-ghost use Rattle.std.specs.Prelude.{◌≡◌, true, false};
-ghost use Rattle.client.specs.Sending.{out_of};
+ghost use Rattle.std.specs.Prelude.{◌≡◌};
+ghost use Rattle.client.specs.Writing.{out_of};
 
 use nbfx_encoder::EncodeFault;
 use nbfx_values::Offence;
@@ -34,16 +34,6 @@ pub enum ClientOut {
     WriteFault,
     /// Out of memory while writing.
     Memory,
-}
-
-impl ClientOut {
-    // Whether nothing has ended the writing.
-    pub(crate) fn is_done(self) -> bool
-        ensures done { result ≡ true → self ≡ ClientOut.Done }
-        ensures stopped { result ≡ false → self ≡ ClientOut.Done → ⊥ }
-    {
-        matches!(self, ClientOut::Done)
-    }
 }
 
 /// How the writing to the peer ended, by how it ended at the sink.

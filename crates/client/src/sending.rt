@@ -1,23 +1,25 @@
-//! How the opening and the documents of a call are written.
+//! How the opening of a call and its envelopes are written.
 
-ghost use Rattle.std.specs.Prelude.{◌≡◌, ◌≤◌, ⊤, Result, List, ℕ, length};
+ghost use Rattle.std.specs.Prelude.{◌≡◌, ◌++◌, ◌≤◌, Result, List, ℕ, length};
+ghost use Rattle.nbfx_values.specs.declared.content.Item.{Item as Part};
 ghost use Rattle.initiator_machine.specs.Opening.{opening_bytes};
 ghost use Rattle.stream_follower.specs.Writing.{PutsTo};
-ghost use Rattle.client.specs.Sent.{SendsAll};
-ghost use Rattle.client.specs.Sending.{WritesOut, sending_of};
+ghost use Rattle.client.specs.Cuts.{CutsAt, sending_by, whole_within};
+ghost use Rattle.client.specs.Outgoing.{Carries, HoldsSo};
+ghost use Rattle.client.specs.Sent.{Sending, SendsAll};
+ghost use Rattle.client.specs.Writing.{WritesOut};
 
-use crate::outbox::Outbox;
 use crate::outcome::{ClientOut, client_out};
 use crate::outgoing::Outgoing;
 use initiator_machine::opening;
 use io_edges::Sink;
-use nbfx_encoder::{Sender, Side};
+use nbfx_encoder::EncodeFault;
 use nbfx_values::{Kind, Mode};
 use std::alloc::Global;
-use stream_follower::{Outbound, flush, put_bytes, starve};
+use stream_follower::{Outbound, flush, put_bytes, put_parts, starve};
 use unit_streams::Memory;
 
-/// How the writing of documents ended.
+/// How the writing of envelopes ended.
 #[derive(Clone, Copy, Debug, PartialEq, Eq)]
 pub struct Sent {
     /// How many envelopes were written, each whole.
@@ -55,36 +57,57 @@ pub fn send_opening<K: Sink>(
     }
 }
 
-/// Writes an envelope for each document, up to the first that doesn't fit, and an End record where
-/// all fit.
-pub fn send_documents<K: Sink>(alloc: Global, outgoing: &Outgoing<'_, '_>, sink: &mut K) -> Sent
-    ensures { (first : K) (before : List ℕ)
-        → PutsTo K.written K.held K.faults K.may_want first sink.old before (Result.Ok tt)
-        → SendsAll (sending_of outgoing.now) K.written K.held K.faults K.may_want before first
-        result.outbound result.count sink.new }
+// How many of these ends lie within so many bytes.
+fn whole_within(put: usize, ends: &[usize]) -> usize
+    ensures { result ≡ whole_within put ends.now }
 {
-    let mut sender = Sender::new(
-        alloc,
-        outgoing.statics,
-        outgoing.quotas,
-        outgoing.kind,
-        outgoing.mode,
-        Side::Initiator,
-    );
-    let mut outbox = Outbox::new(alloc);
-    let docs = outgoing.docs.as_slice();
-    for doc in docs {
-        let outbound = outbox.send(&mut sender, doc, sink);
-        if !outbound.is_done() {
-            return Sent {
-                count: outbox.sent,
-                outbound,
-            };
+    let mut whole = 0;
+    for end in ends {
+        if *end <= put {
+            whole += 1;
         }
     }
-    let outbound = outbox.end(sink);
-    Sent {
-        count: outbox.sent,
-        outbound: client_out(outbound),
+    whole
+}
+
+// Ends the writing when all bytes were put: what the sink holds is written, unless memory ran out.
+fn end_writing<K: Sink>(fault: Option<EncodeFault>, count: u64, sink: &mut K) -> ClientOut
+    ensures { (x : Sending) (bytes ends before : List ℕ) (first : K)
+        → ((n : ℕ) → CutsAt x bytes (whole_within n ends) n) → HoldsSo x fault bytes ends
+        → count ≡ whole_within (length bytes) ends
+        → PutsTo K.written K.held K.faults K.may_want first sink.old (before ++ bytes)
+        (Result.Ok tt)
+        → SendsAll x K.written K.held K.faults K.may_want before first result count sink.new }
+{
+    if fault == Some(EncodeFault::Memory) {
+        return client_out(starve(sink));
     }
+    let flushed = flush(sink);
+    if !flushed.is_going() {
+        return client_out(flushed);
+    }
+    match fault {
+        None => ClientOut::Done,
+        Some(fault) => ClientOut::Unfit {
+            number: count,
+            fault,
+        },
+    }
+}
+
+/// Writes the envelopes, and the End record where there is one.
+pub fn send_envelopes<K: Sink>(outgoing: &Outgoing<'_>, sink: &mut K) -> Sent
+    ensures { (documents : List (List Part)) (first : K) (before : List ℕ)
+        → Carries documents outgoing.now
+        → PutsTo K.written K.held K.faults K.may_want first sink.old before (Result.Ok tt)
+        → SendsAll (sending_by outgoing.now.settings documents) K.written K.held K.faults
+        K.may_want before first result.outbound result.count sink.new }
+{
+    let (put, outbound) = put_parts(&outgoing.bytes, sink);
+    let count = whole_within(put, &outgoing.ends) as u64;
+    let outbound = match outbound {
+        Outbound::Done => end_writing(outgoing.fault, count, sink),
+        failed => client_out(failed),
+    };
+    Sent { count, outbound }
 }

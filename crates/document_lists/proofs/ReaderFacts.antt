@@ -2,18 +2,20 @@
 use Rattle.std.proofs.Common.{◌≡◌, ℕ, ◌+◌, ◌<◌, ◌≤◌, List, [], ◌∷◌, ◌++◌, length, take, drop, true}
 use Rattle.std.proofs.Common.{Result, Ok, Err, sym, ap, ◌∙◌, subst, append_assoc, length-append}
 use Rattle.std.proofs.Common.{arith}
-use Rattle.std.specs.Prelude.{⊤}
+use Rattle.std.specs.Prelude.{⊤, IfOk}
 use Rattle.std.proofs.lemmas.List.{append-nil, take-append-drop}
 use Rattle.line_notation.specs.Between.{IsUnrefused}
 use Rattle.line_notation.specs.Lines.{cut, has_no_feed}
 use Rattle.line_notation.specs.LineReaderState.{after, answer, document_of, documents_of, standing}
 use Rattle.line_notation.specs.declared.reader.LineFault.TheVariants.{Bad}
 use Rattle.line_notation.proofs.StandingFacts.{standing-more}
+use Rattle.nbfx_values.specs.declared.content.Item.{Item}
+use Rattle.document_lines.specs.declared.InputFault.{InputFault}
 use Rattle.document_lines.specs.declared.InputFault.TheVariants.{TooLong}
 use Rattle.document_lists.specs.Documents.{documents_in, documents_within}
 use Rattle.document_lists.specs.Reader.{HasRead, ReadsOn, ReadsPiece, ReadsTo}
 use Rattle.document_lists.specs.LineAnswers.{IsWhy, ReadsLine}
-use Rattle.document_lists.specs.Taking.{Says}
+use Rattle.document_lists.specs.Taking.{Says, of_kept}
 use Rattle.document_lists.specs.declared.reading.ListFault.{ListFault}
 use Rattle.document_lists.specs.declared.reading.ListFault.TheVariants.{Refused, ReadFault, Memory}
 use Rattle.document_lists.specs.declared.reading.ListReader.{ListReader}
@@ -21,18 +23,19 @@ use Rattle.document_lists.proofs.Cutting.{begun_behind, line_behind}
 use Rattle.document_lists.proofs.Leading.{documents_more, refused_leads, short_within, too_long}
 use Rattle.document_lists.proofs.Leading.{why_within}
 
-module _ (old new : ListReader) (p bytes : List ℕ) (h : HasRead old p)
-    (free : has_no_feed bytes ≡ true) where
+module _ {D : Type 0} (kept : List (List Item) → D → Type 0) (old new : ListReader D)
+    (p bytes : List ℕ) (h : HasRead kept old p) (free : has_no_feed bytes ≡ true) where
   -- bytes of the unfinished line
-  pub begun_more : new.lines ≡ old.lines → new.docs ≡ old.docs
+  pub begun_more : new.lines ≡ old.lines → new.keeper ≡ old.keeper
       → new.begun.items ≡ old.begun.items ++ bytes → new.taken ≡ old.taken + length bytes
-      → HasRead new (p ++ bytes)
-  begun_more lines docs begun taken =
+      → HasRead kept new (p ++ bytes)
+  begun_more lines keeper begun taken =
       let c = sym (begun_behind p bytes free) in record {
         lines = lines ∙ h.lines ∙ ap (λ (m : List (List ℕ) × List ℕ). standing m.0) c;
         begun = begun ∙ ap (λ l. l ++ bytes) h.begun
             ∙ ap (λ (m : List (List ℕ) × List ℕ). m.1) c;
-        docs = docs ∙ h.docs ∙ ap (λ (m : List (List ℕ) × List ℕ). documents_of m.0) c;
+        keeper = subst (λ (d : D). kept (documents_of (cut (p ++ bytes)).0) d) (sym keeper)
+            (subst (λ (m : List (List ℕ) × List ℕ). kept (documents_of m.0) old.keeper) c h.keeper);
         taken = let len = length-append p bytes in let t = h.taken in omega (arith, taken, t, len);
         unrefused = subst IsUnrefused (sym lines) h.unrefused;
       }
@@ -58,17 +61,23 @@ module _ (old new : ListReader) (p bytes : List ℕ) (h : HasRead old p)
   cut_is : cut to ≡ (lines_then, [])
   cut_is = line_behind p bytes free
 
+  documents_then : documents_of (cut p).0 ++ document_of (answer old.lines line)
+      ≡ documents_of (cut to).0
+  documents_then =
+      ap (λ z. documents_of (cut p).0 ++ document_of (answer z line)) h.lines
+      ∙ ap (λ l. documents_of (cut p).0 ++ document_of (answer (standing (cut p).0) l)) line_is
+      ∙ sym (documents_more (cut p).0 ((cut p).1 ++ bytes))
+      ∙ ap (λ (m : List (List ℕ) × List ℕ). documents_of m.0) (sym cut_is)
+
   pub line_read : (result : Result ⊤ ListFault)
-      → ReadsLine old.lines old.docs line new.lines new.docs result
-      → new.begun.items ≡ [] → new.taken ≡ old.taken + length bytes + 1 → ReadsTo new to result
+      → ReadsLine kept old.lines old.keeper line new.lines new.keeper result
+      → new.begun.items ≡ [] → new.taken ≡ old.taken + length bytes + 1
+      → ReadsTo kept new to result
   line_read (Ok done) r begun taken = record {
     lines = r.0 ∙ after_is ∙ ap (λ (m : List (List ℕ) × List ℕ). standing m.0) (sym cut_is);
     begun = begun ∙ ap (λ (m : List (List ℕ) × List ℕ). m.1) (sym cut_is);
-    docs = r.2 ∙ ap (λ d. d ++ document_of (answer old.lines line)) h.docs
-        ∙ ap (λ z. documents_of (cut p).0 ++ document_of (answer z line)) h.lines
-        ∙ ap (λ l. documents_of (cut p).0 ++ document_of (answer (standing (cut p).0) l)) line_is
-        ∙ sym (documents_more (cut p).0 ((cut p).1 ++ bytes))
-        ∙ ap (λ (m : List (List ℕ) × List ℕ). documents_of m.0) (sym cut_is);
+    keeper = subst (λ (d : List (List Item)). kept d new.keeper) documents_then
+        (r.2 (documents_of (cut p).0) h.keeper);
     taken = let len = length-append (p ++ bytes) (10 ∷ []) in
         let len' = length-append p bytes in let t = h.taken in omega (arith, taken, t, len, len');
     unrefused = r.1;
@@ -85,10 +94,12 @@ module _ (old new : ListReader) (p bytes : List ℕ) (h : HasRead old p)
 
 -- ---- lines of some bytes, one after the other
 
-module _ (new : ListReader) (p bytes front : List ℕ) where
+module _ {D : Type 0} (kept : List (List Item) → D → Type 0) (new : ListReader D)
+    (p bytes front : List ℕ) where
   -- a line that is refused, behind others
   pub refused_behind : (a more : List ℕ) (fault : ListFault) → bytes ≡ front ++ a ++ 10 ∷ more
-      → ReadsTo new ((p ++ front) ++ a ++ 10 ∷ []) (Err fault) → ReadsOn new p bytes (Err fault)
+      → ReadsTo kept new ((p ++ front) ++ a ++ 10 ∷ []) (Err fault)
+      → ReadsOn kept new p bytes (Err fault)
   refused_behind a more (Refused fault) split why = record {
     front = front ++ a ++ 10 ∷ [];
     more = more;
@@ -101,9 +112,9 @@ module _ (new : ListReader) (p bytes front : List ℕ) where
 
   -- the bytes behind the last line
   pub last_behind : (rest : List ℕ) (result : Result ⊤ ListFault) → bytes ≡ front ++ rest
-      → ReadsTo new ((p ++ front) ++ rest) result → ReadsOn new p bytes result
+      → ReadsTo kept new ((p ++ front) ++ rest) result → ReadsOn kept new p bytes result
   last_behind rest (Ok done) split read =
-      subst (HasRead new) (append_assoc p front rest ∙ ap (λ l. p ++ l) (sym split)) read
+      subst (HasRead kept new) (append_assoc p front rest ∙ ap (λ l. p ++ l) (sym split)) read
   last_behind rest (Err (Refused fault)) split why = record {
     front = bytes;
     more = [];
@@ -115,7 +126,8 @@ module _ (new : ListReader) (p bytes front : List ℕ) where
 
 -- ---- a piece
 
-module _ (quota : ℕ) (new : ListReader) (p piece : List ℕ) (w : ℕ) where
+module _ {D : Type 0} (kept : List (List Item) → D → Type 0) (quota : ℕ) (new : ListReader D)
+    (p piece : List ℕ) (w : ℕ) where
   abbrev here : List ℕ
   here = take w piece
 
@@ -129,7 +141,7 @@ module _ (quota : ℕ) (new : ListReader) (p piece : List ℕ) (w : ℕ) where
 
   -- a line of it is refused
   pub refused_piece : length p + length here ≤ quota → (fault : ListFault)
-      → ReadsOn new p here (Err fault) → ReadsPiece quota new p piece (Err fault)
+      → ReadsOn kept new p here (Err fault) → ReadsPiece kept quota new p piece (Err fault)
   refused_piece le (Refused fault) why = λ behind.
       let len = length-append p why.front in
       let len' = length-append why.front why.more in
@@ -142,8 +154,8 @@ module _ (quota : ℕ) (new : ListReader) (p piece : List ℕ) (w : ℕ) where
   refused_piece le Memory why = tt
 
   -- it is as long as is admitted
-  pub long_piece : HasRead new (p ++ here) → new.taken ≡ quota
-      → ReadsPiece quota new p piece (Err (Refused TooLong))
+  pub long_piece : HasRead kept new (p ++ here) → new.taken ≡ quota
+      → ReadsPiece kept quota new p piece (Err (Refused TooLong))
   long_piece h full = λ behind.
       let is : length (p ++ here) ≡ quota = sym h.taken ∙ full in
       ap (documents_within quota) (ap (λ l. (p ++ l) ++ behind) (sym (take-append-drop w piece))
@@ -151,12 +163,29 @@ module _ (quota : ℕ) (new : ListReader) (p piece : List ℕ) (w : ℕ) where
       ∙ ap (λ n. documents_within n ((p ++ here) ++ (drop w piece ++ behind))) (sym is)
       ∙ too_long (p ++ here) (drop w piece ++ behind) (subst IsUnrefused h.lines h.unrefused)
 
--- of lines that are one piece
-pub said_at_once : (quota : ℕ) (new : ListReader) (text : List ℕ) (fault : ListFault)
-    → length text < quota → ReadsPiece quota new [] text (Err fault)
-    → Says (documents_in text) (Err fault)
-said_at_once quota new text (Refused fault) short reads =
+-- no read fails at it
+pub piece_read : {D : Type 0} (kept : List (List Item) → D → Type 0) (quota : ℕ)
+    (new : ListReader D) (p piece : List ℕ) (fault : ListFault)
+    → ReadsPiece kept quota new p piece (Err fault) → fault ≡ ReadFault → ⊥
+piece_read kept quota new p piece (Refused fault) reads is = cc
+piece_read kept quota new p piece ReadFault reads is = reads
+piece_read kept quota new p piece Memory reads is = cc
+
+-- ---- lines that are one piece
+
+-- they are refused
+pub said_at_once : {D : Type 0} (kept : List (List Item) → D → Type 0) (quota : ℕ)
+    (new : ListReader D) (text : List ℕ) (fault : ListFault) → length text < quota
+    → ReadsPiece kept quota new [] text (Err fault) → Says (documents_in text) (Err fault)
+said_at_once kept quota new text (Refused fault) short reads =
     sym (short_within quota text short)
     ∙ ap (documents_within quota) (sym (append-nil text)) ∙ reads []
-said_at_once quota new text ReadFault short reads = absurd reads
-said_at_once quota new text Memory short reads = tt
+said_at_once kept quota new text ReadFault short reads = absurd reads
+said_at_once kept quota new text Memory short reads = tt
+
+-- what is said of documents that a list kept is said of the list
+pub says_list : (read : Result (List (List Item)) InputFault) (documents : List (List Item))
+    (result : Result (List (List Item)) ListFault) → Says read (of_kept documents result)
+    → IfOk result (λ docs. docs ≡ documents) → Says read result
+says_list read documents (Ok docs) says is = says ∙ ap Ok (sym is)
+says_list read documents (Err fault) says is = says

@@ -1,5 +1,5 @@
 -- What was taken of a source, by how the taking ended.
-use Rattle.std.proofs.Common.{◌≡◌, ℕ, ◌<◌, ◌⊎◌, inl, inr, List, [], ◌++◌, length, Some, Result, Ok}
+use Rattle.std.proofs.Common.{◌≡◌, ℕ, ◌⊎◌, inl, inr, List, [], ◌++◌, Some, Result, Ok}
 use Rattle.std.proofs.Common.{Err, refl, sym, ap, ◌∙◌, subst}
 use Rattle.std.specs.Prelude.{⊤}
 use Rattle.std.proofs.lemmas.List.{append-nil}
@@ -13,22 +13,23 @@ use Rattle.stream_loop.proofs.LoopSteps.{LeftSince, TakenSince}
 use Rattle.stream_loop.proofs.Writing.{counted_none, counted_with, known_told, told_some}
 use Rattle.nbfx_values.specs.declared.content.Item.{Item}
 use Rattle.document_lists.specs.Documents.{documents_within}
-use Rattle.document_lists.specs.Taking.{IsReadAs, Says, TakesDocuments}
+use Rattle.document_lists.specs.Taking.{IsReadAs, Says, TakesDocuments, of_kept}
 use Rattle.document_lists.specs.Reader.{HasRead, ReadsPiece}
 use Rattle.document_lists.specs.Taken.{HasTaken, TakesLines}
 use Rattle.document_lists.specs.declared.reading.ListFault.{ListFault}
 use Rattle.document_lists.specs.declared.reading.ListFault.TheVariants.{Refused, ReadFault, Memory}
 use Rattle.document_lists.specs.declared.reading.ListReader.{ListReader}
 
-module _ (quota : ℕ) (i i' : Input) (new : ListReader) where
+module _ {D : Type 0} (kept : List (List Item) → D → Type 0) (quota : ℕ) (i i' : Input)
+    (new : ListReader D) where
   -- these bytes were taken, and that is how it ended
   pub taken_lines : (bytes : List ℕ) (result : Result ⊤ ListFault)
       → LeftSince i.left i'.left (λ rest. bytes ++ rest)
       → TakenSince i.taken i'.taken bytes
-      → HasTaken quota bytes (Told i.left i'.left (λ all rest. rest ≡ [])) new result
+      → HasTaken kept quota bytes (Told i.left i'.left (λ all rest. rest ≡ [])) new result
       → (i'.empty_takes ≡ i.empty_takes) ⊎ (i'.empty_takes ≡ one_more i.empty_takes)
       → CountsFaults i.faults i'.faults (result ≡ Err ReadFault)
-      → TakesLines quota i i' new result
+      → TakesLines kept quota i i' new result
   taken_lines bytes result left taken has asked counted = record {
     bytes = bytes;
     stream = known_told (λ all rest. all ≡ bytes ++ rest) i.left i'.left left;
@@ -39,34 +40,36 @@ module _ (quota : ℕ) (i i' : Input) (new : ListReader) where
     counted = counted;
   }
 
--- bytes of which no line is refused
-pub unrefused_read : (r : ListReader) (p : List ℕ) → HasRead r p → IsUnrefused (standing (cut p).0)
-unrefused_read r p h = subst IsUnrefused h.lines h.unrefused
+module _ {D : Type 0} (kept : List (List Item) → D → Type 0) where
+  -- bytes of which no line is refused
+  pub unrefused_read : (r : ListReader D) (p : List ℕ) → HasRead kept r p
+      → IsUnrefused (standing (cut p).0)
+  unrefused_read r p h = subst IsUnrefused h.lines h.unrefused
 
--- a piece that ends the taking
-pub piece_taken : (quota : ℕ) (new : ListReader) (p piece : List ℕ) (ended : Type 0)
-    (fault : ListFault) → ReadsPiece quota new p piece (Err fault)
-    → HasTaken quota (p ++ piece) ended new (Err fault)
-piece_taken quota new p piece ended (Refused fault) reads = reads
-piece_taken quota new p piece ended ReadFault reads = absurd reads
-piece_taken quota new p piece ended Memory reads = tt
-
--- it ends by no failed read
-pub piece_read : (quota : ℕ) (new : ListReader) (p piece : List ℕ) (fault : ListFault)
-    → ReadsPiece quota new p piece (Err fault) → fault ≡ ReadFault → ⊥
-piece_read quota new p piece (Refused fault) reads is = cc
-piece_read quota new p piece ReadFault reads is = reads
-piece_read quota new p piece Memory reads is = cc
+  -- a piece that ends the taking
+  pub piece_taken : (quota : ℕ) (new : ListReader D) (p piece : List ℕ) (ended : Type 0)
+      (fault : ListFault) → ReadsPiece kept quota new p piece (Err fault)
+      → HasTaken kept quota (p ++ piece) ended new (Err fault)
+  piece_taken quota new p piece ended (Refused fault) reads = reads
+  piece_taken quota new p piece ended ReadFault reads = absurd reads
+  piece_taken quota new p piece ended Memory reads = tt
 
 -- ---- the documents of what was taken
 
-module _ (quota : ℕ) (i i' : Input) (new : ListReader) where
+-- a fault that is never answered isn't answered where documents were kept
+pub never_kept : {D : Type 0} (documents : List (List Item)) (result : Result D ListFault)
+    → (result ≡ Err ReadFault → ⊥) → of_kept documents result ≡ Err ReadFault → ⊥
+never_kept documents (Ok keeper) never is = cc
+never_kept documents (Err fault) never is = never (let same = is in cc)
+
+module _ {D : Type 0} (kept : List (List Item) → D → Type 0) (quota : ℕ) (i i' : Input)
+    (new : ListReader D) where
   abbrev Ended : Type 0
   Ended = Told i.left i'.left (λ all rest. rest ≡ [])
 
   -- all that there was, by what was taken
-  module _ (result : Result ⊤ ListFault) (h : TakesLines quota i i' new result) (all : List ℕ)
-      (left : i.left ≡ Some all) where
+  module _ (result : Result ⊤ ListFault) (h : TakesLines kept quota i i' new result)
+      (all : List ℕ) (left : i.left ≡ Some all) where
     rest : (rest : List ℕ) × (i'.left ≡ Some rest) × (all ≡ h.bytes ++ rest)
     rest = told_some (λ all rest. all ≡ h.bytes ++ rest) i.left i'.left all left h.stream
 
@@ -77,11 +80,10 @@ module _ (quota : ℕ) (i i' : Input) (new : ListReader) where
         rest.2 ∙ ap (λ r. h.bytes ++ r) (same ∙ over.2) ∙ append-nil h.bytes
 
   -- taken to their end
-  pub documents_taken : (done : ⊤) → TakesLines quota i i' new (Ok done)
-      → (result : Result (List (List Item)) ListFault)
-      → ((p : List ℕ) → HasRead new p → length p < quota → Says (documents_within quota p) result)
+  pub documents_taken : (done : ⊤) (h : TakesLines kept quota i i' new (Ok done))
+      (result : Result (List (List Item)) ListFault) → Says (documents_within quota h.bytes) result
       → (result ≡ Err ReadFault → ⊥) → TakesDocuments quota i i' result
-  documents_taken done h result says never = record {
+  documents_taken done h result said never = record {
     says = λ all left. subst (λ (b : List ℕ). Says (documents_within quota b) result)
         (sym (whole (Ok done) h all left h.has_taken.2)) said;
     bytes = h.bytes;
@@ -91,9 +93,6 @@ module _ (quota : ℕ) (i i' : Input) (new : ListReader) where
     asked_once = h.asked_once;
     counted = counted_none _ _ _ (h.counted.same (λ e. cc)) never;
   } where
-    said : Says (documents_within quota h.bytes) result
-    said = says h.bytes h.has_taken.0 h.has_taken.1
-
     by : (r : Result (List (List Item)) ListFault) → Says (documents_within quota h.bytes) r
         → (r ≡ Err ReadFault → ⊥) → IsReadAs quota h.bytes Ended r
     by (Ok documents) said never = (said, h.has_taken.2)
@@ -102,7 +101,7 @@ module _ (quota : ℕ) (i i' : Input) (new : ListReader) where
     by (Err Memory) said never = tt
 
   -- up to where that ended
-  pub none_taken : (fault : ListFault) → TakesLines quota i i' new (Err fault)
+  pub none_taken : (fault : ListFault) → TakesLines kept quota i i' new (Err fault)
       → TakesDocuments quota i i' (Err fault)
   none_taken fault h = record {
     says = λ all left. subst (λ (b : List ℕ). Says (documents_within quota b) (Err fault))
@@ -116,13 +115,13 @@ module _ (quota : ℕ) (i i' : Input) (new : ListReader) where
     counted = counted_with _ _ _ _ _ refl h.counted (λ e. let same = e in cc)
         (λ e. let same = e in cc);
   } where
-    says : (f : ListFault) → HasTaken quota h.bytes Ended new (Err f) → (more : List ℕ)
+    says : (f : ListFault) → HasTaken kept quota h.bytes Ended new (Err f) → (more : List ℕ)
         → Says (documents_within quota (h.bytes ++ more)) (Err f)
     says (Refused fault) has more = has more
     says ReadFault has more = tt
     says Memory has more = tt
 
-    by : (f : ListFault) → HasTaken quota h.bytes Ended new (Err f)
+    by : (f : ListFault) → HasTaken kept quota h.bytes Ended new (Err f)
         → IsReadAs quota h.bytes Ended (Err f)
     by (Refused fault) has =
         (ap (documents_within quota) (sym (append-nil h.bytes)) ∙ has [], inr has)

@@ -26,12 +26,14 @@ pub record IsWhyWithin (fault : InputFault) (p bytes : List ℕ) : Type 0 where
   pub split : bytes ≡ front ++ more
   pub why : IsWhy fault (p ++ front)
 
--- what a line is answered with, behind which a reader stands so and has these documents
-abbrev pub ReadsLine : (old : Standing) → (docs : List (List Item)) → (line : List ℕ)
-    → (new : Standing) → (docs' : List (List Item)) → Result ⊤ ListFault → Type 0
-ReadsLine old docs line new docs' (Ok done) = (new ≡ after old line) × IsUnrefused new
-    × (docs' ≡ docs ++ document_of (answer old line))
-ReadsLine old docs line new docs' (Err (Refused fault)) = (number : ℕ) × (kind : LineKind)
-    × (fault ≡ Line number kind) × (answer old line ≡ Err (Bad number kind))
-ReadsLine old docs line new docs' (Err ReadFault) = ⊥
-ReadsLine old docs line new docs' (Err Memory) = ⊤
+module _ {D : Type 0} (kept : List (List Item) → D → Type 0) where
+  -- what a line is answered with, behind which a reader stands so and its keeper is like this
+  abbrev pub ReadsLine : (old : Standing) → (keeper : D) → (line : List ℕ) → (new : Standing)
+      → (keeper' : D) → Result ⊤ ListFault → Type 0
+  ReadsLine old keeper line new keeper' (Ok done) = (new ≡ after old line) × IsUnrefused new
+      × ((documents : List (List Item)) → kept documents keeper
+      → kept (documents ++ document_of (answer old line)) keeper')
+  ReadsLine old keeper line new keeper' (Err (Refused fault)) = (number : ℕ) × (kind : LineKind)
+      × (fault ≡ Line number kind) × (answer old line ≡ Err (Bad number kind))
+  ReadsLine old keeper line new keeper' (Err ReadFault) = ⊥
+  ReadsLine old keeper line new keeper' (Err Memory) = ⊤

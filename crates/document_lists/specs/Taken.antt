@@ -5,6 +5,7 @@ use Rattle.io_edges.specs.Flow.{Told}
 use Rattle.line_notation.specs.Between.{IsUnrefused}
 use Rattle.line_notation.specs.Lines.{cut}
 use Rattle.line_notation.specs.LineReaderState.{standing}
+use Rattle.nbfx_values.specs.declared.content.Item.{Item}
 use Rattle.stream_loop.specs.Edges.{Input}
 use Rattle.document_lists.specs.Documents.{documents_within}
 use Rattle.document_lists.specs.Reader.{HasRead}
@@ -12,23 +13,24 @@ use Rattle.document_lists.specs.declared.reading.ListFault.{ListFault}
 use Rattle.document_lists.specs.declared.reading.ListFault.TheVariants.{Refused, ReadFault, Memory}
 use Rattle.document_lists.specs.declared.reading.ListReader.{ListReader}
 
--- these bytes were read, which are all that there are, or decide what they say however they go on
-abbrev pub HasTaken : (quota : ℕ) → (bytes : List ℕ) → (ended : Type 0) → ListReader
-    → Result ⊤ ListFault → Type 0
-HasTaken quota bytes ended new (Ok done) = HasRead new bytes × (length bytes < quota) × ended
-HasTaken quota bytes ended new (Err (Refused fault)) =
-    (more : List ℕ) → documents_within quota (bytes ++ more) ≡ Err fault
-HasTaken quota bytes ended new (Err ReadFault) =
-    (length bytes < quota) × IsUnrefused (standing (cut bytes).0)
-HasTaken quota bytes ended new (Err Memory) = ⊤
+module _ {D : Type 0} (kept : List (List Item) → D → Type 0) (quota : ℕ) where
+  -- these bytes were read, which are all that there are, or decide what they say however they go on
+  abbrev pub HasTaken : (bytes : List ℕ) → (ended : Type 0) → ListReader D → Result ⊤ ListFault
+      → Type 0
+  HasTaken bytes ended new (Ok done) = HasRead kept new bytes × (length bytes < quota) × ended
+  HasTaken bytes ended new (Err (Refused fault)) =
+      (more : List ℕ) → documents_within quota (bytes ++ more) ≡ Err fault
+  HasTaken bytes ended new (Err ReadFault) =
+      (length bytes < quota) × IsUnrefused (standing (cut bytes).0)
+  HasTaken bytes ended new (Err Memory) = ⊤
 
--- that, and how often the source was asked at its end, and what the calls that failed left of its
--- count
-pub record TakesLines (quota : ℕ) (i i' : Input) (new : ListReader) (result : Result ⊤ ListFault)
-    : Type 0 where
-  pub bytes : List ℕ
-  pub stream : Told i.left i'.left (λ all rest. all ≡ bytes ++ rest)
-  pub took : Told i.taken i'.taken (λ t t'. t' ≡ t ++ bytes)
-  pub has_taken : HasTaken quota bytes (Told i.left i'.left (λ all rest. rest ≡ [])) new result
-  pub asked_once : (i'.empty_takes ≡ i.empty_takes) ⊎ (i'.empty_takes ≡ one_more i.empty_takes)
-  pub counted : CountsFaults i.faults i'.faults (result ≡ Err ReadFault)
+  -- that, and how often the source was asked at its end, and what the calls that failed left of its
+  -- count
+  pub record TakesLines (i i' : Input) (new : ListReader D) (result : Result ⊤ ListFault) : Type 0
+    where
+      pub bytes : List ℕ
+      pub stream : Told i.left i'.left (λ all rest. all ≡ bytes ++ rest)
+      pub took : Told i.taken i'.taken (λ t t'. t' ≡ t ++ bytes)
+      pub has_taken : HasTaken bytes (Told i.left i'.left (λ all rest. rest ≡ [])) new result
+      pub asked_once : (i'.empty_takes ≡ i.empty_takes) ⊎ (i'.empty_takes ≡ one_more i.empty_takes)
+      pub counted : CountsFaults i.faults i'.faults (result ≡ Err ReadFault)

@@ -20,6 +20,12 @@ Says read (Err (Refused fault)) = read ≡ Err fault
 Says read (Err ReadFault) = ⊤
 Says read (Err Memory) = ⊤
 
+-- what is answered where these documents were kept
+abbrev pub of_kept : {D : Type 0} → (documents : List (List Item)) → Result D ListFault
+    → Result (List (List Item)) ListFault
+of_kept documents (Ok keeper) = Ok documents
+of_kept documents (Err fault) = Err fault
+
 -- What these bytes say that were read, which are all that there are, or decide it however they go
 -- on. Where a read failed they are fewer than the quota, and none of their lines is refused.
 abbrev pub IsReadAs : (quota : ℕ) → (bytes : List ℕ) → (ended : Type 0)

@@ -1,13 +1,15 @@
 //! Documents, as their lines come.
 
-ghost use Rattle.std.specs.Prelude.{◌≡◌, ℕ, ◌+◌, ◌<◌, ◌≤◌, ◌^◌, List, [], ◌∷◌, ◌++◌, length, true, Err, OnOk, IfErr, IfSome, IsNone};
+ghost use Rattle.std.specs.Prelude.{◌≡◌, ℕ, ◌+◌, ◌<◌, ◌≤◌, ◌^◌, List, [], ◌∷◌, ◌++◌, length, true, Err, OnOk, IfErr, IfOk, IfSome, IsNone};
 ghost use Rattle.line_notation.specs.Between.{next_line};
-ghost use Rattle.line_notation.specs.Lines.{has_no_feed};
-ghost use Rattle.line_notation.specs.LineReaderState.{HasReadFew};
+ghost use Rattle.line_notation.specs.Lines.{cut, has_no_feed};
+ghost use Rattle.line_notation.specs.LineReaderState.{HasReadFew, documents_of};
+ghost use Rattle.nbfx_values.specs.declared.content.Item.{Item};
 ghost use Rattle.document_lists.specs.Documents.{documents_in, documents_within};
-ghost use Rattle.document_lists.specs.Taking.{Says};
+ghost use Rattle.document_lists.specs.Taking.{Says, of_kept};
 ghost use Rattle.document_lists.specs.LineAnswers.{ReadsLine};
 
+use crate::keeper::Keeper;
 use document_lines::InputFault;
 use line_notation::{LineFault, LineKind, LineReader, LineStep};
 use memchr::memchr;
@@ -31,10 +33,10 @@ pub enum ListFault {
     Memory,
 }
 
-/// Reads documents out of lines, in whatever pieces their bytes come. Of the bytes it holds those
-/// of the unfinished line.
+/// Reads documents out of lines, in whatever pieces their bytes come, and hands each to a keeper as
+/// soon as its last line is read. Of the bytes it holds those of the unfinished line.
 #[derive(Drop)]
-pub struct ListReader {
+pub struct ListReader<D> {
     /// As many bytes are too long.
     pub quota: u64,
     /// How many bytes were read.
@@ -42,19 +44,21 @@ pub struct ListReader {
     pub lines: LineReader,
     /// The bytes of the unfinished line.
     pub begun: Vec<u8>,
-    pub docs: Docs,
+    /// What keeps the documents.
+    pub keeper: D,
     ghost few: { quota ≤ 2 ^ 63 },
     ghost within: { taken ≤ quota },
     ghost counted: { next_line lines ≤ taken + 1 },
 }
 
-impl ListReader {
+impl<D: Keeper> ListReader<D> {
     ghost use Rattle.document_lists.specs.Reader.{HasRead, ReadsOn, ReadsPiece, ReadsTo};
 
     /// Before the first byte.
-    pub fn new(alloc: Global, quota: u64) -> Self
+    pub fn new(alloc: Global, quota: u64, keeper: D) -> Self
         requires { quota ≤ 2 ^ 63 }
-        ensures read { HasRead result [] }
+        ensures read { HasRead (D.kept result.keeper) result [] }
+        ensures keeper { result.keeper ≡ keeper }
         ensures quota { result.quota ≡ quota }
     {
         ListReader {
@@ -62,14 +66,16 @@ impl ListReader {
             taken: 0,
             lines: LineReader::new(alloc),
             begun: Vec::new(alloc),
-            docs: Docs::new(alloc),
+            keeper,
         }
     }
 
     /// Reads a piece, as far as the quota admits.
     pub fn read_piece(&mut self, piece: &[u8]) -> Result<(), ListFault>
-        ensures reads { (p : List ℕ) → HasRead self.old p
-            → ReadsPiece self.old.quota self.new p piece.now result }
+        ensures reads { (first : D) (p : List ℕ) → HasRead (D.kept first) self.old p
+            → ReadsPiece (D.kept first) self.old.quota self.new p piece.now result }
+        ensures taken { OnOk result (self.new.taken ≡ self.old.taken + length piece.now) }
+        ensures short { OnOk result (self.new.taken < self.new.quota) }
         ensures quota { self.new.quota ≡ self.old.quota }
     {
         let left = self.quota - self.taken;
@@ -81,14 +87,17 @@ impl ListReader {
         Ok(())
     }
 
-    /// The documents, where the bytes may end here.
-    pub fn finish(self) -> Result<Docs, ListFault>
-        ensures says { (p : List ℕ) → HasRead self p → length p < self.quota
-            → Says (documents_within self.quota p) result }
+    /// The keeper of the documents, where the bytes may end here.
+    pub fn finish(self) -> Result<D, ListFault>
+        ensures says { (first : D) (p : List ℕ) → HasRead (D.kept first) self p
+            → length p < self.quota
+            → Says (documents_within self.quota p) (of_kept (documents_of (cut p).0) result) }
+        ensures kept { (first : D) (p : List ℕ) → HasRead (D.kept first) self p
+            → IfOk result (D.kept first (documents_of (cut p).0)) }
         ensures read { result ≡ Err ListFault.ReadFault → ⊥ }
     {
         if self.begun.is_empty() && self.lines.is_between() {
-            return Ok(self.docs);
+            return Ok(self.keeper);
         }
         Err(ListFault::Refused(InputFault::Line {
             line: self.lines.next_line(),
@@ -99,8 +108,8 @@ impl ListReader {
     // Reads bytes that the quota admits.
     fn read_on(&mut self, bytes: &[u8]) -> Result<(), ListFault>
         requires { self.old.taken + length bytes.now ≤ self.old.quota }
-        ensures reads { (p : List ℕ) → HasRead self.old p
-            → ReadsOn self.new p bytes.now result }
+        ensures reads { (first : D) (p : List ℕ) → HasRead (D.kept first) self.old p
+            → ReadsOn (D.kept first) self.new p bytes.now result }
         ensures taken { OnOk result (self.new.taken ≡ self.old.taken + length bytes.now) }
         ensures quota { self.new.quota ≡ self.old.quota }
     {
@@ -115,8 +124,9 @@ impl ListReader {
     // Takes bytes of the unfinished line.
     fn begin(&mut self, bytes: &[u8]) -> Result<(), ListFault>
         requires { self.old.taken + length bytes.now ≤ self.old.quota }
-        ensures reads { (p : List ℕ) → HasRead self.old p → has_no_feed bytes.now ≡ true
-            → ReadsTo self.new (p ++ bytes.now) result }
+        ensures reads { (first : D) (p : List ℕ) → HasRead (D.kept first) self.old p
+            → has_no_feed bytes.now ≡ true
+            → ReadsTo (D.kept first) self.new (p ++ bytes.now) result }
         ensures taken { self.new.taken ≡ self.old.taken + length bytes.now }
         ensures quota { self.new.quota ≡ self.old.quota }
         ensures refused { IfErr result (λ fault. fault ≡ ListFault.Memory) }
@@ -131,19 +141,20 @@ impl ListReader {
     // Reads the line that ends with these bytes, behind which its line feed stands.
     fn end_line(&mut self, bytes: &[u8]) -> Result<(), ListFault>
         requires { self.old.taken + length bytes.now < self.old.quota }
-        ensures reads { (p : List ℕ) → HasRead self.old p → has_no_feed bytes.now ≡ true
-            → ReadsTo self.new (p ++ bytes.now ++ 10 ∷ []) result }
+        ensures reads { (first : D) (p : List ℕ) → HasRead (D.kept first) self.old p
+            → has_no_feed bytes.now ≡ true
+            → ReadsTo (D.kept first) self.new (p ++ bytes.now ++ 10 ∷ []) result }
         ensures taken { self.new.taken ≡ self.old.taken + length bytes.now + 1 }
         ensures quota { self.new.quota ≡ self.old.quota }
     {
         self.taken += bytes.len() as u64 + 1;
         if self.begun.is_empty() {
-            return read_line(&mut self.lines, &mut self.docs, bytes);
+            return read_line(&mut self.lines, &mut self.keeper, bytes);
         }
         if self.begun.extend_from_slice(bytes).is_err() {
             return Err(ListFault::Memory);
         }
-        let answer = read_line(&mut self.lines, &mut self.docs, &self.begun);
+        let answer = read_line(&mut self.lines, &mut self.keeper, &self.begun);
         self.begun.clear();
         answer
     }
@@ -162,15 +173,20 @@ fn split_line(bytes: &[u8]) -> Option<(&[u8], &[u8])>
     Some((&bytes[..end], &bytes[end + 1..]))
 }
 
-// Reads a line, and adds the document that it completes.
-fn read_line(lines: &mut LineReader, docs: &mut Docs, line: &[u8]) -> Result<(), ListFault>
+// Reads a line, and hands on the document that it completes.
+fn read_line<D: Keeper>(
+    lines: &mut LineReader,
+    keeper: &mut D,
+    line: &[u8],
+) -> Result<(), ListFault>
     requires { HasReadFew lines.old }
-    ensures reads { ReadsLine lines.old docs.old line.now lines.new docs.new result }
+    ensures reads { (first : D)
+        → ReadsLine (D.kept first) lines.old keeper.old line.now lines.new keeper.new result }
     ensures next { next_line lines.new ≤ next_line lines.old + 1 }
 {
     match lines.line(line) {
         Ok(LineStep::More) => Ok(()),
-        Ok(LineStep::Done(doc)) => match keep(lines, docs, doc) {
+        Ok(LineStep::Done(doc)) => match hand_on(lines, keeper, doc) {
             Ok(()) => Ok(()),
             Err(Memory) => Err(ListFault::Memory),
         },
@@ -181,14 +197,22 @@ fn read_line(lines: &mut LineReader, docs: &mut Docs, line: &[u8]) -> Result<(),
     }
 }
 
-// Adds a document, and makes room for a next one as long: grown item by item it would be moved, and
-// have room for twice as many.
-fn keep(lines: &mut LineReader, docs: &mut Docs, doc: Doc) -> Result<(), Memory>
-    ensures added { OnOk result (docs.new ≡ docs.old ++ doc ∷ []) }
+// Hands a document on. The next one is read into the memory of one that is given back; where none
+// is, room is made for one as long: grown item by item it would be moved, and have room for twice
+// as many.
+fn hand_on<D: Keeper>(lines: &mut LineReader, keeper: &mut D, doc: Doc) -> Result<(), Memory>
+    ensures kept { (first : D) (documents : List (List Item)) → D.kept first documents keeper.old
+        → OnOk result (D.kept first (documents ++ doc ∷ []) keeper.new) }
     ensures lines { lines.new ≡ lines.old }
 {
-    lines.reserve(doc.items().len())?;
-    docs.push(doc)
+    let size = doc.items().len();
+    match keeper.keep(doc)? {
+        Some(spent) => {
+            lines.reuse(spent);
+            Ok(())
+        }
+        None => lines.reserve(size),
+    }
 }
 
 /// Reads the documents of all these lines.
@@ -196,7 +220,7 @@ pub fn read_documents(alloc: Global, text: &[u8]) -> Result<Docs, ListFault>
     ensures says { Says (documents_in text.now) result }
     ensures read { result ≡ Err ListFault.ReadFault → ⊥ }
 {
-    let mut reader = ListReader::new(alloc, NO_QUOTA);
+    let mut reader = ListReader::new(alloc, NO_QUOTA, Docs::new(alloc));
     reader.read_piece(text)?;
     reader.finish()
 }

@@ -15,12 +15,13 @@ ghost use Rattle.dump_replay.specs.Running.{CountsWire, HasFetched, if_named};
 
 use crate::building::build_status;
 use crate::notes::{note_building, note_called, note_documents};
+use client::CallSettings;
 use command_words::Opening;
 use document_lines::InputFault;
 use document_lists::{FileFault, ListFault, fetch_documents, take_documents};
 use io_edges::{Shelf, Sink, Source, Wire};
 use nbfx_values::{Docs, Quotas};
-use session_calls::call_place;
+use session_calls::{EnvelopeKeeper, call_place};
 use static_dictionary::StaticTable;
 use std::alloc::Global;
 use stream_loop::Ending;
@@ -100,17 +101,22 @@ fn call_with<I: Source, O: Sink, N: Sink, W: Wire>(
     ensures out { W.out wire.new ≡ W.out wire.old }
     ensures notes_faults { N.faults notes.old ≤ N.faults notes.new }
 {
-    let first = match take_documents(alloc, &quotas, input) {
-        Ok(docs) => docs,
+    let settings = CallSettings {
+        statics,
+        quotas,
+        mode: opening.mode,
+        kind: opening.kind,
+    };
+    let keeper = EnvelopeKeeper::new(alloc, settings);
+    let first = match take_documents(alloc, &quotas, keeper, input) {
+        Ok(first) => first,
         Err(fault) => {
             let ending = list_ending(fault);
             note_building(ending, notes);
             return (build_status(ending), output);
         }
     };
-    let (called, output) = call_place(
-        alloc, wire, place, opening, statics, &quotas, first, second, output,
-    );
+    let (called, output) = call_place(alloc, wire, place, opening.via, first, second, output);
     note_called(called, notes);
     (called.status(), output)
 }

@@ -1,5 +1,6 @@
 // A module for each crate that is called.
 mod answers;
+mod called;
 mod carried;
 mod edges;
 mod envelopes;

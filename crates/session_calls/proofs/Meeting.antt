@@ -1,6 +1,8 @@
 -- What a connection that was called and closed leaves of a wire.
-use Rattle.std.proofs.Common.{◌≡◌, ℕ, List, [], ◌∷◌, ◌++◌, Option, Some, None, subst}
-use Rattle.std.specs.Prelude.{IfSome}
+use Rattle.std.proofs.Common.{◌≡◌, ℕ, List, [], ◌∷◌, ◌++◌, Option, Some, None}
+use Rattle.std.proofs.Common.{false, Result, Ok, Err, subst}
+use Rattle.std.specs.Prelude.{⊤, IfSome, OnOk}
+use Rattle.std.specs.Result.{is_err}
 use Rattle.io_edges.specs.Flow.{Told}
 use Rattle.io_edges.specs.Wires.{Fresh, Network}
 use Rattle.unit_streams.specs.Grammar.{Grammar}
@@ -15,12 +17,6 @@ use Rattle.stream_reader.specs.Stream.{stream}
 use Rattle.client.specs.declared.outcome.CallOutcome.{CallOutcome}
 use Rattle.client.specs.Called.{answers_to, ending_of}
 use Rattle.client.specs.Sent.{Sending}
-use Rattle.client.specs.Sent.{sending}
-use Rattle.nbfx_values.specs.Limits.{Limits}
-use Rattle.nbfx_values.specs.declared.content.Item.{Item}
-use Rattle.nbfx_values.specs.declared.session.Kind.{Kind}
-use Rattle.nbfx_values.specs.declared.session.Mode.{Mode}
-use Rattle.string_tables.specs.StaticStrings.{Entry}
 use Rattle.session_calls.specs.declared.called.Called.{Called}
 use Rattle.session_calls.specs.Peers.{CallsPeer}
 use Rattle.session_calls.specs.Places.{CallsPlace}
@@ -71,21 +67,19 @@ module _ (x : Sending) (holds_nothing : Type 0) (via line : List ℕ) (i i' : In
       let w = written_told [] fresh_out in
       ((t.0, w.0), paired i'.taken k'.written t.0 w.0 t.1 w.1 before after told, t.1, w.1)
 
--- the same of documents that are these, and of lists that have so many
-pub placed_as : {R K : Type 0} (input_of : R → Input) (output_of : K → Output) (limits : Limits)
-    (statics : List Entry) (mode : Mode) (kind : Kind) (via : List ℕ) (n n' : Network R K)
-    (o o' : Output) (called : Called) (docs docs' : List (List Item)) (a a' b b' : ℕ) → docs ≡ docs'
-    → a ≡ a' → b ≡ b'
-    → CallsPlace input_of output_of (sending limits statics mode kind docs) via (sent_line a b) n n'
-    o o' called
-    → CallsPlace input_of output_of (sending limits statics mode kind docs') via (sent_line a' b') n
-    n' o o' called
-placed_as input_of output_of limits statics mode kind via n n' o o' called docs docs' a a' b b' d e
-    f
-    h =
-    subst (λ (l : List (List Item)). CallsPlace input_of output_of
-    (sending limits statics mode kind l) via (sent_line a' b') n n' o o' called) d
-    (subst (λ (m : ℕ). CallsPlace input_of output_of (sending limits statics mode kind docs) via
-    (sent_line m b') n n' o o' called) e
-    (subst (λ (m : ℕ). CallsPlace input_of output_of (sending limits statics mode kind docs) via
-    (sent_line a m) n n' o o' called) f h))
+-- what is known where a call didn't fail
+pub known_ok : {E : Type 0} (result : Result ⊤ E) (Known : Type 0) → is_err result ≡ false
+    → OnOk result Known → Known
+known_ok (Ok done) Known is known = known
+known_ok (Err e) Known is known = cc is
+
+-- the same of documents that are sent as these, and of lists that have so many
+pub placed_as : {R K : Type 0} (input_of : R → Input) (output_of : K → Output) (via : List ℕ)
+    (n n' : Network R K) (o o' : Output) (called : Called) (x x' : Sending) (a a' b b' : ℕ)
+    → x ≡ x' → a ≡ a' → b ≡ b'
+    → CallsPlace input_of output_of x via (sent_line a b) n n' o o' called
+    → CallsPlace input_of output_of x' via (sent_line a' b') n n' o o' called
+placed_as input_of output_of via n n' o o' called x x' a a' b b' d e f h =
+    subst (λ (y : Sending). CallsPlace input_of output_of y via (sent_line a' b') n n' o o' called)
+    d (subst (λ (m : ℕ). CallsPlace input_of output_of x via (sent_line m b') n n' o o' called) e
+    (subst (λ (m : ℕ). CallsPlace input_of output_of x via (sent_line a m) n n' o o' called) f h))

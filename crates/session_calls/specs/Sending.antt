@@ -1,20 +1,13 @@
--- What a call sends, and how its report ends, for private calls.
+-- How the report of a call ends, for private calls.
 use Rattle.std.specs.Prelude.{◌≡◌, ⊤, ℕ, List, [], Bool, Option, Result, OnOk}
 use Rattle.io_edges.specs.declared.SinkFault.{SinkFault}
-use Rattle.nbfx_values.specs.QuotasOf.{limits_of}
 use Rattle.stream_follower.specs.declared.writing.Outbound.{Outbound}
 use Rattle.stream_follower.specs.declared.writing.Outbound.TheVariants.{Done}
 use Rattle.stream_follower.specs.Writing.{PutsTo, outbound_by}
-use Rattle.client.specs.Sent.{Sending, sending}
 use Rattle.session_calls.specs.declared.peers.Call.{Call}
 use Rattle.session_calls.specs.Tags.{sent_line}
 
--- the documents of a call, and how they are sent
-abbrev pub sending_of : Call → Sending
-sending_of c =
-    sending (limits_of c.quotas.now) c.statics.now c.opening.mode c.opening.kind c.docs.now
-
--- the line of what was sent of them
+-- the line of what was sent of a call's documents
 abbrev pub line_of : Call → (sent : ℕ) → List ℕ
 line_of c sent = sent_line c.counts.first c.counts.second sent
 

@@ -1,30 +1,27 @@
 //! A peer that is called over a connection.
 
-ghost use Rattle.std.specs.Prelude.{◌≡◌, ◌≤◌, [], OnOk, length};
+ghost use Rattle.std.specs.Prelude.{◌≡◌, ◌≤◌, List, [], OnOk, length};
 ghost use Rattle.io_edges.specs.Puts.{Puts};
-ghost use Rattle.session_ends.specs.Sent.{MayBeSent};
+ghost use Rattle.nbfx_values.specs.declared.content.Item.{Item as Part};
 ghost use Rattle.stream_loop.specs.Edges.{input_at, output_at};
 ghost use Rattle.stream_follower.specs.Writing.{outbound_by};
 ghost use Rattle.session_calls.specs.Peers.{CallsPeer, HoldNothing, line_after};
-ghost use Rattle.session_calls.specs.Sending.{Finishes, line_of, sending_of};
+ghost use Rattle.client.specs.Cuts.{sending_by};
+ghost use Rattle.client.specs.Outgoing.{Carries};
+ghost use Rattle.session_calls.specs.Sending.{Finishes, line_of};
 ghost use Rattle.session_calls.specs.Tags.{sent_line};
 
 use crate::tags::{Counts, put_sent};
-use client::{CallOutcome, ClientIn, Reported, call_one};
-use command_words::Opening;
+use client::{CallOutcome, ClientIn, Outgoing, Reported, call_prepared};
 use io_edges::{GatheringSink, Sink, SinkFault, Source};
-use nbfx_values::{Docs, Quotas};
-use static_dictionary::StaticTable;
 use std::alloc::Global;
 
-/// What a peer is called with: the documents, in one list, of which so many were in the first of
-/// two and so many in the second, and how they are sent.
+/// What a peer is called with: what is sent to the Via, of documents of which so many were in the
+/// first of two lists and so many in the second.
 #[derive(Drop)]
 pub struct Call<'c> {
-    pub opening: Opening<'c>,
-    pub statics: &'c StaticTable,
-    pub quotas: &'c Quotas,
-    pub docs: &'c Docs,
+    pub via: &'c str,
+    pub outgoing: Outgoing<'c>,
     pub counts: Counts,
 }
 
@@ -79,16 +76,17 @@ fn finish_report<O: Sink>(outcome: &CallOutcome, counts: Counts, output: &mut O)
 // Calls the peer whose bytes the source gives and the sink takes, and writes the report of that.
 fn call_peer<S: Source, K: Sink, O: Sink>(
     alloc: Global,
-    call: &Call<'_>,
+    call: Call<'_>,
     source: &mut S,
     sink: &mut K,
     output: &mut O,
 ) -> CallOutcome
-    requires via { length call.now.opening.via.now ≤ 2048 }
-    requires admitted { MayBeSent call.now.opening.mode call.now.docs.now }
-    ensures { CallsPeer (sending_of call.now)
-        (HoldNothing (output_at K.written K.held K.faults)) call.now.opening.via.now
-        (line_of call.now result.sent)
+    requires via { length call.via.now ≤ 2048 }
+    requires carried { (documents : List (List Part)) × Carries documents call.outgoing }
+    ensures { (documents : List (List Part)) → Carries documents call.entry.outgoing
+        → CallsPeer (sending_by call.entry.outgoing.settings documents)
+        (HoldNothing (output_at K.written K.held K.faults)) call.entry.via.now
+        (line_of call.entry result.sent)
         (input_at S.left S.taken S.faults S.empty_takes source.old)
         (input_at S.left S.taken S.faults S.empty_takes source.new)
         (output_at K.written K.held K.faults sink.old)
@@ -96,20 +94,13 @@ fn call_peer<S: Source, K: Sink, O: Sink>(
         (output_at O.written O.held O.faults output.old)
         (output_at O.written O.held O.faults output.new) result }
 {
-    let Opening { via, mode, kind } = call.opening;
-    let outcome = call_one(
-        alloc,
-        source,
-        sink,
-        output,
-        call.statics,
-        call.quotas,
-        mode,
-        kind,
+    let Call {
         via,
-        call.docs,
-    );
-    let report = finish_report(&outcome, call.counts, output);
+        outgoing,
+        counts,
+    } = call;
+    let outcome = call_prepared(alloc, source, sink, output, outgoing, via);
+    let report = finish_report(&outcome, counts, output);
     CallOutcome {
         sent: outcome.sent,
         inbound: outcome.inbound,
@@ -119,21 +110,21 @@ fn call_peer<S: Source, K: Sink, O: Sink>(
 }
 
 /// Calls the peer whose bytes the source gives and the sink takes, and writes the report of that,
-/// which is gathered in a buffer. What goes to the peer isn't. Answers what became of it with the
-/// output.
+/// which is gathered in a buffer. Answers what became of it with the output.
 pub fn call_gathered<S: Source, K: Sink, O: Sink>(
     alloc: Global,
-    call: &Call<'_>,
+    call: Call<'_>,
     room: Vec<u8>,
     source: &mut S,
     sink: &mut K,
     output: O,
 ) -> (CallOutcome, O)
-    requires via { length call.now.opening.via.now ≤ 2048 }
-    requires admitted { MayBeSent call.now.opening.mode call.now.docs.now }
-    ensures { CallsPeer (sending_of call.now)
-        (HoldNothing (output_at K.written K.held K.faults)) call.now.opening.via.now
-        (line_of call.now result.0.sent)
+    requires via { length call.via.now ≤ 2048 }
+    requires carried { (documents : List (List Part)) × Carries documents call.outgoing }
+    ensures { (documents : List (List Part)) → Carries documents call.entry.outgoing
+        → CallsPeer (sending_by call.entry.outgoing.settings documents)
+        (HoldNothing (output_at K.written K.held K.faults)) call.entry.via.now
+        (line_of call.entry result.0.sent)
         (input_at S.left S.taken S.faults S.empty_takes source.old)
         (input_at S.left S.taken S.faults S.empty_takes source.new)
         (output_at K.written K.held K.faults sink.old)

@@ -1,46 +1,36 @@
 //! A place that is called over a wire.
 
-ghost use Rattle.std.specs.Prelude.{◌≡◌, ◌≤◌, ◌<◌, ◌^◌, ◌++◌, true, false, IfOk, length};
-ghost use Rattle.nbfx_values.specs.QuotasOf.{limits_of};
+ghost use Rattle.std.specs.Prelude.{◌≡◌, ◌≤◌, ◌<◌, ◌^◌, ◌++◌, List, true, false, length};
+ghost use Rattle.nbfx_values.specs.declared.content.Item.{Item as Part};
 ghost use Rattle.session_ends.specs.Sent.{MayBeSent};
 ghost use Rattle.stream_loop.specs.Edges.{input_at, output_at};
-ghost use Rattle.client.specs.Sent.{sending};
+ghost use Rattle.client.specs.Cuts.{sending_by};
+ghost use Rattle.client.specs.Outgoing.{Carries};
 ghost use Rattle.io_edges.specs.Wires.{network_at};
 ghost use Rattle.session_calls.specs.Places.{CallsOne, CallsPlace};
-ghost use Rattle.session_calls.specs.Sending.{line_of, sending_of};
+ghost use Rattle.session_calls.specs.Adding.{AreAdded, sent_by};
+ghost use Rattle.session_calls.specs.Sending.{line_of};
 ghost use Rattle.session_calls.specs.Tags.{sent_line};
 
 use crate::called::Called;
+use crate::envelope_keeper::EnvelopeKeeper;
 use crate::peers::{Call, call_gathered};
 use crate::tags::Counts;
-use client::CallOutcome;
-use command_words::Opening;
 use io_edges::{Sink, Source, Wire, gathering_room};
-use nbfx_values::{Docs, Mode, Quotas};
-use static_dictionary::StaticTable;
+use nbfx_values::{Docs, Mode};
 use std::alloc::Global;
-use unit_streams::Memory;
 
 // Whether so many documents may be sent in one session of this mode.
-fn is_admitted(mode: Mode, docs: &Docs) -> bool
-    ensures admitted { result ≡ true → MayBeSent mode docs.now }
-    ensures refused { result ≡ false → MayBeSent mode docs.now → ⊥ }
+fn is_admitted(mode: Mode, count: u64) -> bool
+    ensures admitted { (documents : List (List Part)) → count ≡ length documents
+        → result ≡ true → MayBeSent mode documents }
+    ensures refused { (documents : List (List Part)) → count ≡ length documents
+        → result ≡ false → MayBeSent mode documents → ⊥ }
 {
     match mode {
-        Mode::Singleton => docs.len() == 1,
+        Mode::Singleton => count == 1,
         Mode::Duplex | Mode::Simplex => true,
     }
-}
-
-// The documents of both lists, one after the other.
-fn joined(first: Docs, second: Docs) -> Result<Docs, Memory>
-    ensures { IfOk result (λ docs. docs ≡ first ++ second) }
-{
-    let mut docs = first;
-    for doc in second.into_vec() {
-        docs.push(doc)?;
-    }
-    Ok(docs)
 }
 
 // Makes a connection, calls the peer over it, and closes it.
@@ -48,17 +38,19 @@ fn call_over<W: Wire, O: Sink>(
     alloc: Global,
     wire: &mut W,
     place: &str,
-    call: &Call<'_>,
+    call: Call<'_>,
     room: Vec<u8>,
     output: O,
 ) -> (Called, O)
     requires out { W.out wire.old < 2 ^ 63 }
-    requires via { length call.now.opening.via.now ≤ 2048 }
-    requires admitted { MayBeSent call.now.opening.mode call.now.docs.now }
-    ensures { CallsPlace
+    requires via { length call.via.now ≤ 2048 }
+    requires carried { (documents : List (List Part)) × Carries documents call.outgoing }
+    ensures { (documents : List (List Part)) → Carries documents call.entry.outgoing
+        → MayBeSent call.entry.outgoing.settings.mode documents → CallsPlace
         (input_at W.Reader.left W.Reader.taken W.Reader.faults W.Reader.empty_takes)
-        (output_at W.Writer.written W.Writer.held W.Writer.faults) (sending_of call.now)
-        call.now.opening.via.now (line_of call.now)
+        (output_at W.Writer.written W.Writer.held W.Writer.faults)
+        (sending_by call.entry.outgoing.settings documents) call.entry.via.now
+        (line_of call.entry)
         (network_at W.waiting W.closed W.out W.faults W.end_faults wire.old)
         (network_at W.waiting W.closed W.out W.faults W.end_faults wire.new)
         (output_at O.written O.held O.faults output)
@@ -80,44 +72,47 @@ pub fn call_place<W: Wire, O: Sink>(
     alloc: Global,
     wire: &mut W,
     place: &str,
-    opening: Opening<'_>,
-    statics: &StaticTable,
-    quotas: &Quotas,
-    first: Docs,
+    via: &str,
+    first: EnvelopeKeeper<'_>,
     second: Docs,
     output: O,
 ) -> (Called, O)
     requires out { W.out wire.old < 2 ^ 63 }
-    requires via { length opening.via.now ≤ 2048 }
-    ensures { CallsPlace
+    requires via { length via.now ≤ 2048 }
+    requires added { (documents : List (List Part)) × AreAdded documents first }
+    ensures { (documents : List (List Part)) → AreAdded documents first.entry → CallsPlace
         (input_at W.Reader.left W.Reader.taken W.Reader.faults W.Reader.empty_takes)
         (output_at W.Writer.written W.Writer.held W.Writer.faults)
-        (sending (limits_of quotas.now) statics.now opening.entry.mode opening.entry.kind
-        (first ++ second)) opening.entry.via.now (sent_line (length first) (length second))
+        (sending_by (sent_by first.entry) (documents ++ second)) via.now
+        (sent_line (length documents) (length second))
         (network_at W.waiting W.closed W.out W.faults W.end_faults wire.old)
         (network_at W.waiting W.closed W.out W.faults W.end_faults wire.new)
         (output_at O.written O.held O.faults output)
         (output_at O.written O.held O.faults result.1) result.0 }
 {
     let counts = Counts {
-        first: first.len() as u64,
+        first: first.count,
         second: second.len() as u64,
     };
-    let Ok(docs) = joined(first, second) else {
+    let mut keeper = first;
+    if keeper.add_all(second).is_err() {
         return (Called::Starved, output);
-    };
-    if !is_admitted(opening.mode, &docs) {
+    }
+    let EnvelopeKeeper { envelopes, count } = keeper;
+    if !is_admitted(envelopes.settings.mode, count) {
         return (Called::WrongCount, output);
+    }
+    let outgoing = envelopes.finish();
+    if outgoing.is_starved() {
+        return (Called::Starved, output);
     }
     let Ok(room) = gathering_room(alloc) else {
         return (Called::Starved, output);
     };
     let call = Call {
-        opening,
-        statics,
-        quotas,
-        docs: &docs,
+        via,
+        outgoing,
         counts,
     };
-    call_over(alloc, wire, place, &call, room, output)
+    call_over(alloc, wire, place, call, room, output)
 }

@@ -1,7 +1,7 @@
 // A long line.
 use document_lists::take_documents;
 use io_edges::MemorySource;
-use nbfx_values::Quotas;
+use nbfx_values::{Docs, Quotas};
 use std::alloc::{AllocError, Global};
 use std::test::Fail;
 
@@ -20,7 +20,8 @@ fn long_document(alloc: Global) -> Result<Vec<u8>, AllocError> {
 fn a_line_of_a_megabyte_is_read_in_pieces(rt: HostRuntime) -> Result<(), Fail> {
     let lines = long_document(rt.alloc())?;
     let mut source = MemorySource::new(lines, 7, Vec::new(rt.alloc()));
-    let Ok(docs) = take_documents(rt.alloc(), &Quotas::usual(), &mut source) else {
+    let docs = Docs::new(rt.alloc());
+    let Ok(docs) = take_documents(rt.alloc(), &Quotas::usual(), docs, &mut source) else {
         return Err("no document".into());
     };
     assert_eq!(rt; docs.get(0).map(|doc| doc.content()), Some(1_000_001));

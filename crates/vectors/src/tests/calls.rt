@@ -292,6 +292,45 @@ const SESSIONS: &[Row] = &[
         ..CALL_ONE
     },
     Row {
+        name: "lines behind a document that does not fit are read: one that is none",
+        input: &[
+            START, START, START, START, START, CLOSE, CLOSE, CLOSE, CLOSE, CLOSE, b"x\n",
+        ],
+        status: 6,
+        note: "input: line 11 NotALine\n",
+        ..UNSENT
+    },
+    Row {
+        name: "lines behind a document that does not fit are read: one that fits",
+        input: &[
+            X, START, START, START, START, START, CLOSE, CLOSE, CLOSE, CLOSE, CLOSE, X,
+        ],
+        peers: &[Peer {
+            got: Some(&[PREAMBLE, FIRST]),
+            ..CALLED
+        }],
+        status: 7,
+        note: "document 1 does not fit: depth 5\n",
+        ..CALL_ONE
+    },
+    Row {
+        name: "one document in all in singleton mode: one of each list",
+        options: &["--mode=singleton", "--second=T"],
+        status: 6,
+        note: "input: line 1 WrongCount\n",
+        ..UNSENT
+    },
+    Row {
+        name: "one document in all in singleton mode: two, of which the first does not fit",
+        options: &["--mode=singleton"],
+        input: &[
+            START, START, START, START, START, CLOSE, CLOSE, CLOSE, CLOSE, CLOSE, X,
+        ],
+        status: 6,
+        note: "input: line 1 WrongCount\n",
+        ..UNSENT
+    },
+    Row {
         name: "the second file is read before the input: there is none",
         options: &["--second=A"],
         pieces: &[(65_536, 19)],

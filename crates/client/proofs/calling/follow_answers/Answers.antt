@@ -7,10 +7,8 @@ use Rattle.stream_reader.specs.Stream.{Settings, StreamEvent, ends, stream}
 use Rattle.stream_follower.proofs.Taking.{unbegun}
 use Rattle.session_report.proofs.Streams.{ends_within}
 use Rattle.session_report.specs.Saying.{event_for}
-use Rattle.client.specs.Called.{answers_to}
 use Rattle.client.specs.Calling.{HasHeard}
-use Rattle.client.specs.Sending.{sending_of}
-use Rattle.client.proofs.Called.{followed_as}
+use Rattle.client.proofs.Called.{followed_as, reads_for}
 use Rattle.client.proofs.Hearing.{heard_first}
 use Rattle.client.proofs.calling.follow_answers.Given.{Over}
 use Rattle.client.proofs.calling.follow_answers.Goals as goal
@@ -23,14 +21,14 @@ module _ (g : Over) where
 pub returns-in_default-clause-follows : goal.returns-in_default-clause-follows
 unfolding events_of events_in
 returns-in_default-clause-follows g c =
-    let y : Settings = answers_to (sending_of c.args.caller.now.outgoing) in record {
+    let y : Settings = reads_for c.args.caller.now.outgoing in record {
       last_sink = c.args.sink.now;
       last_output = c.args.output.now;
       sink_is = refl;
       output_is = refl;
       follows = unbegun (stream y) _ (input_of g c.args.source.now)
           (first_pending (stream y) ends y.limits.session
-          (ends_within y c.args.caller.now.outgoing.quotas.good))
+          (ends_within y c.args.caller.now.outgoing.settings.quotas.good))
           (heard_first g.K.Sink.written g.K.Sink.held g.K.Sink.faults g.K.Sink.may_want
           g.O.Sink.written g.O.Sink.held g.O.Sink.faults g.O.Sink.may_want c.args.sink.now
           c.args.output.now c.args.caller.now c.requires);
@@ -48,7 +46,7 @@ returns-clause-follows g c =
       sink_is = search rules;
       output_is = search rules;
       follows = followed_as (settings_of c.in-Ok.end.reader)
-          (answers_to (sending_of c.args.caller.now.outgoing)) c.in-Ok.ensures.settings Heard Heard
+          (reads_for c.args.caller.now.outgoing) c.in-Ok.ensures.settings Heard Heard
           (input_of g c.args.source.now) (input_of g n.source) c.follow_end.result
           (λ events h. h) c.follow_end.ensures.follows;
     }

@@ -8,7 +8,7 @@ use Rattle.session_report.proofs.Streams.{ends_within}
 use Rattle.session_report.specs.Saying.{event_for}
 use Rattle.stream_follower.specs.declared.writing.Outbound.{Outbound}
 use Rattle.client.specs.Calling.{HasHeard, IsAlong}
-use Rattle.client.specs.Sent.{Sending}
+use Rattle.client.specs.declared.outgoing.Outgoing.{Outgoing}
 use Rattle.client.proofs.Hearing.{heard_first}
 use Rattle.client.proofs.calling.follow_end.Given.{Over}
 use Rattle.client.proofs.calling.follow_end.Goals as goal
@@ -68,8 +68,8 @@ returns-clause-same_output g c =
     c.follow_stream.ensures.follows in
     some.1.same_output
 
-pub returns-clause-sending : goal.returns-clause-sending
-returns-clause-sending g c = ap (λ (p : Sending × Outbound). p.0) c.follow_stream.ensures.settings
+pub returns-clause-outgoing : goal.returns-clause-outgoing
+returns-clause-outgoing g c = ap (λ (p : Outgoing × Outbound). p.0) c.follow_stream.ensures.settings
 
 pub returns-clause-opened : goal.returns-clause-opened
-returns-clause-opened g c = ap (λ (p : Sending × Outbound). p.1) c.follow_stream.ensures.settings
+returns-clause-opened g c = ap (λ (p : Outgoing × Outbound). p.1) c.follow_stream.ensures.settings

@@ -1,4 +1,4 @@
-use Rattle.client.proofs.Envelopes.{starved_out}
+use Rattle.client.proofs.Opening.{starved_out}
 use Rattle.client.proofs.sending.send_opening.Goals as goal
 
 pub returns : goal.returns

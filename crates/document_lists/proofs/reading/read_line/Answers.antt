@@ -3,6 +3,7 @@ use Rattle.std.proofs.lemmas.List.{append-nil}
 use Rattle.line_notation.specs.Between.{IsUnrefused, next_line}
 use Rattle.line_notation.specs.LineReaderState.{Standing, after, answer, document_of}
 use Rattle.line_notation.specs.declared.reader.LineStep.TheVariants.{Done, More}
+use Rattle.nbfx_values.specs.declared.content.Item.{Item}
 use Rattle.document_lines.proofs.Standings.{done_leads, more_leads, next_after}
 use Rattle.document_lists.proofs.reading.read_line.Goals as goal
 
@@ -13,21 +14,22 @@ next_behind old new line is =
     subst (λ z. next_line z ≤ next_line old + 1) (sym is) (next_after old line)
 
 pub returns-in-Ok-More-clause-reads : goal.returns-in-Ok-More-clause-reads
-returns-in-Ok-More-clause-reads c =
+returns-in-Ok-More-clause-reads g c = λ first.
     let z = c.args.lines.now in
     let e : answer z c.args.line.now ≡ Ok More = sym c.in-Ok-More.ensures.answer
     ∙ ap Ok c.in-Ok-More.field-0-is in (
       c.in-Ok-More.ensures.stands,
       subst IsUnrefused (sym c.in-Ok-More.ensures.stands) (more_leads z c.args.line.now e),
-      sym (append-nil c.args.docs.now) ∙ ap (λ a. c.args.docs.now ++ document_of a) (sym e),
+      λ documents kept. subst (λ (d : List (List Item)). g.D.Keeper.kept first d c.args.keeper.now)
+          (sym (append-nil documents) ∙ ap (λ a. documents ++ document_of a) (sym e)) kept,
     )
 
 pub returns-in-Ok-More-clause-next : goal.returns-in-Ok-More-clause-next
-returns-in-Ok-More-clause-next c =
+returns-in-Ok-More-clause-next g c =
     next_behind c.args.lines.now c.line.new.self c.args.line.now c.in-Ok-More.ensures.stands
 
 pub returns-in-Ok-clause-reads : goal.returns-in-Ok-clause-reads
-returns-in-Ok-clause-reads c =
+returns-in-Ok-clause-reads g c = λ first.
     let z = c.args.lines.now in
     let e : answer z c.args.line.now ≡ Ok (Done c.in-Ok-Done.doc) = sym c.in-Ok-Done.ensures.answer
     ∙ ap Ok c.in-Ok-Done.field-0-is in
@@ -35,20 +37,23 @@ returns-in-Ok-clause-reads c =
     let d = done_leads z c.args.line.now c.in-Ok-Done.doc e in (
       stands,
       subst IsUnrefused (sym (stands ∙ d.1)) tt,
-      c.in-Ok.ensures.added ∙ ap (λ a. c.args.docs.now ++ document_of a) (sym e),
+      λ documents kept. subst
+          (λ (d : List (List Item)). g.D.Keeper.kept first d c.hand_on.new.keeper)
+          (ap (λ a. documents ++ document_of a) (sym e))
+          (c.in-Ok.ensures.kept first documents kept),
     )
 
 pub returns-in-Ok-clause-next : goal.returns-in-Ok-clause-next
-returns-in-Ok-clause-next c =
-    next_behind c.args.lines.now c.keep.new.lines c.args.line.now
+returns-in-Ok-clause-next g c =
+    next_behind c.args.lines.now c.hand_on.new.lines c.args.line.now
     (c.in-Ok.ensures.lines ∙ c.in-Ok-Done.ensures.stands)
 
 pub returns-in-Err-clause-next : goal.returns-in-Err-clause-next
-returns-in-Err-clause-next c =
-    next_behind c.args.lines.now c.keep.new.lines c.args.line.now
+returns-in-Err-clause-next g c =
+    next_behind c.args.lines.now c.hand_on.new.lines c.args.line.now
     (c.in-Err.ensures.lines ∙ c.in-Ok-Done.ensures.stands)
 
 pub returns-in-Err-Bad-clause-next : goal.returns-in-Err-Bad-clause-next
-returns-in-Err-Bad-clause-next c =
+returns-in-Err-Bad-clause-next g c =
     let stands = rw c.in-Err-Bad.field-0-is at c.in-Err-Bad.ensures.stands in
     next_behind c.args.lines.now c.line.new.self c.args.line.now stands

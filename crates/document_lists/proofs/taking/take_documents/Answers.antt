@@ -1,11 +1,13 @@
-use Rattle.std.proofs.Common.{◌≡◌, ℕ, ◌<◌, length, Result, Err, sym, subst}
-use Rattle.std.specs.Prelude.{⊤}
+use Rattle.std.proofs.Common.{◌≡◌, ℕ, ◌<◌, [], length, Result, Ok, Err, sym, subst}
+use Rattle.std.specs.Prelude.{⊤, IfOk}
+use Rattle.line_notation.specs.Lines.{cut}
+use Rattle.line_notation.specs.LineReaderState.{documents_of}
 use Rattle.stream_loop.specs.Edges.{Input, input_at}
 use Rattle.document_lists.specs.Documents.{documents_within}
 use Rattle.document_lists.specs.Taken.{TakesLines}
-use Rattle.document_lists.specs.Taking.{Says, TakesDocuments}
+use Rattle.document_lists.specs.Taking.{Says, TakesDocuments, of_kept}
 use Rattle.document_lists.specs.declared.reading.ListFault.{ListFault}
-use Rattle.document_lists.proofs.TakingFacts.{documents_taken, none_taken}
+use Rattle.document_lists.proofs.TakingFacts.{documents_taken, never_kept, none_taken}
 use Rattle.document_lists.proofs.taking.take_documents.Given.{Over}
 use Rattle.document_lists.proofs.taking.take_documents.Goals as goal
 
@@ -16,23 +18,41 @@ module _ (g : Over) where
 
 pub returns-in-Ok : goal.returns-in-Ok
 returns-in-Ok g c =
+    let reader = c.new-reader.result in
+    let first = reader.keeper in
+    let kept = g.D.Keeper.kept first in
+    let quota = reader.quota in
     let i = input_of g c.args.source.now in
     let i' = input_of g c.take_lines.new.source in
     let new = c.take_lines.new.reader in
-    let session = c.new-reader.ensures.quota in
-    let quota : new.quota ≡ c.new-reader.result.quota = c.take_lines.ensures.quota in
-    let takes = subst (λ (r : Result ⊤ ListFault). TakesLines c.new-reader.result.quota i i' new r)
-    c.in-Ok.is c.take_lines.ensures.takes in
-    subst (λ (n : ℕ). TakesDocuments n i i' c.finish.result) session
-    (documents_taken c.new-reader.result.quota i i' new c.in-Ok.field-0 takes c.finish.result
-    (λ p h short. subst (λ (n : ℕ). Says (documents_within n p) c.finish.result) quota
-    (c.finish.ensures.says p h (subst (λ (n : ℕ). length p < n) (sym quota) short)))
-    c.finish.ensures.read)
+    let result = c.finish.result in
+    let same : new.quota ≡ quota = c.take_lines.ensures.quota in
+    let takes : TakesLines kept quota i i' new (Ok c.in-Ok.field-0) =
+    subst (λ (r : Result ⊤ ListFault). TakesLines kept quota i i' new r) c.in-Ok.is
+    c.take_lines.ensures.takes in
+    let documents = documents_of (cut takes.bytes).0 in
+    let read = takes.has_taken.0 in
+    let says : Says (documents_within quota takes.bytes) (of_kept documents result) =
+    subst (λ (n : ℕ). Says (documents_within n takes.bytes) (of_kept documents result)) same
+    (c.finish.ensures.says first takes.bytes read (subst (λ (n : ℕ). length takes.bytes < n)
+    (sym same) takes.has_taken.1)) in (
+      documents,
+      subst (λ (n : ℕ). TakesDocuments n i i' (of_kept documents result))
+          c.new-reader.ensures.quota
+          (documents_taken kept quota i i' new c.in-Ok.field-0 takes (of_kept documents result) says
+          (never_kept documents result c.finish.ensures.read)),
+      subst (λ (first : g.row.D.Denot). IfOk result (g.D.Keeper.kept first documents))
+          c.new-reader.ensures.keeper (c.finish.ensures.kept first takes.bytes read),
+    )
 
 pub returns-in-Err : goal.returns-in-Err
 returns-in-Err g c =
+    let reader = c.new-reader.result in
     let i = input_of g c.args.source.now in
-    let i' = input_of g c.take_lines.new.source in
-    subst (λ (n : ℕ). TakesDocuments n i i' (Err c.in-Err.fault)) c.new-reader.ensures.quota
-    (none_taken c.new-reader.result.quota i i' c.take_lines.new.reader c.in-Err.fault
-    c.in-Err.ensures.takes)
+    let i' = input_of g c.take_lines.new.source in (
+      [],
+      subst (λ (n : ℕ). TakesDocuments n i i' (Err c.in-Err.fault)) c.new-reader.ensures.quota
+          (none_taken (g.D.Keeper.kept reader.keeper) reader.quota i i' c.take_lines.new.reader
+          c.in-Err.fault c.in-Err.ensures.takes),
+      tt,
+    )

@@ -9,7 +9,8 @@ invariant-loop-n g l = record {
   quota : l.reader.quota ≡ l.initial.reader.quota;
   faults : g.S.Source.faults l.source ≡ g.S.Source.faults l.initial.source;
   empty_takes : g.S.Source.empty_takes l.source ≡ g.S.Source.empty_takes l.initial.source;
-  reads : (p : List ℕ) × HasRead l.reader p × (length p < l.initial.reader.quota)
+  reads : (p : List ℕ) × HasRead (g.D.Keeper.kept l.initial.reader.keeper) l.reader p
+      × (length p < l.initial.reader.quota)
       × LeftSince (g.S.Source.left l.initial.source) (g.S.Source.left l.source) (λ rest. p ++ rest)
       × TakenSince (g.S.Source.taken l.initial.source) (g.S.Source.taken l.source) p;
 }

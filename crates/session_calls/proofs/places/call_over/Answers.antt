@@ -4,7 +4,8 @@ use Rattle.io_edges.specs.Flow.{Told}
 use Rattle.io_edges.specs.Wires.{added_up}
 use Rattle.stream_loop.specs.Edges.{Input, Output, input_at, output_at}
 use Rattle.session_calls.specs.Peers.{HoldNothing}
-use Rattle.session_calls.specs.Sending.{line_of, sending_of}
+use Rattle.client.specs.Cuts.{sending_by}
+use Rattle.session_calls.specs.Sending.{line_of}
 use Rattle.session_calls.proofs.Meeting.{pair_more}
 use Rattle.session_calls.proofs.places.call_over.Given.{Over}
 use Rattle.session_calls.proofs.places.call_over.Goals as goal
@@ -21,12 +22,12 @@ module _ (g : Over) where
   output_of sink = output_at g.O.Sink.written g.O.Sink.held g.O.Sink.faults sink
 
 pub returns : goal.returns
-returns g c =
+returns g c = λ documents carries admitted.
     let e = c.in-Ok.ensures in
     let w = c.call_gathered-output in
     let k = c.close.ensures in
     record {
-      admitted = c.requires.admitted;
+      admitted = admitted;
       ends = (c.in-Ok.reader, c.in-Ok.writer);
       left = (w.new.source, w.new.sink);
       handed = subst (λ after. Told (g.W.Wire.waiting c.args.wire.now) after
@@ -39,12 +40,13 @@ returns g c =
         nothing_written = e.writer.1;
         nothing_held = e.writer.2;
       };
-      calls = w.ensures;
-      closed = pair_more (sending_of c.args.call.now) (HoldNothing (ends_to g))
-          c.args.call.now.opening.via.now
-          (line_of c.args.call.now w.result.0.sent) (input_of g c.in-Ok.reader)
+      calls = w.ensures documents carries;
+      closed = pair_more (sending_by c.args.call.outgoing.settings documents)
+          (HoldNothing (ends_to g)) c.args.call.via.now
+          (line_of c.args.call w.result.0.sent) (input_of g c.in-Ok.reader)
           (input_of g w.new.source) (ends_to g c.in-Ok.writer) (ends_to g w.new.sink)
-          (output_of g c.args.output) (output_of g w.result.1) w.result.0 w.ensures
+          (output_of g c.args.output) (output_of g w.result.1) w.result.0
+          (w.ensures documents carries)
           (g.W.Wire.closed c.args.wire.now) (g.W.Wire.closed c.close.new.self) e.reader.1 e.writer.1
           (subst (λ before. Told before (g.W.Wire.closed c.close.new.self) (λ c' c''.
           IfSome (g.W.Reader.Source.taken w.new.source) (λ t.
