@@ -136,7 +136,8 @@ pub const NEXT_CALL: &[u8] = b"\x06\x3A\x00";
 
 // An addressed document.
 pub const DOCUMENT: &[u8] =
-    b"V\x02\x0B\x01s\x04\x0B\x01a\x06V\x08D\x0A\x1E\x00\x82\x99\x08urn:echoD\x1A\xAD3\x22\x11\x00UDwf\x88\x99\xAA\xBB\xCC\xDD\xEE\xFF\x01V\x0EB\x01\x99\x02hi\x01\x01";
+    b"V\x02\x0B\x01s\x04\x0B\x01a\x06V\x08D\x0A\x1E\x00\x82\x99\x08urn:echoD\x1A\xAD3\x22\x11\
+\x00UDwf\x88\x99\xAA\xBB\xCC\xDD\xEE\xFF\x01V\x0EB\x01\x99\x02hi\x01\x01";
 
 // Its lines.
 pub const LINES: &[u8] = b"start \"s\" \"Envelope\"\n\
@@ -163,4 +164,7 @@ pub const X: &[u8] = b"start \"\" \"x\"\nclose\n";
 
 // Static strings of an addressed envelope.
 pub const STATICS: &[u8] =
-    b"id,string\n0,mustUnderstand\n2,Envelope\n4,http://www.w3.org/2003/05/soap-envelope\n6,http://www.w3.org/2005/08/addressing\n8,Header\n10,Action\n12,To\n14,Body\n18,RelatesTo\n20,http://www.w3.org/2005/08/addressing/anonymous\n26,MessageID\n42,Address\n44,ReplyTo\n";
+    b"id,string\n0,mustUnderstand\n2,Envelope\n4,http://www.w3.org/2003/05/soap-envelope\n\
+6,http://www.w3.org/2005/08/addressing\n8,Header\n10,Action\n\
+12,To\n14,Body\n18,RelatesTo\n20,http://www.w3.org/2005/08/addressing/anonymous\n\
+26,MessageID\n42,Address\n44,ReplyTo\n";
